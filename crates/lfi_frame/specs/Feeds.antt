@@ -1,0 +1,147 @@
+-- What a feed stands for, and what its answers tell. The messages are those of docs/DEFINITIONS.md, "stream format".
+use Rattle.std.specs.Prelude.{◌≡◌, ◌≢◌, ℕ, ◌%◌, ◌≤◌, ◌<◌, ◌+◌, ◌==◌, ◌^◌, true, false, List, [], ◌∷◌, ◌++◌, length, take, drop, ◌⊎◌, Option, Some, None, Result, Ok, Err, All, if◌then◌else◌}
+use Rattle.lfi_frame.specs.declared.header.Header.{Header}
+use Rattle.lfi_frame.specs.declared.fault.FrameFault.{FrameFault}
+use Rattle.lfi_frame.specs.declared.fault.FrameFault.TheVariants.{NoMemory, Ended, ReadFailed}
+use Rattle.lfi_frame.specs.declared.feed.Feed.{Feed}
+use Rattle.lfi_frame.specs.declared.feed.Step.{Step}
+use Rattle.lfi_frame.specs.declared.feed.Got.{Got}
+use Rattle.lfi_frame.specs.declared.feed.Got.TheVariants.{More, Open, Page, Payload, Close}
+use Rattle.lfi_frame.specs.declared.feed.Place.{Place}
+use Rattle.lfi_frame.specs.declared.feed.Place.TheVariants as place
+use Rattle.lfi_frame.specs.Streams.{AreBytes, Message, open_message, page_message, close_message, spelling, header_bytes, header_fault, IsMessage, rest_of, faulty, unfinished, short, whole}
+
+-- the header of a page
+abbrev pub page_header : ℕ → ℕ → ℕ → Header
+page_header m index len = record { kind = 2; second = 0; «module» = m; a = index; b = len }
+
+-- The bytes since the last whole message are a page's header and some of its payload, of which so much is still to come.
+pub record IsInPage (rest : List ℕ) (left : ℕ) : Type 0 where
+  pub m : ℕ
+  pub index : ℕ
+  pub len : ℕ
+  pub payload : List ℕ
+  pub spelled : rest ≡ header_bytes (page_header m index len) ++ payload
+  pub faultless : header_fault (page_header m index len) ≡ None
+  pub index_fits : index < 2 ^ 32
+  pub to_come : length payload + left ≡ len
+  pub unended : 0 < left
+
+-- what a fault says of the bytes since the last whole message: they show it; or, for the faults that bytes do not show, they are no whole message, and where the input ended they are some
+abbrev pub IsSeen : FrameFault → List ℕ → Type 0
+IsSeen NoMemory rest = rest_of rest ≢ whole
+IsSeen ReadFailed rest = rest_of rest ≢ whole
+IsSeen Ended rest = (rest ≢ []) × (rest_of rest ≢ whole)
+IsSeen fault rest = rest_of rest ≡ faulty fault
+
+-- what a place and the held bytes say of the bytes since the last whole message
+abbrev pub IsAt : List ℕ → Place → List ℕ → Type 0
+IsAt held (place.Header filled) rest = (filled < 12) × (rest ≡ take filled held) × AreBytes rest
+IsAt held (place.Payload left) rest = IsInPage rest left
+IsAt held (place.Over fault) rest = IsSeen fault rest
+
+-- The feed has been given the spellings of these messages, and then these bytes.
+pub record FeedStands (feed : Feed) (messages : List Message) (rest : List ℕ) : Type 0 where
+  pub each : All IsMessage messages
+  pub place : IsAt feed.held feed.place rest
+
+-- What a call tells that used these bytes after that rest.
+abbrev pub IsTold : Got → Feed → List Message → List ℕ → List ℕ → Type 0
+IsTold More new messages rest used =
+    FeedStands new messages (rest ++ used) × ((rest_of (rest ++ used) ≡ short) ⊎ (used ≡ []))
+IsTold (Open m words entry) new messages rest used =
+    FeedStands new (messages ++ open_message m words entry ∷ []) [] × (rest ++ used ≡ spelling (open_message m words entry))
+IsTold (Page m index len) new messages rest used =
+    FeedStands new messages (rest ++ used) × (length (rest ++ used) ≡ 12) × (rest_of (rest ++ used) ≡ unfinished m index len)
+IsTold (Payload false) new messages rest used =
+    (m index len : ℕ) × (rest_of rest ≡ unfinished m index len) × (rest_of (rest ++ used) ≡ unfinished m index len) × FeedStands new messages (rest ++ used)
+IsTold (Payload true) new messages rest used =
+    let payload = drop 12 rest ++ used in
+    (m index len : ℕ) × (rest_of rest ≡ unfinished m index len) × (rest ++ used ≡ spelling (page_message m index payload)) × FeedStands new (messages ++ page_message m index payload ∷ []) []
+IsTold (Close m) new messages rest used =
+    FeedStands new (messages ++ close_message m ∷ []) [] × (rest ++ used ≡ spelling (close_message m))
+
+-- the numbers that an answer tells are in range
+abbrev pub IsInRange : Got → Type 0
+IsInRange (Open m words entry) = (m < 16) × (words ≤ 4194304) × (entry < words)
+IsInRange (Page m index len) = (m < 16) × (0 < len) × (len ≤ 4096) × (len % 4 ≡ 0)
+IsInRange (Close m) = m < 16
+IsInRange got = Unit {0}
+
+-- the bytes that a call used
+abbrev pub used_in : Result Step (ℕ × FrameFault) → ℕ
+used_in (Ok step) = step.used
+used_in (Err fault) = fault.0
+
+-- Where nothing came to its end, the whole piece was used.
+abbrev pub UsesAll : Result Step (ℕ × FrameFault) → ℕ → Type 0
+UsesAll (Ok step) len = step.got ≡ More → step.used ≡ len
+UsesAll (Err fault) len = Unit {0}
+
+-- Where a page goes on, the whole piece was payload.
+abbrev pub UsesPayload : Result Step (ℕ × FrameFault) → ℕ → Type 0
+UsesPayload (Ok step) len = step.got ≡ Payload false → step.used ≡ len
+UsesPayload (Err fault) len = Unit {0}
+
+-- A header with a fault is used to its end, and nothing after it.
+abbrev pub UsesHeader : Result Step (ℕ × FrameFault) → List ℕ → Type 0
+UsesHeader (Ok step) rest = Unit {0}
+UsesHeader (Err fault) rest = length rest + fault.0 ≡ 12
+
+abbrev pub IsHeaderUsed : Feed → Result Step (ℕ × FrameFault) → Type 0
+IsHeaderUsed old answer = (messages : List Message) (rest : List ℕ) → FeedStands old messages rest → UsesHeader answer rest
+
+-- What an answer tells. A fault is shown by the bytes that were used, or was there before.
+abbrev pub Tells : Result Step (ℕ × FrameFault) → Feed → List Message → List ℕ → List ℕ → Type 0
+Tells (Ok step) new messages rest piece = IsTold step.got new messages rest (take step.used piece)
+Tells (Err fault) new messages rest piece =
+    let used = take fault.0 piece in
+    FeedStands new messages (rest ++ used) × ((rest_of (rest ++ used) ≡ faulty fault.1) ⊎ (used ≡ []))
+
+-- What a call tells holds of every text that the feed stands for.
+abbrev pub IsFed : Feed → List ℕ → Result Step (ℕ × FrameFault) → Feed → Type 0
+IsFed old piece answer new = (messages : List Message) (rest : List ℕ) → FeedStands old messages rest → Tells answer new messages rest piece
+
+-- the fault of a stream at a place
+abbrev pub fault_at : Place → Option FrameFault
+fault_at (place.Header filled) = None
+fault_at (place.Payload left) = None
+fault_at (place.Over fault) = Some fault
+
+-- the fault of a feed's stream, once it has one
+abbrev pub feed_fault : Feed → Option FrameFault
+feed_fault feed = fault_at feed.place
+
+-- the fault that an answer tells
+abbrev pub fault_told : Result Step (ℕ × FrameFault) → Option FrameFault
+fault_told (Ok step) = None
+fault_told (Err fault) = Some fault.1
+
+-- the fault that the end of the input brought
+abbrev pub fault_ended : Result Unit FrameFault → Option FrameFault
+fault_ended (Ok _) = None
+fault_ended (Err fault) = Some fault
+
+-- The input ended without a fault exactly where nothing has come since the last whole message.
+abbrev pub IsAtEnd : Option FrameFault → List ℕ → Result Unit FrameFault → Type 0
+IsAtEnd None rest (Ok _) = rest ≡ []
+IsAtEnd None rest (Err fault) = (rest ≢ []) × (fault ≡ Ended)
+IsAtEnd (Some before) rest answer = Unit {0}
+
+-- what a header brings, and where a feed is after it
+abbrev pub got_by : Header → Got
+got_by h = if h.kind == 2 then Page h.«module» h.a h.b else if h.kind == 1 then Open h.«module» h.a h.b else Close h.«module»
+
+abbrev pub answer_by : Option FrameFault → Header → Result Got FrameFault
+answer_by (Some fault) h = Err fault
+answer_by None h = Ok (got_by h)
+
+abbrev pub answer_to : Header → Result Got FrameFault
+answer_to h = answer_by (header_fault h) h
+
+abbrev pub place_by : Option FrameFault → Header → Place
+place_by (Some fault) h = place.Over fault
+place_by None h = if h.kind == 2 then place.Payload h.b else place.Header 0
+
+abbrev pub place_after : Header → Place
+place_after h = place_by (header_fault h) h

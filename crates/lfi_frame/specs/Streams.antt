@@ -1,0 +1,88 @@
+-- A stream of bytes as messages. Source of all here: docs/DEFINITIONS.md, "stream format" (this project's own format).
+use Rattle.std.specs.Prelude.{◌≡◌, ◌≢◌, ℕ, ◌<◌, ◌==◌, ◌%◌, ◌^◌, nat_lt, nat_le, ◌||◌, ◌&&◌, not, if◌then◌else◌, List, [], ◌∷◌, ◌++◌, length, drop, slice_index, Option, Some, None, flat_map, All}
+use Rattle.byteorder.specs.Endian.{little_bytes, little_number}
+use Rattle.lfi_frame.specs.declared.header.Header.{Header}
+use Rattle.lfi_frame.specs.declared.fault.FrameFault.{FrameFault}
+use Rattle.lfi_frame.specs.declared.fault.FrameFault.TheVariants.{Kind, SecondByte, Module, PageLength, CloseNumbers, WordCount, Entry}
+
+-- a list of bytes
+abbrev pub AreBytes : List ℕ → Type 0
+AreBytes bytes = (i : ℕ) → slice_index bytes i < 256
+
+-- a whole message: a module with its words and entry, a page of it with its index and bytes, or its close
+pub data Message : Type 0 where
+  open_message : (m words entry : ℕ) → Message
+  page_message : (m index : ℕ) (payload : List ℕ) → Message
+  close_message : (m : ℕ) → Message
+
+-- the header of a message
+abbrev pub header_of : Message → Header
+header_of (open_message m words entry) = record { kind = 1; second = 0; «module» = m; a = words; b = entry }
+header_of (page_message m index payload) = record { kind = 2; second = 0; «module» = m; a = index; b = length payload }
+header_of (close_message m) = record { kind = 3; second = 0; «module» = m; a = 0; b = 0 }
+
+-- the bytes that follow the header
+abbrev pub payload_of : Message → List ℕ
+payload_of (open_message m words entry) = []
+payload_of (page_message m index payload) = payload
+payload_of (close_message m) = []
+
+-- the twelve bytes of a header
+abbrev pub header_bytes : Header → List ℕ
+header_bytes h = h.kind ∷ h.second ∷ (little_bytes 2 h.«module» ++ (little_bytes 4 h.a ++ little_bytes 4 h.b))
+
+-- the bytes of a message
+abbrev pub spelling : Message → List ℕ
+spelling message = header_bytes (header_of message) ++ payload_of message
+
+-- the header that twelve bytes spell
+abbrev pub header_at : List ℕ → Header
+header_at bytes = record {
+  kind = slice_index bytes 0;
+  second = slice_index bytes 1;
+  «module» = little_number 2 (drop 2 bytes);
+  a = little_number 4 (drop 4 bytes);
+  b = little_number 4 (drop 8 bytes);
+}
+
+-- The first fault that a header shows by itself: of its kind (1 Open, 2 Page, 3 Close), its second byte, its module, the length of a page, the numbers of a Close, the words of an Open (at most 4,194,304) and its entry.
+abbrev pub header_fault : Header → Option FrameFault
+header_fault h =
+    if h.kind == 0 || nat_lt 3 h.kind then Some Kind
+    else if not (h.second == 0) then Some SecondByte
+    else if nat_le 16 h.«module» then Some Module
+    else if h.kind == 2 && (h.b == 0 || nat_lt 4096 h.b || not (h.b % 4 == 0)) then Some PageLength
+    else if h.kind == 3 && not (h.a == 0 && h.b == 0) then Some CloseNumbers
+    else if h.kind == 1 && (h.a == 0 || nat_lt 4194304 h.a) then Some WordCount
+    else if h.kind == 1 && nat_le h.a h.b then Some Entry
+    else None
+
+-- a message without a fault, whose numbers fit their four bytes
+pub record IsMessage (message : Message) : Type 0 where
+  pub faultless : header_fault (header_of message) ≡ None
+  pub a_fits : (header_of message).a < 2 ^ 32
+  pub b_fits : (header_of message).b < 2 ^ 32
+
+-- How a text goes on: by fewer than twelve bytes, by a header with a fault, by the header of a page (module, index, length) whose payload isn't whole, or by a whole message.
+pub data Rest : Type 0 where
+  short : Rest
+  faulty : (fault : FrameFault) → Rest
+  unfinished : (m index len : ℕ) → Rest
+  whole : Rest
+
+-- a text that begins with this header, and has so many bytes after it
+abbrev pub rest_after : Option FrameFault → Header → ℕ → Rest
+rest_after (Some fault) h payload = faulty fault
+rest_after None h payload = if h.kind == 2 && nat_lt payload h.b then unfinished h.«module» h.a h.b else whole
+
+-- how a text goes on
+abbrev pub rest_of : List ℕ → Rest
+rest_of bytes =
+    if nat_lt (length bytes) 12 then short
+    else rest_after (header_fault (header_at bytes)) (header_at bytes) (length (drop 12 bytes))
+
+-- The bytes are the spellings of these messages, and then a rest in which no whole message stands.
+pub record Cut (bytes : List ℕ) (messages : List Message) (rest : List ℕ) : Type 0 where
+  pub spelled : bytes ≡ flat_map spelling messages ++ rest
+  pub each : All IsMessage messages
+  pub stops : rest_of rest ≢ whole

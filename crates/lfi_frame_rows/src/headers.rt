@@ -1,0 +1,147 @@
+//! Headers, one at a time.
+
+use lfi_frame::header::Header;
+use lfi_frame::{Feed, FrameFault, Got, Step};
+
+/// The bytes of a header with these numbers.
+pub fn header(kind: u8, second: u8, module: u16, a: u32, b: u32) -> [u8; 12] {
+    let m = module.to_le_bytes();
+    let a = a.to_le_bytes();
+    let b = b.to_le_bytes();
+    [
+        kind, second, m[0], m[1], a[0], a[1], a[2], a[3], b[0], b[1], b[2], b[3],
+    ]
+}
+
+#[test]
+fn each_fault_alone(rt: HostRuntime) {
+    for (kind, second, module, a, b, fault) in [
+        (0, 0, 0, 1, 0, FrameFault::Kind),
+        (4, 0, 0, 1, 0, FrameFault::Kind),
+        (255, 0, 0, 1, 0, FrameFault::Kind),
+        (1, 1, 0, 1, 0, FrameFault::SecondByte),
+        (2, 255, 0, 0, 4, FrameFault::SecondByte),
+        (1, 0, 16, 1, 0, FrameFault::Module),
+        (3, 0, 256, 0, 0, FrameFault::Module),
+        (2, 0, 65_535, 0, 4, FrameFault::Module),
+        (2, 0, 0, 0, 0, FrameFault::PageLength),
+        (2, 0, 0, 0, 2, FrameFault::PageLength),
+        (2, 0, 0, 0, 4_095, FrameFault::PageLength),
+        (2, 0, 0, 0, 4_100, FrameFault::PageLength),
+        (2, 0, 0, 0, 4_294_967_292, FrameFault::PageLength),
+        (3, 0, 0, 1, 0, FrameFault::CloseNumbers),
+        (3, 0, 0, 0, 1, FrameFault::CloseNumbers),
+        (3, 0, 0, 4_294_967_295, 0, FrameFault::CloseNumbers),
+        (3, 0, 0, 0, 16_777_216, FrameFault::CloseNumbers),
+        (1, 0, 0, 4_194_305, 0, FrameFault::WordCount),
+        (1, 0, 0, 4_294_967_295, 0, FrameFault::WordCount),
+        (1, 0, 0, 1, 1, FrameFault::Entry),
+        (1, 0, 0, 4_194_304, 4_194_304, FrameFault::Entry),
+        (1, 0, 0, 2, 4_294_967_295, FrameFault::Entry),
+    ] {
+        let bytes = header(kind, second, module, a, b);
+        assert_eq!(rt; Header::read(&bytes).fault(), Some(fault), "at {bytes:?}");
+        assert_eq!(rt;
+            Feed::new().feed(bytes.as_slice()),
+            Err((12, fault)),
+            "at {bytes:?}"
+        );
+    }
+}
+
+#[test]
+fn first_of_several_faults(rt: HostRuntime) {
+    for (kind, second, module, a, b, fault) in [
+        (4, 1, 0, 0, 0, FrameFault::Kind),
+        (0, 1, 16, 0, 0, FrameFault::Kind),
+        (2, 1, 16, 0, 0, FrameFault::SecondByte),
+        (3, 1, 16, 1, 1, FrameFault::SecondByte),
+        (1, 1, 0, 0, 0, FrameFault::SecondByte),
+        (2, 0, 16, 0, 0, FrameFault::Module),
+        (3, 0, 16, 1, 0, FrameFault::Module),
+        (1, 0, 16, 1, 1, FrameFault::Module),
+        (1, 0, 0, 0, 0, FrameFault::WordCount),
+        (1, 0, 0, 4_194_305, 4_194_305, FrameFault::WordCount),
+    ] {
+        let bytes = header(kind, second, module, a, b);
+        assert_eq!(rt; Header::read(&bytes).fault(), Some(fault), "at {bytes:?}");
+        assert_eq!(rt;
+            Feed::new().feed(bytes.as_slice()),
+            Err((12, fault)),
+            "at {bytes:?}"
+        );
+    }
+}
+
+#[test]
+fn ends_of_the_ranges(rt: HostRuntime) {
+    for (kind, module, a, b, got) in [
+        (
+            1,
+            0,
+            1,
+            0,
+            Got::Open {
+                module: 0,
+                words: 1,
+                entry: 0,
+            },
+        ),
+        (
+            1,
+            15,
+            4_194_304,
+            4_194_303,
+            Got::Open {
+                module: 15,
+                words: 4_194_304,
+                entry: 4_194_303,
+            },
+        ),
+        (
+            2,
+            0,
+            0,
+            4,
+            Got::Page {
+                module: 0,
+                index: 0,
+                len: 4,
+            },
+        ),
+        (
+            2,
+            2,
+            4_294_967_295,
+            4_096,
+            Got::Page {
+                module: 2,
+                index: 4_294_967_295,
+                len: 4_096,
+            },
+        ),
+        (3, 0, 0, 0, Got::Close { module: 0 }),
+        (3, 15, 0, 0, Got::Close { module: 15 }),
+    ] {
+        let bytes = header(kind, 0, module, a, b);
+        assert_eq!(rt; Header::read(&bytes).fault(), None, "at {bytes:?}");
+        assert_eq!(rt;
+            Feed::new().feed(bytes.as_slice()),
+            Ok(Step { used: 12, got }),
+            "at {bytes:?}"
+        );
+    }
+}
+
+#[test]
+fn bytes_of_a_header(rt: HostRuntime) {
+    let bytes = [2, 3, 5, 7, 11, 13, 17, 19, 23, 29, 31, 37];
+    let header = Header {
+        kind: 2,
+        second: 3,
+        module: 0x0705,
+        a: 0x1311_0d0b,
+        b: 0x251f_1d17,
+    };
+    assert_eq!(rt; Header::read(&bytes), header);
+}

@@ -1,0 +1,4 @@
+pub mod Growing
+pub mod Faults
+pub mod Numbered
+pub mod OneText

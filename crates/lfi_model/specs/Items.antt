@@ -1,0 +1,131 @@
+-- The items of one connection, module by module. (docs/DEFINITIONS.md, "Items of a connection")
+use Rattle.std.specs.Prelude.{◌≡◌, ℕ, ◌+◌, ◌-◌, ◌*◌, ◌/◌, ◌<◌, ◌==◌, nat_lt, min, Bool, true, false, ◌||◌, ◌&&◌, not, if◌then◌else◌, List, [], ◌∷◌, ◌++◌, length, Option, Some, None, fold, filter, sum_by}
+use Rattle.std.specs.List.{list_any}
+use Rattle.lfi_frame.specs.declared.fault.FrameFault.{FrameFault}
+use Rattle.lfi_frame.specs.declared.fault.FrameFault.TheVariants as fault
+use Rattle.lfi_frame.specs.Streams.{Message, open_message, page_message, close_message, header_of, Rest, faulty, unfinished, rest_of, Cut}
+use Rattle.lfi_queues.specs.Items.{ItemView}
+use Rattle.lfi_queues.specs.declared.item.Kind.{Kind}
+use Rattle.lfi_queues.specs.declared.item.Kind.TheVariants.{Open, Page, End}
+use Rattle.lfi_queues.specs.declared.item.Reason.{Reason}
+use Rattle.lfi_queues.specs.declared.item.Reason.TheVariants.{Close, Lost, PageFault, NoMemory}
+use Rattle.lfi_model.specs.declared.connection.Cause.{Cause}
+use Rattle.lfi_model.specs.declared.connection.Cause.TheVariants as cause
+use Rattle.lfi_model.specs.declared.connection.Progress.{Progress}
+use Rattle.lfi_model.specs.declared.connection.Progress.TheVariants.{Unclaimed, Going, Over}
+
+-- how many pages a module of n words has, and how many bytes its page p
+abbrev pub page_count : ℕ → ℕ
+page_count n = (n + 1023) / 1024
+
+abbrev pub page_len : (n p : ℕ) → ℕ
+page_len n p = min 4096 (4 * n - 4096 * p)
+
+-- page `index` of `len` bytes is the one that has to come after the first p pages of a module of n words
+abbrev pub is_due : (n p : ℕ) → (index len : ℕ) → Bool
+is_due n p index len = index == p && nat_lt index (page_count n) && len == page_len n index
+
+-- What one module got of a connection: its items, the strays, and how far it is.
+pub record Share : Type 0 where
+  pub items : List ItemView
+  pub strays : ℕ
+  pub progress : Progress
+
+abbrev pub nothing_yet : Share
+nothing_yet = record { items = []; strays = 0; progress = Unclaimed }
+
+abbrev pub with_stray : Share → Share
+with_stray s = record { items = s.items; strays = s.strays + 1; progress = s.progress }
+
+abbrev pub with_item : Share → ItemView → Progress → Share
+with_item s item progress = record { items = s.items ++ item ∷ []; strays = s.strays; progress = progress }
+
+abbrev pub item_of : (m ordinal words : ℕ) → Kind → ItemView
+item_of m ordinal words kind = record { «module» = m; ordinal = ordinal; words = words; kind = kind }
+
+-- a page of module m, where the first p of n words' pages have come: `then_due` where it is the one due, else the End
+abbrev pub after_page : (m n p : ℕ) → Share → (index len : ℕ) → Share → Share
+after_page m n p s index len then_due =
+    if is_due n p index len then then_due
+    else with_item s (item_of m (p + 1) n (End (PageFault index))) Over
+
+-- one more message of module m, which is claimed or isn't
+abbrev pub after_message : Bool → ℕ → Share → Progress → Message → Share
+after_message claimed m s Unclaimed (open_message _ words entry) =
+    if claimed then with_item s (item_of m 0 words (Open entry)) (Going words 0) else with_stray s
+after_message claimed m s (Going n p) (page_message _ index payload) =
+    after_page m n p s index (length payload) (with_item s (item_of m (p + 1) n (Page payload)) (Going n (p + 1)))
+after_message claimed m s (Going n p) (close_message _) = with_item s (item_of m (p + 1) n (End Close)) Over
+after_message claimed m s progress message = with_stray s
+
+-- the header of a page whose payload isn't whole
+abbrev pub after_header : ℕ → Share → Progress → (index len : ℕ) → Share
+after_header m s (Going n p) index len = after_page m n p s index len s
+after_header m s progress index len = with_stray s
+
+abbrev pub is_of : ℕ → Message → Bool
+is_of m message = (header_of message).«module» == m
+
+abbrev pub after_rest : ℕ → Share → Rest → Share
+after_rest m s (unfinished of index len) = if of == m then after_header m s s.progress index len else s
+after_rest m s rest = s
+
+-- what module m has got, when these messages and this rest have come
+abbrev pub share_of : Bool → ℕ → List Message → Rest → Share
+share_of claimed m messages rest =
+    after_rest m (fold (λ s message. after_message claimed m s s.progress message) nothing_yet (filter (is_of m) messages)) rest
+
+abbrev pub is_going : Progress → Bool
+is_going (Going n p) = true
+is_going progress = false
+
+-- the connection's fault: that of the rest's header, or else by what ended the input, where `inside` tells of a message or a module that is left open
+abbrev pub fault_by_cause : Cause → Bool → Option FrameFault
+fault_by_cause cause.End inside = if inside then Some fault.Ended else None
+fault_by_cause cause.Failed inside = Some fault.ReadFailed
+fault_by_cause cause.Starved inside = Some fault.NoMemory
+
+abbrev pub fault_of : Rest → Cause → Bool → Option FrameFault
+fault_of (faulty found) cause inside = Some found
+fault_of rest cause inside = fault_by_cause cause inside
+
+-- the End of a module that is still open at the connection's fault
+abbrev pub reason_of : FrameFault → Reason
+reason_of fault.NoMemory = NoMemory
+reason_of found = Lost found
+
+abbrev pub ends_of : ℕ → Progress → Option FrameFault → List ItemView
+ends_of m (Going n p) (Some found) = item_of m (p + 1) n (End (reason_of found)) ∷ []
+ends_of m progress found = []
+
+-- all modules
+abbrev pub modules : List ℕ
+modules = 0 ∷ 1 ∷ 2 ∷ 3 ∷ 4 ∷ 5 ∷ 6 ∷ 7 ∷ 8 ∷ 9 ∷ 10 ∷ 11 ∷ 12 ∷ 13 ∷ 14 ∷ 15 ∷ []
+
+-- A connection whose text is these messages and this rest, whose input ended so, and for which these modules were claimed:
+module _ (messages : List Message) (rest : List ℕ) (cause : Cause) (claimed : ℕ → Bool) where
+  abbrev pub share_at : ℕ → Share
+  share_at m = share_of (claimed m) m messages (rest_of rest)
+
+  -- a message or a module is left open
+  abbrev pub is_inside : Bool
+  is_inside = not (length rest == 0) || list_any (λ m. is_going (share_at m).progress) modules
+
+  abbrev pub connection_fault : Option FrameFault
+  connection_fault = fault_of (rest_of rest) cause is_inside
+
+  -- the items of module m
+  abbrev pub items_of : ℕ → List ItemView
+  items_of m = (share_at m).items ++ ends_of m (share_at m).progress connection_fault
+
+  abbrev pub strays_of : ℕ
+  strays_of = sum_by (λ m. (share_at m).strays) modules
+
+-- What a connection's whole text makes: the items of each module, the connection's fault, and its strays.
+pub record ItemsOf (bytes : List ℕ) (cause : Cause) (claimed : ℕ → Bool) (items : ℕ → List ItemView) (found : Option FrameFault) (strays : ℕ) : Type 0 where
+  pub messages : List Message
+  pub rest : List ℕ
+  pub cut : Cut bytes messages rest
+  pub items_are : (m : ℕ) → m < 16 → items m ≡ items_of messages rest cause claimed m
+  pub fault_is : found ≡ connection_fault messages rest cause claimed
+  pub strays_are : strays ≡ strays_of messages rest cause claimed

@@ -1,0 +1,58 @@
+-- What becomes of a module, by one plain pass over its items. (docs/DEFINITIONS.md, "Outcomes")
+use Rattle.std.specs.Prelude.{◌≡◌, ℕ, ◌≤◌, ◌==◌, if◌then◌else◌, List, [], ◌∷◌, ◌++◌, length, Option, Some, None, flat_map}
+use Rattle.lfi_queues.specs.Items.{ItemView}
+use Rattle.lfi_queues.specs.declared.item.Kind.{Kind}
+use Rattle.lfi_queues.specs.declared.item.Kind.TheVariants.{Page, End}
+use Rattle.lfi_queues.specs.declared.item.Reason.{Reason}
+use Rattle.lfi_queues.specs.declared.item.Reason.TheVariants.{Close, Lost, PageFault, NoMemory}
+use Rattle.lfi_rules.specs.declared.fault.Fault.{Fault}
+use Rattle.lfi_rules.specs.Faults.{FirstFault}
+use Rattle.lfi_rules.specs.Verdicts.{all_words}
+use Rattle.page_buf.specs.Spelled.{words_of}
+use Rattle.lfi_model.specs.declared.outcome.Outcome.{Outcome}
+use Rattle.lfi_model.specs.declared.outcome.Outcome.TheVariants as outcome
+use Rattle.lfi_model.specs.Items.{page_count}
+
+-- the pages of a module's items, each as its words
+abbrev pub page_of : Kind → List (List ℕ)
+page_of (Page bytes) = words_of bytes ∷ []
+page_of kind = []
+
+abbrev pub pages_of : List ItemView → List (List ℕ)
+pages_of items = flat_map (λ item. page_of item.kind) items
+
+-- why it ended, where it has
+abbrev pub reason_at : Kind → Option Reason → Option Reason
+reason_at (End reason) later = Some reason
+reason_at kind later = later
+
+abbrev pub end_of : List ItemView → Option Reason
+end_of [] = None
+end_of (item ∷ items) = reason_at item.kind (end_of items)
+
+-- the outcome of a module of n words, by its End, where there is no fault in its words
+abbrev pub by_end : ℕ → List ItemView → Reason → Outcome
+by_end n items Close =
+    if length (all_words (pages_of items)) == n then outcome.Complete n else outcome.Incomplete (length (pages_of items)) (page_count n)
+by_end n items (Lost fault) = outcome.Lost fault
+by_end n items (PageFault index) = outcome.PageFault index
+by_end n items NoMemory = outcome.NoMemory
+
+abbrev pub IsOutcome : ℕ → List ItemView → Option Fault → Outcome → Type 0
+IsOutcome n items (Some fault) result = result ≡ outcome.Refused fault
+IsOutcome n items None result = (reason : Reason) × (end_of items ≡ Some reason) × (result ≡ by_end n items reason)
+
+-- The outcome of a module of n words with these items.
+abbrev pub Load : ℕ → List ItemView → Outcome → Type 0
+Load n [] result = result ≡ outcome.Unused
+Load n (item ∷ items) result =
+    (fault : Option Fault) × FirstFault (all_words (pages_of (item ∷ items))) n fault × IsOutcome n (item ∷ items) fault result
+
+abbrev pub Begins : {A : Type 0} → List A → List A → Type 0
+Begins {A} us xs = (rest : List A) × (xs ≡ us ++ rest)
+
+-- us is the longest beginning of these pages, of a module of n words, that has no fault.
+pub record Placed (n : ℕ) (pages us : List (List ℕ)) : Type 0 where
+  pub beginning : Begins us pages
+  pub lawful : FirstFault (all_words us) n None
+  pub longest : (vs : List (List ℕ)) → Begins vs pages → FirstFault (all_words vs) n None → length vs ≤ length us

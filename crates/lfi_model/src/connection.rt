@@ -1,0 +1,23 @@
+//! What is known of one connection.
+
+/// What ended the input of a connection.
+#[derive(Clone, Copy, Debug, PartialEq, Eq)]
+pub enum Cause {
+    /// The input ended, or came to a header with a fault.
+    End,
+    /// A read failed.
+    Failed,
+    /// There was no memory for the page whose header came last.
+    Starved,
+}
+
+/// How far a connection has come with a module.
+#[derive(Clone, Copy, Debug, PartialEq, Eq)]
+pub enum Progress {
+    /// The connection hasn't claimed it.
+    Unclaimed,
+    /// It is open: so many words in all, and so many pages of it have come.
+    Going { words: u32, pages: u32 },
+    /// It has ended.
+    Over,
+}

@@ -1,0 +1,11 @@
+//! What receivers hand to verifiers: items, and the intake that carries them.
+#![tactic(auto)]
+
+pub mod intake;
+pub mod item;
+pub mod pass;
+
+pub use intake::Intake;
+pub use item::{Item, Kind, Reason};
+pub use pass::{PutPass, QueueId, TakePass};
+

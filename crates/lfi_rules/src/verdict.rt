@@ -1,0 +1,160 @@
+ghost use Rattle.std.specs.Prelude.{◌≡◌, ◌+◌, ◌≤◌, ℕ, List, [], ◌∷◌, ◌++◌, length, Some, None};
+
+use crate::fault::Fault;
+use crate::inspect::inspect;
+use a64_effects::{Need, meets, opens};
+use a64_word::{Words, decode};
+
+/// Which needs the first word of a page meets.
+#[derive(Clone, Copy, PartialEq, Eq, Debug)]
+pub struct HeadMeets {
+    pub call: bool,
+    pub guard: bool,
+    pub probe: bool,
+}
+
+/// What is known of a page by itself.
+#[derive(Clone, Copy, PartialEq, Eq, Debug)]
+pub struct PageVerdict {
+    /// The place of its first word in the module.
+    pub first: u32,
+    /// Its first fault by rules 1 to 9, and by rule 10 between two of its words.
+    pub inner: Option<Fault>,
+    pub head: HeadMeets,
+    /// What its last word opens.
+    pub tail: Need,
+}
+
+ghost use Rattle.lfi_rules.specs.Faults.{Opens, IsFirstInside, FirstFault};
+ghost use Rattle.lfi_rules.specs.Verdicts.{meets_in, IsHead, LeavesOpen, Judges, seam_of, earlier, closing};
+
+fn head_of(word: u32) -> HeadMeets
+    ensures { IsHead word result }
+{
+    match decode(word) {
+        Some(i) => HeadMeets {
+            call: meets(&i, Need::Call),
+            guard: meets(&i, Need::Guard),
+            probe: meets(&i, Need::Probe),
+        },
+        None => HeadMeets {
+            call: false,
+            guard: false,
+            probe: false,
+        },
+    }
+}
+
+fn tail_of(word: u32) -> Need
+    ensures { Opens word result }
+{
+    match decode(word) {
+        Some(i) => opens(&i),
+        None => Need::Nothing,
+    }
+}
+
+/// The first fault of words that stand in a module of n words from `first` on, and what they leave open.
+fn first_inside<W: Words>(words: &W, first: u32, n: u32) -> (Option<Fault>, Need)
+    requires room { first + length (W.words words.now) ≤ n }
+    requires most { n ≤ 4194304 }
+    ensures fault { IsFirstInside (W.words words.now) first n result.0 }
+    ensures left { result.0 ≡ None → LeavesOpen (W.words words.now) result.1 }
+{
+    let mut left = Need::Nothing;
+    for i in 0..words.count() {
+        let place = first + i as u32;
+        let (rule, opened) = inspect(words.word(i), left, place, n);
+        if let Some(rule) = rule {
+            return (Some(Fault { word: place, rule }), opened);
+        }
+        left = opened;
+    }
+    (None, left)
+}
+
+/// The verdict on the words of a page, which stand in a module of n words from `first` on.
+pub fn judge<W: Words>(words: &W, first: u32, n: u32) -> PageVerdict
+    requires some { 1 ≤ length (W.words words.now) }
+    requires room { first + length (W.words words.now) ≤ n }
+    requires most { n ≤ 4194304 }
+    ensures { Judges (W.words words.now) first n result }
+{
+    let (inner, _) = first_inside(words, first, n);
+    PageVerdict {
+        first,
+        inner,
+        head: head_of(words.word(0)),
+        tail: tail_of(words.word(words.count() - 1)),
+    }
+}
+
+fn meets_head(head: HeadMeets, need: Need) -> bool
+    ensures { result ≡ meets_in head need }
+{
+    match need {
+        Need::Nothing => true,
+        Need::Call => head.call,
+        Need::Guard => head.guard,
+        Need::Probe => head.probe,
+    }
+}
+
+/// The fault of a module that ends with an open need.
+fn closing(n: u32, need: Need) -> Option<Fault>
+    requires { 1 ≤ n }
+    ensures { result ≡ closing n need }
+{
+    match need {
+        Need::Nothing => None,
+        _ => Some(Fault {
+            word: n - 1,
+            rule: 10,
+        }),
+    }
+}
+
+fn earlier(fault: Fault, other: Option<Fault>) -> Option<Fault>
+    ensures { result ≡ earlier fault other }
+{
+    match other {
+        Some(other)
+            if other.word < fault.word || (other.word == fault.word && other.rule < fault.rule) =>
+            Some(other),
+        _ => Some(fault),
+    }
+}
+
+/// The first fault of a page after words that leave `tail` open.
+pub fn seam(tail: Need, v: &PageVerdict) -> Option<Fault>
+    ensures value { result ≡ seam_of tail v.now }
+    ensures first { (ws page : List ℕ) (n : ℕ) → IsFirstInside ws 0 n None → LeavesOpen ws tail
+        → Judges page (length ws) n v.now → IsFirstInside (ws ++ page) 0 n result }
+{
+    let found = if meets_head(v.head, tail) {
+        v.inner
+    } else {
+        earlier(
+            Fault {
+                word: v.first,
+                rule: 10,
+            },
+            v.inner,
+        )
+    };
+    found
+}
+
+/// The first fault of a module.
+pub fn check_all<W: Words>(words: &W) -> Option<Fault>
+    requires some { 1 ≤ length (W.words words.now) }
+    requires most { length (W.words words.now) ≤ 4194304 }
+    ensures { FirstFault (W.words words.now) (length (W.words words.now)) result }
+{
+    let n = words.count() as u32;
+    let (inner, left) = first_inside(words, 0, n);
+    if let Some(fault) = inner {
+        return Some(fault);
+    }
+    closing(n, left)
+}
