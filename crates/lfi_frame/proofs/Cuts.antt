@@ -188,7 +188,7 @@ cut_within (suc n) bytes few small = elim (whole_or (rest_of bytes)) [
       )
 ]
 
-header_stays : (bs more : List ℕ) → 12 ≤ length bs → header_at (bs ++ more) ≡ header_at bs
+pub header_stays : (bs more : List ℕ) → 12 ≤ length bs → header_at (bs ++ more) ≡ header_at bs
 header_stays [] more long = absurd (omega arith)
 header_stays (a ∷ []) more long = absurd (omega arith)
 header_stays (a ∷ b ∷ []) more long = absurd (omega arith)

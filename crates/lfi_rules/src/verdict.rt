@@ -8,8 +8,11 @@ use a64_word::{Words, decode};
 /// Which needs the first word of a page meets.
 #[derive(Clone, Copy, PartialEq, Eq, Debug)]
 pub struct HeadMeets {
+    /// It is the call through x30.
     pub call: bool,
+    /// It is the guard of x30 by itself.
     pub guard: bool,
+    /// It accesses memory at sp and offset 0.
     pub probe: bool,
 }
 
@@ -20,6 +23,7 @@ pub struct PageVerdict {
     pub first: u32,
     /// Its first fault by rules 1 to 9, and by rule 10 between two of its words.
     pub inner: Option<Fault>,
+    /// Which needs its first word meets.
     pub head: HeadMeets,
     /// What its last word opens.
     pub tail: Need,
@@ -73,7 +77,7 @@ fn first_inside<W: Words>(words: &W, first: u32, n: u32) -> (Option<Fault>, Need
     (None, left)
 }
 
-/// The verdict on the words of a page, which stand in a module of n words from `first` on.
+/// The verdict on the words of a page, which stand in a module of n words from the place `first` on.
 pub fn judge<W: Words>(words: &W, first: u32, n: u32) -> PageVerdict
     requires some { 1 ≤ length (W.words words.now) }
     requires room { first + length (W.words words.now) ≤ n }
@@ -125,7 +129,8 @@ fn earlier(fault: Fault, other: Option<Fault>) -> Option<Fault>
     }
 }
 
-/// The first fault of a page after words that leave `tail` open.
+/// The first fault of a page after words that have none and leave `tail` open: rule 10 at its first word comes after
+/// rules 1 to 9 there, and before any later word.
 pub fn seam(tail: Need, v: &PageVerdict) -> Option<Fault>
     ensures value { result ≡ seam_of tail v.now }
     ensures first { (ws page : List ℕ) (n : ℕ) → IsFirstInside ws 0 n None → LeavesOpen ws tail
@@ -145,7 +150,7 @@ pub fn seam(tail: Need, v: &PageVerdict) -> Option<Fault>
     found
 }
 
-/// The first fault of a module.
+/// The first fault of a module; None where it is lawful.
 pub fn check_all<W: Words>(words: &W) -> Option<Fault>
     requires some { 1 ≤ length (W.words words.now) }
     requires most { length (W.words words.now) ≤ 4194304 }

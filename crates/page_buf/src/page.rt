@@ -1,5 +1,5 @@
 //! Pages: open, while bytes are appended, and sealed, once no byte is written any more.
-ghost use Rattle.std.specs.Prelude.{◌≡◌, ℕ, ◌+◌, ◌-◌, ◌*◌, ◌<◌, ◌≤◌, List, [], ◌∷◌, ◌++◌, length, take, min, slice_index, MatchResult, IfOk};
+ghost use Rattle.std.specs.Prelude.{◌≡◌, ℕ, ◌+◌, ◌-◌, ◌*◌, ◌<◌, ◌≤◌, ◌==◌, List, [], ◌∷◌, ◌++◌, length, take, min, slice_index, MatchResult, IfOk};
 ghost use Rattle.page_buf.specs.Page.{IsWhole};
 ghost use Rattle.page_buf.specs.Spelled.{words_of};
 
@@ -8,8 +8,11 @@ use a64_word::Words;
 use std::alloc::{AllocError, Global};
 use std::marker::Model;
 
-/// The bytes of a page.
+/// The bytes of a page's memory.
 pub const PAGE_BYTES: usize = 4096;
+
+/// The bytes of a word.
+const WORD_BYTES: usize = 4;
 
 // A page's memory, which is given back at its end.
 struct Block {
@@ -23,12 +26,12 @@ struct Block {
 }
 
 impl Block {
-    fn push(&mut self, byte: u8)
-        requires { length self.old.bytes.written < 4096 }
-        ensures { self.new.bytes.written ≡ self.old.bytes.written ++ byte ∷ [] }
+    fn append(&mut self, source: &[u8])
+        requires { length self.old.bytes.written + length source.now ≤ 4096 }
+        ensures { self.new.bytes.written ≡ self.old.bytes.written ++ source.now }
     {
-        self.bytes.push(self.len, byte);
-        self.len += 1;
+        self.bytes.append(self.len, source);
+        self.len += source.len();
     }
 }
 
@@ -44,7 +47,9 @@ impl Drop for Block {
     }
 }
 
-/// A page to which bytes are appended.
+/// A page to which bytes are appended: 4,096 bytes of memory, of which the first have been written.
+///
+/// A contract sees it as the list of the bytes that were written. The memory is given back once, at the page's end.
 #[derive(Drop)]
 pub struct OpenPage {
     block: Block,
@@ -56,7 +61,9 @@ impl Model for OpenPage {
     ghost view = { λ p. p.block.bytes.written };
 }
 
-/// A page that is no longer written. It holds whole words, at least one.
+/// A page that is no longer written. It holds whole words of four bytes: 1 to 1,024 of them.
+///
+/// A contract sees it as the list of its bytes. The memory is given back once, at the page's end.
 #[derive(Drop)]
 pub struct SealedPage {
     block: Block,
@@ -71,9 +78,9 @@ impl Model for SealedPage {
 }
 
 impl OpenPage {
-    /// An empty page.
+    /// An empty page. `Err` only where the allocator refuses its 4,096 bytes.
     pub fn new(alloc: Global) -> Result<OpenPage, AllocError>
-        ensures { IfOk result (λ p. p ≡ []) }
+        ensures { IfOk result (λ page. page ≡ []) }
     {
         let Some((bytes, deed)) = RawBytes::take(&alloc, PAGE_BYTES) else {
             return Err(AllocError);
@@ -88,25 +95,38 @@ impl OpenPage {
         })
     }
 
-    /// Appends the beginning of `bytes` that fits, and answers its length.
+    /// How many bytes have been written, at most 4,096.
+    pub fn len(&self) -> usize
+        ensures count { result ≡ length self.now }
+        ensures most { result ≤ 4096 }
+    {
+        self.block.len
+    }
+
+    /// Whether no byte has been written.
+    pub fn is_empty(&self) -> bool
+        ensures { result ≡ (length self.now == 0) }
+    {
+        self.block.len == 0
+    }
+
+    /// Appends the beginning of `bytes` that fits behind what is written, and answers its length in bytes.
     pub fn write(&mut self, bytes: &[u8]) -> usize
         ensures count { result ≡ min (length bytes.now) (4096 - length self.old) }
         ensures appended { self.new ≡ self.old ++ take result bytes.now }
         ensures fits { length self.new ≤ 4096 }
     {
         let count = bytes.len().min(PAGE_BYTES - self.block.len);
-        for byte in &bytes[..count] {
-            self.block.push(*byte);
-        }
+        self.block.append(&bytes[..count]);
         count
     }
 
-    /// The page with what is written, no longer written, where that is whole words.
+    /// The same memory, no longer written. `Err` gives the page back, just where its length is 0 or no multiple of 4.
     pub fn seal(self) -> Result<SealedPage, OpenPage>
         ensures { MatchResult result (λ page. IsWhole self × (page ≡ self)) (λ page. ¬ (IsWhole self) × (page ≡ self)) }
     {
         let OpenPage { block } = self;
-        if block.len == 0 || block.len % 4 != 0 {
+        if block.len == 0 || block.len % WORD_BYTES != 0 {
             return Err(OpenPage { block });
         }
         Ok(SealedPage { block })
@@ -114,7 +134,7 @@ impl OpenPage {
 }
 
 impl SealedPage {
-    /// The bytes, without a copy.
+    /// The bytes, without a copy: 4 to 4,096, and a multiple of 4.
     pub fn bytes(&self) -> &[u8]
         ensures same { result.now ≡ self.now }
         ensures size { (length self.now ≤ 4096) × IsWhole self.now }
@@ -122,10 +142,13 @@ impl SealedPage {
         self.block.bytes.as_slice(self.block.len)
     }
 
+    /// How many words the page holds: 1 to 1,024.
+    #[tactic(auto, using(crate::proofs::Spelled::words_count))]
     pub fn len_words(&self) -> usize
-        ensures { result ≡ length (words_of self.now) }
+        ensures count { result ≡ length (words_of self.now) }
+        ensures range { (1 ≤ result) × (result ≤ 1024) }
     {
-        self.block.len / 4
+        self.block.len / WORD_BYTES
     }
 
     /// The word at `i`, its lowest byte first.
@@ -135,7 +158,7 @@ impl SealedPage {
         ensures { result ≡ slice_index (words_of self.now) i }
     {
         let bytes = self.bytes();
-        let at = 4 * i;
+        let at = WORD_BYTES * i;
         u32::from_le_bytes([bytes[at], bytes[at + 1], bytes[at + 2], bytes[at + 3]])
     }
 }

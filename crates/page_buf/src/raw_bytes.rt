@@ -1,7 +1,9 @@
 //! Raw memory: the functions here, and no others, touch a pointer.
-ghost use Rattle.std.specs.Prelude.{◌≡◌, ℕ, ◌<◌, List, [], ◌∷◌, ◌++◌, length, IfSome, ◌≤◌};
-ghost use denote.RawPtr.{Ptr};
-ghost use Rattle.page_buf.specs.Ownership.{Fits, bytes_of, raw_bytes_own, raw_bytes_lend};
+ghost use Rattle.std.specs.Prelude.{◌≡◌, ℕ, ◌+◌, ◌≤◌, List, [], ◌++◌, length, IfSome};
+ghost use Rattle.std.specs.Borrow.{full_share, sem};
+ghost use base.Fml.{Share, fsep};
+ghost use denote.RawPtr.{Ptr, room_for};
+ghost use Rattle.page_buf.specs.Ownership.{Fits, bytes_at, bytes_of, raw_bytes_own, raw_bytes_lend};
 
 use std::alloc::Allocator;
 use std::marker::{Model, PhantomData, Send};
@@ -60,12 +62,12 @@ impl RawBytes {
         unsafe { alloc.deallocate(ptr, size, 1) }
     }
 
-    /// Writes the byte at index `len`, the first that is not written.
-    pub(crate) fn push(&mut self, len: usize, byte: u8)
-        requires { (len ≡ length self.old.written) × (len < self.old.size) × Fits self.old.size }
-        ensures { (self.new.ptr ≡ self.old.ptr) × (self.new.size ≡ self.old.size) × (self.new.written ≡ self.old.written ++ byte ∷ []) }
+    /// Copies `source` behind the `len` bytes that are written.
+    pub(crate) fn append(&mut self, len: usize, source: &[u8])
+        requires { (len ≡ length self.old.written) × (len + length source.now ≤ self.old.size) × Fits self.old.size }
+        ensures { (self.new.ptr ≡ self.old.ptr) × (self.new.size ≡ self.old.size) × (self.new.written ≡ self.old.written ++ source.now) }
     {
-        unsafe { self.ptr.add(len).write(byte) }
+        unsafe { copy_bytes(source.as_ptr(), self.ptr.add(len), source.len()) }
     }
 
     /// Lends the bytes that are written.
@@ -74,5 +76,19 @@ impl RawBytes {
         ensures { result.now ≡ self.now.written }
     {
         unsafe { slice::from_raw_parts(self.ptr, len) }
+    }
+}
+
+/// Copies `count` bytes from `source` to `target`, where none is written yet. A share of the source is enough, as a `&` has it.
+unsafe fn copy_bytes(source: *const u8, target: *mut u8, count: usize)
+    ghost from: { Share × List ℕ }
+    requires sizes { (count ≡ length from.1) × Fits count }
+    requires* places { sem 𝓛 (fsep (bytes_at from.0 source from.1) (room_for (bytes_of count) target)) }
+    ensures* { sem 𝓛 (fsep (bytes_at from.0 source from.1) (bytes_at full_share target from.1)) }
+{
+    let mut i = 0;
+    while i < count {
+        unsafe { target.add(i).write(source.add(i).read()) };
+        i += 1;
     }
 }

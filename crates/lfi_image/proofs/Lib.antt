@@ -1,0 +1,7 @@
+pub mod Building
+pub mod Headers
+pub mod Pieces
+pub mod Runs
+pub mod Stays
+pub mod Whole
+pub mod Written

@@ -1,0 +1,70 @@
+-- Parts of buffers and lists, and the bytes of words.
+use Rattle.std.proofs.Common.{◌≡◌, ℕ, zero, suc, ◌+◌, ◌-◌, ◌*◌, ◌%◌, ◌<◌, ◌≤◌, List, [], ◌∷◌, ◌++◌, length, take, drop, get_or, slice_range, refl, sym, ◌∙◌, ap, subst, arith, append_assoc, append-nil, length-take-le, drop_at}
+use Rattle.std.specs.Int.{w32, to_le_bytes, from_le_bytes}
+use Rattle.std.proofs.lemmas.Nat.{le_bytes_4}
+use Rattle.std.proofs.lemmas.List.{take_rest}
+use Rattle.std.proofs.Common.{Option}
+use Rattle.std.specs.Io.KnownBytes.{Appends}
+use Rattle.std.proofs.KnownBytes.{Appends-trans}
+use borrow.Rule.Slice.PartMut.{put_mid, post_of}
+use lib.Seq.{take-add, take-append-le}
+use Rattle.page_buf.specs.Spelled.{words_of}
+use Rattle.page_buf.proofs.Spelled.{words_count}
+use Rattle.lfi_image.specs.Image.{code_of}
+
+pub take_split : (a b : ℕ) (old new : List ℕ) → a ≤ b → take a new ≡ take a old → take a old ++ slice_range new a b ≡ take b new
+take_split a b old new h front =
+    let same : a + (b - a) ≡ b = omega arith in
+    ap (λ l. l ++ slice_range new a b) (sym front) ∙ sym (take-add a (b - a) new) ∙ ap (λ n. take n new) same
+
+pub slice_range-put_mid : (a k n : ℕ) (xs ys : List ℕ) → a ≤ length xs → n ≤ length ys → slice_range (put_mid a k xs ys) a (a + n) ≡ take n ys
+slice_range-put_mid a k n xs ys within fits =
+    let same : (a + n) - a ≡ n = omega arith in
+    let after = post_of a k xs in
+    ap (take ((a + n) - a)) (drop_at (take a xs) (ys ++ after) a (length-take-le a xs within)) ∙ ap (λ m. take m (ys ++ after)) same ∙ take-append-le n ys after fits
+
+abbrev pub IsBytes : List ℕ → Type 0
+IsBytes xs = (i : ℕ) → get_or xs i 0 < 256
+
+four : (a b c d i : ℕ) → a < 256 → b < 256 → c < 256 → d < 256 → get_or (a ∷ b ∷ c ∷ d ∷ []) i 0 < 256
+four a b c d zero la lb lc ld = la
+four a b c d (suc zero) la lb lc ld = lb
+four a b c d (suc (suc zero)) la lb lc ld = lc
+four a b c d (suc (suc (suc zero))) la lb lc ld = ld
+four a b c d (suc (suc (suc (suc i)))) la lb lc ld = omega arith
+
+-- whole words spell their bytes again
+pub code_of_words : (xs : List ℕ) → length xs % 4 ≡ 0 → IsBytes xs → code_of (words_of xs) ≡ xs
+code_of_words (a ∷ b ∷ c ∷ d ∷ rest) whole small =
+    let word : to_le_bytes w32 (from_le_bytes w32 (a ∷ b ∷ c ∷ d ∷ [])) ≡ a ∷ b ∷ c ∷ d ∷ [] =
+    le_bytes_4 (a ∷ b ∷ c ∷ d ∷ []) _ refl (λ i. four a b c d i (small 0) (small 1) (small 2) (small 3)) refl in
+    ap (λ l. l ++ code_of (words_of rest)) word ∙ ap (λ l. a ∷ b ∷ c ∷ d ∷ l) (code_of_words rest (omega (arith, whole)) (λ i. small (suc (suc (suc (suc i))))))
+code_of_words (a ∷ b ∷ c ∷ []) whole small = absurd (omega (arith, whole))
+code_of_words (a ∷ b ∷ []) whole small = absurd (omega (arith, whole))
+code_of_words (a ∷ []) whole small = absurd (omega (arith, whole))
+code_of_words [] whole small = refl
+
+-- words one after another
+pub words_of-append : (xs ys : List ℕ) → length xs % 4 ≡ 0 → words_of (xs ++ ys) ≡ words_of xs ++ words_of ys
+words_of-append (a ∷ b ∷ c ∷ d ∷ rest) ys whole = ap (λ l. from_le_bytes w32 (a ∷ b ∷ c ∷ d ∷ []) ∷ l) (words_of-append rest ys (omega (arith, whole)))
+words_of-append (a ∷ b ∷ c ∷ []) ys whole = absurd (omega (arith, whole))
+words_of-append (a ∷ b ∷ []) ys whole = absurd (omega (arith, whole))
+words_of-append (a ∷ []) ys whole = absurd (omega (arith, whole))
+words_of-append [] ys whole = refl
+
+pub code_of-append : (ws vs : List ℕ) → code_of (ws ++ vs) ≡ code_of ws ++ code_of vs
+code_of-append [] vs = refl
+code_of-append (w ∷ ws) vs = ap (λ l. to_le_bytes w32 w ++ l) (code_of-append ws vs) ∙ sym (append_assoc (to_le_bytes w32 w) (code_of ws) (code_of vs))
+
+-- a writer that took the front of what was left
+pub grown : (a b c : Option (List ℕ)) (xs : List ℕ) (at n next : ℕ) → next ≡ at + n → Appends a b (take at xs) → Appends b c (take n (take (length xs - at) (drop at xs))) → Appends a c (take next xs)
+grown a b c xs at n next e before now =
+    subst (Appends a c) (ap (λ l. take at xs ++ take n l) (take_rest xs at) ∙ sym (take-add at n xs) ∙ ap (λ m. take m xs) (sym e)) (Appends-trans a b c _ _ before now)
+
+-- a writer that took nothing more
+pub grown_none : (a b c : Option (List ℕ)) (xs : List ℕ) → Appends a b xs → Appends b c [] → Appends a c xs
+grown_none a b c xs before now = subst (Appends a c) (append-nil xs) (Appends-trans a b c _ _ before now)
+
+-- a page has a word for four bytes
+pub word_count : (xs : List ℕ) (n : ℕ) → length xs ≡ 4 * n → length (words_of xs) ≡ n
+word_count xs n e = omega (arith, words_count xs, e)

@@ -1,0 +1,194 @@
+-- The code that has been read, page by page.
+use Rattle.std.proofs.Common.{◌≡◌, ℕ, zero, suc, ◌+◌, ◌-◌, ◌*◌, ◌/◌, ◌<◌, ◌≤◌, min, Bool, true, false, if◌then◌else◌, List, [], ◌∷◌, ◌++◌, length, take, Option, Some, None, refl, sym, ◌∙◌, ap, subst, arith, inl, inr, ◌⊎◌, length-append, append_assoc, append-nil}
+use Rattle.std.specs.Option.{IfSome}
+use Rattle.std.specs.Prelude.{nat_le}
+use Rattle.std.specs.Io.KnownBytes.{Consumes}
+use Rattle.std.proofs.KnownBytes.{Consumes-trans, Consumes-nil}
+use Rattle.std.proofs.lemmas.Bool.{cases_lt, leb-true, leb-false}
+use Rattle.page_buf.specs.Spelled.{words_of}
+use Rattle.page_buf.proofs.Spelled.{words_fit}
+use Rattle.lfi_rules.specs.declared.fault.Fault.{Fault}
+use Rattle.lfi_rules.specs.Faults.{FirstFault}
+use Rattle.lfi_image.specs.declared.fault.ImageFault.{ImageFault}
+use Rattle.lfi_image.specs.declared.fault.ImageFault.TheVariants.{Magic, Profile, Counts, Base, Truncated, More, Unlawful, NoMemory, Device}
+use Rattle.lfi_image.specs.Image.{Module, Image, header_of, code_of, FileOf}
+use Rattle.lfi_image.specs.Built.{due}
+use Rattle.lfi_image.specs.Reading.{count_in, header_fault, whole_pages, IsCodeFault, IsFault, of_header, of_code}
+use Rattle.lfi_image.specs.Steps.{ReadsPage, IsPageFault, IsRead}
+use Rattle.lfi_image.proofs.Pieces.{words_of-append, code_of-append, word_count}
+use Rattle.lfi_image.proofs.Stays.{fault_stays}
+
+pub read_more : (old mid new : Option (List ℕ)) (count : ℕ) (m after : Module) → IsRead old mid count m.words → ReadsPage mid new m after → m.count ≡ count → length m.words < count → IsRead old new count after.words
+read_more old mid new count m after read step same less =
+    let more = words_of step.page in
+    let size : length more ≡ due m = word_count step.page (due m) step.size in
+    let words : after.words ≡ m.words ++ more = ap words_at step.placed in
+    let grown = length-append m.words more in
+    let longer : length after.words ≡ length m.words + length more = ap length words ∙ grown in
+    let is_due : due m ≡ min 1024 (m.count - length m.words) = refl in
+    record {
+      code = read.code ++ step.page;
+      consumed = Consumes-trans old mid new read.code step.page read.consumed step.consumed;
+      spelled = words_of-append read.code step.page (omega (arith, read.size)) ∙ ap (λ l. l ++ more) read.spelled ∙ sym words;
+      back = ap code_of words ∙ code_of-append m.words more ∙ ap (λ l. l ++ code_of more) read.back ∙ ap (λ l. read.code ++ l) step.back;
+      size = omega (arith, length-append read.code step.page, read.size, step.size, size, longer);
+      within = omega (arith, longer, size, is_due, same, less);
+      pages = read.pages + 1;
+      whole = λ still. omega (arith, longer, size, is_due, same, still, read.whole less);
+      faultless = subst (λ l. FirstFault l count None) (sym words) (subst (λ n. FirstFault (m.words ++ more) n None) same step.faultless);
+    }
+  where
+    words_at : Module → List ℕ
+    words_at w = w.words
+
+pub read_nothing : (a : Option (List ℕ)) (count : ℕ) (ws : List ℕ) → ws ≡ [] → FirstFault [] count None → IsRead a a count ws
+read_nothing a count ws e none = subst (λ l. IsRead a a count l) (sym e) (record {
+  code = [];
+  consumed = Consumes-nil a;
+  spelled = refl;
+  back = refl;
+  size = refl;
+  within = omega arith;
+  pages = 0;
+  whole = λ _. refl;
+  faultless = none;
+})
+
+pub page_told : (old new : Option (List ℕ)) (page : List ℕ) (m : Module) (fault : Fault) → Consumes old new page → length page ≡ 4 * due m
+    → FirstFault (m.words ++ words_of page) m.count (Some fault) → IsPageFault old m (Unlawful fault)
+page_told None new page m fault consumed size first = tt
+page_told (Some xs) None page m fault consumed size first = absurd consumed
+page_told (Some xs) (Some ys) page m fault consumed size first = (page, ys, consumed, size, first)
+
+low_test : (n m : ℕ) → m < n → nat_le n m ≡ false
+low_test n m less = go (nat_le n m) refl
+  where
+    go : (b : Bool) → nat_le n m ≡ b → nat_le n m ≡ false
+    go true e = absurd (omega (arith, leb-true n m e, less))
+    go false e = e
+
+take_front : (xs ys : List ℕ) → take (length xs) (xs ++ ys) ≡ xs
+take_front [] ys = refl
+take_front (x ∷ xs) ys = ap (λ l. x ∷ l) (take_front xs ys)
+
+take_past : (front rest : List ℕ) (k : ℕ) → length front ≤ k → take k (front ++ rest) ≡ front ++ take (k - length front) rest
+take_past [] rest k low = ap (λ n. take n rest) (let e : k ≡ k - 0 = omega arith in e)
+take_past (x ∷ front) rest zero low = absurd (omega (arith, low))
+take_past (x ∷ front) rest (suc k) low = ap (λ l. x ∷ l) (take_past front rest k (omega (arith, low)) ∙ ap (λ n. front ++ take n rest) (let e : k - length front ≡ suc k - suc (length front) = omega arith in e))
+
+take_most : (k : ℕ) (xs : List ℕ) → length (take k xs) ≤ k
+take_most zero xs = omega arith
+take_most (suc k) [] = omega arith
+take_most (suc k) (x ∷ xs) = omega (arith, take_most k xs)
+
+-- The pages that are whole are those that were read, where the rest is no page.
+whole_is : (n pages : ℕ) (code rest : List ℕ) → length code ≡ 4096 * pages → length rest < 4096 → length code + length rest < 4 * n → whole_pages n (code ++ rest) ≡ code
+whole_is n pages code rest size less short =
+    let all : length (code ++ rest) ≡ length code + length rest = length-append code rest in
+    ap (λ b. if b then take (4 * n) (code ++ rest) else take (4096 * (length (code ++ rest) / 4096)) (code ++ rest)) (low_test (4 * n) (length (code ++ rest)) (omega (arith, all, short)))
+    ∙ ap (λ k. take k (code ++ rest)) (let e : 4096 * (length (code ++ rest) / 4096) ≡ length code = omega (arith, all, size, less) in e)
+    ∙ take_front code rest
+
+-- The pages that are whole begin with those that were read and one more.
+whole_begins : (n pages : ℕ) (front rest : List ℕ) → length front ≤ 4 * n → ((length front ≡ 4096 * pages) ⊎ (length front ≡ 4 * n))
+    → (more : List ℕ) × (whole_pages n (front ++ rest) ≡ front ++ more) × (length (whole_pages n (front ++ rest)) ≤ 4 * n)
+whole_begins n pages front rest fits even = by_test (nat_le (4 * n) (length text)) refl
+  where
+    text : List ℕ
+    text = front ++ rest
+
+    all : length (front ++ rest) ≡ length front + length rest
+    all = length-append front rest
+
+    cut : (k : ℕ) → length front ≤ k → k ≤ 4 * n → whole_pages n (front ++ rest) ≡ take k (front ++ rest)
+        → (more : List ℕ) × (whole_pages n (front ++ rest) ≡ front ++ more) × (length (whole_pages n (front ++ rest)) ≤ 4 * n)
+    cut k low high e = (take (k - length front) rest, e ∙ take_past front rest k low, omega (arith, ap length e, take_most k (front ++ rest), high))
+
+    by_test : (b : Bool) → nat_le (4 * n) (length (front ++ rest)) ≡ b
+        → (more : List ℕ) × (whole_pages n (front ++ rest) ≡ front ++ more) × (length (whole_pages n (front ++ rest)) ≤ 4 * n)
+    by_test true test = cut (4 * n) fits (omega arith) (ap (λ b. if b then take (4 * n) (front ++ rest) else take (4096 * (length (front ++ rest) / 4096)) (front ++ rest)) test)
+    by_test false test =
+        let short : length (front ++ rest) < 4 * n = omega (arith, leb-false (4 * n) (length (front ++ rest)) test) in
+        let low : length front ≤ 4096 * (length (front ++ rest) / 4096) = elim even [
+          | inl e ↦ omega (arith, e, all)
+          | inr e ↦ absurd (omega (arith, e, all, short))
+        ] in
+        cut (4096 * (length (front ++ rest) / 4096)) low (omega (arith, short)) (ap (λ b. if b then take (4 * n) (front ++ rest) else take (4096 * (length (front ++ rest) / 4096)) (front ++ rest)) test)
+
+-- what is wrong with a page is wrong with the code
+pub page_fault : (old mid : Option (List ℕ)) (count : ℕ) (m : Module) (fault : ImageFault) → IsRead old mid count m.words → m.count ≡ count → length m.words < count
+    → IsPageFault mid m fault → IfSome old (λ code. IsCodeFault count code fault)
+page_fault None mid count m fault read same less told = tt
+page_fault (Some xs) None count m fault read same less told = absurd read.consumed
+page_fault (Some xs) (Some ys) count m NoMemory read same less told = tt
+page_fault (Some xs) (Some ys) count m Device read same less told = tt
+page_fault (Some xs) (Some ys) count m Magic read same less told = absurd told
+page_fault (Some xs) (Some ys) count m Profile read same less told = absurd told
+page_fault (Some xs) (Some ys) count m Counts read same less told = absurd told
+page_fault (Some xs) (Some ys) count m Base read same less told = absurd told
+page_fault (Some xs) (Some ys) count m More read same less told = absurd told
+page_fault (Some xs) (Some ys) count m Truncated read same less told =
+    let is_due : due m ≡ min 1024 (m.count - length m.words) = refl in
+    let all : length xs ≡ length read.code + length ys = ap length read.consumed ∙ length-append read.code ys in
+    let short : length ys < 4 * due m = told in
+    let even : length read.code ≡ 4096 * read.pages = omega (arith, read.size, read.whole less) in
+    let whole : whole_pages count xs ≡ read.code = ap (whole_pages count) read.consumed ∙ whole_is count read.pages read.code ys even (omega (arith, short, is_due)) (omega (arith, short, is_due, same, less, read.size)) in
+    (subst (λ ws. FirstFault ws count None) (sym (ap words_of whole ∙ read.spelled)) read.faultless, omega (arith, all, short, is_due, same, less, read.size))
+page_fault (Some xs) (Some ys) count m (Unlawful fault) read same less told =
+    let page : List ℕ = told.0 in
+    let rest : List ℕ = told.1 in
+    let size : length page ≡ 4 * due m = told.3 in
+    let first : FirstFault (m.words ++ words_of page) m.count (Some fault) = told.4 in
+    let is_due : due m ≡ min 1024 (m.count - length m.words) = refl in
+    let front : List ℕ = read.code ++ page in
+    let long : length front ≡ length read.code + length page = length-append read.code page in
+    let text : xs ≡ front ++ rest = read.consumed ∙ ap (λ l. read.code ++ l) told.2 ∙ sym (append_assoc read.code page rest) in
+    let even : (length front ≡ 4096 * (read.pages + 1)) ⊎ (length front ≡ 4 * count) = elim (cases_lt (m.count - length m.words) 1024) [
+      | inl small ↦ inr (omega (arith, long, size, is_due, same, less, read.size, small))
+      | inr large ↦ inl (omega (arith, long, size, is_due, read.size, read.whole less, large))
+    ] in
+    let begins = whole_begins count (read.pages + 1) front rest (omega (arith, long, size, is_due, same, less, read.size)) even in
+    let more : List ℕ = begins.0 in
+    let words_front : words_of front ≡ m.words ++ words_of page = words_of-append read.code page (omega (arith, read.size)) ∙ ap (λ l. l ++ words_of page) read.spelled in
+    let words : words_of (whole_pages count xs) ≡ (m.words ++ words_of page) ++ words_of more =
+    ap (λ l. words_of (whole_pages count l)) text ∙ ap words_of begins.1 ∙ words_of-append front more (omega (arith, long, size, read.size)) ∙ ap (λ l. l ++ words_of more) words_front in
+    let fits : length ((m.words ++ words_of page) ++ words_of more) ≤ count = omega (arith, ap length words, words_fit (whole_pages count xs), ap (λ l. length (whole_pages count l)) text, begins.2) in
+    subst (λ ws. FirstFault ws count (Some fault)) (sym words) (fault_stays (m.words ++ words_of page) (words_of more) count fault fits (subst (λ n. FirstFault (m.words ++ words_of page) n (Some fault)) same first))
+
+-- what is wrong with the header, the code or the end is wrong with the file
+pub header_told : (old new : Option (List ℕ)) (header : List ℕ) (fault : ImageFault) → Consumes old new header → length header ≡ 24 → header_fault header ≡ Some fault
+    → IfSome old (λ bytes. IsFault bytes fault)
+header_told None new header fault consumed long told = tt
+header_told (Some xs) None header fault consumed long told = absurd consumed
+header_told (Some xs) (Some ys) header fault consumed long told = of_header header ys consumed long told
+
+pub code_told : (old new : Option (List ℕ)) (header : List ℕ) (n : ℕ) (fault : ImageFault) → Consumes old new header → length header ≡ 24 → header_fault header ≡ None → n ≡ count_in header
+    → IfSome new (λ code. IsCodeFault n code fault) → IfSome old (λ bytes. IsFault bytes fault)
+code_told None new header n fault consumed long none count told = tt
+code_told (Some xs) None header n fault consumed long none count told = absurd consumed
+code_told (Some xs) (Some ys) header n fault consumed long none count told = of_code header ys consumed long none (subst (λ k. IsCodeFault k ys fault) count told)
+
+pub more_told : (old new : Option (List ℕ)) (n : ℕ) (words : List ℕ) → IsRead old new n words → length words ≡ n → IfSome new (λ rest. 0 < length rest)
+    → IfSome old (λ code. IsCodeFault n code More)
+more_told None new n words read all some = tt
+more_told (Some xs) None n words read all some = absurd read.consumed
+more_told (Some xs) (Some ys) n words read all some =
+    let long : length xs ≡ length read.code + length ys = ap length read.consumed ∙ length-append read.code ys in
+    let begins = whole_begins n read.pages read.code ys (omega (arith, read.size, all)) (inr (omega (arith, read.size, all))) in
+    let size : length (whole_pages n (read.code ++ ys)) ≡ length read.code + length begins.0 = ap length begins.1 ∙ length-append read.code begins.0 in
+    let none : length begins.0 ≡ 0 = omega (arith, size, begins.2, read.size, all) in
+    let whole : whole_pages n xs ≡ read.code = ap (whole_pages n) read.consumed ∙ begins.1 ∙ nothing_more read.code begins.0 none in
+    (subst (λ ws. FirstFault ws n None) (sym (ap words_of whole ∙ read.spelled)) read.faultless, omega (arith, long, read.size, all, some))
+  where
+    nothing_more : (xs ms : List ℕ) → length ms ≡ 0 → xs ++ ms ≡ xs
+    nothing_more xs [] e = append-nil xs
+    nothing_more xs (m ∷ ms) e = absurd (omega (arith, e))
+
+pub file_told : (old mid new : Option (List ℕ)) (header : List ℕ) (n : ℕ) (words : List ℕ) (image : Image) → Consumes old mid header → IsRead mid new n words → IfSome new (λ rest. rest ≡ [])
+    → header ≡ header_of (length image.words) image.entry image.slot → words ≡ image.words → IfSome old (λ bytes. FileOf image bytes)
+file_told None mid new header n words image consumed read ended first same = tt
+file_told (Some xs) None new header n words image consumed read ended first same = absurd consumed
+file_told (Some xs) (Some ys) None header n words image consumed read ended first same = absurd read.consumed
+file_told (Some xs) (Some ys) (Some zs) header n words image consumed read ended first same =
+    let rest : ys ≡ code_of image.words = read.consumed ∙ ap (λ l. read.code ++ l) ended ∙ append-nil read.code ∙ sym read.back ∙ ap code_of same in
+    consumed ∙ (λ i. first i ++ rest i)

@@ -1,0 +1,45 @@
+-- One text after another, written.
+use Rattle.std.proofs.Common.{◌≡◌, ℕ, zero, suc, ◌+◌, ◌<◌, List, [], ◌∷◌, ◌++◌, length, take, drop, get_or, Option, Result, Ok, Err, refl, sym, ◌∙◌, ap, subst, arith, append_assoc, append-nil}
+use Rattle.std.specs.Io.KnownBytes.{Appends}
+use Rattle.std.proofs.KnownBytes.{Appends-trans}
+use Rattle.page_buf.specs.Spelled.{words_of}
+use Rattle.lfi_image.specs.declared.fault.ImageFault.{ImageFault}
+use Rattle.lfi_image.specs.Image.{code_of}
+use Rattle.lfi_image.specs.Built.{words_in}
+use Rattle.lfi_image.specs.Writing.{Writes}
+use Rattle.lfi_image.proofs.Pieces.{code_of-append}
+
+pub writes_after : (a b c : Option (List ℕ)) (xs ys : List ℕ) (r : Result (Unit {0}) ImageFault) → Appends a b xs → Writes b c ys r → Writes a c (xs ++ ys) r
+writes_after a b c xs ys (Ok x) p q = Appends-trans a b c xs ys p q
+writes_after a b c xs ys (Err fault) p q =
+    let e = q.1 in
+    (q.0, (xs ++ e.0, e.1, ap (λ l. xs ++ l) e.2 ∙ sym (append_assoc xs e.0 e.1), Appends-trans a b c xs e.0 p e.3))
+
+-- A fault comes with a beginning of all that was to be written.
+pub writes_before : (a b : Option (List ℕ)) (xs ys : List ℕ) (r s : Result (Unit {0}) ImageFault) (fault : ImageFault) → r ≡ Err fault → s ≡ Err fault → Writes a b xs r → Writes a b (xs ++ ys) s
+writes_before a b xs ys r s fault e d w = subst (Writes a b (xs ++ ys)) (sym d) (longer (subst (Writes a b xs) e w))
+  where
+    longer : Writes a b xs (Err fault) → Writes a b (xs ++ ys) (Err fault)
+    longer q = let p = q.1 in (q.0, (p.0, p.1 ++ ys, ap (λ l. l ++ ys) p.2 ∙ append_assoc p.0 p.1 ys, p.3))
+
+-- the words of the pages before a page, of it, and of those after it
+pub words_taken : (ps : List (List ℕ)) (at : ℕ) (d : List ℕ) → at < length ps → words_in (take (at + 1) ps) ≡ words_in (take at ps) ++ words_of (get_or ps at d)
+words_taken ps at d within = ap (λ n. words_in (take n ps)) (let e : at + 1 ≡ suc at = omega arith in e) ∙ taken ps at within
+  where
+    taken : (ps : List (List ℕ)) (at : ℕ) → at < length ps → words_in (take (suc at) ps) ≡ words_in (take at ps) ++ words_of (get_or ps at d)
+    taken [] at within = absurd (omega (arith, within))
+    taken (p ∷ ps) zero within = append-nil (words_of p)
+    taken (p ∷ ps) (suc at) within = ap (λ l. words_of p ++ l) (taken ps at (omega (arith, within))) ∙ sym (append_assoc (words_of p) (words_in (take at ps)) (words_of (get_or ps at d)))
+
+pub words_split : (ps : List (List ℕ)) (n : ℕ) → words_in ps ≡ words_in (take n ps) ++ words_in (drop n ps)
+words_split [] zero = refl
+words_split [] (suc n) = refl
+words_split (p ∷ ps) zero = refl
+words_split (p ∷ ps) (suc n) = ap (λ l. words_of p ++ l) (words_split ps n) ∙ sym (append_assoc (words_of p) (words_in (take n ps)) (words_in (drop n ps)))
+
+-- the code of the pages up to a page, and of it
+pub code_taken : (ps : List (List ℕ)) (at : ℕ) (d : List ℕ) → at < length ps → code_of (words_in (take at ps)) ++ code_of (words_of (get_or ps at d)) ≡ code_of (words_in (take (at + 1) ps))
+code_taken ps at d within = sym (code_of-append (words_in (take at ps)) (words_of (get_or ps at d))) ∙ ap code_of (sym (words_taken ps at d within))
+
+pub code_split : (ps : List (List ℕ)) (n : ℕ) → code_of (words_in (take n ps)) ++ code_of (words_in (drop n ps)) ≡ code_of (words_in ps)
+code_split ps n = sym (code_of-append (words_in (take n ps)) (words_in (drop n ps))) ∙ ap code_of (sym (words_split ps n))

@@ -1,0 +1,28 @@
+use Rattle.std.proofs.Common.{rules, ◌≡◌, ◌/◌, ◌%◌, ◌<◌, [], length, get_or, ap, sym, subst, ◌∙◌}
+use Rattle.std.specs.Vec.{vec_len}
+use Rattle.page_buf.specs.Spelled.{words_of}
+use Rattle.lfi_image.specs.Built.{words_in}
+use Rattle.lfi_image.proofs.Building.{word_of_page}
+use Rattle.lfi_image.proofs.builder.Builder.word.Goals as goal
+
+pub index-requires : goal.index-requires
+index-requires c =
+    let w : words_in c.self.inside.pages.items ≡ c.args.self.now.words = search rules in
+    let within : c.args.i < length (words_in c.self.inside.pages.items) = subst (λ l. c.args.i < length l) (sym w) c.requires in
+    let long : length c.self.inside.pages.items ≡ vec_len c.self.inside.pages = search rules in
+    subst (λ n. c.args.i / 1024 < n) long (word_of_page c.self.inside.pages.items c.self.invariant.0.full c.args.i [] within).0
+
+pub word-requires : goal.word-requires
+word-requires c =
+    let w : words_in c.self.inside.pages.items ≡ c.args.self.now.words = search rules in
+    let within : c.args.i < length (words_in c.self.inside.pages.items) = subst (λ l. c.args.i < length l) (sym w) c.requires in
+    let page : c.index.result.now ≡ get_or c.self.inside.pages.items (c.args.i / 1024) c.index.result.now = c.index.ensures in
+    subst (λ p. c.args.i % 1024 < length (words_of p)) (sym page) (word_of_page c.self.inside.pages.items c.self.invariant.0.full c.args.i c.index.result.now within).1
+
+pub returns : goal.returns
+returns c =
+    let w : words_in c.self.inside.pages.items ≡ c.args.self.now.words = search rules in
+    let within : c.args.i < length (words_in c.self.inside.pages.items) = subst (λ l. c.args.i < length l) (sym w) c.requires in
+    let page : c.index.result.now ≡ get_or c.self.inside.pages.items (c.args.i / 1024) c.index.result.now = c.index.ensures in
+    c.word.ensures ∙ ap (λ p. get_or (words_of p) (c.args.i % 1024) 0) page
+    ∙ (word_of_page c.self.inside.pages.items c.self.invariant.0.full c.args.i c.index.result.now within).2 ∙ ap (λ l. get_or l c.args.i 0) w

@@ -1,0 +1,28 @@
+use Rattle.std.proofs.Common.{rules, ◌≡◌, ◌++◌, Err, ap, ◌∙◌, subst, length}
+use Rattle.std.proofs.lemmas.Result.{err_from_is_err_and}
+use Rattle.std.specs.Io.KnownBytes.{Appends}
+use Rattle.lfi_image.specs.Image.{header_of, code_of}
+use Rattle.lfi_image.specs.Built.{words_in}
+use Rattle.lfi_image.specs.Writing.{Writes}
+use Rattle.lfi_image.proofs.Written.{writes_after, writes_before}
+use Rattle.lfi_image.proofs.writing.write_image.Goals as goal
+
+pub returns-in_err-write_bytes : goal.returns-in_err-write_bytes
+returns-in_err-write_bytes g c =
+    let image = c.args.image.now in
+    let head : c.encode.result ≡ header_of (length image.words) image.entry image.slot = search rules in
+    let p = err_from_is_err_and c.from_residual.result c.from_residual.ensures.1 in
+    let same : p.0 ≡ c.in_err-write_bytes.field-0.0 = p.2 in
+    writes_before (g.W.Write.contents c.args.writer.now) (g.W.Write.contents c.write_bytes.new.writer) (header_of (length image.words) image.entry image.slot) (code_of image.words)
+    c.write_bytes.result c.from_residual.result c.in_err-write_bytes.field-0.0 c.in_err-write_bytes.was (p.1 ∙ ap (λ f. Err f) same)
+    (subst (λ l. Writes (g.W.Write.contents c.args.writer.now) (g.W.Write.contents c.write_bytes.new.writer) l c.write_bytes.result) head c.write_bytes.ensures)
+
+pub returns : goal.returns
+returns g c =
+    let image = c.args.image.now in
+    let words : words_in c.pages.result.now ≡ image.words = c.pages.ensures in
+    let head : c.encode.result ≡ header_of (length image.words) image.entry image.slot = search rules in
+    let first : Appends (g.W.Write.contents c.args.writer.now) (g.W.Write.contents c.write_bytes.new.writer) c.encode.result = c.in_ok-write_bytes.ensures in
+    subst (λ l. Writes (g.W.Write.contents c.args.writer.now) (g.W.Write.contents c.write_pages.new.writer) (header_of (length image.words) image.entry image.slot ++ code_of l) c.write_pages.result) words
+    (writes_after (g.W.Write.contents c.args.writer.now) (g.W.Write.contents c.write_bytes.new.writer) (g.W.Write.contents c.write_pages.new.writer) (header_of (length image.words) image.entry image.slot) (code_of (words_in c.pages.result.now)) c.write_pages.result
+    (subst (λ l. Appends (g.W.Write.contents c.args.writer.now) (g.W.Write.contents c.write_bytes.new.writer) l) head first) c.write_pages.ensures)

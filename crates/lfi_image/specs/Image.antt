@@ -1,0 +1,53 @@
+-- Modules that are put together, images, and the files of images. Their format is this project's own (docs/DEFINITIONS.md, "Image files").
+use Rattle.std.specs.Prelude.{◌≡◌, ℕ, ◌+◌, ◌*◌, ◌^◌, ◌<◌, List, [], ◌∷◌, ◌++◌, length, slice_index, flat_map}
+use Rattle.byteorder.specs.Endian.{little_bytes}
+use Rattle.lfi_rules.specs.Faults.{Lawful}
+
+-- a module of `count` words, of which the first have been placed
+pub record Module : Type 0 where
+  pub count : ℕ
+  pub entry : ℕ
+  pub slot : ℕ
+  pub words : List ℕ
+
+-- a whole module
+pub record Image : Type 0 where
+  pub entry : ℕ
+  pub slot : ℕ
+  pub words : List ℕ
+
+-- Its words are lawful, its entry is one of them, and it is for one of the 16 slots.
+pub record IsImage (image : Image) : Type 0 where
+  pub lawful : Lawful image.words
+  pub entry : image.entry < length image.words
+  pub slot : image.slot < 16
+
+-- a list of words of 32 bits
+abbrev pub AreWords : List ℕ → Type 0
+AreWords words = (i : ℕ) → slice_index words i < 2 ^ 32
+
+-- where a slot begins
+abbrev pub base_of : ℕ → ℕ
+base_of slot = (2 * slot + 1) * 2 ^ 32
+
+-- `LFI1`
+abbrev pub magic : List ℕ
+magic = 0x4C ∷ 0x46 ∷ 0x49 ∷ 0x31 ∷ []
+
+abbrev pub profile : ℕ
+profile = 1
+
+-- what stands before the code, 24 bytes; all numbers are little-endian
+abbrev pub header_of : (count entry slot : ℕ) → List ℕ
+header_of count entry slot =
+    magic ++ little_bytes 4 count ++ little_bytes 4 entry ++ little_bytes 4 profile ++ little_bytes 8 (base_of slot)
+
+abbrev pub code_of : List ℕ → List ℕ
+code_of words = flat_map (little_bytes 4) words
+
+abbrev pub file_of : Image → List ℕ
+file_of image = header_of (length image.words) image.entry image.slot ++ code_of image.words
+
+-- The bytes are those of the image's file.
+abbrev pub FileOf : Image → List ℕ → Type 0
+FileOf image bytes = bytes ≡ file_of image

@@ -1,0 +1,6 @@
+pub mod Image
+pub mod Reading
+pub mod Built
+pub mod Writing
+pub mod Steps
+pub mod Numbers

@@ -1,0 +1,59 @@
+-- Which fault a file has. What is asked, and in which order, is this project's own (docs/DEFINITIONS.md, "Image files").
+use Rattle.std.specs.Prelude.{◌≡◌, ℕ, ◌*◌, ◌/◌, ◌^◌, ◌<◌, ◌==◌, nat_lt, nat_le, not, ◌||◌, ◌&&◌, Bool, if◌then◌else◌, List, ◌++◌, length, take, drop, Option, Some, None, ⊤}
+use Rattle.byteorder.specs.Endian.{little_number}
+use Rattle.page_buf.specs.Spelled.{words_of}
+use Rattle.lfi_rules.specs.Faults.{FirstFault}
+use Rattle.lfi_image.specs.declared.fault.ImageFault.{ImageFault}
+use Rattle.lfi_image.specs.declared.fault.ImageFault.TheVariants.{Magic, Profile, Counts, Base, Truncated, More, Unlawful, NoMemory, Device}
+use Rattle.lfi_image.specs.Image.{base_of, magic, profile}
+
+-- the fields of a header
+abbrev pub count_in : List ℕ → ℕ
+count_in header = little_number 4 (drop 4 header)
+
+abbrev pub entry_in : List ℕ → ℕ
+entry_in header = little_number 4 (drop 8 header)
+
+abbrev pub profile_in : List ℕ → ℕ
+profile_in header = little_number 4 (drop 12 header)
+
+abbrev pub base_in : List ℕ → ℕ
+base_in header = little_number 8 (drop 16 header)
+
+-- the slot that begins at a base, where one does
+abbrev pub slot_at : ℕ → ℕ
+slot_at base = base / 2 ^ 33
+
+abbrev pub is_base : ℕ → Bool
+is_base base = nat_lt (slot_at base) 16 && base == base_of (slot_at base)
+
+-- the first fault of a file's header
+unfoldable pub header_fault : List ℕ → Option ImageFault
+header_fault header =
+    if not (little_number 4 header == little_number 4 magic) then Some Magic
+    else if not (profile_in header == profile) then Some Profile
+    else if count_in header == 0 || nat_lt 4194304 (count_in header) || nat_le (count_in header) (entry_in header) then Some Counts
+    else if not (is_base (base_in header)) then Some Base
+    else None
+
+-- The code of n words is read by pages of 4,096 bytes. These are the bytes of the pages that are there whole.
+abbrev pub whole_pages : ℕ → List ℕ → List ℕ
+whole_pages n code = if nat_le (4 * n) (length code) then take (4 * n) code else take (4096 * (length code / 4096)) code
+
+-- the fault of what follows a header for n words; memory can run out and the device can fail at any time
+abbrev pub IsCodeFault : ℕ → List ℕ → ImageFault → Type 0
+IsCodeFault n code (Unlawful fault) = FirstFault (words_of (whole_pages n code)) n (Some fault)
+IsCodeFault n code Truncated = FirstFault (words_of (whole_pages n code)) n None × (length code < 4 * n)
+IsCodeFault n code More = FirstFault (words_of (whole_pages n code)) n None × (4 * n < length code)
+IsCodeFault n code NoMemory = ⊤
+IsCodeFault n code Device = ⊤
+IsCodeFault n code _ = ⊥
+
+-- The fault of a file, in the order of reading: the header, then page by page, then the end.
+pub data IsFault (bytes : List ℕ) (fault : ImageFault) : Type 0 where
+  no_memory : fault ≡ NoMemory → IsFault bytes fault
+  device : fault ≡ Device → IsFault bytes fault
+  short : fault ≡ Truncated → length bytes < 24 → IsFault bytes fault
+  of_header : (header rest : List ℕ) → bytes ≡ header ++ rest → length header ≡ 24 → header_fault header ≡ Some fault → IsFault bytes fault
+  of_code : (header code : List ℕ) → bytes ≡ header ++ code → length header ≡ 24 → header_fault header ≡ None
+      → IsCodeFault (count_in header) code fault → IsFault bytes fault

@@ -1,0 +1,6 @@
+pub mod Messages
+pub mod AllModules
+pub mod Pages
+pub mod Loads
+pub mod Sized
+pub mod Reporting

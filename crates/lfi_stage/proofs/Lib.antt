@@ -1,0 +1,7 @@
+pub mod Books
+pub mod Events
+pub mod Holding
+pub mod Standing
+pub mod Placings
+pub mod Reporting
+pub mod Settling

@@ -1,0 +1,24 @@
+use Rattle.std.proofs.Common.{rules, ◌≡◌, ◌≢◌, ◌∙◌, Some, None, refl, sym, subst, ap, ◌++◌, [], take, drop, List, ℕ}
+use Rattle.lfi_frame.proofs.Feeding.{nothing_after}
+use Rattle.lfi_stage.specs.declared.receiver.Begun.TheVariants as begun_kind
+use Rattle.lfi_stage.specs.Receivers.{StandsFor}
+use Rattle.lfi_stage.proofs.Standing.{begun, starved}
+use Rattle.lfi_stage.proofs.receiver.Receiver.begin.Goals as goal
+
+pub returns-in-Stray-clause-stands : goal.returns-in-Stray-clause-stands
+returns-in-Stray-clause-stands c = λ ms rest holds feed faultless twelve is.
+    let q = c.page.new.self in
+    let none : q.cause ≡ None = ap (λ z. z.cause) c.page.ensures.rest ∙ c.requires.running in
+    let other : c.page.result ≢ begun_kind.Starved = λ e. absurd (let is' = c.in-Stray.is in cc) in
+    begun c.args.self.now q ms rest (ap (λ z. z.feed) c.page.ensures.rest) none feed faultless (c.page.ensures.holds other ms rest holds is (nothing_after rest twelve))
+
+pub returns-in-Awaited-clause-stands : goal.returns-in-Awaited-clause-stands
+returns-in-Awaited-clause-stands c = λ ms rest holds feed faultless twelve is.
+    let q = c.page.new.self in
+    let none : q.cause ≡ None = ap (λ z. z.cause) c.page.ensures.rest ∙ c.requires.running in
+    let other : c.page.result ≢ begun_kind.Starved = λ e. absurd (let is' = c.in-Awaited.is in cc) in
+    begun c.args.self.now q ms rest (ap (λ z. z.feed) c.page.ensures.rest) none feed faultless (c.page.ensures.holds other ms rest holds is (nothing_after rest twelve))
+
+pub returns-in-Starved-clause-stands : goal.returns-in-Starved-clause-stands
+returns-in-Starved-clause-stands c = λ ms rest holds feed faultless twelve is.
+    starved c.args.self.now _ ms rest c.args.«module» c.args.index c.args.len refl refl feed is (c.page.ensures.agrees ms holds) (c.page.ensures.claims ms holds)

@@ -1,0 +1,16 @@
+use Rattle.std.proofs.Common.{rules, ◌≡◌, ◌∙◌, ◌+◌, Some, sym, subst, ap}
+use Rattle.lfi_queues.specs.declared.item.Kind.TheVariants.{End}
+use Rattle.lfi_model.specs.Items.{item_of, reason_of}
+use Rattle.lfi_stage.specs.declared.modules.OpenModule.{OpenModule}
+use Rattle.lfi_stage.specs.Receivers.{StandsFor}
+use Rattle.lfi_stage.proofs.Standing.{end_due}
+use Rattle.lfi_stage.proofs.receiver.Receiver.end_next.Goals as goal
+
+pub returns-in-Some-first_going-clause-stands : goal.returns-in-Some-first_going-clause-stands
+returns-in-Some-first_going-clause-stands c = λ bytes stands.
+    let r = c.args.self.now in
+    let due : OpenModule = c.in-Some-first_going.«open» in
+    let some : r.fault ≡ Some c.in-Some.fault = search rules in
+    let hand = c.over.ensures.hand ∙ ap (λ reason. Some (item_of due.number (due.pages + 1) due.words (End reason))) c.reason_of.ensures in
+    subst (λ q. StandsFor q bytes) (sym (c.over.ensures.rest ∙ ap (λ h. record r { modules = c.over.new.self.modules; hand = h }) hand))
+    (end_due r c.over.new.self.modules bytes c.in-Some.fault due.number due.words due.pages c.requires.free c.requires.ended some c.in-Some-first_going.ensures.«open» c.over.ensures.modules stands)

@@ -1,0 +1,69 @@
+use Rattle.std.proofs.Common.{rules, ◌≡◌, ◌∷◌, [], ◌++◌, ◌+◌, ◌∙◌, sym, subst, true, false, ap, refl, Some}
+use Rattle.lfi_frame.specs.Streams.{unfinished, rest_of}
+use Rattle.lfi_queues.specs.declared.item.Kind.TheVariants.{End}
+use Rattle.lfi_queues.specs.declared.item.Reason.TheVariants.{PageFault}
+use Rattle.lfi_model.specs.declared.connection.Progress.TheVariants.{Going, Over}
+use Rattle.lfi_model.specs.Items.{is_due}
+use Rattle.lfi_stage.specs.Places.{progress_at}
+use Rattle.lfi_stage.specs.Receivers.{Agrees, Holds, made_by, claimed_by}
+use Rattle.lfi_stage.proofs.Events.{IsShut, header_stray, header_undue, claims_kept}
+use Rattle.lfi_stage.proofs.Holding.{stray_page, undue_page, due_page, due_agrees, undue_agrees, shut_by}
+use Rattle.lfi_stage.proofs.receiver.Receiver.page.Goals as goal
+
+pub returns-in_default : goal.returns-in_default
+returns-in_default c =
+    let r = c.args.self.now in
+    let shut : IsShut (progress_at r.modules c.args.«module») = subst IsShut c.at.ensures.at (shut_by _ c.in_default.not-Going) in
+    record {
+      agrees = λ ms holds.
+          subst (λ q. Agrees q.modules (made_by q) q.strays ms (unfinished c.args.«module» c.args.index c.args.len)) (sym c.stray.ensures)
+          (header_stray r.modules (made_by r) r.strays ms c.args.«module» c.args.index c.args.len holds.agrees c.requires.in_range.0 shut);
+      holds = λ _ ms rest holds is none.
+          subst (λ q. Holds q ms rest) (sym c.stray.ensures) (stray_page r ms rest c.args.«module» c.args.index c.args.len c.requires.in_range.0 shut holds is);
+      claims = λ ms holds m. ap (λ q. claimed_by q m) c.stray.ensures ∙ holds.opens.claims m;
+      hand = λ _. ap (λ q. q.hand) c.stray.ensures ∙ c.requires.free;
+      rest = search rules;
+    }
+
+pub returns-then-not-is_due-clause-agrees : goal.returns-then-not-is_due-clause-agrees
+returns-then-not-is_due-clause-agrees c = λ ms holds.
+    let r = c.args.self.now in
+    let was : progress_at r.modules c.args.«module» ≡ Going c.in-Going.words c.in-Going.pages = search rules in
+    let undue : is_due c.in-Going.words c.in-Going.pages c.args.index c.args.len ≡ false = sym c.is_due.ensures ∙ c.if-not-is_due.true in
+    subst (λ q. Agrees q.modules (made_by q) q.strays ms (unfinished c.args.«module» c.args.index c.args.len)) (sym (c.over.ensures.rest ∙ ap (λ h. record r { modules = c.over.new.self.modules; hand = h }) c.over.ensures.hand))
+    (undue_agrees r c.over.new.self.modules ms c.args.«module» c.in-Going.words c.in-Going.pages c.args.index c.args.len c.requires.free was undue c.over.ensures.modules holds)
+
+pub returns-then-not-is_due-clause-holds : goal.returns-then-not-is_due-clause-holds
+returns-then-not-is_due-clause-holds c = λ _ ms rest holds is none.
+    let r = c.args.self.now in
+    let was : progress_at r.modules c.args.«module» ≡ Going c.in-Going.words c.in-Going.pages = search rules in
+    let undue : is_due c.in-Going.words c.in-Going.pages c.args.index c.args.len ≡ false = sym c.is_due.ensures ∙ c.if-not-is_due.true in
+    subst (λ q. Holds q ms rest) (sym (c.over.ensures.rest ∙ ap (λ h. record r { modules = c.over.new.self.modules; hand = h }) c.over.ensures.hand))
+    (undue_page r c.over.new.self.modules ms rest c.args.«module» c.in-Going.words c.in-Going.pages c.args.index c.args.len c.requires.free was undue c.over.ensures.modules holds is)
+
+pub returns-in-Ok-clause-holds : goal.returns-in-Ok-clause-holds
+returns-in-Ok-clause-holds c = λ _ ms rest holds is none.
+    let r = c.args.self.now in
+    let was : progress_at r.modules c.args.«module» ≡ Going c.in-Going.words c.in-Going.pages = search rules in
+    let due : is_due c.in-Going.words c.in-Going.pages c.args.index c.args.len ≡ true = sym c.is_due.ensures ∙ c.if-not-is_due.false in
+    due_page r _ ms rest c.args.«module» c.in-Going.words c.in-Going.pages c.args.index c.args.len was due refl refl refl c.in-Ok.ensures holds is none
+
+pub returns-then-not-is_due-clause-claims : goal.returns-then-not-is_due-clause-claims
+returns-then-not-is_due-clause-claims c = λ ms holds m.
+    let r = c.args.self.now in
+    let was : progress_at r.modules c.args.«module» ≡ Going c.in-Going.words c.in-Going.pages = search rules in
+    claims_kept r.modules c.over.new.self.modules c.args.«module» (Going c.in-Going.words c.in-Going.pages) Over was c.over.ensures.modules refl m ∙ holds.opens.claims m
+
+pub returns-in-Ok-clause-agrees : goal.returns-in-Ok-clause-agrees
+returns-in-Ok-clause-agrees c = λ ms holds.
+    let r = c.args.self.now in
+    let was : progress_at r.modules c.args.«module» ≡ Going c.in-Going.words c.in-Going.pages = search rules in
+    let due : is_due c.in-Going.words c.in-Going.pages c.args.index c.args.len ≡ true = sym c.is_due.ensures ∙ c.if-not-is_due.false in
+    due_agrees r ms c.args.«module» c.in-Going.words c.in-Going.pages c.args.index c.args.len was due holds
+
+pub returns-in-Err-clause-agrees : goal.returns-in-Err-clause-agrees
+returns-in-Err-clause-agrees c = λ ms holds.
+    let r = c.args.self.now in
+    let was : progress_at r.modules c.args.«module» ≡ Going c.in-Going.words c.in-Going.pages = search rules in
+    let due : is_due c.in-Going.words c.in-Going.pages c.args.index c.args.len ≡ true = sym c.is_due.ensures ∙ c.if-not-is_due.false in
+    due_agrees r ms c.args.«module» c.in-Going.words c.in-Going.pages c.args.index c.args.len was due holds

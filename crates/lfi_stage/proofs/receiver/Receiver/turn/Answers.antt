@@ -1,0 +1,23 @@
+use Rattle.std.proofs.Common.{rules, ◌≡◌, ◌∙◌, Some, sym, subst, ap, ◌++◌, [], take}
+use Rattle.std.proofs.lemmas.List.{append-nil}
+use Rattle.lfi_stage.specs.Receivers.{StandsFor}
+use Rattle.lfi_stage.proofs.Standing.{put_on}
+use Rattle.lfi_stage.proofs.receiver.Receiver.turn.Goals as goal
+
+pub returns-then-is_some-clause-stands : goal.returns-then-is_some-clause-stands
+returns-then-is_some-clause-stands c = λ bytes stands.
+    let q = c.put_hand.new.self in
+    subst (λ l. StandsFor q l) (sym (append-nil bytes)) (subst (λ z. StandsFor z bytes) (sym c.put_hand.ensures.rest) (put_on c.args.self.now q.pass q.hand bytes c.put_hand.ensures.made stands))
+
+pub returns-then-end_next-clause-stands : goal.returns-then-end_next-clause-stands
+returns-then-end_next-clause-stands c = λ bytes stands.
+    let q = c.put_hand-then-end_next.new.self in
+    let r = c.end_next.new.self in
+    subst (λ l. StandsFor q l) (sym (append-nil bytes))
+    (subst (λ z. StandsFor z bytes) (sym c.put_hand-then-end_next.ensures.rest) (put_on r q.pass q.hand bytes c.put_hand-then-end_next.ensures.made (c.end_next.ensures.stands bytes stands)))
+
+pub returns-then-is_some-3-clause-stands : goal.returns-then-is_some-3-clause-stands
+returns-then-is_some-3-clause-stands c = λ bytes stands.
+    let q = c.put_hand-then-is_some-3.new.self in
+    subst (λ z. StandsFor z (bytes ++ take c.read-used.result.0 c.args.piece.now)) (sym c.put_hand-then-is_some-3.ensures.rest)
+    (put_on c.read-used.new.self q.pass q.hand (bytes ++ take c.read-used.result.0 c.args.piece.now) c.put_hand-then-is_some-3.ensures.made (c.read-used.ensures.stands bytes stands))

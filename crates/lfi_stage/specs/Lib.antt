@@ -1,0 +1,10 @@
+pub mod Places
+pub mod Coming
+pub mod Turns
+pub mod Receivers
+pub mod Shares
+pub mod Verifiers
+pub mod Verified
+pub mod Claims
+pub mod Tells
+pub mod Reports

@@ -1,0 +1,76 @@
+//! The page whose payload is coming, and which page is due.
+
+ghost use Rattle.std.specs.Prelude.{◌≡◌, ◌≢◌, ℕ, ◌+◌, ◌-◌, ◌*◌, ◌<◌, ◌≤◌, ◌++◌, length, take, IfOk, IfErr, Some};
+ghost use Rattle.lfi_stage.specs.Coming.{IsComing};
+ghost use Rattle.lfi_queues.specs.declared.item.Kind.TheVariants.{Page};
+ghost use Rattle.lfi_model.specs.Items.{is_due, page_count, page_len, item_of};
+
+use crate::modules::OpenModule;
+use lfi_queues::{Item, Kind};
+use page_buf::OpenPage;
+
+/// How many pages a module of so many words has.
+pub(crate) fn page_count(words: u32) -> u32
+    ensures { result ≡ page_count words }
+{
+    words.div_ceil(1024)
+}
+
+/// Whether page `index` of `len` bytes is the next one due of a module.
+pub(crate) fn is_due(module: &OpenModule, index: u32, len: u32) -> bool
+    ensures { result ≡ is_due «module».now.words «module».now.pages index len }
+{
+    let words = u64::from(module.words);
+    let rest = (4 * words).saturating_sub(4096 * u64::from(index));
+    index == module.pages && index < page_count(module.words) && u64::from(len) == rest.min(4096)
+}
+
+/// The page whose payload is coming: the next one due of its module.
+#[derive(Drop)]
+pub(crate) struct Coming {
+    pub(crate) module: u16,
+    pub(crate) words: u32,
+    pub(crate) pages: u32,
+    /// How many bytes are still to come.
+    pub(crate) left: u32,
+    pub(crate) page: OpenPage,
+    ghost coming: { IsComing «module» words pages left page },
+}
+
+impl Coming {
+    /// The page's item once these bytes make it whole; else the page with them.
+    pub(crate) fn add(self, bytes: &[u8]) -> Result<Item, Coming>
+        ensures whole { IfOk result (λ item. (self.left ≤ length bytes.now) × (item ≡ item_of self.«module» (self.pages + 1) self.words (Page (self.page ++ take self.left bytes.now)))) }
+        ensures part { IfErr result (λ page. (length bytes.now < self.left) × (page.page ≡ self.page ++ bytes.now)) }
+        ensures same { IfErr result (λ page. (page.«module» ≡ self.«module») × (page.words ≡ self.words) × (page.pages ≡ self.pages)) }
+    {
+        let Coming {
+            module,
+            words,
+            pages,
+            left,
+            mut page,
+        } = self;
+        let count = bytes.len().min(left as usize);
+        page.write(&bytes[..count]);
+        let left = left - count as u32;
+        if left > 0 {
+            return Err(Coming {
+                module,
+                words,
+                pages,
+                left,
+                page,
+            });
+        }
+        match page.seal() {
+            Ok(page) => Ok(Item {
+                module,
+                ordinal: pages + 1,
+                words,
+                kind: Kind::Page(page),
+            }),
+            Err(_) => unreachable!(),
+        }
+    }
+}

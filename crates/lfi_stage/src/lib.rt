@@ -1,0 +1,11 @@
+//! The stage: receivers turn the bytes of connections into items, verifiers judge and place them,
+//! and `settle` tells what became of each module.
+#![tactic(auto)]
+
+mod coming;
+pub mod modules;
+pub mod receiver;
+pub mod shared;
+pub mod verifier;
+pub mod report;
+pub mod settle;

@@ -1,0 +1,437 @@
+//! The receiver, which turns the bytes of one connection into items.
+
+ghost use Rattle.std.specs.Prelude.{◌≡◌, ◌≢◌, ℕ, ◌+◌, ◌-◌, ◌<◌, ◌≤◌, ◌==◌, ◌%◌, ◌^◌, ◌⊎◌, min, ◌↔◌, List, [], ◌∷◌, ◌++◌, length, take, drop, true, false, Some, None, IsSome, IsNone, IsTrue, option_to_list, if◌then◌else◌, flat_map, ◌||◌, ◌&&◌, not, nat_le};
+ghost use Rattle.lfi_stage.specs.Claims.{claims_in};
+ghost use Rattle.lfi_frame.specs.Feeds.{FeedStands, feed_fault};
+ghost use Rattle.lfi_stage.specs.Shares.{intake_of};
+ghost use Rattle.lfi_frame.specs.declared.fault.FrameFault.{FrameFault};
+ghost use Rattle.lfi_frame.specs.Streams.{Message, open_message, page_message, close_message, rest_of, unfinished, spelling, IsMessage};
+ghost use Rattle.lfi_queues.specs.declared.item.Kind.TheVariants.{End};
+ghost use Rattle.lfi_model.specs.declared.connection.Progress.{Progress};
+ghost use Rattle.lfi_model.specs.declared.connection.Progress.TheVariants.{Going, Over};
+ghost use Rattle.lfi_model.specs.Items.{item_of, reason_of, fault_by_cause};
+ghost use Rattle.lfi_stage.specs.Places.{progress_at, IsPossible};
+
+use crate::coming::{Coming, is_due};
+use crate::modules::{Modules, OpenModule};
+use crate::shared::Shared;
+use lfi_frame::{Feed, FrameFault, Got, Step};
+use lfi_model::{Cause, Progress};
+use lfi_queues::{Item, Kind, PutPass, Reason};
+use page_buf::OpenPage;
+use std::alloc::Global;
+
+/// What a turn did.
+#[derive(Clone, Copy, Debug, PartialEq, Eq)]
+pub enum Turn {
+    /// It used bytes, and no item came of them; or it was given none.
+    More,
+    /// It put an item.
+    Put,
+    /// It used a header that is a stray.
+    Stray,
+    /// The intake refused the item, which stays in hand.
+    Blocked,
+    /// The input has ended, and all its items are put.
+    Finished,
+}
+
+/// What a page's header brought.
+#[derive(Clone, Copy, PartialEq, Eq)]
+enum Begun {
+    /// It is a stray.
+    Stray,
+    /// Its payload is kept or passed over.
+    Awaited,
+    /// There is no memory for its payload.
+    Starved,
+}
+
+/// The End of a module that is open when its connection ends with a fault.
+fn reason_of(fault: FrameFault) -> Reason
+    ensures { result ≡ reason_of fault }
+{
+    match fault {
+        FrameFault::NoMemory => Reason::NoMemory,
+        fault => Reason::Lost(fault),
+    }
+}
+
+/// The receiver of one connection.
+#[derive(Drop)]
+pub struct Receiver {
+    alloc: Global,
+    feed: Feed,
+    pass: PutPass,
+    modules: Modules,
+    /// Whether an Open has come: the first alone can claim its module.
+    opened: bool,
+    coming: Option<Coming>,
+    /// The item that is to be put next.
+    hand: Option<Item>,
+    cause: Option<Cause>,
+    fault: Option<FrameFault>,
+    strays: u64,
+}
+
+impl Receiver {
+    /// The most words of a module that is claimed.
+    const MOST_WORDS: u32 = 1024;
+
+    ghost use Rattle.lfi_stage.specs.declared.receiver.Begun.TheVariants as begun;
+    ghost use Rattle.lfi_stage.specs.declared.receiver.Turn.TheVariants as turn;
+    ghost use Rattle.lfi_stage.specs.Turns.{PutsAsTold};
+    ghost use Rattle.lfi_stage.specs.Receivers.{pass_of, claimed_by, cause_of, hand_of, fault_of, strays_at, made_by, cause_after, Agrees, Awaits, IsUnopened, Holds, StandsFor, IsFinished, due_of, AfterEnd};
+
+    /// A receiver of which no byte has come, with its pass.
+    pub(crate) fn new(alloc: Global, pass: PutPass) -> Receiver
+        requires { pass.items ≡ [] }
+        ensures stands { StandsFor result [] }
+        ensures pass { pass_of result ≡ pass }
+    {
+        Receiver {
+            alloc,
+            feed: Feed::new(),
+            pass,
+            modules: Modules::new(),
+            opened: false,
+            coming: None,
+            hand: None,
+            cause: None,
+            fault: None,
+            strays: 0,
+        }
+    }
+
+    /// Puts what is in hand, or keeps it there where the intake refuses it.
+    fn put_hand(&mut self, shared: &mut Shared) -> Turn
+        requires held { IsSome self.old.hand }
+        requires part { self.old.pass.queue ≡ shared.old.intake.queue }
+        ensures puts { PutsAsTold result self.old.pass self.new.pass shared.old.intake shared.new.intake }
+        ensures once { (result ≡ turn.Put) ⊎ (result ≡ turn.Blocked) }
+        ensures made { made_by self.new ≡ made_by self.old }
+        ensures hand { IsSome self.new.hand ↔ (result ≡ turn.Blocked) }
+        ensures due { result ≡ turn.Put → due_of self.new + 1 ≡ due_of self.old }
+        ensures rest { self.new ≡ record self.old { pass = self.new.pass; hand = self.new.hand } }
+    {
+        let Some(item) = self.hand.take() else {
+            return Turn::More;
+        };
+        match shared.intake.put(&mut self.pass, item) {
+            Ok(()) => Turn::Put,
+            Err(item) => {
+                self.hand = Some(item);
+                Turn::Blocked
+            }
+        }
+    }
+
+    /// Counts a stray.
+    fn stray(&mut self)
+        ensures { self.new ≡ record self.old { strays = min (self.old.strays + 1) (2 ^ 64 - 1) } }
+    {
+        self.strays = self.strays.saturating_add(1);
+    }
+
+    /// The End of an open module comes into the hand.
+    fn over(&mut self, ended: OpenModule, reason: Reason)
+        requires free { self.old.hand ≡ None }
+        requires in_range { ended.number < 16 }
+        requires possible { IsPossible (Going ended.words ended.pages) }
+        ensures hand { self.new.hand ≡ Some (item_of ended.number (ended.pages + 1) ended.words (End reason)) }
+        ensures modules { (m : ℕ) → progress_at self.new.modules m ≡ (if m == ended.number then Over else progress_at self.old.modules m) }
+        ensures rest { self.new ≡ record self.old { modules = self.new.modules; hand = self.new.hand } }
+    {
+        self.modules.set(ended.number, Progress::Over);
+        self.hand = Some(Item {
+            module: ended.number,
+            ordinal: ended.pages + 1,
+            words: ended.words,
+            kind: Kind::End(reason),
+        });
+    }
+
+    /// Whether an Open of a module of so many words claims it.
+    fn may_claim(&self, words: u32) -> bool
+        ensures { result ≡ (not self.now.opened && nat_le words 1024) }
+    {
+        !self.opened && words <= Self::MOST_WORDS
+    }
+
+    /// An Open: it claims its module where it is the connection's first and the module has one
+    /// page at the most; else it is a stray, which the answer tells.
+    fn open(&mut self, module: u16, words: u32, entry: u32) -> bool
+        requires free { self.old.hand ≡ None }
+        requires in_range { («module» < 16) × (words ≤ 4194304) × (entry < words) }
+        ensures holds { (messages : List Message) → Holds self.old messages [] → Holds self.new (messages ++ open_message «module» words entry ∷ []) [] }
+        ensures hand { IsTrue result → self.new.hand ≡ None }
+        ensures rest { self.new ≡ record self.old { modules = self.new.modules; opened = true; hand = self.new.hand; strays = self.new.strays } }
+    {
+        let claims = self.may_claim(words);
+        self.opened = true;
+        if !claims {
+            self.stray();
+            return true;
+        }
+        self.modules.set(module, Progress::Going { words, pages: 0 });
+        self.hand = Some(Item {
+            module,
+            ordinal: 0,
+            words,
+            kind: Kind::Open { entry },
+        });
+        false
+    }
+
+    /// A Close: it ends its module where that is open; else it is a stray, which the answer tells.
+    fn close(&mut self, module: u16) -> bool
+        requires free { self.old.hand ≡ None }
+        requires in_range { «module» < 16 }
+        ensures holds { (messages : List Message) → Holds self.old messages [] → Holds self.new (messages ++ close_message «module» ∷ []) [] }
+        ensures hand { IsTrue result → self.new.hand ≡ None }
+        ensures rest { self.new ≡ record self.old { modules = self.new.modules; hand = self.new.hand; strays = self.new.strays } }
+    {
+        match self.modules.at(module) {
+            Progress::Going { words, pages } => {
+                let open = OpenModule {
+                    number: module,
+                    words,
+                    pages,
+                };
+                self.over(open, Reason::Close);
+                false
+            }
+            _ => {
+                self.stray();
+                true
+            }
+        }
+    }
+
+    /// The header of page `index` with `len` payload bytes: it is the one due of an open module
+    /// and its payload is awaited, or it ends its module; or it is a stray.
+    fn page(&mut self, module: u16, index: u32, len: u32) -> Begun
+        requires free { self.old.hand ≡ None }
+        requires in_range { («module» < 16) × (0 < len) × (len ≤ 4096) × (len % 4 ≡ 0) }
+        ensures agrees { (messages : List Message) → Holds self.old messages [] → Agrees self.new.modules (made_by self.new) self.new.strays messages (unfinished «module» index len) }
+        ensures holds { result ≢ begun.Starved → (messages : List Message) (rest : List ℕ) → Holds self.old messages [] → rest_of rest ≡ unfinished «module» index len → drop 12 rest ≡ [] → Holds self.new messages rest }
+        ensures claims { (messages : List Message) → Holds self.old messages [] → (m : ℕ) → claimed_by self.new m ≡ claims_in messages m }
+        ensures hand { result ≡ begun.Stray → self.new.hand ≡ None }
+        ensures rest { self.new ≡ record self.old { modules = self.new.modules; coming = self.new.coming; hand = self.new.hand; strays = self.new.strays } }
+    {
+        let Progress::Going { words, pages } = self.modules.at(module) else {
+            self.stray();
+            return Begun::Stray;
+        };
+        let ended = OpenModule {
+            number: module,
+            words,
+            pages,
+        };
+        if !is_due(&ended, index, len) {
+            self.over(ended, Reason::PageFault(index));
+            return Begun::Awaited;
+        }
+        match OpenPage::new(self.alloc) {
+            Ok(page) => {
+                self.coming = Some(Coming {
+                    module,
+                    words,
+                    pages,
+                    left: len,
+                    page,
+                });
+                Begun::Awaited
+            }
+            Err(_) => Begun::Starved,
+        }
+    }
+
+    /// Payload bytes of the page whose header came last.
+    fn payload(&mut self, bytes: &[u8])
+        requires free { self.old.hand ≡ None }
+        ensures goes_on { (messages : List Message) (rest : List ℕ) (m index len : ℕ) → Holds self.old messages rest → rest_of rest ≡ unfinished m index len → rest_of (rest ++ bytes.now) ≡ unfinished m index len
+            → Holds self.new messages (rest ++ bytes.now) }
+        ensures ends { (messages : List Message) (rest : List ℕ) (m index len : ℕ) → Holds self.old messages rest → rest_of rest ≡ unfinished m index len → length (drop 12 rest ++ bytes.now) ≡ len
+            → Holds self.new (messages ++ page_message m index (drop 12 rest ++ bytes.now) ∷ []) [] }
+        ensures rest { self.new ≡ record self.old { modules = self.new.modules; coming = self.new.coming; hand = self.new.hand } }
+    {
+        let Some(coming) = self.coming.take() else {
+            return;
+        };
+        let module = coming.module;
+        let progress = Progress::Going {
+            words: coming.words,
+            pages: coming.pages + 1,
+        };
+        match coming.add(bytes) {
+            Ok(item) => {
+                self.modules.set(module, progress);
+                self.hand = Some(item);
+            }
+            Err(coming) => {
+                self.coming = Some(coming);
+            }
+        }
+    }
+
+    /// Goes on in the bytes, up to the end of a header or a payload: how many it used, and
+    /// whether they are a stray.
+    fn read(&mut self, piece: &[u8]) -> (usize, bool)
+        requires free { self.old.hand ≡ None }
+        requires running { self.old.cause ≡ None }
+        ensures used { result.0 ≤ length piece.now }
+        ensures stands { (bytes : List ℕ) → StandsFor self.old bytes → StandsFor self.new (bytes ++ take result.0 piece.now) }
+        ensures pass { self.new.pass ≡ self.old.pass }
+        ensures stray { IsTrue result.1 → self.new.hand ≡ None }
+    {
+        match self.feed.feed(piece) {
+            Ok(Step { used, got }) => match got {
+                Got::More => (used, false),
+                Got::Open {
+                    module,
+                    words,
+                    entry,
+                } => (used, self.open(module, words, entry)),
+                Got::Page { module, index, len } => (used, self.begin(module, index, len)),
+                Got::Payload { .. } => {
+                    self.payload(&piece[..used]);
+                    (used, false)
+                }
+                Got::Close { module } => (used, self.close(module)),
+            },
+            Err((used, fault)) => {
+                self.fault = Some(fault);
+                self.cause = Some(Cause::End);
+                (used, false)
+            }
+        }
+    }
+
+    /// The header of a page; where there is no memory for its payload the input is over. The
+    /// answer tells whether it is a stray.
+    fn begin(&mut self, module: u16, index: u32, len: u32) -> bool
+        requires free { self.old.hand ≡ None }
+        requires running { self.old.cause ≡ None }
+        requires in_range { («module» < 16) × (0 < len) × (len ≤ 4096) × (len % 4 ≡ 0) }
+        ensures stands { (messages : List Message) (rest : List ℕ) → Holds self.old messages [] → FeedStands self.old.feed messages rest → feed_fault self.old.feed ≡ None
+            → length rest ≡ 12 → rest_of rest ≡ unfinished «module» index len → StandsFor self.new (flat_map spelling messages ++ rest) }
+        ensures pass { self.new.pass ≡ self.old.pass }
+        ensures stray { IsTrue result → self.new.hand ≡ None }
+    {
+        match self.page(module, index, len) {
+            Begun::Stray => true,
+            Begun::Awaited => false,
+            Begun::Starved => {
+                self.feed.stop(FrameFault::NoMemory);
+                self.fault = Some(FrameFault::NoMemory);
+                self.cause = Some(Cause::Starved);
+                false
+            }
+        }
+    }
+
+    /// The End that is due next comes into the hand, if there is one.
+    fn end_next(&mut self) -> bool
+        requires free { self.old.hand ≡ None }
+        requires ended { IsSome self.old.cause }
+        ensures stands { (bytes : List ℕ) → StandsFor self.old bytes → StandsFor self.new bytes }
+        ensures pass { self.new.pass ≡ self.old.pass }
+        ensures some { IsTrue result ↔ IsSome self.new.hand }
+        ensures due { due_of self.new ≡ due_of self.old }
+        ensures claimed { (m : ℕ) → claimed_by self.new m ≡ claimed_by self.old m }
+        ensures cause { self.new.cause ≡ self.old.cause }
+        ensures none { result ≡ false → (self.new ≡ self.old) × IsFinished self.old }
+    {
+        let Some(fault) = self.fault else {
+            return false;
+        };
+        match self.modules.first_going() {
+            Some(open) => {
+                self.over(open, reason_of(fault));
+                true
+            }
+            None => false,
+        }
+    }
+
+    /// One turn: it puts the item in hand, or an End that is due; or it goes on in the bytes of
+    /// the piece, up to the end of a header or a payload, and puts the item that came of them.
+    /// It answers how many bytes it used, and what it did. Give it what it didn't use again.
+    pub fn turn(&mut self, shared: &mut Shared, piece: &[u8]) -> (usize, Turn)
+        requires { (pass_of self.old).queue ≡ (intake_of shared.old).queue }
+        ensures used { result.0 ≤ length piece.now }
+        ensures stands { (bytes : List ℕ) → StandsFor self.old bytes → StandsFor self.new (bytes ++ take result.0 piece.now) }
+        ensures puts { PutsAsTold result.1 (pass_of self.old) (pass_of self.new) (intake_of shared.old) (intake_of shared.new) }
+        ensures hand { IsSome (hand_of self.new) ↔ (result.1 ≡ turn.Blocked) }
+        ensures finished { result.1 ≡ turn.Finished → IsFinished self.new }
+        ensures ended { IsSome (cause_of self.old) → AfterEnd self.old self.new result.0 result.1 }
+    {
+        if self.hand.is_some() {
+            return (0, self.put_hand(shared));
+        }
+        if self.cause.is_some() {
+            return if self.end_next() {
+                (0, self.put_hand(shared))
+            } else {
+                (0, Turn::Finished)
+            };
+        }
+        let (used, stray) = self.read(piece);
+        if stray {
+            (used, Turn::Stray)
+        } else if self.hand.is_some() {
+            (used, self.put_hand(shared))
+        } else {
+            (used, Turn::More)
+        }
+    }
+
+    /// Tells the end of the input, or that a read of it failed. A second call, or one after a
+    /// fault, changes nothing.
+    pub fn end(&mut self, failed: bool)
+        ensures stands { (bytes : List ℕ) → StandsFor self.old bytes → StandsFor self.new bytes }
+        ensures ended { cause_of self.new ≡ Some (cause_after (cause_of self.old) failed) }
+        ensures again { IsSome (cause_of self.old) → self.new ≡ self.old }
+        ensures pass { pass_of self.new ≡ pass_of self.old }
+        ensures hand { hand_of self.new ≡ hand_of self.old }
+        ensures claimed { claimed_by self.new ≡ claimed_by self.old }
+    {
+        if self.cause.is_some() {
+            return;
+        }
+        let unfinished = self.feed.end().is_err();
+        let going = self.modules.first_going().is_some();
+        let (cause, fault) = ended_by(failed, unfinished, going);
+        self.fault = fault;
+        self.cause = Some(cause);
+    }
+
+    /// The connection's fault, once it has come to one.
+    pub fn fault(&self) -> Option<FrameFault>
+        ensures { result ≡ fault_of self.now }
+    {
+        self.fault
+    }
+
+    /// How many strays have come; it stays at the greatest number.
+    pub fn strays(&self) -> u64
+        ensures { result ≡ strays_at self.now }
+    {
+        self.strays
+    }
+}
+
+/// What the end of the input means, where a message or a module may be left open.
+fn ended_by(failed: bool, unfinished: bool, going: bool) -> (Cause, Option<FrameFault>)
+    ensures cause { result.0 ≡ (if failed then Cause.Failed else Cause.End) }
+    ensures fault { result.1 ≡ fault_by_cause result.0 (unfinished || going) }
+{
+    if failed {
+        (Cause::Failed, Some(FrameFault::ReadFailed))
+    } else if unfinished || going {
+        (Cause::End, Some(FrameFault::Ended))
+    } else {
+        (Cause::End, None)
+    }
+}

@@ -1,0 +1,9 @@
+//! What all parts of a stage share.
+
+use lfi_queues::Intake;
+
+/// What all parts of a stage share.
+#[derive(Drop)]
+pub struct Shared {
+    pub(crate) intake: Intake,
+}
