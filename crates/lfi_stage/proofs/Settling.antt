@@ -1,6 +1,7 @@
 -- What a put and a take after each other do, and what is kept of one pass of each kind.
-use Rattle.std.proofs.Common.{rules, arith, ◌≡◌, ◌≢◌, ℕ, ◌+◌, ◌-◌, ◌^◌, ◌<◌, zero, suc, List, [], ◌∷◌, ◌++◌, length, length-append, take, get_or, min, Option, Some, None, IsSome, true, false, option_to_list, refl, sym, ◌∙◌, ap, subst}
-use Rattle.std.specs.Prelude.{sum, slice_get, slice_index}
+use Rattle.std.proofs.Common.{rules, arith, ◌≡◌, ◌≢◌, ℕ, ◌+◌, ◌-◌, ◌^◌, ◌<◌, zero, suc, List, [], ◌∷◌, ◌++◌, length, length-append, length-drop, take, drop, get_or, min, Option, Some, None, IsSome, true, false, option_to_list, refl, sym, ◌∙◌, ap, subst}
+use Rattle.std.proofs.Math.Seq.{take-length}
+use Rattle.std.specs.Prelude.{sum, slice_get, slice_index, is_some}
 use Rattle.lfi_frame.specs.Streams.{Message, Cut}
 use Rattle.lfi_frame.proofs.Cuts.{only}
 use Rattle.lfi_queues.specs.Kept.{Kept}
@@ -20,13 +21,15 @@ use Rattle.lfi_stage.proofs.Books.{numbered}
 use Rattle.lfi_stage.proofs.Holding.{idle_items}
 use Rattle.std.proofs.lemmas.List.{append-nil}
 use Rattle.lfi_queues.specs.Items.{ItemView}
-use Rattle.lfi_queues.specs.Passes.{PassView, QueueView}
+use Rattle.lfi_queues.specs.Passes.{PassView, QueueView, IsSamePass}
+use Rattle.lfi_stage.specs.declared.receiver.Turn.{Turn}
+use Rattle.lfi_stage.specs.declared.receiver.Turn.TheVariants as turn
 use Rattle.lfi_model.specs.declared.connection.Cause.{Cause}
 use Rattle.lfi_stage.specs.declared.receiver.Receiver.{Receiver}
 use Rattle.lfi_stage.specs.declared.verifier.Turn.{Turn as VerifierTurn}
 use Rattle.lfi_stage.specs.declared.verifier.Turn.TheVariants.{Worked, Idle}
 use Rattle.lfi_stage.specs.Receivers.{StandsFor, StandsBy, Ends, IsFinished, claimed_by, cause_after}
-use Rattle.lfi_stage.specs.Turns.{PutsItem, TakesAsTold}
+use Rattle.lfi_stage.specs.Turns.{PutsItem, PutsAsTold, TakesAsTold}
 
 -- a take from an intake that holds one item
 pub record TakesOne (old new : PassView) (item : ItemView) (before after : QueueView) : Type 0 where
@@ -166,3 +169,54 @@ settled rs rs' vs vs' r r' v v' intake report last_r last_v one_r one_v parts ke
     let kept' : Kept (puts_of (r ∷ [])) (takes_of (v ∷ [])) intake.held = subst (λ l. Kept (puts_of l) (takes_of (v ∷ [])) intake.held) rs_is (subst (λ l. Kept (puts_of rs) (takes_of l) intake.held) vs_is kept) in
     let mine : StandsFor r (texts 0) = all_stand 0 r (ap (λ l. slice_get l 0) rs_is) in
     subst (λ l. Reports l texts report) (sym rs_is) (settled_one r r' v v' intake texts report parts' kept' (stands (texts 0) mine) finished ended claims handled all told fault strays)
+
+-- A receiver's turn on an empty intake.
+pub record AfterTurn (t : Turn) (r q : PassView) (v : List ItemView) (before after : QueueView) : Type 0 where
+  pub items : q.items ≡ v ++ after.held
+  pub free : t ≢ turn.Blocked
+  pub pass : IsSamePass r q
+  pub intake : after.queue ≡ before.queue
+
+same_items : (r q : PassView) (v : List ItemView) (before after : QueueView) → (q ≡ r) × (after ≡ before) → before.held ≡ [] → r.items ≡ v → (q.items ≡ v ++ after.held) × IsSamePass r q × (after.queue ≡ before.queue)
+same_items r q v before after told none same = (
+  ap (λ p. p.items) told.0 ∙ same ∙ sym (append-nil v) ∙ ap (λ l. v ++ l) (sym (ap (λ z. z.held) told.1 ∙ none)),
+  record { queue = ap (λ p. p.queue) told.0; number = ap (λ p. p.number) told.0 },
+  ap (λ z. z.queue) told.1,
+)
+
+pub after_turn : (t : Turn) (r q : PassView) (v : List ItemView) (before after : QueueView) → PutsAsTold t r q before after → before.held ≡ [] → r.items ≡ v → AfterTurn t r q v before after
+after_turn turn.Put r q v before after told none same = record {
+  items = ap (λ p. p.items) told.1 ∙ (λ i. same i ++ told.0 ∷ []) ∙ ap (λ l. v ++ l) (sym (ap (λ z. z.held) told.2 ∙ ap (λ l. l ++ told.0 ∷ []) none));
+  free = λ e. absurd (cc);
+  pass = record { queue = ap (λ p. p.queue) told.1; number = ap (λ p. p.number) told.1 };
+  intake = ap (λ z. z.queue) told.2;
+}
+after_turn turn.Blocked r q v before after told none same = absurd (let full = told.2 in let l = ap length none in omega arith)
+after_turn turn.More r q v before after told none same = (let s = same_items r q v before after told none same in record { items = s.0; free = λ e. absurd (cc); pass = s.1; intake = s.2 })
+after_turn turn.Stray r q v before after told none same = (let s = same_items r q v before after told none same in record { items = s.0; free = λ e. absurd (cc); pass = s.1; intake = s.2 })
+after_turn turn.Finished r q v before after told none same = (let s = same_items r q v before after told none same in record { items = s.0; free = λ e. absurd (cc); pass = s.1; intake = s.2 })
+
+pub same_pass : (a b c : PassView) → IsSamePass a b → IsSamePass b c → IsSamePass a c
+same_pass a b c f g = record { queue = g.queue ∙ f.queue; number = g.number ∙ f.number }
+
+takes_nothing : (m : ℕ) (xs : List ℕ) → xs ≡ [] → take m xs ≡ []
+takes_nothing zero xs none = refl
+takes_nothing (suc m) [] none = refl
+takes_nothing (suc m) (x ∷ xs) none = absurd (let l = ap length none in omega arith)
+
+-- a piece from a place to the end
+pub piece_is : (n : ℕ) (xs : List ℕ) → take (length xs - n) (drop n xs) ≡ drop n xs
+piece_is n xs = ap (λ k. take k (drop n xs)) (sym (length-drop n xs)) ∙ take-length (drop n xs)
+
+-- a text that goes on by a part of the rest
+pub take_on : (n k : ℕ) (xs : List ℕ) → take n xs ++ take k (drop n xs) ≡ take (n + k) xs
+take_on zero k xs = (let e : k ≡ 0 + k = omega arith in ap (λ m. take m xs) e)
+take_on (suc n) k [] = takes_nothing k [] refl ∙ sym (takes_nothing (suc n + k) [] refl)
+take_on (suc n) k (x ∷ xs) = (let e : suc (n + k) ≡ suc n + k = omega arith in ap (λ l. x ∷ l) (take_on n k xs) ∙ ap (λ m. take m (x ∷ xs)) e)
+
+pub rest_left : (n : ℕ) (xs : List ℕ) → n < length xs → drop n xs ≢ []
+rest_left n xs less none = absurd (let l = ap length none in let d = length-drop n xs in omega arith)
+
+pub not_some : {A : Type 0} (o : Option A) → (is_some o ≡ true → ⊥) → o ≡ None
+not_some None h = refl
+not_some (Some x) h = absurd (h refl)

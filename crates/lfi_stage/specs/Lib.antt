@@ -8,3 +8,4 @@ pub mod Verified
 pub mod Claims
 pub mod Tells
 pub mod Reports
+pub mod Stages

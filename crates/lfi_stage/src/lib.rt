@@ -9,3 +9,4 @@ pub mod shared;
 pub mod verifier;
 pub mod report;
 pub mod settle;
+pub mod stage;

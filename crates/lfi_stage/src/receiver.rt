@@ -1,6 +1,6 @@
 //! The receiver, which turns the bytes of one connection into items.
 
-ghost use Rattle.std.specs.Prelude.{◌≡◌, ◌≢◌, ℕ, ◌+◌, ◌-◌, ◌<◌, ◌≤◌, ◌==◌, ◌%◌, ◌^◌, ◌⊎◌, min, ◌↔◌, List, [], ◌∷◌, ◌++◌, length, take, drop, true, false, Some, None, IsSome, IsNone, IsTrue, option_to_list, if◌then◌else◌, flat_map, ◌||◌, ◌&&◌, not, nat_le};
+ghost use Rattle.std.specs.Prelude.{◌≡◌, ◌≢◌, ℕ, ◌+◌, ◌-◌, ◌<◌, ◌≤◌, ◌==◌, ◌%◌, ◌^◌, ◌⊎◌, min, ◌↔◌, List, [], ◌∷◌, ◌++◌, length, take, drop, true, false, Some, None, is_some, IsSome, IsNone, IsTrue, option_to_list, if◌then◌else◌, flat_map, ◌||◌, ◌&&◌, not, nat_le};
 ghost use Rattle.lfi_stage.specs.Claims.{claims_in};
 ghost use Rattle.lfi_frame.specs.Feeds.{FeedStands, feed_fault};
 ghost use Rattle.lfi_stage.specs.Shares.{intake_of};
@@ -282,6 +282,7 @@ impl Receiver {
         requires running { self.old.cause ≡ None }
         ensures used { result.0 ≤ length piece.now }
         ensures stands { (bytes : List ℕ) → StandsFor self.old bytes → StandsFor self.new (bytes ++ take result.0 piece.now) }
+        ensures moves { (bytes : List ℕ) → StandsFor self.old bytes → piece.now ≢ [] → 0 < result.0 }
         ensures pass { self.new.pass ≡ self.old.pass }
         ensures stray { IsTrue result.1 → self.new.hand ≡ None }
     {
@@ -362,6 +363,7 @@ impl Receiver {
         requires { (pass_of self.old).queue ≡ (intake_of shared.old).queue }
         ensures used { result.0 ≤ length piece.now }
         ensures stands { (bytes : List ℕ) → StandsFor self.old bytes → StandsFor self.new (bytes ++ take result.0 piece.now) }
+        ensures moves { (bytes : List ℕ) → StandsFor self.old bytes → hand_of self.old ≡ None → cause_of self.old ≡ None → piece.now ≢ [] → 0 < result.0 }
         ensures puts { PutsAsTold result.1 (pass_of self.old) (pass_of self.new) (intake_of shared.old) (intake_of shared.new) }
         ensures hand { IsSome (hand_of self.new) ↔ (result.1 ≡ turn.Blocked) }
         ensures finished { result.1 ≡ turn.Finished → IsFinished self.new }
@@ -405,6 +407,13 @@ impl Receiver {
         let (cause, fault) = ended_by(failed, unfinished, going);
         self.fault = fault;
         self.cause = Some(cause);
+    }
+
+    /// Whether its input has ended, or come to a fault.
+    pub fn is_over(&self) -> bool
+        ensures { result ≡ is_some (cause_of self.now) }
+    {
+        self.cause.is_some()
     }
 
     /// The connection's fault, once it has come to one.

@@ -35,7 +35,7 @@ pub struct Report {
 }
 
 /// Takes all that the intake holds.
-fn drain(verifier: &mut Verifier, shared: &mut Shared)
+pub(crate) fn drain(verifier: &mut Verifier, shared: &mut Shared)
     requires { (take_pass_of verifier.old).queue ≡ (intake_of shared.old).queue }
     ensures handled { Handled verifier.old → Handled verifier.new }
     ensures items { (take_pass_of verifier.new).items ≡ (take_pass_of verifier.old).items ++ (intake_of shared.old).held }

@@ -21,3 +21,12 @@ returns-then-is_some-3-clause-stands c = λ bytes stands.
     let q = c.put_hand-then-is_some-3.new.self in
     subst (λ z. StandsFor z (bytes ++ take c.read-used.result.0 c.args.piece.now)) (sym c.put_hand-then-is_some-3.ensures.rest)
     (put_on c.read-used.new.self q.pass q.hand (bytes ++ take c.read-used.result.0 c.args.piece.now) c.put_hand-then-is_some-3.ensures.made (c.read-used.ensures.stands bytes stands))
+
+pub returns-then-stray-clause-moves : goal.returns-then-stray-clause-moves
+returns-then-stray-clause-moves c = λ bytes stands free running some. c.read-used.ensures.moves bytes stands some
+
+pub returns-then-is_some-3-clause-moves : goal.returns-then-is_some-3-clause-moves
+returns-then-is_some-3-clause-moves c = λ bytes stands free running some. c.read-used.ensures.moves bytes stands some
+
+pub returns-else-is_some-3-clause-moves : goal.returns-else-is_some-3-clause-moves
+returns-else-is_some-3-clause-moves c = λ bytes stands free running some. c.read-used.ensures.moves bytes stands some

@@ -1,0 +1,17 @@
+use Rattle.std.proofs.Common.{rules, ◌≡◌, ◌∙◌, ap}
+use Rattle.lfi_stage.proofs.stage.Stage.of.Goals as goal
+
+pub returns : goal.returns
+returns c = record {
+  receiver = c.new.result;
+  verifier = c.new-2.result;
+  receivers = search rules;
+  verifiers = search rules;
+  putters = c.requires.counts.0;
+  takers = c.requires.counts.1;
+  empty = c.requires.empty;
+  put = c.new.ensures.pass ∙ c.requires.put;
+  take = c.new-2.ensures.pass ∙ c.requires.take;
+  stands = c.new.ensures.stands;
+  handled = c.new-2.ensures.handled;
+}

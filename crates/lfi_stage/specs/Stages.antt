@@ -1,0 +1,23 @@
+-- A new stage. (docs/DEFINITIONS.md, "Stages")
+use Rattle.std.specs.Prelude.{◌≡◌, ℕ, List, [], ◌∷◌}
+use Rattle.lfi_queues.specs.Passes.{new_pass}
+use Rattle.lfi_stage.specs.declared.receiver.Receiver.{Receiver}
+use Rattle.lfi_stage.specs.declared.verifier.Verifier.{Verifier}
+use Rattle.lfi_stage.specs.declared.stage.Stage.{Stage}
+use Rattle.lfi_stage.specs.Shares.{intake_of}
+use Rattle.lfi_stage.specs.Receivers.{pass_of, hand_of, StandsFor}
+use Rattle.lfi_stage.specs.Verified.{pass_of as take_pass_of, Handled}
+
+-- One receiver and one verifier, of which nothing was done, with the passes of an empty intake.
+pub record IsNew (stage : Stage) : Type 0 where
+  pub receiver : Receiver
+  pub verifier : Verifier
+  pub receivers : stage.receivers.items ≡ receiver ∷ []
+  pub verifiers : stage.verifiers.items ≡ verifier ∷ []
+  pub putters : (intake_of stage.shared).queue.putters ≡ 1
+  pub takers : (intake_of stage.shared).queue.takers ≡ 1
+  pub empty : (intake_of stage.shared).held ≡ []
+  pub put : pass_of receiver ≡ new_pass (intake_of stage.shared).queue 0
+  pub take : take_pass_of verifier ≡ new_pass (intake_of stage.shared).queue 0
+  pub stands : StandsFor receiver []
+  pub handled : Handled verifier

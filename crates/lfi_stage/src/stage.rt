@@ -1,0 +1,88 @@
+//! A stage: its parts, made together, and a whole text loaded by them on one thread.
+
+ghost use Rattle.std.specs.Prelude.{◌≡◌, ◌≢◌, ℕ, ◌+◌, ◌<◌, ◌≤◌, List, [], ◌∷◌, ◌++◌, length, take, is_some, Some, None, IfOk, slice_get};
+ghost use Rattle.lfi_queues.specs.Passes.{IsSamePass};
+ghost use Rattle.lfi_stage.specs.Shares.{intake_of};
+ghost use Rattle.lfi_stage.specs.Receivers.{pass_of, cause_of, hand_of, StandsFor};
+ghost use Rattle.lfi_stage.specs.Verified.{pass_of as take_pass_of, Handled};
+
+use crate::receiver::Receiver;
+use crate::settle::{Report, drain, settle};
+use crate::shared::Shared;
+use crate::verifier::Verifier;
+use lfi_queues::{Intake, PutPass, TakePass};
+use std::alloc::{AllocError, Global};
+
+/// The parts of a stage.
+#[derive(Drop)]
+pub struct Stage {
+    /// By the connections' numbers.
+    pub receivers: Vec<Receiver>,
+    pub verifiers: Vec<Verifier>,
+    pub shared: Shared,
+}
+
+impl Stage {
+    ghost use Rattle.lfi_stage.specs.Stages.{IsNew};
+    ghost use Rattle.lfi_queues.specs.Passes.{new_pass};
+
+    /// A stage of one receiver and one verifier.
+    pub fn new(alloc: Global, receivers: usize, verifiers: usize) -> Result<Stage, AllocError>
+        requires receivers { receivers ≡ 1 }
+        requires verifiers { verifiers ≡ 1 }
+        ensures { IfOk result IsNew }
+    {
+        let (intake, mut puts, mut takes) = Intake::new(alloc, receivers, verifiers)?;
+        match (puts.pop(), takes.pop()) {
+            (Some(put), Some(take)) => Self::of(alloc, intake, put, take),
+            _ => unreachable!(),
+        }
+    }
+
+    /// The stage of an intake with these passes.
+    fn of(alloc: Global, intake: Intake, put: PutPass, take: TakePass) -> Result<Stage, AllocError>
+        requires counts { (intake.queue.putters ≡ 1) × (intake.queue.takers ≡ 1) }
+        requires empty { intake.held ≡ [] }
+        requires put { put ≡ new_pass intake.queue 0 }
+        requires take { take ≡ new_pass intake.queue 0 }
+        ensures { IfOk result IsNew }
+    {
+        let mut receivers = Vec::new(alloc);
+        let mut verifiers = Vec::new(alloc);
+        receivers.push(Receiver::new(alloc, put))?;
+        verifiers.push(Verifier::new(alloc, take))?;
+        Ok(Stage {
+            receivers,
+            verifiers,
+            shared: Shared { intake },
+        })
+    }
+}
+
+/// Hands a text to the receiver, up to its end or a fault, and answers how many bytes of it were
+/// used. The verifier takes each item as soon as it is put.
+fn hear(receiver: &mut Receiver, verifier: &mut Verifier, shared: &mut Shared, text: &[u8]) -> usize
+    requires fresh { StandsFor receiver.old [] }
+    requires empty_handed { hand_of receiver.old ≡ None }
+    requires put { (pass_of receiver.old).queue ≡ (intake_of shared.old).queue }
+    requires take { (take_pass_of verifier.old).queue ≡ (intake_of shared.old).queue }
+    requires empty { (intake_of shared.old).held ≡ [] }
+    requires all { (pass_of receiver.old).items ≡ (take_pass_of verifier.old).items }
+    requires handled { Handled verifier.old }
+    ensures stands { StandsFor receiver.new (take result text.now) }
+    ensures whole { cause_of receiver.new ≡ None → result ≡ length text.now }
+    ensures put { IsSamePass (pass_of receiver.old) (pass_of receiver.new) }
+    ensures take { IsSamePass (take_pass_of verifier.old) (take_pass_of verifier.new) }
+    ensures queue { (intake_of shared.new).queue ≡ (intake_of shared.old).queue }
+    ensures empty { (intake_of shared.new).held ≡ [] }
+    ensures all { (pass_of receiver.new).items ≡ (take_pass_of verifier.new).items }
+    ensures handled { Handled verifier.new }
+{
+    let mut used = 0;
+    while used < text.len() && !receiver.is_over() {
+        let (count, _) = receiver.turn(shared, &text[used..]);
+        used += count;
+        drain(verifier, shared);
+    }
+    used
+}
