@@ -1,5 +1,5 @@
 -- A place is put into a set: what its two masks then say of each place.
-use Rattle.std.proofs.Common.{◌≡◌, ℕ, ◌*◌, ◌%◌, ◌^◌, ◌<◌, Bool, true, false, List, Option, Some, None, refl, sym, ◌∙◌, eqb, bit_or, w32, inl, inr, rules}
+use Rattle.std.proofs.Common.{◌≡◌, ℕ, ◌*◌, ◌%◌, ◌^◌, ◌<◌, true, List, Option, Some, None, refl, sym, ◌∙◌, eqb, bit_or, w32, inl, inr, rules}
 use Rattle.std.specs.Prelude.{is_some}
 use Rattle.std.specs.Int.{bit_at}
 use Rattle.std.proofs.lemmas.Bool.{cases_eq, ne_eqb}

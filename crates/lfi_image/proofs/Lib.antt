@@ -2,6 +2,7 @@ pub mod Building
 pub mod Headers
 pub mod Pieces
 pub mod Runs
+pub mod Small
 pub mod Stays
 pub mod Whole
 pub mod Written

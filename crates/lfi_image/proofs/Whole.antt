@@ -7,10 +7,11 @@ use Rattle.std.proofs.lemmas.Nat.{from_le_bytes-to_le_bytes_4}
 use Rattle.byteorder.specs.Endian.{little_bytes, little_number}
 use Rattle.byteorder.specs.Numbers.{little_number-reads_back}
 use Rattle.page_buf.specs.Spelled.{words_of}
+use Rattle.lfi_image.proofs.Small.{AreWords, lawful_small}
 use Rattle.lfi_rules.specs.Faults.{FirstFault}
 use Rattle.lfi_image.specs.declared.fault.ImageFault.{ImageFault}
 use Rattle.lfi_image.specs.declared.fault.ImageFault.TheVariants.{Magic, Profile, Counts, Base, Truncated, More, Unlawful, NoMemory, Device}
-use Rattle.lfi_image.specs.Image.{Image, IsImage, AreWords, magic, profile, base_of, header_of, code_of, file_of}
+use Rattle.lfi_image.specs.Image.{Image, IsImage, magic, profile, base_of, header_of, code_of, file_of}
 use Rattle.lfi_image.specs.Reading.{count_in, entry_in, profile_in, base_in, is_base, slot_at, header_fault, whole_pages, IsCodeFault, IsFault, no_memory, device, short, of_header, of_code}
 
 code_length : (words : List ℕ) → length (code_of words) ≡ 4 * length words
@@ -96,11 +97,11 @@ code_good words (Unlawful fault) small none told =
     take_all [] = refl
     take_all (x ∷ xs) = ap (λ l. x ∷ l) (take_all xs)
 
-pub file_good : (image : Image) (fault : ImageFault) → IsImage image → AreWords image.words → IsFault (file_of image) fault → (fault ≡ NoMemory) ⊎ (fault ≡ Device)
-file_good image fault is small (no_memory e) = inl e
-file_good image fault is small (device e) = inr e
-file_good image fault is small (short e less) = absurd (omega (arith, less))
-file_good image fault is small (of_header header rest text long told) =
+pub file_good : (image : Image) (fault : ImageFault) → IsImage image → IsFault (file_of image) fault → (fault ≡ NoMemory) ⊎ (fault ≡ Device)
+file_good image fault is (no_memory e) = inl e
+file_good image fault is (device e) = inr e
+file_good image fault is (short e less) = absurd (omega (arith, less))
+file_good image fault is (of_header header rest text long told) =
     let good = header_good (length image.words) image.entry image.slot is.lawful.some is.lawful.most is.entry is.slot in
     let same = same_front (header_of (length image.words) image.entry image.slot) header (code_of image.words) rest (sym long) text in
     absurd (none_some fault (sym good.0 ∙ ap header_fault same.0 ∙ told))
@@ -111,8 +112,8 @@ file_good image fault is small (of_header header rest text long told) =
         is_none : Option ImageFault → Type 0
         is_none None = Unit {0}
         is_none (Some f) = ⊥
-file_good image fault is small (of_code header code text long none told) =
+file_good image fault is (of_code header code text long none told) =
     let good = header_good (length image.words) image.entry image.slot is.lawful.some is.lawful.most is.entry is.slot in
     let same = same_front (header_of (length image.words) image.entry image.slot) header (code_of image.words) code (sym long) text in
     let count : count_in header ≡ length image.words = ap count_in (sym same.0) ∙ good.1 in
-    code_good image.words fault small is.lawful.faultless (subst (λ n. IsCodeFault n (code_of image.words) fault) count (subst (λ l. IsCodeFault (count_in header) l fault) (sym same.1) told))
+    code_good image.words fault (lawful_small image.words (length image.words) is.lawful.faultless) is.lawful.faultless (subst (λ n. IsCodeFault n (code_of image.words) fault) count (subst (λ l. IsCodeFault (count_in header) l fault) (sym same.1) told))

@@ -1,5 +1,5 @@
 -- Modules that are put together, images, and the files of images. Their format is this project's own (docs/DEFINITIONS.md, "Image files").
-use Rattle.std.specs.Prelude.{◌≡◌, ℕ, ◌+◌, ◌*◌, ◌^◌, ◌<◌, List, [], ◌∷◌, ◌++◌, length, slice_index, flat_map}
+use Rattle.std.specs.Prelude.{◌≡◌, ℕ, ◌+◌, ◌*◌, ◌^◌, ◌<◌, List, [], ◌∷◌, ◌++◌, length, flat_map}
 use Rattle.byteorder.specs.Endian.{little_bytes}
 use Rattle.lfi_rules.specs.Faults.{Lawful}
 
@@ -21,10 +21,6 @@ pub record IsImage (image : Image) : Type 0 where
   pub lawful : Lawful image.words
   pub entry : image.entry < length image.words
   pub slot : image.slot < 16
-
--- a list of words of 32 bits
-abbrev pub AreWords : List ℕ → Type 0
-AreWords words = (i : ℕ) → slice_index words i < 2 ^ 32
 
 -- where a slot begins
 abbrev pub base_of : ℕ → ℕ

@@ -2,11 +2,11 @@
 ghost use Rattle.std.specs.Prelude.{◌≡◌, ◌⊎◌, ℕ, List};
 ghost use Rattle.lfi_image.specs.declared.fault.ImageFault.{ImageFault};
 ghost use Rattle.lfi_image.specs.declared.fault.ImageFault.TheVariants.{NoMemory, Device};
-ghost use Rattle.lfi_image.specs.Image.{Image, IsImage, AreWords, FileOf};
+ghost use Rattle.lfi_image.specs.Image.{Image, IsImage, FileOf};
 ghost use Rattle.lfi_image.specs.Reading.{IsFault};
 
 /// The file of an image has no fault of its own: reading it can only want memory, or fail by the device.
 pub fn file_of_an_image()
-    ensures { (image : Image) (bytes : List ℕ) (fault : ImageFault) → IsImage image → AreWords image.words → FileOf image bytes → IsFault bytes fault
+    ensures { (image : Image) (bytes : List ℕ) (fault : ImageFault) → IsImage image → FileOf image bytes → IsFault bytes fault
         → (fault ≡ NoMemory) ⊎ (fault ≡ Device) }
 {}

@@ -238,7 +238,11 @@ impl PlainShare {
     }
 
     /// Its items, with the End that the connection's fault makes of a module that is still open.
-    pub(crate) fn ended(self, module: u16, fault: Option<FrameFault>) -> Result<Vec<PlainItem>, AllocError>
+    pub(crate) fn ended(
+        self,
+        module: u16,
+        fault: Option<FrameFault>,
+    ) -> Result<Vec<PlainItem>, AllocError>
         ensures { IfOk result (λ items. items_by items.items
             ≡ (share_by self).items ++ ends_of «module» self.progress fault) }
     {

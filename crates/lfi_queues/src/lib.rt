@@ -8,4 +8,3 @@ pub mod pass;
 pub use intake::Intake;
 pub use item::{Item, Kind, Reason};
 pub use pass::{PutPass, QueueId, TakePass};
-

@@ -88,7 +88,10 @@ impl History {
     fn add(&mut self, item: &Item)
         ensures { self.new ≡ record self.old { items = self.old.items ++ item.now ∷ [] } }
     {
-        self.items = Auxiliary::of::<(&Auxiliary<LinkedList<Item>>, &Item), Then>(&(&self.items, item));
+        self.items = Auxiliary::of::<(&Auxiliary<LinkedList<Item>>, &Item), Then>(&(
+            &self.items,
+            item,
+        ));
     }
 }
 

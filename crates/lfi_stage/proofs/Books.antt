@@ -86,29 +86,71 @@ agrees_item places new made count ms ns r s k x q agrees number at others here =
       | inr n ↦ ap (λ z. z.strays) (others m n.1)
     ]
 
-
-
 pub numbered : (k : ℕ) → k < 16 → Member modules k
 numbered k h =
-    elim (eqb_tells 0 k) [ | inl e ↦ inl e.1 | inr n0 ↦
-    elim (eqb_tells 1 k) [ | inl e ↦ inr (inl e.1) | inr n1 ↦
-    elim (eqb_tells 2 k) [ | inl e ↦ inr (inr (inl e.1)) | inr n2 ↦
-    elim (eqb_tells 3 k) [ | inl e ↦ inr (inr (inr (inl e.1))) | inr n3 ↦
-    elim (eqb_tells 4 k) [ | inl e ↦ inr (inr (inr (inr (inl e.1)))) | inr n4 ↦
-    elim (eqb_tells 5 k) [ | inl e ↦ inr (inr (inr (inr (inr (inl e.1))))) | inr n5 ↦
-    elim (eqb_tells 6 k) [ | inl e ↦ inr (inr (inr (inr (inr (inr (inl e.1)))))) | inr n6 ↦
-    elim (eqb_tells 7 k) [ | inl e ↦ inr (inr (inr (inr (inr (inr (inr (inl e.1))))))) | inr n7 ↦
-    elim (eqb_tells 8 k) [ | inl e ↦ inr (inr (inr (inr (inr (inr (inr (inr (inl e.1)))))))) | inr n8 ↦
-    elim (eqb_tells 9 k) [ | inl e ↦ inr (inr (inr (inr (inr (inr (inr (inr (inr (inl e.1))))))))) | inr n9 ↦
-    elim (eqb_tells 10 k) [ | inl e ↦ inr (inr (inr (inr (inr (inr (inr (inr (inr (inr (inl e.1)))))))))) | inr n10 ↦
-    elim (eqb_tells 11 k) [ | inl e ↦ inr (inr (inr (inr (inr (inr (inr (inr (inr (inr (inr (inl e.1))))))))))) | inr n11 ↦
-    elim (eqb_tells 12 k) [ | inl e ↦ inr (inr (inr (inr (inr (inr (inr (inr (inr (inr (inr (inr (inl e.1)))))))))))) | inr n12 ↦
-    elim (eqb_tells 13 k) [ | inl e ↦ inr (inr (inr (inr (inr (inr (inr (inr (inr (inr (inr (inr (inr (inl e.1))))))))))))) | inr n13 ↦
-    elim (eqb_tells 14 k) [ | inl e ↦ inr (inr (inr (inr (inr (inr (inr (inr (inr (inr (inr (inr (inr (inr (inl e.1)))))))))))))) | inr n14 ↦
-      let a0 = n0.1 in let a1 = n1.1 in let a2 = n2.1 in let a3 = n3.1 in let a4 = n4.1 in let a5 = n5.1 in let a6 = n6.1 in let a7 = n7.1 in
-      let a8 = n8.1 in let a9 = n9.1 in let a10 = n10.1 in let a11 = n11.1 in let a12 = n12.1 in let a13 = n13.1 in let a14 = n14.1 in
-      inr (inr (inr (inr (inr (inr (inr (inr (inr (inr (inr (inr (inr (inr (inr (inl (omega arith))))))))))))))))
-    ] ] ] ] ] ] ] ] ] ] ] ] ] ] ]
+    elim (eqb_tells 0 k) [
+      | inl e ↦ inl e.1
+      | inr n0 ↦
+          elim (eqb_tells 1 k) [
+            | inl e ↦ inr (inl e.1)
+            | inr n1 ↦
+                elim (eqb_tells 2 k) [
+                  | inl e ↦ inr (inr (inl e.1))
+                  | inr n2 ↦
+                      elim (eqb_tells 3 k) [
+                        | inl e ↦ inr (inr (inr (inl e.1)))
+                        | inr n3 ↦
+                            elim (eqb_tells 4 k) [
+                              | inl e ↦ inr (inr (inr (inr (inl e.1))))
+                              | inr n4 ↦
+                                  elim (eqb_tells 5 k) [
+                                    | inl e ↦ inr (inr (inr (inr (inr (inl e.1)))))
+                                    | inr n5 ↦
+                                        elim (eqb_tells 6 k) [
+                                          | inl e ↦ inr (inr (inr (inr (inr (inr (inl e.1))))))
+                                          | inr n6 ↦
+                                              elim (eqb_tells 7 k) [
+                                                | inl e ↦ inr (inr (inr (inr (inr (inr (inr (inl e.1)))))))
+                                                | inr n7 ↦
+                                                    elim (eqb_tells 8 k) [
+                                                      | inl e ↦ inr (inr (inr (inr (inr (inr (inr (inr (inl e.1))))))))
+                                                      | inr n8 ↦
+                                                          elim (eqb_tells 9 k) [
+                                                            | inl e ↦ inr (inr (inr (inr (inr (inr (inr (inr (inr (inl e.1)))))))))
+                                                            | inr n9 ↦
+                                                                elim (eqb_tells 10 k) [
+                                                                  | inl e ↦ inr (inr (inr (inr (inr (inr (inr (inr (inr (inr (inl e.1))))))))))
+                                                                  | inr n10 ↦
+                                                                      elim (eqb_tells 11 k) [
+                                                                        | inl e ↦ inr (inr (inr (inr (inr (inr (inr (inr (inr (inr (inr (inl e.1)))))))))))
+                                                                        | inr n11 ↦
+                                                                            elim (eqb_tells 12 k) [
+                                                                              | inl e ↦ inr (inr (inr (inr (inr (inr (inr (inr (inr (inr (inr (inr (inl e.1))))))))))))
+                                                                              | inr n12 ↦
+                                                                                  elim (eqb_tells 13 k) [
+                                                                                    | inl e ↦ inr (inr (inr (inr (inr (inr (inr (inr (inr (inr (inr (inr (inr (inl e.1)))))))))))))
+                                                                                    | inr n13 ↦
+                                                                                        elim (eqb_tells 14 k) [
+                                                                                          | inl e ↦ inr (inr (inr (inr (inr (inr (inr (inr (inr (inr (inr (inr (inr (inr (inl e.1))))))))))))))
+                                                                                          | inr n14 ↦
+                                                                                              let a0 = n0.1 in let a1 = n1.1 in let a2 = n2.1 in let a3 = n3.1 in let a4 = n4.1 in let a5 = n5.1 in let a6 = n6.1 in let a7 = n7.1 in
+                                                                                              let a8 = n8.1 in let a9 = n9.1 in let a10 = n10.1 in let a11 = n11.1 in let a12 = n12.1 in let a13 = n13.1 in let a14 = n14.1 in
+                                                                                              inr (inr (inr (inr (inr (inr (inr (inr (inr (inr (inr (inr (inr (inr (inr (inl (omega arith))))))))))))))))
+                                                                                        ]
+                                                                                  ]
+                                                                            ]
+                                                                      ]
+                                                                ]
+                                                          ]
+                                                    ]
+                                              ]
+                                        ]
+                                  ]
+                            ]
+                      ]
+                ]
+          ]
+    ]
 
 pub apart : Apart modules
 apart = search rules

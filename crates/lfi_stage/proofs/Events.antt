@@ -65,7 +65,7 @@ message_item places new made count ms message k x p q agrees own number was at s
     agrees_item places new made count ms (ms ++ message ∷ []) short short k x q agrees number at
     (λ m apart. ap (λ b. share_of b m (ms ++ message ∷ []) short) (claims_other places new k q at m apart) ∙ share_other (claims_of places m) m ms message (λ e. apart (e ∙ sym own)))
     (ap (λ b. share_of b k (ms ++ message ∷ []) short) here ∙ share_by (is_claimed p) k ms message p own share ∙ does (share_of (is_claimed p) k ms short)
-     ∙ ap (λ b. with_item (share_of b k ms short) x q) (sym before))
+    ∙ ap (λ b. with_item (share_of b k ms short) x q) (sym before))
 
 -- A message of module k is a stray.
 pub message_stray : (places : List Progress) (made : List ItemView) (count : ℕ) (ms : List Message) (message : Message) (k : ℕ) (p : Progress) → Agrees places made count ms short
@@ -78,7 +78,7 @@ message_stray places made count ms message k p agrees own in_range was does =
     agrees_stray places places made count ms (ms ++ message ∷ []) short short k agrees in_range (λ m. refl)
     (λ m apart. share_other (claims_of places m) m ms message (λ e. apart (e ∙ sym own)))
     (ap (λ b. share_of b k (ms ++ message ∷ []) short) before ∙ share_by (is_claimed p) k ms message p own share ∙ does (share_of (is_claimed p) k ms short)
-     ∙ ap (λ b. with_stray (share_of b k ms short)) (sym before))
+    ∙ ap (λ b. with_stray (share_of b k ms short)) (sym before))
 
 -- The Open that claims module k.
 pub open_claims : (places new : List Progress) (made : List ItemView) (count : ℕ) (ms : List Message) (k words entry : ℕ) → Agrees places made count ms short
@@ -254,7 +254,7 @@ header_undue places new made count ms k n p index len agrees was undue at =
     agrees_item places new made count ms ms short (unfinished k index len) k x Over agrees refl at
     (λ m apart. ap (λ b. share_of b m ms (unfinished k index len)) (claims_other places new k Over at m apart) ∙ unfinished_other (claims_of places m) k m index len ms apart)
     (ap (λ b. share_of b k ms (unfinished k index len)) claims ∙ unfinished_own (claims_of places k) k index len ms (Going n p) (agrees.progress k ∙ was)
-     ∙ by_undue (is_due n p index len) _ _ undue)
+    ∙ by_undue (is_due n p index len) _ _ undue)
 
 -- its module isn't open
 abbrev pub IsShut : Progress → Type 0
@@ -288,9 +288,9 @@ page_kept places new made count ms k n p index len payload agrees was long due b
     let due' : is_due n p index (length payload) ≡ true = ap (λ l. is_due n p index l) long ∙ due in
     agrees_item places new made count ms (ms ++ message ∷ []) (unfinished k index len) short k x q agrees refl at
     (λ m apart. ap (λ b. share_of b m (ms ++ message ∷ []) short) (claims_other places new k q at m apart) ∙ share_other (claims_of places m) m ms message apart
-     ∙ sym (unfinished_other (claims_of places m) k m index len ms apart))
+    ∙ sym (unfinished_other (claims_of places m) k m index len ms apart))
     (ap (λ b. share_of b k (ms ++ message ∷ []) short) claims ∙ share_by (claims_of places k) k ms message (Going n p) refl base
-     ∙ by_due (is_due n p index (length payload)) _ _ due' ∙ ap (λ s. with_item s x q) (sym now))
+    ∙ by_due (is_due n p index (length payload)) _ _ due' ∙ ap (λ s. with_item s x q) (sym now))
 
 -- it was passed over
 same_passed : (claimed : Bool) (k : ℕ) (s : Share) (q : Progress) (index len : ℕ) (payload : List ℕ) → length payload ≡ len → IsPassed q index len
@@ -310,7 +310,7 @@ page_passed places made count ms k index len payload agrees long passed =
           let same = e.1 in
           subst (λ z. share_in places (ms ++ message ∷ []) short z ≡ share_in places ms (unfinished k index len) z) (sym same)
           (share_own (claims_of places k) k ms message refl ∙ same_passed (claims_of places k) k (share_in places ms short k) (share_in places ms short k).progress index len payload long passed
-           ∙ sym (unfinished_own (claims_of places k) k index len ms (share_in places ms short k).progress refl))
+          ∙ sym (unfinished_own (claims_of places k) k index len ms (share_in places ms short k).progress refl))
     ])
 
 -- nothing is added by fewer bytes than a header, or by a header with a fault

@@ -4,4 +4,5 @@ pub mod Holding
 pub mod Standing
 pub mod Placings
 pub mod Reporting
+pub mod Loading
 pub mod Settling

@@ -53,7 +53,7 @@ module _ (m : ℕ) (b : Module) (words : ℕ) (e : Ended) (items : List ItemView
       let full : length (all_words (pages_of items)) ≡ words_at items = sym (ap length words_is) ∙ all ∙ count_is in
       ap (λ z. outcome_kind.Complete z) ended.words_are
       ∙ sym (ap (λ r. by_end (words_at items) items r) close
-        ∙ ap (λ t. if t then outcome_kind.Complete (words_at items) else outcome_kind.Incomplete (length (pages_of items)) (page_count (words_at items))) (eq-eqb (length (all_words (pages_of items))) (words_at items) full))
+      ∙ ap (λ t. if t then outcome_kind.Complete (words_at items) else outcome_kind.Incomplete (length (pages_of items)) (page_count (words_at items))) (eq-eqb (length (all_words (pages_of items))) (words_at items) full))
 
   pub incomplete : e.reason ≡ Close → length b.words < b.count → outcome_kind.Incomplete e.pages (page_count words) ≡ by_end (words_at items) items e.reason
   incomplete close few =
@@ -64,7 +64,7 @@ module _ (m : ℕ) (b : Module) (words : ℕ) (e : Ended) (items : List ItemView
       ]) in
       (λ i. outcome_kind.Incomplete (ended.pages i) (page_count (ended.words_are i)))
       ∙ sym (ap (λ r. by_end (words_at items) items r) close
-        ∙ ap (λ t. if t then outcome_kind.Complete (words_at items) else outcome_kind.Incomplete (length (pages_of items)) (page_count (words_at items))) less)
+      ∙ ap (λ t. if t then outcome_kind.Complete (words_at items) else outcome_kind.Incomplete (length (pages_of items)) (page_count (words_at items))) less)
 
   pub whole_image : (i : Image) → i ≡ record { entry = b.entry; slot = b.slot; words = b.words } → outcome_kind.Complete words ≡ outcome_kind.Complete (words_at items) → IsImageOf m items (pages_of items) (outcome_kind.Complete words) (Whole i)
   whole_image i is same = (is ∙ (λ j. record { entry = (ap (λ z. z.entry) ended.builder) j; slot = (ap (λ z. z.slot) ended.builder) j; words = words_is j }), same)

@@ -135,7 +135,6 @@ none_pass : (p : ℕ → Bool) (xs : List ℕ) → ((x : ℕ) → p x ≡ false)
 none_pass p [] h = refl
 none_pass p (x ∷ xs) h = rw (h x) (none_pass p xs h)
 
-
 or_true : (b : Bool) → (b || true) ≡ true
 or_true true = refl
 or_true false = refl
@@ -176,10 +175,10 @@ end_stands r q bytes cause u g stands none same_modules same_strays same_pass sa
     let made : made_by q ≡ made_by r = (λ i. (same_pass i).items ++ option_to_list (same_hand i)) in
     stands_ended q bytes ms rest cause stands.cut ended
     (ends_now q ms rest cause
-      (subst (λ (z : List Progress). Agrees z (made_by q) q.strays ms (rest_of rest)) (sym same_modules)
-      (subst (λ l. Agrees r.modules l q.strays ms (rest_of rest)) (sym made) (subst (λ n. Agrees r.modules (made_by r) n ms (rest_of rest)) (sym same_strays) agrees)))
-      (found ∙ ap (λ (z : List Progress). connection_fault ms rest cause (claims_of z)) (sym same_modules))
-      (λ m. ap (λ (z : List Progress). claims_of z m) same_modules ∙ runs.holds.opens.claims m))
+    (subst (λ (z : List Progress). Agrees z (made_by q) q.strays ms (rest_of rest)) (sym same_modules)
+    (subst (λ l. Agrees r.modules l q.strays ms (rest_of rest)) (sym made) (subst (λ n. Agrees r.modules (made_by r) n ms (rest_of rest)) (sym same_strays) agrees)))
+    (found ∙ ap (λ (z : List Progress). connection_fault ms rest cause (claims_of z)) (sym same_modules))
+    (λ m. ap (λ (z : List Progress). claims_of z m) same_modules ∙ runs.holds.opens.claims m))
 
 -- An End that is due comes into the hand.
 pub end_due : (r : Receiver) (new : List Progress) (bytes : List ℕ) (fault : FrameFault) (k n p : ℕ) → r.hand ≡ None → IsSome r.cause → r.fault ≡ Some fault → progress_at r.modules k ≡ Going n p
@@ -211,10 +210,10 @@ end_due r new bytes fault k n p free some is was at stands = record {
               let same = e.1 in
               subst (λ z. (of z (r.pass.items ++ x ∷ []) ++ ends_of z (progress_at new z) r.fault) ≡ of z (made_by r) ++ ends_of z (progress_at r.modules z) r.fault) (sym same)
               (ap (λ q. of k (r.pass.items ++ x ∷ []) ++ ends_of k q r.fault) (changed_at r.modules new k Over at)
-               ∙ append-nil (of k (r.pass.items ++ x ∷ []))
-               ∙ ap (λ l. of k l) made ∙ of_this k (made_by r) x refl
-               ∙ ap (λ f. of k (made_by r) ++ ends_of k (Going n p) f) (sym is)
-               ∙ ap (λ q. of k (made_by r) ++ ends_of k q r.fault) (sym was))
+              ∙ append-nil (of k (r.pass.items ++ x ∷ []))
+              ∙ ap (λ l. of k l) made ∙ of_this k (made_by r) x refl
+              ∙ ap (λ f. of k (made_by r) ++ ends_of k (Going n p) f) (sym is)
+              ∙ ap (λ q. of k (made_by r) ++ ends_of k q r.fault) (sym was))
           | inr apart ↦
               ap (λ l. of m l ++ ends_of m (progress_at new m) r.fault) made
               ∙ ap (λ l. l ++ ends_of m (progress_at new m) r.fault) (of_other m (made_by r) x (λ e. apart.1 (sym e)))
@@ -242,7 +241,7 @@ pub starved : (r q : Receiver) (messages : List Message) (rest : List ℕ) (m in
 starved r q messages rest m index len some fault feed is agrees claims =
     stands_ended q (flat_map spelling messages ++ rest) messages rest cause_kind.Starved (stands_cut r.feed messages rest feed) some
     (ends_now q messages rest cause_kind.Starved (subst (λ z. Agrees q.modules (made_by q) q.strays messages z) (sym is) agrees)
-      (fault ∙ ap (λ z. fault_of z cause_kind.Starved (is_inside messages rest cause_kind.Starved (claimed_by q))) (sym is)) claims)
+    (fault ∙ ap (λ z. fault_of z cause_kind.Starved (is_inside messages rest cause_kind.Starved (claimed_by q))) (sym is)) claims)
 
 -- a text that has grown
 grown_text : (bytes used rest : List ℕ) (messages : List Message) → Cut bytes messages rest → flat_map spelling messages ++ (rest ++ used) ≡ bytes ++ used
@@ -373,7 +372,7 @@ pub payload_stands : (r q : Receiver) (feed : Feed) (bytes used : List ℕ) (end
     → q.feed ≡ feed → q.cause ≡ None
     → ((messages : List Message) (rest : List ℕ) (m index len : ℕ) → Holds (record r { feed = feed }) messages rest → rest_of rest ≡ unfinished m index len → rest_of (rest ++ used) ≡ unfinished m index len → Holds q messages (rest ++ used))
     → ((messages : List Message) (rest : List ℕ) (m index len : ℕ) → Holds (record r { feed = feed }) messages rest → rest_of rest ≡ unfinished m index len → length (drop 12 rest ++ used) ≡ len
-      → Holds q (messages ++ page_message m index (drop 12 rest ++ used) ∷ []) [])
+    → Holds q (messages ++ page_message m index (drop 12 rest ++ used) ∷ []) [])
     → StandsFor q (bytes ++ used)
 payload_stands r q feed bytes used false stands none told faultless same_feed none' goes_on ends =
     let runs = running r bytes stands none in

@@ -5,8 +5,8 @@
 mod coming;
 pub mod modules;
 pub mod receiver;
-pub mod shared;
-pub mod verifier;
 pub mod report;
 pub mod settle;
+pub mod shared;
 pub mod stage;
+pub mod verifier;

@@ -88,6 +88,7 @@ impl Receiver {
         requires { pass.items ≡ [] }
         ensures stands { StandsFor result [] }
         ensures pass { pass_of result ≡ pass }
+        ensures empty_handed { hand_of result ≡ None }
     {
         Receiver {
             alloc,
@@ -173,7 +174,8 @@ impl Receiver {
             self.stray();
             return true;
         }
-        self.modules.set(module, Progress::Going { words, pages: 0 });
+        self.modules
+            .set(module, Progress::Going { words, pages: 0 });
         self.hand = Some(Item {
             module,
             ordinal: 0,

@@ -80,7 +80,11 @@ fn told_by(receiver: &Receiver, verifier: Verifier) -> Report
 
 /// Ends the receivers that weren't told the end, finishes what is in hands and in the intake, and
 /// tells what became of each module and each connection.
-pub fn settle(mut receivers: Vec<Receiver>, mut verifiers: Vec<Verifier>, mut shared: Shared) -> Report
+pub fn settle(
+    mut receivers: Vec<Receiver>,
+    mut verifiers: Vec<Verifier>,
+    mut shared: Shared,
+) -> Report
     requires one { ((intake_of shared).queue.putters ≡ 1) × ((intake_of shared).queue.takers ≡ 1) }
     requires parts { AreParts (intake_of shared) receivers.items verifiers.items }
     requires kept { Kept (puts_of receivers.items) (takes_of verifiers.items) (intake_of shared).held }

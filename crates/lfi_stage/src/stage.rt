@@ -1,7 +1,8 @@
 //! A stage: its parts, made together, and a whole text loaded by them on one thread.
 
 ghost use Rattle.std.specs.Prelude.{◌≡◌, ◌≢◌, ℕ, ◌+◌, ◌<◌, ◌≤◌, List, [], ◌∷◌, ◌++◌, length, take, is_some, Some, None, IfOk, slice_get};
-ghost use Rattle.lfi_queues.specs.Passes.{IsSamePass};
+ghost use Rattle.lfi_queues.specs.Passes.{IsSamePass, new_pass};
+ghost use Rattle.lfi_stage.specs.Stages.{IsLoaded};
 ghost use Rattle.lfi_stage.specs.Shares.{intake_of};
 ghost use Rattle.lfi_stage.specs.Receivers.{pass_of, cause_of, hand_of, StandsFor};
 ghost use Rattle.lfi_stage.specs.Verified.{pass_of as take_pass_of, Handled};
@@ -85,4 +86,45 @@ fn hear(receiver: &mut Receiver, verifier: &mut Verifier, shared: &mut Shared, t
         drain(verifier, shared);
     }
     used
+}
+
+/// What became of a text that one receiver heard and one verifier took.
+fn load_by(
+    alloc: Global,
+    mut receiver: Receiver,
+    mut verifier: Verifier,
+    mut shared: Shared,
+    text: &[u8],
+) -> Result<Report, AllocError>
+    requires one { ((intake_of shared).queue.putters ≡ 1) × ((intake_of shared).queue.takers ≡ 1) }
+    requires fresh { StandsFor receiver [] }
+    requires empty_handed { hand_of receiver ≡ None }
+    requires put { pass_of receiver ≡ new_pass (intake_of shared).queue 0 }
+    requires take { take_pass_of verifier ≡ new_pass (intake_of shared).queue 0 }
+    requires empty { (intake_of shared).held ≡ [] }
+    requires handled { Handled verifier }
+    ensures { IfOk result (λ report. IsLoaded text.now report) }
+{
+    let mut receivers = Vec::new(alloc);
+    let mut verifiers = Vec::new(alloc);
+    hear(&mut receiver, &mut verifier, &mut shared, text);
+    receivers.push(receiver)?;
+    verifiers.push(verifier)?;
+    Ok(settle(receivers, verifiers, shared))
+}
+
+/// Loads the modules of one connection's whole text, on one thread.
+///
+/// # Errors
+///
+/// `AllocError` where there is no memory for the stage; no memory for a page is told in the
+/// report.
+pub fn load(alloc: Global, text: &[u8]) -> Result<Report, AllocError>
+    ensures { IfOk result (λ report. IsLoaded text.now report) }
+{
+    let mut stage = Stage::new(alloc, 1, 1)?;
+    match (stage.receivers.pop(), stage.verifiers.pop()) {
+        (Some(receiver), Some(verifier)) => load_by(alloc, receiver, verifier, stage.shared, text),
+        _ => unreachable!(),
+    }
 }

@@ -4,4 +4,4 @@ use Rattle.lfi_image.proofs.Whole.{file_good}
 use Rattle.lfi_image.proofs.laws.file_of_an_image.Goals as goal
 
 pub returns : goal.returns
-returns c = λ image bytes fault is small file told. file_good image fault is small (subst (λ xs. IsFault xs fault) file told)
+returns c = λ image bytes fault is file told. file_good image fault is (subst (λ xs. IsFault xs fault) file told)

@@ -10,7 +10,7 @@ loop-used-smaller c =
     let i = c.loop-used.invariant in
     let running : c.loop-used.receiver.cause ≡ None = search rules in
     let some : take (length c.args.text.now - c.loop-used.used) (drop c.loop-used.used c.args.text.now) ≢ [] =
-        (λ none. rest_left c.loop-used.used c.args.text.now c.loop-used-test.true (sym (piece_is c.loop-used.used c.args.text.now) ∙ none)) in
+    (λ none. rest_left c.loop-used.used c.args.text.now c.loop-used-test.true (sym (piece_is c.loop-used.used c.args.text.now) ∙ none)) in
     let moved : 0 < c.turn-count.result.0 = c.turn-count.ensures.moves (take c.loop-used.used c.args.text.now) i.stands i.empty_handed running some in
     let within = c.turn-count.ensures.used in
     omega arith

@@ -13,5 +13,6 @@ returns c = record {
   put = c.new.ensures.pass ∙ c.requires.put;
   take = c.new-2.ensures.pass ∙ c.requires.take;
   stands = c.new.ensures.stands;
+  empty_handed = c.new.ensures.empty_handed;
   handled = c.new-2.ensures.handled;
 }

@@ -20,7 +20,7 @@ returns-then-len_words-due c = λ m taken item was numbered typed is.
     let some : c.args.self.now.builder ≡ Some c.in-Some.builder = search rules in
     let none : c.args.self.now.fault ≡ None = search rules in
     absurd (let due_is : length (words_of c.args.page) ≡ due c.in-Some.builder = page_length m c.args.self.now taken item was numbered c.args.page is c.in-Some.builder some none typed in
-      c.if-len_words-due.true (c.len_words.ensures.count ∙ due_is ∙ sym c.due.ensures.value))
+    c.if-len_words-due.true (c.len_words.ensures.count ∙ due_is ∙ sym c.due.ensures.value))
 
 pub returns : goal.returns
 returns c = λ m taken item was numbered typed is.
