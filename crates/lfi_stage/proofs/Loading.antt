@@ -1,5 +1,5 @@
 -- The parts of a stage of one receiver and one verifier, of which all that was put was taken.
-use Rattle.std.proofs.Common.{rules, arith, ◌≡◌, ℕ, zero, suc, List, [], ◌∷◌, Some, None, cond, eqb, refl, sym, ◌∙◌, ap, subst}
+use Rattle.std.proofs.Common.{rules, arith, ◌≡◌, ℕ, zero, suc, List, [], ◌∷◌, Option, Some, None, length, take, cond, eqb, refl, sym, ◌∙◌, ap, subst}
 use Rattle.std.proofs.Math.Dec.{eqb-zero-suc}
 use Rattle.std.specs.Prelude.{slice_get}
 use Rattle.lfi_queues.specs.Items.{ItemView}
@@ -8,7 +8,9 @@ use Rattle.lfi_queues.specs.Passes.{PassView, QueueView, IsSamePass, new_pass}
 use Rattle.lfi_queues.proofs.Alone.{at_first, kept_first}
 use Rattle.lfi_stage.specs.declared.receiver.Receiver.{Receiver}
 use Rattle.lfi_stage.specs.declared.verifier.Verifier.{Verifier}
-use Rattle.lfi_stage.specs.Receivers.{StandsFor}
+use Rattle.lfi_stage.specs.Receivers.{StandsFor, IsOver}
+use Rattle.lfi_stage.specs.Stages.{IsHeard}
+use Rattle.lfi_model.specs.declared.connection.Cause.{Cause}
 use Rattle.lfi_stage.specs.Verified.{Handled}
 use Rattle.lfi_stage.specs.Reports.{puts_of, takes_of, AreParts}
 
@@ -69,3 +71,8 @@ stands_one r zero q text e stands = subst (λ x. StandsFor x text) (some_same r 
     some_same : (a b : Receiver) → Some a ≡ Some b → a ≡ b
     some_same a b e = cc
 stands_one r (suc c) q text e stands = absurd cc
+
+-- an input that isn't over was heard to its end
+pub heard_by : (o : Option Cause) (n : ℕ) (text : List ℕ) → IsOver o (take n text) → (o ≡ None → n ≡ length text) → IsHeard o n text
+heard_by None n text over whole = whole refl
+heard_by (Some cause) n text over whole = over

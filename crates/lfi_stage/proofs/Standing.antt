@@ -39,7 +39,7 @@ use Rattle.lfi_model.specs.Modules.{of, Member}
 use Rattle.lfi_stage.specs.declared.receiver.Receiver.{Receiver}
 use Rattle.lfi_stage.specs.Places.{progress_at, is_claimed, claims_of}
 use Rattle.lfi_stage.specs.Claims.{claims_in}
-use Rattle.lfi_stage.specs.Receivers.{made_by, claimed_by, Agrees, Awaits, IsUnopened, Holds, Runs, Ends, StandsBy, StandsFor, due_of}
+use Rattle.lfi_stage.specs.Receivers.{made_by, claimed_by, Agrees, Awaits, IsUnopened, Holds, Runs, Ends, StandsBy, StandsFor, IsFaulty, IsOver, due_of}
 use Rattle.lfi_stage.proofs.Books.{of_other, of_this, numbered, apart}
 use Rattle.lfi_model.proofs.Growing.{sum_one_more}
 use Rattle.std.proofs.Common.{sum_by}
@@ -415,6 +415,26 @@ fault_stands r feed bytes used fault stands none some twelve now or =
     let found : Some fault ≡ connection_fault ms rest cause_kind.End (claimed_by q) = sym (ap (λ z. fault_of z cause_kind.End (is_inside ms rest cause_kind.End (claimed_by q))) is) in
     subst (λ l. StandsFor q l) (grown_text bytes used stands.rest ms stands.cut)
     (stands_ended q (flat_map spelling ms ++ rest) ms rest cause_kind.End (stands_cut feed ms rest now) refl (ends_now q ms rest cause_kind.End agrees found runs.holds.opens.claims))
+
+-- the text that comes to that header
+pub fault_over : (r : Receiver) (feed : Feed) (bytes used : List ℕ) (fault : FrameFault) → (stands : StandsFor r bytes) → used ≢ []
+    → FeedStands feed stands.messages (stands.rest ++ used) → (rest_of (stands.rest ++ used) ≡ faulty fault) ⊎ (used ≡ []) → IsFaulty (bytes ++ used)
+fault_over r feed bytes used fault stands some now or = record {
+  messages = stands.messages;
+  rest = stands.rest ++ used;
+  fault = fault;
+  cut = subst (λ l. Cut l stands.messages (stands.rest ++ used)) (grown_text bytes used stands.rest stands.messages stands.cut) (stands_cut feed stands.messages (stands.rest ++ used) now);
+  shows = elim or [ inl is ↦ is | inr nothing ↦ absurd (some nothing) ];
+}
+
+-- where the input goes on, or there is no memory
+pub not_over : (o : Option Cause) (text : List ℕ) → o ≡ None → IsOver o text
+not_over None text e = tt
+not_over (Some cause) text e = absurd cc
+
+pub starved_over : (o : Option Cause) (text : List ℕ) → (o ≡ None) ⊎ (o ≡ Some cause_kind.Starved) → IsOver o text
+starved_over o text (inl none) = not_over o text none
+starved_over o text (inr starved) = subst (λ c. IsOver c text) (sym starved) tt
 
 -- what is due, where an End comes into the hand
 pub due_next : (r : Receiver) (new : List Progress) (x : ItemView) (k n p : ℕ) → r.hand ≡ None → k < 16 → progress_at r.modules k ≡ Going n p → ((m : ℕ) → progress_at new m ≡ (if m == k then Over else progress_at r.modules m))

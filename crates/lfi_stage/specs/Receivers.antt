@@ -1,12 +1,12 @@
 -- The texts that a receiver stands for. (docs/DEFINITIONS.md, "Receivers")
 use Rattle.std.specs.Prelude.{◌≡◌, ◌≢◌, ℕ, ◌+◌, ◌-◌, ◌<◌, ◌^◌, ◌==◌, ◌⊎◌, Bool, true, false, List, [], ◌++◌, length, drop, Option, Some, None, is_some, IsSome, option_to_list, min, flat_map, sum_by, if◌then◌else◌}
 use Rattle.lfi_frame.specs.declared.fault.FrameFault.{FrameFault}
-use Rattle.lfi_frame.specs.Streams.{Message, Rest, short, unfinished, rest_of, spelling, Cut}
+use Rattle.lfi_frame.specs.Streams.{Message, Rest, short, faulty, unfinished, rest_of, spelling, Cut}
 use Rattle.lfi_frame.specs.Feeds.{FeedStands, feed_fault}
 use Rattle.lfi_queues.specs.Items.{ItemView}
 use Rattle.lfi_queues.specs.Passes.{PassView}
 use Rattle.lfi_model.specs.declared.connection.Cause.{Cause}
-use Rattle.lfi_model.specs.declared.connection.Cause.TheVariants.{End, Failed}
+use Rattle.lfi_model.specs.declared.connection.Cause.TheVariants.{End, Failed, Starved}
 use Rattle.lfi_model.specs.declared.connection.Progress.{Progress}
 use Rattle.lfi_model.specs.declared.connection.Progress.TheVariants.{Going}
 use Rattle.lfi_model.specs.Items.{Share, is_going, share_of, modules, is_due, page_len, ends_of, items_of, connection_fault, strays_of}
@@ -107,6 +107,21 @@ pub record StandsFor (r : Receiver) (bytes : List ℕ) : Type 0 where
   pub rest : List ℕ
   pub cut : Cut bytes messages rest
   pub stands : StandsBy r.cause r messages rest
+
+-- The text comes to a header with a fault.
+pub record IsFaulty (text : List ℕ) : Type 0 where
+  pub messages : List Message
+  pub rest : List ℕ
+  pub fault : FrameFault
+  pub cut : Cut text messages rest
+  pub shows : rest_of rest ≡ faulty fault
+
+-- What a turn may end the input for, when the text has come so far: a header's fault, or no memory for a page; nothing else.
+abbrev pub IsOver : Option Cause → List ℕ → Type 0
+IsOver None text = Unit {0}
+IsOver (Some End) text = IsFaulty text
+IsOver (Some Failed) text = ⊥
+IsOver (Some Starved) text = Unit {0}
 
 -- how many items it still has to put, once its input has ended
 abbrev pub due_of : Receiver → ℕ

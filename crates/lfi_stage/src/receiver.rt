@@ -7,6 +7,7 @@ ghost use Rattle.lfi_stage.specs.Shares.{intake_of};
 ghost use Rattle.lfi_frame.specs.declared.fault.FrameFault.{FrameFault};
 ghost use Rattle.lfi_frame.specs.Streams.{Message, open_message, page_message, close_message, rest_of, unfinished, spelling, IsMessage};
 ghost use Rattle.lfi_queues.specs.declared.item.Kind.TheVariants.{End};
+ghost use Rattle.lfi_model.specs.declared.connection.Cause.TheVariants.{Starved};
 ghost use Rattle.lfi_model.specs.declared.connection.Progress.{Progress};
 ghost use Rattle.lfi_model.specs.declared.connection.Progress.TheVariants.{Going, Over};
 ghost use Rattle.lfi_model.specs.Items.{item_of, reason_of, fault_by_cause};
@@ -81,7 +82,7 @@ impl Receiver {
     ghost use Rattle.lfi_stage.specs.declared.receiver.Begun.TheVariants as begun;
     ghost use Rattle.lfi_stage.specs.declared.receiver.Turn.TheVariants as turn;
     ghost use Rattle.lfi_stage.specs.Turns.{PutsAsTold};
-    ghost use Rattle.lfi_stage.specs.Receivers.{pass_of, claimed_by, cause_of, hand_of, fault_of, strays_at, made_by, cause_after, Agrees, Awaits, IsUnopened, Holds, StandsFor, IsFinished, due_of, AfterEnd};
+    ghost use Rattle.lfi_stage.specs.Receivers.{pass_of, claimed_by, cause_of, hand_of, fault_of, strays_at, made_by, cause_after, Agrees, Awaits, IsUnopened, Holds, StandsFor, IsOver, IsFinished, due_of, AfterEnd};
 
     /// A receiver of which no byte has come, with its pass.
     pub(crate) fn new(alloc: Global, pass: PutPass) -> Receiver
@@ -89,6 +90,7 @@ impl Receiver {
         ensures stands { StandsFor result [] }
         ensures pass { pass_of result ≡ pass }
         ensures empty_handed { hand_of result ≡ None }
+        ensures running { cause_of result ≡ None }
     {
         Receiver {
             alloc,
@@ -284,6 +286,7 @@ impl Receiver {
         requires running { self.old.cause ≡ None }
         ensures used { result.0 ≤ length piece.now }
         ensures stands { (bytes : List ℕ) → StandsFor self.old bytes → StandsFor self.new (bytes ++ take result.0 piece.now) }
+        ensures over { (bytes : List ℕ) → StandsFor self.old bytes → IsOver self.new.cause (bytes ++ take result.0 piece.now) }
         ensures moves { (bytes : List ℕ) → StandsFor self.old bytes → piece.now ≢ [] → 0 < result.0 }
         ensures pass { self.new.pass ≡ self.old.pass }
         ensures stray { IsTrue result.1 → self.new.hand ≡ None }
@@ -319,6 +322,7 @@ impl Receiver {
         requires in_range { («module» < 16) × (0 < len) × (len ≤ 4096) × (len % 4 ≡ 0) }
         ensures stands { (messages : List Message) (rest : List ℕ) → Holds self.old messages [] → FeedStands self.old.feed messages rest → feed_fault self.old.feed ≡ None
             → length rest ≡ 12 → rest_of rest ≡ unfinished «module» index len → StandsFor self.new (flat_map spelling messages ++ rest) }
+        ensures over { (self.new.cause ≡ None) ⊎ (self.new.cause ≡ Some Starved) }
         ensures pass { self.new.pass ≡ self.old.pass }
         ensures stray { IsTrue result → self.new.hand ≡ None }
     {
@@ -365,6 +369,7 @@ impl Receiver {
         requires { (pass_of self.old).queue ≡ (intake_of shared.old).queue }
         ensures used { result.0 ≤ length piece.now }
         ensures stands { (bytes : List ℕ) → StandsFor self.old bytes → StandsFor self.new (bytes ++ take result.0 piece.now) }
+        ensures over { (bytes : List ℕ) → StandsFor self.old bytes → cause_of self.old ≡ None → IsOver (cause_of self.new) (bytes ++ take result.0 piece.now) }
         ensures moves { (bytes : List ℕ) → StandsFor self.old bytes → hand_of self.old ≡ None → cause_of self.old ≡ None → piece.now ≢ [] → 0 < result.0 }
         ensures puts { PutsAsTold result.1 (pass_of self.old) (pass_of self.new) (intake_of shared.old) (intake_of shared.new) }
         ensures hand { IsSome (hand_of self.new) ↔ (result.1 ≡ turn.Blocked) }

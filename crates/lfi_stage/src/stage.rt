@@ -2,7 +2,7 @@
 
 ghost use Rattle.std.specs.Prelude.{◌≡◌, ◌≢◌, ℕ, ◌+◌, ◌<◌, ◌≤◌, List, [], ◌∷◌, ◌++◌, length, take, is_some, Some, None, IfOk, slice_get};
 ghost use Rattle.lfi_queues.specs.Passes.{IsSamePass, new_pass};
-ghost use Rattle.lfi_stage.specs.Stages.{IsLoaded};
+ghost use Rattle.lfi_stage.specs.Stages.{IsHeard, IsLoaded};
 ghost use Rattle.lfi_stage.specs.Shares.{intake_of};
 ghost use Rattle.lfi_stage.specs.Receivers.{pass_of, cause_of, hand_of, StandsFor};
 ghost use Rattle.lfi_stage.specs.Verified.{pass_of as take_pass_of, Handled};
@@ -65,13 +65,14 @@ impl Stage {
 fn hear(receiver: &mut Receiver, verifier: &mut Verifier, shared: &mut Shared, text: &[u8]) -> usize
     requires fresh { StandsFor receiver.old [] }
     requires empty_handed { hand_of receiver.old ≡ None }
+    requires running { cause_of receiver.old ≡ None }
     requires put { (pass_of receiver.old).queue ≡ (intake_of shared.old).queue }
     requires take { (take_pass_of verifier.old).queue ≡ (intake_of shared.old).queue }
     requires empty { (intake_of shared.old).held ≡ [] }
     requires all { (pass_of receiver.old).items ≡ (take_pass_of verifier.old).items }
     requires handled { Handled verifier.old }
     ensures stands { StandsFor receiver.new (take result text.now) }
-    ensures whole { cause_of receiver.new ≡ None → result ≡ length text.now }
+    ensures heard { IsHeard (cause_of receiver.new) result text.now }
     ensures put { IsSamePass (pass_of receiver.old) (pass_of receiver.new) }
     ensures take { IsSamePass (take_pass_of verifier.old) (take_pass_of verifier.new) }
     ensures queue { (intake_of shared.new).queue ≡ (intake_of shared.old).queue }
@@ -99,6 +100,7 @@ fn load_by(
     requires one { ((intake_of shared).queue.putters ≡ 1) × ((intake_of shared).queue.takers ≡ 1) }
     requires fresh { StandsFor receiver [] }
     requires empty_handed { hand_of receiver ≡ None }
+    requires running { cause_of receiver ≡ None }
     requires put { pass_of receiver ≡ new_pass (intake_of shared).queue 0 }
     requires take { take_pass_of verifier ≡ new_pass (intake_of shared).queue 0 }
     requires empty { (intake_of shared).held ≡ [] }

@@ -1,7 +1,10 @@
 use Rattle.std.proofs.Common.{rules, arith, ◌≡◌, ◌≢◌, ◌<◌, ◌+◌, ◌-◌, ◌∙◌, ◌++◌, [], List, ℕ, Some, None, IsSome, false, true, length, take, drop, ap, sym, subst, length-drop}
 use Rattle.std.specs.Prelude.{is_some}
 use Rattle.lfi_stage.specs.declared.receiver.Turn.TheVariants as turn
-use Rattle.lfi_stage.specs.Receivers.{StandsFor}
+use Rattle.lfi_stage.specs.Receivers.{StandsFor, IsOver}
+use Rattle.lfi_stage.specs.Stages.{IsHeard}
+use Rattle.lfi_stage.proofs.Standing.{not_over}
+use Rattle.lfi_stage.proofs.Loading.{heard_by}
 use Rattle.lfi_stage.proofs.Settling.{AfterTurn, after_turn, same_pass, take_on, piece_is, rest_left, not_some}
 use Rattle.lfi_stage.proofs.stage.hear.Goals as goal
 
@@ -28,6 +31,8 @@ loop-used-preserved c =
       within = omega arith;
       stands = subst (λ l. StandsFor c.turn-count.new.self l) (ap (λ d. take c.loop-used.used c.args.text.now ++ take c.turn-count.result.0 d) (piece_is c.loop-used.used c.args.text.now) ∙ take_on c.loop-used.used c.turn-count.result.0 c.args.text.now)
           (c.turn-count.ensures.stands (take c.loop-used.used c.args.text.now) i.stands);
+      over = subst (λ l. IsOver c.turn-count.new.self.cause l) (ap (λ d. take c.loop-used.used c.args.text.now ++ take c.turn-count.result.0 d) (piece_is c.loop-used.used c.args.text.now) ∙ take_on c.loop-used.used c.turn-count.result.0 c.args.text.now)
+          (c.turn-count.ensures.over (take c.loop-used.used c.args.text.now) i.stands (search rules));
       empty_handed = not_some c.turn-count.new.self.hand (λ e. t.free (c.turn-count.ensures.hand.0 e));
       put = same_pass c.args.receiver.now.pass r q i.put t.pass;
       take = same_pass c.args.verifier.now.pass c.loop-used.verifier.pass c.drain.new.verifier.pass i.take c.drain.ensures.same;

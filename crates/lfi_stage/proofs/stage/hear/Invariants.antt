@@ -1,6 +1,6 @@
 use Rattle.std.proofs.Common.{◌≡◌, ◌≤◌, ◌-◌, length, take, [], None}
 use Rattle.lfi_queues.specs.Passes.{IsSamePass}
-use Rattle.lfi_stage.specs.Receivers.{StandsFor}
+use Rattle.lfi_stage.specs.Receivers.{StandsFor, IsOver}
 use Rattle.lfi_stage.specs.Verified.{Handled}
 use Rattle.lfi_stage.proofs.stage.hear.Given as goal
 
@@ -8,6 +8,7 @@ abbrev pub invariant-loop-used : goal.invariant-loop-used
 invariant-loop-used l = record {
   within : l.used ≤ length l.text;
   stands : StandsFor l.receiver (take l.used l.text);
+  over : IsOver l.receiver.cause (take l.used l.text);
   empty_handed : l.receiver.hand ≡ None;
   put : IsSamePass l.fn.receiver.pass l.receiver.pass;
   take : IsSamePass l.fn.verifier.pass l.verifier.pass;

@@ -33,7 +33,7 @@ returns c =
     record {
       receiver = c.hear.new.receiver;
       heard = c.hear.result;
-      whole = c.hear.ensures.whole;
+      is_heard = c.hear.ensures.heard;
       stands = c.hear.ensures.stands;
       reports = subst (λ l. Reports l (λ k. take c.hear.result c.args.text.now) c.settle.result) r
           (c.settle.ensures (λ k. take c.hear.result c.args.text.now)

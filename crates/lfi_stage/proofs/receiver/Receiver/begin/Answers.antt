@@ -1,4 +1,4 @@
-use Rattle.std.proofs.Common.{rules, ◌≡◌, ◌≢◌, ◌∙◌, Some, None, refl, sym, subst, ap, ◌++◌, [], take, drop, List, ℕ}
+use Rattle.std.proofs.Common.{rules, inl, inr, ◌≡◌, ◌≢◌, ◌∙◌, Some, None, refl, sym, subst, ap, ◌++◌, [], take, drop, List, ℕ}
 use Rattle.lfi_frame.proofs.Feeding.{nothing_after}
 use Rattle.lfi_stage.specs.declared.receiver.Begun.TheVariants as begun_kind
 use Rattle.lfi_stage.specs.Receivers.{StandsFor}
@@ -22,3 +22,12 @@ returns-in-Awaited-clause-stands c = λ ms rest holds feed faultless twelve is.
 pub returns-in-Starved-clause-stands : goal.returns-in-Starved-clause-stands
 returns-in-Starved-clause-stands c = λ ms rest holds feed faultless twelve is.
     starved c.args.self.now _ ms rest c.args.«module» c.args.index c.args.len refl refl feed is (c.page.ensures.agrees ms holds) (c.page.ensures.claims ms holds)
+
+pub returns-in-Stray-clause-over : goal.returns-in-Stray-clause-over
+returns-in-Stray-clause-over c = inl (ap (λ z. z.cause) c.page.ensures.rest ∙ c.requires.running)
+
+pub returns-in-Awaited-clause-over : goal.returns-in-Awaited-clause-over
+returns-in-Awaited-clause-over c = inl (ap (λ z. z.cause) c.page.ensures.rest ∙ c.requires.running)
+
+pub returns-in-Starved-clause-over : goal.returns-in-Starved-clause-over
+returns-in-Starved-clause-over c = inr refl

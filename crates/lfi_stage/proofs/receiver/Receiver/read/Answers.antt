@@ -4,7 +4,7 @@ use Rattle.lfi_frame.specs.declared.feed.Got.TheVariants as got
 use Rattle.lfi_frame.specs.Streams.{open_message, close_message, spelling}
 use Rattle.lfi_frame.specs.Feeds.{FeedStands, IsTold, feed_fault}
 use Rattle.lfi_stage.specs.Receivers.{StandsFor, Holds}
-use Rattle.lfi_stage.proofs.Standing.{running, more_stands, message_stands, header_stands, payload_stands, fault_stands, some_used, fault_used}
+use Rattle.lfi_stage.proofs.Standing.{running, more_stands, message_stands, header_stands, payload_stands, fault_stands, fault_over, not_over, starved_over, some_used, fault_used}
 use Rattle.lfi_stage.proofs.receiver.Receiver.read.Goals as goal
 
 pub returns-in-More-clause-stands : goal.returns-in-More-clause-stands
@@ -67,3 +67,28 @@ returns-in-Err-clause-stands c = λ bytes stands.
     let within = c.in-Err.ensures.within in
     let twelve : length (stands.rest ++ used) ≡ 12 = (let l = length-append stands.rest used in let t = length-take n c.args.piece.now in omega arith) in
     fault_stands r c.feed.new.self bytes used c.in-Err.fault stands c.requires.running some twelve told.0 told.1
+
+pub returns-in-More-clause-over : goal.returns-in-More-clause-over
+returns-in-More-clause-over c = λ bytes stands. not_over _ _ c.requires.running
+
+pub returns-in-Open-clause-over : goal.returns-in-Open-clause-over
+returns-in-Open-clause-over c = λ bytes stands. not_over _ _ (ap (λ z. z.cause) c.«open».ensures.rest ∙ c.requires.running)
+
+pub returns-in-Payload-clause-over : goal.returns-in-Payload-clause-over
+returns-in-Payload-clause-over c = λ bytes stands. not_over _ _ (ap (λ z. z.cause) c.payload.ensures.rest ∙ c.requires.running)
+
+pub returns-in-Close-clause-over : goal.returns-in-Close-clause-over
+returns-in-Close-clause-over c = λ bytes stands. not_over _ _ (ap (λ z. z.cause) c.close.ensures.rest ∙ c.requires.running)
+
+pub returns-in-Page-clause-over : goal.returns-in-Page-clause-over
+returns-in-Page-clause-over c = λ bytes stands. starved_over _ _ c.begin.ensures.over
+
+pub returns-in-Err-clause-over : goal.returns-in-Err-clause-over
+returns-in-Err-clause-over c = λ bytes stands.
+    let r = c.args.self.now in
+    let n : ℕ = c.in-Err.used in
+    let used : List ℕ = take n c.args.piece.now in
+    let runs = running r bytes stands c.requires.running in
+    let told = c.in-Err.ensures.told stands.messages stands.rest runs.feed in
+    let some : used ≢ [] = fault_used c.args.piece.now n c.in-Err.fault (c.in-Err.ensures.moves runs.faultless) (c.in-Err.ensures.empty runs.faultless) in
+    fault_over r c.feed.new.self bytes used c.in-Err.fault stands some told.0 told.1

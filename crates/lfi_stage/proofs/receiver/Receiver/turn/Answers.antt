@@ -1,7 +1,7 @@
 use Rattle.std.proofs.Common.{rules, ◌≡◌, ◌∙◌, Some, sym, subst, ap, ◌++◌, [], take}
 use Rattle.std.proofs.lemmas.List.{append-nil}
-use Rattle.lfi_stage.specs.Receivers.{StandsFor}
-use Rattle.lfi_stage.proofs.Standing.{put_on}
+use Rattle.lfi_stage.specs.Receivers.{StandsFor, IsOver}
+use Rattle.lfi_stage.proofs.Standing.{put_on, not_over}
 use Rattle.lfi_stage.proofs.receiver.Receiver.turn.Goals as goal
 
 pub returns-then-is_some-clause-stands : goal.returns-then-is_some-clause-stands
@@ -30,3 +30,16 @@ returns-then-is_some-3-clause-moves c = λ bytes stands free running some. c.rea
 
 pub returns-else-is_some-3-clause-moves : goal.returns-else-is_some-3-clause-moves
 returns-else-is_some-3-clause-moves c = λ bytes stands free running some. c.read-used.ensures.moves bytes stands some
+
+pub returns-then-is_some-clause-over : goal.returns-then-is_some-clause-over
+returns-then-is_some-clause-over c = λ bytes stands running. not_over _ _ (ap (λ z. z.cause) c.put_hand.ensures.rest ∙ running)
+
+pub returns-then-is_some-3-clause-over : goal.returns-then-is_some-3-clause-over
+returns-then-is_some-3-clause-over c = λ bytes stands running.
+    subst (λ k. IsOver k (bytes ++ take c.read-used.result.0 c.args.piece.now)) (sym (ap (λ z. z.cause) c.put_hand-then-is_some-3.ensures.rest)) (c.read-used.ensures.over bytes stands)
+
+pub returns-then-stray-clause-over : goal.returns-then-stray-clause-over
+returns-then-stray-clause-over c = λ bytes stands running. c.read-used.ensures.over bytes stands
+
+pub returns-else-is_some-3-clause-over : goal.returns-else-is_some-3-clause-over
+returns-else-is_some-3-clause-over c = λ bytes stands running. c.read-used.ensures.over bytes stands

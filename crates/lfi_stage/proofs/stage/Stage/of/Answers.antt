@@ -14,5 +14,6 @@ returns c = record {
   take = c.new-2.ensures.pass ∙ c.requires.take;
   stands = c.new.ensures.stands;
   empty_handed = c.new.ensures.empty_handed;
+  running = c.new.ensures.running;
   handled = c.new-2.ensures.handled;
 }
