@@ -2,6 +2,7 @@
 use Rattle.std.proofs.Common.{rules, arith, ◌≡◌, ◌≢◌, ℕ, ◌+◌, ◌-◌, ◌^◌, ◌<◌, zero, suc, List, [], ◌∷◌, ◌++◌, length, length-append, length-drop, take, drop, get_or, min, Option, Some, None, IsSome, true, false, option_to_list, refl, sym, ◌∙◌, ap, subst}
 use Rattle.std.proofs.Math.Seq.{take-length}
 use Rattle.std.specs.Prelude.{sum, slice_get, slice_index, is_some}
+use Rattle.lfi_frame.specs.declared.fault.FrameFault.{FrameFault}
 use Rattle.lfi_frame.specs.Streams.{Message, Cut}
 use Rattle.lfi_frame.proofs.Cuts.{only}
 use Rattle.lfi_queues.specs.Kept.{Kept}
@@ -69,7 +70,7 @@ module _ (r r' : Receiver) (v v' : Verifier) (intake : QueueView) (texts : ℕ �
     (stands : StandsFor r' (texts 0)) (finished : IsFinished r') (ended : r'.cause ≡ Some (cause_after r.cause false)) (same_claims : (m : ℕ) → claimed_by r' m ≡ claimed_by r m)
     (handled : Handled v → Handled v') (all : r.pass.items ≡ v.pass.items ++ intake.held → r'.pass.items ≡ v'.pass.items)
     (told : (m : ℕ) → m < 16 → (t : ModuleReport) × (slice_get report.modules m ≡ Some t) × ((items : List ItemView) → HandledBy m (placing_at v'.placings m) items → HasEnd items → Tells m t items))
-    (fault : get_or report.faults 0 None ≡ r'.fault) (strays : report.strays ≡ r'.strays) where
+    (fault : get_or report.faults 0 None ≡ r'.fault) (no_fault : (c : ℕ) → 0 < c → get_or report.faults c None ≡ None) (strays : report.strays ≡ r'.strays) where
   abbrev cause : Cause
   cause = cause_after r.cause false
 
@@ -147,12 +148,29 @@ module _ (r r' : Receiver) (v v' : Verifier) (intake : QueueView) (texts : ℕ �
     unclaimed = λ m in_range none.
         let t = tells m in_range in
         (t.0, t.1, nothing_told m t.0 (items m) (idle_items ms rest cause (claimed_by r) m (none 0 r refl)) t.2);
+    no_fault = λ c none. no_fault c (not_first c none);
     counted = refl;
     total = strays ∙ ends.strays ∙ ap (λ c. min (strays_of ms rest cause c) (2 ^ 64 - 1)) claims ∙ ap (λ n. min n (2 ^ 64 - 1)) (sum_one (strays_of ms rest cause (claimed_by r)));
   }
     where
+      not_first : (c : ℕ) → slice_get (r ∷ []) c ≡ None → 0 < c
+      not_first zero e = absurd cc
+      not_first (suc c) e = omega arith
+
       sum_one : (n : ℕ) → n ≡ sum (n ∷ [])
       sum_one n = search rules
+
+-- only the first place tells a fault
+pub first_alone : (f : Option FrameFault) (c : ℕ) → 0 < c → get_or (f ∷ None ∷ None ∷ None ∷ None ∷ None ∷ None ∷ None ∷ []) c None ≡ None
+first_alone f zero more = absurd (omega arith)
+first_alone f (suc zero) more = refl
+first_alone f (suc (suc zero)) more = refl
+first_alone f (suc (suc (suc zero))) more = refl
+first_alone f (suc (suc (suc (suc zero)))) more = refl
+first_alone f (suc (suc (suc (suc (suc zero))))) more = refl
+first_alone f (suc (suc (suc (suc (suc (suc zero)))))) more = refl
+first_alone f (suc (suc (suc (suc (suc (suc (suc zero))))))) more = refl
+first_alone f (suc (suc (suc (suc (suc (suc (suc (suc c)))))))) more = refl
 
 -- in the words of `settle`
 pub settled : (rs rs' : List Receiver) (vs vs' : List Verifier) (r r' : Receiver) (v v' : Verifier) (intake : QueueView) (report : Report)
@@ -160,15 +178,15 @@ pub settled : (rs rs' : List Receiver) (vs vs' : List Verifier) (r r' : Receiver
     → ((bytes : List ℕ) → StandsFor r bytes → StandsFor r' bytes) → IsFinished r' → r'.cause ≡ Some (cause_after r.cause false) → ((m : ℕ) → claimed_by r' m ≡ claimed_by r m)
     → (Handled v → Handled v') → (r.pass.items ≡ v.pass.items ++ intake.held → r'.pass.items ≡ v'.pass.items)
     → ((m : ℕ) → m < 16 → (t : ModuleReport) × (slice_get report.modules m ≡ Some t) × ((items : List ItemView) → HandledBy m (placing_at v'.placings m) items → HasEnd items → Tells m t items))
-    → get_or report.faults 0 None ≡ r'.fault → report.strays ≡ r'.strays
+    → get_or report.faults 0 None ≡ r'.fault → ((c : ℕ) → 0 < c → get_or report.faults c None ≡ None) → report.strays ≡ r'.strays
     → (texts : ℕ → List ℕ) → ((c : ℕ) (q : Receiver) → slice_get rs c ≡ Some q → StandsFor q (texts c)) → Reports rs texts report
-settled rs rs' vs vs' r r' v v' intake report last_r last_v one_r one_v parts kept stands finished ended claims handled all told fault strays texts all_stand =
+settled rs rs' vs vs' r r' v v' intake report last_r last_v one_r one_v parts kept stands finished ended claims handled all told fault no_fault strays texts all_stand =
     let rs_is : rs ≡ r ∷ [] = only_one rs rs' r last_r (parts.receiver_count ∙ one_r) in
     let vs_is : vs ≡ v ∷ [] = only_one vs vs' v last_v (parts.verifier_count ∙ one_v) in
     let parts' : AreParts intake (r ∷ []) (v ∷ []) = subst (λ l. AreParts intake l (v ∷ [])) rs_is (subst (λ l. AreParts intake rs l) vs_is parts) in
     let kept' : Kept (puts_of (r ∷ [])) (takes_of (v ∷ [])) intake.held = subst (λ l. Kept (puts_of l) (takes_of (v ∷ [])) intake.held) rs_is (subst (λ l. Kept (puts_of rs) (takes_of l) intake.held) vs_is kept) in
     let mine : StandsFor r (texts 0) = all_stand 0 r (ap (λ l. slice_get l 0) rs_is) in
-    subst (λ l. Reports l texts report) (sym rs_is) (settled_one r r' v v' intake texts report parts' kept' (stands (texts 0) mine) finished ended claims handled all told fault strays)
+    subst (λ l. Reports l texts report) (sym rs_is) (settled_one r r' v v' intake texts report parts' kept' (stands (texts 0) mine) finished ended claims handled all told fault no_fault strays)
 
 -- A receiver's turn on an empty intake.
 pub record AfterTurn (t : Turn) (r q : PassView) (v : List ItemView) (before after : QueueView) : Type 0 where

@@ -44,5 +44,7 @@ pub record Reports (receivers : List Receiver) (texts : ℕ → List ℕ) (repor
       (told : ModuleReport) × (slice_get report.modules m ≡ Some told) × Tells m told (items c m)
   pub unclaimed : (m : ℕ) → m < 16 → ((c : ℕ) (r : Receiver) → slice_get receivers c ≡ Some r → claimed_by r m ≡ false) →
       (told : ModuleReport) × (slice_get report.modules m ≡ Some told) × IsOnePass m told []
+  -- no fault is told of a connection without a receiver
+  pub no_fault : (c : ℕ) → slice_get receivers c ≡ None → get_or report.faults c None ≡ None
   pub counted : length strays ≡ length receivers
   pub total : report.strays ≡ min (sum strays) (2 ^ 64 - 1)

@@ -68,6 +68,7 @@ fn finish(receiver: &mut Receiver, verifier: &mut Verifier, shared: &mut Shared)
 fn told_by(receiver: &Receiver, verifier: Verifier) -> Report
     ensures modules { (m : ℕ) → m < 16 → (told : ModuleReport) × (slice_get result.modules m ≡ Some told) × ((items : List ItemView) → HandledBy m (placing_at verifier.placings m) items → HasEnd items → Tells m told items) }
     ensures fault { get_or result.faults 0 None ≡ fault_of receiver.now }
+    ensures no_fault { (c : ℕ) → 0 < c → get_or result.faults c None ≡ None }
     ensures strays { result.strays ≡ strays_at receiver.now }
 {
     let fault = receiver.fault();
