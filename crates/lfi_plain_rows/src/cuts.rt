@@ -5,7 +5,7 @@ use lfi_model::Cause;
 use std::test::Fail;
 
 /// What is told of the first `len` bytes of a module of one word.
-fn cut_short(len: usize, cause: Cause) -> &'static str {
+pub fn cut_short(len: usize, cause: Cause) -> &'static str {
     match cause {
         Cause::End => match len {
             0 => "strays 0\n",

@@ -1,4 +1,4 @@
-//! Worked rows of `lfi_plain`: whole streams, and the reports on them.
+//! Worked rows of `lfi_plain` and of `lfi_stage`: whole streams, and the reports on them.
 #![tactic(auto)]
 
 #[cfg(test)]
@@ -7,5 +7,7 @@ mod build;
 mod cuts;
 #[cfg(test)]
 mod modules;
+#[cfg(test)]
+mod stage;
 #[cfg(test)]
 mod streams;

@@ -1,21 +1,16 @@
 -- What a receiver holds of its messages, after one more event of its text.
-use Rattle.std.proofs.Common.{rules, ◌≡◌, ◌≢◌, ℕ, ◌+◌, ◌-◌, ◌<◌, ◌≤◌, ◌^◌, ◌==◌, List, [], ◌∷◌, ◌++◌, length, Option, Some, None, refl, sym, ◌∙◌, ap, subst, inl, inr, arith, Bool, true, false, cond, if◌then◌else◌, min, sum_by}
-use Rattle.std.specs.List.{filter}
+use Rattle.std.proofs.Common.{rules, ◌≡◌, ◌≢◌, ℕ, ◌+◌, ◌-◌, ◌<◌, ◌^◌, ◌==◌, List, [], ◌∷◌, ◌++◌, refl, sym, ◌∙◌, ap, subst, inl, inr, arith, Bool, true, false, cond, if◌then◌else◌, min, sum_by}
 use Rattle.std.proofs.lemmas.List.{append-nil}
-use Rattle.std.proofs.lemmas.Bool.{cases_lt, eq-eqb, cond-true, cond-false}
+use Rattle.std.proofs.lemmas.Bool.{eq-eqb}
 use Rattle.std.proofs.lemmas.Bool.Decides.{eqb_tells}
-use Rattle.lfi_frame.specs.Streams.{Message, open_message, page_message, close_message, Rest, short, faulty, unfinished, whole}
+use Rattle.lfi_frame.specs.Streams.{Message, Rest}
 use Rattle.lfi_queues.specs.Items.{ItemView}
-use Rattle.lfi_queues.specs.declared.item.Kind.TheVariants.{Open, Page, End}
-use Rattle.lfi_queues.specs.declared.item.Reason.{Reason}
-use Rattle.lfi_queues.specs.declared.item.Reason.TheVariants.{Close, PageFault}
 use Rattle.lfi_model.specs.declared.connection.Progress.{Progress}
-use Rattle.lfi_model.specs.declared.connection.Progress.TheVariants.{Unclaimed, Going, Over}
-use Rattle.lfi_model.specs.Items.{Share, after_message, after_header, after_page, after_rest, is_due, is_of, item_of, modules, share_of, with_item, with_stray}
+use Rattle.lfi_model.specs.Items.{Share, modules, share_of, with_item, with_stray}
 use Rattle.lfi_model.specs.Modules.{of, Member}
-use Rattle.lfi_model.proofs.Growing.{share_snoc, Apart, sum_one_more}
-use Rattle.lfi_stage.specs.Places.{progress_at, is_claimed, claims_of}
-use Rattle.lfi_stage.specs.Receivers.{Agrees, IsPassed, IsUnopened}
+use Rattle.lfi_model.proofs.Growing.{Apart, sum_one_more}
+use Rattle.lfi_stage.specs.Places.{progress_at, claims_of}
+use Rattle.lfi_stage.specs.Receivers.{Agrees}
 
 -- what each module has got
 abbrev pub share_in : List Progress → List Message → Rest → ℕ → Share

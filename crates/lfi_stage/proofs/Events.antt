@@ -1,14 +1,14 @@
 -- What one event of a text does to the shares of the modules.
-use Rattle.std.proofs.Common.{rules, ◌≡◌, ◌≢◌, ℕ, ◌+◌, ◌-◌, ◌<◌, ◌≤◌, ◌^◌, ◌==◌, List, [], ◌∷◌, ◌++◌, length, Option, Some, None, refl, sym, ◌∙◌, ap, subst, inl, inr, arith, Bool, true, false, cond, if◌then◌else◌, min, sum_by}
+use Rattle.std.proofs.Common.{◌≡◌, ◌≢◌, ℕ, ◌+◌, ◌-◌, ◌<◌, ◌^◌, ◌==◌, List, [], ◌∷◌, ◌++◌, length, Option, Some, None, refl, sym, ◌∙◌, ap, subst, inl, inr, Bool, true, false, if◌then◌else◌, min}
 use Rattle.std.proofs.lemmas.Bool.{eq-eqb}
 use Rattle.std.proofs.lemmas.Bool.Decides.{eqb_tells}
-use Rattle.lfi_frame.specs.Streams.{Message, open_message, page_message, close_message, header_of, Rest, short, faulty, unfinished, whole}
+use Rattle.lfi_frame.specs.Streams.{Message, open_message, page_message, close_message, header_of, short, faulty, unfinished}
 use Rattle.lfi_queues.specs.Items.{ItemView}
 use Rattle.lfi_queues.specs.declared.item.Kind.TheVariants.{Open, Page, End}
-use Rattle.lfi_queues.specs.declared.item.Reason.TheVariants.{Close, PageFault}
+use Rattle.lfi_queues.specs.declared.item.Reason.TheVariants.{PageFault}
 use Rattle.lfi_model.specs.declared.connection.Progress.{Progress}
 use Rattle.lfi_model.specs.declared.connection.Progress.TheVariants.{Unclaimed, Going, Over}
-use Rattle.lfi_model.specs.Items.{Share, after_message, after_header, after_page, after_rest, is_due, is_of, item_of, modules, share_of, with_item, with_stray}
+use Rattle.lfi_model.specs.Items.{Share, after_message, after_header, is_due, item_of, share_of, with_item, with_stray}
 use Rattle.lfi_model.proofs.Growing.{share_snoc}
 use Rattle.lfi_stage.specs.Places.{progress_at, is_claimed, claims_of}
 use Rattle.lfi_stage.specs.Receivers.{Agrees, IsPassed, IsUnopened, KnowsOpens}

@@ -1,5 +1,5 @@
 -- What a receiver holds, after one more event.
-use Rattle.std.proofs.Common.{rules, ◌≡◌, ◌≢◌, ℕ, ◌+◌, ◌-◌, ◌<◌, ◌≤◌, ◌^◌, ◌==◌, List, [], ◌∷◌, ◌++◌, length, drop, Option, Some, None, refl, sym, ◌∙◌, ap, subst, inl, inr, arith, Bool, true, false, cond, if◌then◌else◌, min, option_to_list, take, zero, suc, length-append}
+use Rattle.std.proofs.Common.{◌≡◌, ℕ, ◌+◌, ◌-◌, ◌<◌, ◌≤◌, ◌^◌, ◌==◌, List, [], ◌∷◌, ◌++◌, length, drop, Option, Some, None, refl, sym, ◌∙◌, ap, subst, inl, inr, arith, Bool, true, false, if◌then◌else◌, min, option_to_list, take, zero, suc, length-append}
 use Rattle.std.specs.List.{filter, fold}
 use Rattle.std.proofs.lemmas.List.{append-nil}
 use Rattle.lfi_frame.specs.Streams.{Message, open_message, page_message, close_message, Rest, short, faulty, unfinished, whole, rest_of, rest_after, header_fault, header_at}
@@ -17,7 +17,7 @@ use Rattle.lfi_model.specs.Items.{Share, after_message, after_header, is_of, is_
 use Rattle.lfi_stage.specs.declared.coming.Coming.{Coming}
 use Rattle.lfi_stage.specs.declared.receiver.Receiver.{Receiver}
 use Rattle.lfi_stage.specs.Places.{progress_at, is_claimed, claims_of}
-use Rattle.lfi_stage.specs.Receivers.{made_by, Agrees, Awaits, IsPassed, IsUnopened, KnowsOpens, Holds}
+use Rattle.lfi_stage.specs.Receivers.{made_by, Agrees, Awaits, IsPassed, IsUnopened, Holds}
 use Rattle.std.proofs.lemmas.Bool.{and_parts, and_from, eqb-true, eq-eqb, lt-ltb, ltb-true, cases_lt}
 use Rattle.std.proofs.Math.Seq.{take-length}
 use Rattle.std.specs.Prelude.{nat_lt, nat_le, not, ◌&&◌}

@@ -1,5 +1,5 @@
 -- The parts of a stage of one receiver and one verifier, of which all that was put was taken.
-use Rattle.std.proofs.Common.{rules, arith, ◌≡◌, ℕ, zero, suc, List, [], ◌∷◌, Option, Some, None, length, take, cond, eqb, refl, sym, ◌∙◌, ap, subst}
+use Rattle.std.proofs.Common.{◌≡◌, ℕ, zero, suc, List, [], ◌∷◌, Option, Some, None, length, take, cond, refl, sym, ◌∙◌, ap, subst}
 use Rattle.std.proofs.Math.Dec.{eqb-zero-suc}
 use Rattle.std.specs.Prelude.{slice_get}
 use Rattle.lfi_queues.specs.Items.{ItemView}

@@ -1,26 +1,25 @@
 -- What has been placed of all items is what the report tells.
-use Rattle.std.proofs.Common.{◌≡◌, ◌≢◌, ℕ, ◌<◌, ◌==◌, List, [], ◌∷◌, ◌++◌, length, Option, Some, None, refl, sym, ◌∙◌, ap, subst, inl, inr, arith, Bool, true, false, if◌then◌else◌, eq-eqb}
+use Rattle.std.proofs.Common.{◌≡◌, ℕ, ◌<◌, ◌==◌, List, [], ◌∷◌, length, Some, None, refl, sym, ◌∙◌, ap, subst, inl, inr, arith, false, if◌then◌else◌, eq-eqb}
 use Rattle.std.specs.Option.{option_map}
 use Rattle.std.proofs.lemmas.Bool.Decides.{eqb_tells}
 use Rattle.lfi_queues.specs.Items.{ItemView}
 use Rattle.lfi_queues.specs.declared.item.Reason.{Reason}
-use Rattle.lfi_queues.specs.declared.item.Reason.TheVariants.{Close, Lost, PageFault, NoMemory}
-use Rattle.lfi_rules.specs.declared.fault.Fault.{Fault}
+use Rattle.lfi_queues.specs.declared.item.Reason.TheVariants.{Close}
 use Rattle.lfi_rules.specs.Faults.{FirstFault}
 use Rattle.lfi_rules.specs.Verdicts.{all_words}
 use Rattle.lfi_image.specs.Image.{Module, Image}
 use Rattle.lfi_model.specs.declared.outcome.Outcome.{Outcome}
 use Rattle.lfi_model.specs.declared.outcome.Outcome.TheVariants as outcome_kind
 use Rattle.lfi_model.specs.Items.{page_count}
-use Rattle.lfi_model.specs.Outcomes.{Load, by_end, IsOutcome, pages_of, end_of, Placed}
+use Rattle.lfi_model.specs.Outcomes.{Load, by_end, pages_of, end_of, Placed}
 use Rattle.lfi_model.proofs.Faults.{placed_whole}
 use Rattle.lfi_stage.specs.declared.verifier.Placing.{Placing}
 use Rattle.lfi_stage.specs.declared.verifier.Ended.{Ended}
 use Rattle.lfi_stage.specs.declared.report.ImageState.{ImageState}
-use Rattle.lfi_stage.specs.declared.report.ImageState.TheVariants.{Absent, Part, Whole}
+use Rattle.lfi_stage.specs.declared.report.ImageState.TheVariants.{Absent, Whole}
 use Rattle.lfi_stage.specs.declared.report.ModuleReport.{ModuleReport}
 use Rattle.lfi_stage.specs.Verifiers.{words_at, builder_of, HasPlaced, HasBuilt, HasEnded, IsPlacing}
-use Rattle.lfi_stage.specs.Tells.{image_of, IsImageOf, IsOnePass, Tells, one_pass, HasEnd}
+use Rattle.lfi_stage.specs.Tells.{IsImageOf, Tells, one_pass, HasEnd}
 use Rattle.lfi_stage.proofs.Placings.{placed_all, no_break}
 
 -- a module whose words have no fault, by its End

@@ -30,7 +30,7 @@ use Rattle.lfi_stage.specs.declared.receiver.Receiver.{Receiver}
 use Rattle.lfi_stage.specs.declared.verifier.Turn.{Turn as VerifierTurn}
 use Rattle.lfi_stage.specs.declared.verifier.Turn.TheVariants.{Worked, Idle}
 use Rattle.lfi_stage.specs.Receivers.{StandsFor, StandsBy, Ends, IsFinished, claimed_by, cause_after}
-use Rattle.lfi_stage.specs.Turns.{PutsItem, PutsAsTold, TakesAsTold}
+use Rattle.lfi_stage.specs.Turns.{PutsAsTold, TakesAsTold}
 
 -- a take from an intake that holds one item
 pub record TakesOne (old new : PassView) (item : ItemView) (before after : QueueView) : Type 0 where

@@ -1,12 +1,12 @@
 -- A receiver goes on standing for its text.
-use Rattle.std.proofs.Common.{rules, zero, suc, ◌≡◌, ◌≢◌, ℕ, ◌+◌, ◌-◌, ◌<◌, ◌≤◌, ◌^◌, ◌==◌, ◌⊎◌, List, [], ◌∷◌, ◌++◌, length, drop, take, Option, Some, None, IsSome, refl, sym, ◌∙◌, ap, subst, inl, inr, arith, Bool, true, false, cond, if◌then◌else◌, min, option_to_list, length-append, length-take, append_assoc, flat_map, not, ◌||◌}
+use Rattle.std.proofs.Common.{zero, suc, ◌≡◌, ◌≢◌, ℕ, ◌+◌, ◌-◌, ◌<◌, ◌≤◌, ◌^◌, ◌==◌, ◌⊎◌, List, [], ◌∷◌, ◌++◌, length, drop, take, Option, Some, None, IsSome, refl, sym, ◌∙◌, ap, subst, inl, inr, arith, Bool, true, false, if◌then◌else◌, min, option_to_list, length-append, length-take, append_assoc, flat_map, not, ◌||◌}
 use Rattle.std.specs.List.{list_any}
 use Rattle.std.specs.Prelude.{nat_lt, ◌&&◌, Result, Ok, Err, is_some, is_err, IfSome, IfNone}
 use Rattle.lfi_frame.specs.Feeds.{IsAtEnd}
 use Rattle.lfi_stage.specs.declared.modules.OpenModule.{OpenModule}
 use Rattle.std.proofs.lemmas.List.{append-nil}
 use Rattle.std.proofs.lemmas.Grind.{flat_map-append}
-use Rattle.std.proofs.lemmas.Bool.{eq-eqb, cases_lt}
+use Rattle.std.proofs.lemmas.Bool.{cases_lt}
 use Rattle.std.proofs.lemmas.Bool.Decides.{eqb_tells}
 use Rattle.lfi_frame.specs.declared.fault.FrameFault.{FrameFault}
 use Rattle.lfi_frame.specs.declared.fault.FrameFault.TheVariants as frame_fault
@@ -15,7 +15,7 @@ use Rattle.lfi_frame.specs.declared.header.Header.{Header}
 use Rattle.lfi_stage.specs.declared.coming.Coming.{Coming}
 use Rattle.lfi_frame.specs.declared.feed.Place.{Place}
 use Rattle.lfi_frame.specs.declared.feed.Place.TheVariants as place
-use Rattle.lfi_frame.specs.Streams.{Message, Rest, short, faulty, unfinished, whole, rest_of, rest_after, header_fault, header_at, spelling, Cut, open_message, page_message, close_message}
+use Rattle.lfi_frame.specs.Streams.{Message, Rest, short, faulty, unfinished, whole, rest_of, rest_after, header_fault, header_at, spelling, Cut, page_message}
 use Rattle.lfi_frame.specs.Feeds.{FeedStands, IsAt, IsTold, feed_fault, fault_at}
 use Rattle.lfi_frame.specs.Streams.{IsMessage, header_of}
 use Rattle.lfi_frame.specs.declared.feed.Step.{Step}
@@ -26,24 +26,24 @@ use Rattle.std.proofs.lemmas.List.Elements.{All-head, All-tail}
 use Rattle.std.specs.Prelude.{All}
 use Rattle.lfi_stage.proofs.Holding.{unfinished_long}
 use Rattle.lfi_frame.proofs.Cuts.{rest_short, rest_long}
-use Rattle.lfi_frame.proofs.Feeding.{stands_cut, page_rest, nothing_after}
+use Rattle.lfi_frame.proofs.Feeding.{stands_cut, page_rest}
 use Rattle.lfi_queues.specs.Items.{ItemView}
 use Rattle.lfi_queues.specs.Passes.{PassView}
 use Rattle.lfi_queues.specs.declared.item.Kind.TheVariants.{End}
 use Rattle.lfi_model.specs.declared.connection.Cause.{Cause}
 use Rattle.lfi_model.specs.declared.connection.Cause.TheVariants as cause_kind
 use Rattle.lfi_model.specs.declared.connection.Progress.{Progress}
-use Rattle.lfi_model.specs.declared.connection.Progress.TheVariants.{Unclaimed, Going, Over}
-use Rattle.lfi_model.specs.Items.{Share, connection_fault, ends_of, fault_by_cause, fault_of, is_going, is_inside, item_of, items_of, modules, reason_of, share_at, share_of, strays_of}
+use Rattle.lfi_model.specs.declared.connection.Progress.TheVariants.{Going, Over}
+use Rattle.lfi_model.specs.Items.{connection_fault, ends_of, fault_by_cause, fault_of, is_going, is_inside, item_of, items_of, modules, reason_of, share_at, strays_of}
 use Rattle.lfi_model.specs.Modules.{of, Member}
 use Rattle.lfi_stage.specs.declared.receiver.Receiver.{Receiver}
 use Rattle.lfi_stage.specs.Places.{progress_at, is_claimed, claims_of}
 use Rattle.lfi_stage.specs.Claims.{claims_in}
-use Rattle.lfi_stage.specs.Receivers.{made_by, claimed_by, Agrees, Awaits, IsUnopened, Holds, Runs, Ends, StandsBy, StandsFor, IsFaulty, IsOver, due_of}
+use Rattle.lfi_stage.specs.Receivers.{made_by, claimed_by, Agrees, Awaits, Holds, Runs, Ends, StandsBy, StandsFor, IsFaulty, IsOver, due_of}
 use Rattle.lfi_stage.proofs.Books.{of_other, of_this, numbered, apart}
 use Rattle.lfi_model.proofs.Growing.{sum_one_more}
 use Rattle.std.proofs.Common.{sum_by}
-use Rattle.lfi_stage.proofs.Events.{changed_at, claims_other, claims_kept, faulty_adds}
+use Rattle.lfi_stage.proofs.Events.{changed_at, claims_other, faulty_adds}
 
 -- what is in hand is put, or stays there
 pub put_on : (r : Receiver) (pass : PassView) (hand : Option ItemView) (bytes : List ℕ) → pass.items ++ option_to_list hand ≡ made_by r → StandsFor r bytes → StandsFor (record r { pass = pass; hand = hand }) bytes

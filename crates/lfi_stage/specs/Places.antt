@@ -1,7 +1,7 @@
 -- How far the modules of a connection are, by their numbers, and the page that is coming.
-use Rattle.std.specs.Prelude.{◌≡◌, ℕ, ◌+◌, ◌<◌, ◌≤◌, List, get_or, length, Bool, true, false}
+use Rattle.std.specs.Prelude.{ℕ, ◌<◌, ◌≤◌, List, get_or, Bool, true, false}
 use Rattle.lfi_model.specs.declared.connection.Progress.{Progress}
-use Rattle.lfi_model.specs.declared.connection.Progress.TheVariants.{Unclaimed, Going, Over}
+use Rattle.lfi_model.specs.declared.connection.Progress.TheVariants.{Unclaimed, Going}
 use Rattle.lfi_model.specs.Items.{page_count}
 
 -- how far module m is

@@ -1,7 +1,7 @@
 -- The texts that a receiver stands for. (docs/DEFINITIONS.md, "Receivers")
-use Rattle.std.specs.Prelude.{◌≡◌, ◌≢◌, ℕ, ◌+◌, ◌-◌, ◌<◌, ◌^◌, ◌==◌, ◌⊎◌, Bool, true, false, List, [], ◌++◌, length, drop, Option, Some, None, is_some, IsSome, option_to_list, min, flat_map, sum_by, if◌then◌else◌}
+use Rattle.std.specs.Prelude.{◌≡◌, ℕ, ◌+◌, ◌-◌, ◌<◌, ◌^◌, ◌⊎◌, Bool, true, false, List, [], ◌++◌, length, drop, Option, Some, None, is_some, IsSome, option_to_list, min, sum_by, if◌then◌else◌}
 use Rattle.lfi_frame.specs.declared.fault.FrameFault.{FrameFault}
-use Rattle.lfi_frame.specs.Streams.{Message, Rest, short, faulty, unfinished, rest_of, spelling, Cut}
+use Rattle.lfi_frame.specs.Streams.{Message, Rest, short, faulty, unfinished, rest_of, Cut}
 use Rattle.lfi_frame.specs.Feeds.{FeedStands, feed_fault}
 use Rattle.lfi_queues.specs.Items.{ItemView}
 use Rattle.lfi_queues.specs.Passes.{PassView}
@@ -9,7 +9,7 @@ use Rattle.lfi_model.specs.declared.connection.Cause.{Cause}
 use Rattle.lfi_model.specs.declared.connection.Cause.TheVariants.{End, Failed, Starved}
 use Rattle.lfi_model.specs.declared.connection.Progress.{Progress}
 use Rattle.lfi_model.specs.declared.connection.Progress.TheVariants.{Going}
-use Rattle.lfi_model.specs.Items.{Share, is_going, share_of, modules, is_due, page_len, ends_of, items_of, connection_fault, strays_of}
+use Rattle.lfi_model.specs.Items.{is_going, share_of, modules, is_due, page_len, ends_of, items_of, connection_fault, strays_of}
 use Rattle.lfi_model.specs.Modules.{of}
 use Rattle.lfi_stage.specs.Places.{progress_at, claims_of}
 use Rattle.lfi_stage.specs.Claims.{first_open, claims_in}

@@ -1,10 +1,9 @@
 -- What a report says of the texts of a stage's receivers. (docs/DEFINITIONS.md, "Reports")
-use Rattle.std.specs.Prelude.{◌≡◌, ◌-◌, ◌<◌, ◌^◌, ℕ, List, [], length, sum, min, Option, Some, None, true, false, slice_get, get_or, slice_index}
+use Rattle.std.specs.Prelude.{◌≡◌, ◌-◌, ◌<◌, ◌^◌, ℕ, List, [], length, sum, min, Some, None, true, false, slice_get, get_or, slice_index}
 use Rattle.std.specs.Option.{option_map_or}
 use Rattle.lfi_frame.specs.Streams.{Message, Cut}
-use Rattle.lfi_queues.specs.declared.pass.QueueId.{QueueId}
 use Rattle.lfi_queues.specs.Items.{ItemView}
-use Rattle.lfi_queues.specs.Passes.{PassView, QueueView}
+use Rattle.lfi_queues.specs.Passes.{QueueView}
 use Rattle.lfi_model.specs.Items.{ItemsOf}
 use Rattle.lfi_stage.specs.declared.receiver.Receiver.{Receiver}
 use Rattle.lfi_stage.specs.declared.verifier.Verifier.{Verifier}

@@ -1,10 +1,10 @@
 -- What a report says of a module. (docs/DEFINITIONS.md, "Reports")
-use Rattle.std.specs.Prelude.{◌≡◌, ◌≢◌, ℕ, List, [], Option, Some, None, ◌⊎◌}
+use Rattle.std.specs.Prelude.{◌≡◌, ◌≢◌, ℕ, List, [], Some, ◌⊎◌}
 use Rattle.lfi_queues.specs.Items.{ItemView}
 use Rattle.lfi_rules.specs.Verdicts.{all_words}
 use Rattle.lfi_image.specs.Image.{Image}
 use Rattle.lfi_model.specs.declared.outcome.Outcome.{Outcome}
-use Rattle.lfi_model.specs.declared.outcome.Outcome.TheVariants.{Unused, Complete, NoMemory}
+use Rattle.lfi_model.specs.declared.outcome.Outcome.TheVariants.{Complete, NoMemory}
 use Rattle.lfi_model.specs.Outcomes.{Load, pages_of, end_of, Placed}
 use Rattle.lfi_queues.specs.declared.item.Reason.{Reason}
 use Rattle.lfi_stage.specs.declared.report.ImageState.{ImageState}

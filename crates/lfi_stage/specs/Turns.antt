@@ -1,11 +1,11 @@
 -- What the turns of receivers and verifiers do at the intake. (docs/DEFINITIONS.md, "Turns")
-use Rattle.std.specs.Prelude.{◌≡◌, ℕ, ◌+◌, List, [], ◌∷◌, ◌++◌, length}
+use Rattle.std.specs.Prelude.{◌≡◌, ◌+◌, [], ◌∷◌, ◌++◌, length}
 use Rattle.lfi_queues.specs.Items.{ItemView}
 use Rattle.lfi_queues.specs.Passes.{PassView, QueueView}
 use Rattle.lfi_stage.specs.declared.receiver.Turn.{Turn}
 use Rattle.lfi_stage.specs.declared.verifier.Turn.{Turn as VerifierTurn}
 use Rattle.lfi_stage.specs.declared.verifier.Turn.TheVariants.{Worked, Idle}
-use Rattle.lfi_stage.specs.declared.receiver.Turn.TheVariants.{More, Put, Stray, Blocked, Finished}
+use Rattle.lfi_stage.specs.declared.receiver.Turn.TheVariants.{Put, Blocked}
 
 -- one put that was taken: its item is the pass's last and the intake's last
 abbrev pub PutsItem : (old new : PassView) (before after : QueueView) → Type 0

@@ -1,8 +1,7 @@
 -- What a verifier has placed of the items that it took. (docs/DEFINITIONS.md, "Verifiers")
-use Rattle.std.specs.Prelude.{◌≡◌, ◌<◌, ◌^◌, ℕ, ◌+◌, ◌-◌, ◌*◌, min, List, [], ◌∷◌, length, Option, Some, None, get_or}
+use Rattle.std.specs.Prelude.{◌≡◌, ℕ, ◌*◌, min, List, [], ◌∷◌, length, Option, Some, None, get_or}
 use Rattle.std.specs.Option.{option_map}
 use Rattle.lfi_queues.specs.Items.{ItemView}
-use Rattle.lfi_queues.specs.Passes.{PassView}
 use Rattle.lfi_queues.specs.declared.item.Kind.{Kind}
 use Rattle.lfi_queues.specs.declared.item.Kind.TheVariants.{Open}
 use Rattle.lfi_rules.specs.Faults.{FirstFault}

@@ -1,5 +1,4 @@
-use Rattle.std.proofs.Common.{◌≡◌, ◌≢◌, ◌∙◌, ap, sym, subst}
-use Rattle.lfi_model.specs.declared.outcome.Outcome.{Outcome}
+use Rattle.std.proofs.Common.{ap, sym, subst}
 use Rattle.lfi_model.specs.declared.outcome.Outcome.TheVariants as outcome_kind
 use Rattle.lfi_model.specs.Outcomes.{by_end}
 use Rattle.lfi_stage.specs.declared.report.ImageState.TheVariants.{Part}

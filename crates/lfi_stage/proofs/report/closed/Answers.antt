@@ -1,9 +1,8 @@
-use Rattle.std.proofs.Common.{◌≡◌, ◌≢◌, ◌∙◌, ap, sym, subst}
+use Rattle.std.proofs.Common.{◌∙◌, ap, sym, subst}
 use Rattle.lfi_model.specs.declared.outcome.Outcome.TheVariants as outcome_kind
 use Rattle.lfi_model.specs.Items.{page_count}
-use Rattle.lfi_model.specs.Outcomes.{pages_of}
 use Rattle.lfi_stage.specs.declared.report.ImageState.TheVariants.{Part, Whole}
-use Rattle.lfi_stage.specs.Tells.{IsImageOf, Tells}
+use Rattle.lfi_stage.specs.Tells.{Tells}
 use Rattle.lfi_stage.proofs.Reporting.{told_by, complete, incomplete, whole_image}
 use Rattle.lfi_stage.proofs.report.closed.Goals as goal
 

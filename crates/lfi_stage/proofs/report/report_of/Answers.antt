@@ -1,4 +1,4 @@
-use Rattle.std.proofs.Common.{◌≡◌, rules, Some, None, subst, sym}
+use Rattle.std.proofs.Common.{subst}
 use Rattle.lfi_stage.specs.Verifiers.{IsPlacing, HandledBy}
 use Rattle.lfi_stage.proofs.Reporting.{told_nothing, told_some}
 use Rattle.lfi_stage.proofs.report.report_of.Goals as goal

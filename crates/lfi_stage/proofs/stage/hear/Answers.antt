@@ -1,10 +1,5 @@
-use Rattle.std.proofs.Common.{rules, arith, ◌≡◌, ◌≢◌, ◌<◌, ◌+◌, ◌-◌, ◌∙◌, ◌++◌, [], List, ℕ, Some, None, IsSome, false, true, length, take, drop, ap, sym, subst, length-drop}
-use Rattle.std.specs.Prelude.{is_some}
-use Rattle.lfi_stage.specs.declared.receiver.Turn.TheVariants as turn
+use Rattle.std.proofs.Common.{rules, arith, ◌≡◌, ◌≢◌, ◌<◌, ◌-◌, ◌∙◌, ◌++◌, [], None, length, take, drop, ap, sym, subst, length-drop}
 use Rattle.lfi_stage.specs.Receivers.{StandsFor, IsOver}
-use Rattle.lfi_stage.specs.Stages.{IsHeard}
-use Rattle.lfi_stage.proofs.Standing.{not_over}
-use Rattle.lfi_stage.proofs.Loading.{heard_by}
 use Rattle.lfi_stage.proofs.Settling.{AfterTurn, after_turn, same_pass, take_on, piece_is, rest_left, not_some}
 use Rattle.lfi_stage.proofs.stage.hear.Goals as goal
 

@@ -1,10 +1,6 @@
-use Rattle.std.proofs.Common.{rules, ◌≡◌, ◌∙◌, ◌∷◌, ◌++◌, [], List, ℕ, Some, length, take, zero, suc, ap, sym, subst}
+use Rattle.std.proofs.Common.{rules, ◌≡◌, ◌∙◌, ◌∷◌, [], List, ℕ, take, ap, sym, subst}
 use Rattle.std.specs.Prelude.{slice_get}
-use Rattle.lfi_queues.specs.Items.{ItemView}
 use Rattle.lfi_queues.specs.Kept.{Kept}
-use Rattle.lfi_stage.specs.declared.receiver.Receiver.{Receiver}
-use Rattle.lfi_stage.specs.declared.verifier.Verifier.{Verifier}
-use Rattle.lfi_stage.specs.Receivers.{StandsFor}
 use Rattle.lfi_stage.specs.Reports.{puts_of, takes_of, AreParts, Reports}
 use Rattle.lfi_stage.proofs.Loading.{kept_one, parts_one, stands_one}
 use Rattle.lfi_stage.proofs.stage.load_by.Goals as goal

@@ -1,7 +1,6 @@
-use Rattle.std.proofs.Common.{rules, inl, inr, ◌≡◌, ◌≢◌, ◌∙◌, Some, None, refl, sym, subst, ap, ◌++◌, [], take, drop, List, ℕ}
+use Rattle.std.proofs.Common.{inl, inr, ◌≡◌, ◌≢◌, ◌∙◌, None, refl, ap}
 use Rattle.lfi_frame.proofs.Feeding.{nothing_after}
 use Rattle.lfi_stage.specs.declared.receiver.Begun.TheVariants as begun_kind
-use Rattle.lfi_stage.specs.Receivers.{StandsFor}
 use Rattle.lfi_stage.proofs.Standing.{begun, starved}
 use Rattle.lfi_stage.proofs.receiver.Receiver.begin.Goals as goal
 

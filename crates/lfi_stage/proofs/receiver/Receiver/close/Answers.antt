@@ -1,4 +1,4 @@
-use Rattle.std.proofs.Common.{rules, ◌≡◌, ◌∷◌, [], ◌++◌, ◌+◌, ◌∙◌, sym, subst, false, ap}
+use Rattle.std.proofs.Common.{rules, ◌≡◌, ◌∷◌, [], ◌++◌, ◌∙◌, sym, subst, ap}
 use Rattle.lfi_frame.specs.Streams.{close_message}
 use Rattle.lfi_model.specs.declared.connection.Progress.TheVariants.{Going}
 use Rattle.lfi_stage.specs.Places.{progress_at}

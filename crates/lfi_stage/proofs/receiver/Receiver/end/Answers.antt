@@ -1,7 +1,5 @@
-use Rattle.std.proofs.Common.{rules, ◌≡◌, ◌∙◌, ◌==◌, None, Option, refl, sym, ap, subst, length, not, Bool}
-use Rattle.lfi_frame.specs.declared.fault.FrameFault.{FrameFault}
-use Rattle.lfi_frame.specs.Feeds.{IsAtEnd, feed_fault}
-use Rattle.lfi_stage.specs.Receivers.{StandsFor}
+use Rattle.std.proofs.Common.{rules, ◌≡◌, ◌∙◌, None, refl, subst}
+use Rattle.lfi_frame.specs.Feeds.{IsAtEnd}
 use Rattle.lfi_stage.proofs.Standing.{running, end_stands, end_tells, going_tells}
 use Rattle.lfi_stage.proofs.receiver.Receiver.end.Goals as goal
 

@@ -1,6 +1,6 @@
 use Rattle.std.proofs.Common.{rules, ◌≡◌, ◌∙◌, ◌+◌, Some, sym, subst, ap}
 use Rattle.lfi_queues.specs.declared.item.Kind.TheVariants.{End}
-use Rattle.lfi_model.specs.Items.{item_of, reason_of}
+use Rattle.lfi_model.specs.Items.{item_of}
 use Rattle.lfi_stage.specs.declared.modules.OpenModule.{OpenModule}
 use Rattle.lfi_stage.specs.Receivers.{StandsFor}
 use Rattle.lfi_stage.proofs.Standing.{end_due}

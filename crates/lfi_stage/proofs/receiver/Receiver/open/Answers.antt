@@ -1,4 +1,4 @@
-use Rattle.std.proofs.Common.{rules, ◌≡◌, ◌∙◌, ◌∷◌, [], ◌++◌, sym, subst, true, false}
+use Rattle.std.proofs.Common.{◌≡◌, ◌∙◌, ◌∷◌, [], ◌++◌, sym, subst, true, false}
 use Rattle.std.specs.Prelude.{not, ◌&&◌, nat_le}
 use Rattle.lfi_frame.specs.Streams.{open_message}
 use Rattle.lfi_stage.specs.Receivers.{Holds}

@@ -1,12 +1,10 @@
-use Rattle.std.proofs.Common.{rules, ◌≡◌, ◌∷◌, [], ◌++◌, ◌+◌, ◌∙◌, sym, subst, true, false, ap, refl, Some}
-use Rattle.lfi_frame.specs.Streams.{unfinished, rest_of}
-use Rattle.lfi_queues.specs.declared.item.Kind.TheVariants.{End}
-use Rattle.lfi_queues.specs.declared.item.Reason.TheVariants.{PageFault}
+use Rattle.std.proofs.Common.{rules, ◌≡◌, ◌∙◌, sym, subst, true, false, ap, refl}
+use Rattle.lfi_frame.specs.Streams.{unfinished}
 use Rattle.lfi_model.specs.declared.connection.Progress.TheVariants.{Going, Over}
 use Rattle.lfi_model.specs.Items.{is_due}
 use Rattle.lfi_stage.specs.Places.{progress_at}
 use Rattle.lfi_stage.specs.Receivers.{Agrees, Holds, made_by, claimed_by}
-use Rattle.lfi_stage.proofs.Events.{IsShut, header_stray, header_undue, claims_kept}
+use Rattle.lfi_stage.proofs.Events.{IsShut, header_stray, claims_kept}
 use Rattle.lfi_stage.proofs.Holding.{stray_page, undue_page, due_page, due_agrees, undue_agrees, shut_by}
 use Rattle.lfi_stage.proofs.receiver.Receiver.page.Goals as goal
 

@@ -1,11 +1,8 @@
-use Rattle.std.proofs.Common.{rules, arith, ◌≡◌, ◌∷◌, [], ◌++◌, ◌+◌, ◌<◌, ◌≤◌, ◌∙◌, sym, subst, true, false, ap, refl, Option, Some, None, length, drop, take, List, ℕ}
-use Rattle.lfi_frame.specs.Streams.{unfinished, rest_of, page_message}
-use Rattle.lfi_queues.specs.Items.{ItemView}
-use Rattle.lfi_queues.specs.declared.item.Kind.TheVariants.{Page}
-use Rattle.lfi_model.specs.Items.{item_of}
+use Rattle.std.proofs.Common.{rules, ◌≡◌, ◌∷◌, [], ◌++◌, ◌∙◌, sym, subst, Some, None, drop, List}
+use Rattle.lfi_frame.specs.Streams.{page_message}
 use Rattle.lfi_stage.specs.declared.coming.Coming.{Coming}
 use Rattle.lfi_stage.specs.Receivers.{Holds}
-use Rattle.lfi_stage.proofs.Holding.{passing_on, passing_ends, keeping_on, keeping_ends, keeping_whole, keeping_short}
+use Rattle.lfi_stage.proofs.Holding.{passing_ends, keeping_ends, keeping_whole}
 use Rattle.lfi_stage.proofs.receiver.Receiver.payload.Goals as goal
 
 pub returns-in_default-clause-ends : goal.returns-in_default-clause-ends

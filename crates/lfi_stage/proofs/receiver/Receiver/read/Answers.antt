@@ -1,9 +1,6 @@
-use Rattle.std.proofs.Common.{rules, arith, ◌≡◌, ◌≢◌, ◌∙◌, ◌+◌, ◌<◌, ◌≤◌, ◌⊎◌, ◌++◌, [], ◌∷◌, Some, None, refl, sym, subst, ap, take, length, length-append, length-take, List, ℕ}
-use Rattle.std.specs.Prelude.{Result, Ok, Err}
-use Rattle.lfi_frame.specs.declared.feed.Got.TheVariants as got
-use Rattle.lfi_frame.specs.Streams.{open_message, close_message, spelling}
-use Rattle.lfi_frame.specs.Feeds.{FeedStands, IsTold, feed_fault}
-use Rattle.lfi_stage.specs.Receivers.{StandsFor, Holds}
+use Rattle.std.proofs.Common.{arith, ◌≡◌, ◌≢◌, ◌∙◌, ◌++◌, [], subst, ap, take, length, length-append, length-take, List, ℕ}
+use Rattle.lfi_frame.specs.Streams.{open_message, close_message}
+use Rattle.lfi_frame.specs.Feeds.{IsTold}
 use Rattle.lfi_stage.proofs.Standing.{running, more_stands, message_stands, header_stands, payload_stands, fault_stands, fault_over, not_over, starved_over, some_used, fault_used}
 use Rattle.lfi_stage.proofs.receiver.Receiver.read.Goals as goal
 

@@ -1,4 +1,4 @@
-use Rattle.std.proofs.Common.{rules, ◌≡◌, ◌∙◌, Some, sym, subst, ap, ◌++◌, [], take}
+use Rattle.std.proofs.Common.{◌∙◌, sym, subst, ap, ◌++◌, take}
 use Rattle.std.proofs.lemmas.List.{append-nil}
 use Rattle.lfi_stage.specs.Receivers.{StandsFor, IsOver}
 use Rattle.lfi_stage.proofs.Standing.{put_on, not_over}

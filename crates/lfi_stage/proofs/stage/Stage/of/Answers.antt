@@ -1,4 +1,4 @@
-use Rattle.std.proofs.Common.{rules, ◌≡◌, ◌∙◌, ap}
+use Rattle.std.proofs.Common.{rules, ◌∙◌}
 use Rattle.lfi_stage.proofs.stage.Stage.of.Goals as goal
 
 pub returns : goal.returns

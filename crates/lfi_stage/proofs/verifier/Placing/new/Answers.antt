@@ -1,4 +1,4 @@
-use Rattle.std.proofs.Common.{◌≡◌, refl, [], Some}
+use Rattle.std.proofs.Common.{refl}
 use Rattle.lfi_stage.proofs.Placings.{built_new, just_opened}
 use Rattle.lfi_stage.proofs.verifier.Placing.new.Goals as goal
 

@@ -1,4 +1,4 @@
-use Rattle.std.proofs.Common.{◌≡◌, ◌≢◌, refl, rules, sym, ap, ◌∙◌, [], Some, None, true, length, subst}
+use Rattle.std.proofs.Common.{◌≡◌, rules, sym, ◌∙◌, Some, None, true, length}
 use Rattle.std.specs.Prelude.{is_some}
 use Rattle.page_buf.specs.Spelled.{words_of}
 use Rattle.lfi_image.specs.Built.{due}

@@ -1,4 +1,4 @@
-use Rattle.std.proofs.Common.{◌≡◌, ℕ, List, rules, Some, None, subst, sym, get_or, refl, ◌∙◌, ap, arith}
+use Rattle.std.proofs.Common.{ℕ, List, None, subst, sym, get_or, arith}
 use Rattle.std.proofs.lemmas.Option.{slice_get-get_or}
 use Rattle.lfi_queues.specs.Items.{ItemView}
 use Rattle.lfi_model.specs.declared.outcome.Outcome.TheVariants.{Unused}

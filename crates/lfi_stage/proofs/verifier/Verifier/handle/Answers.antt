@@ -1,6 +1,5 @@
-use Rattle.std.proofs.Common.{◌≡◌, ◌≢◌, ◌∙◌, ◌++◌, ◌∷◌, [], List, ap, sym, subst, inl, inr, refl}
+use Rattle.std.proofs.Common.{◌≡◌, ◌≢◌, ◌∙◌, ◌++◌, ◌∷◌, [], ap, sym, subst, inl, inr}
 use Rattle.std.proofs.lemmas.Bool.Decides.{eqb_tells}
-use Rattle.lfi_queues.specs.Items.{ItemView}
 use Rattle.lfi_model.specs.Modules.{of, IsModule}
 use Rattle.lfi_stage.specs.Verifiers.{HandledBy, placing_at}
 use Rattle.lfi_stage.proofs.Books.{of_this, of_other}
