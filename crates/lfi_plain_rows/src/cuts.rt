@@ -1,6 +1,7 @@
 //! The stream of one module of one word, cut at every byte, and headers with faults.
 
 use crate::build::{RET, one_word, told};
+use crate::stage::loaded;
 use lfi_model::Cause;
 use std::test::Fail;
 
@@ -99,6 +100,8 @@ fn header_faults(rt: HostRuntime) -> Result<(), Fail> {
     for (bytes, want) in rows {
         let report = told(rt.alloc(), &bytes, Cause::End, &[0])?;
         assert_eq!(rt; report.as_str(), want, "{bytes:?}");
+        let staged = loaded(rt.alloc(), &bytes)?;
+        assert_eq!(rt; staged.as_str(), want, "{bytes:?}");
     }
     Ok(())
 }

@@ -1,6 +1,7 @@
 //! Modules of one page and of two, lawful and not.
 
 use crate::build::{NOP, RET, Text, one_word, stream, told};
+use crate::stage::loaded;
 use lfi_model::Cause;
 use lfi_plain::report_on;
 use std::alloc::{AllocError, Global};
@@ -46,6 +47,8 @@ fn one_word_modules(rt: HostRuntime) -> Result<(), Fail> {
         let text = one_word(rt.alloc(), 0, word)?;
         let report = told(rt.alloc(), text.bytes.as_slice(), Cause::End, &[0])?;
         assert_eq!(rt; report.as_str(), want, "word {word:#x}");
+        let staged = loaded(rt.alloc(), text.bytes.as_slice())?;
+        assert_eq!(rt; staged.as_str(), want, "word {word:#x}");
     }
     Ok(())
 }

@@ -35,7 +35,7 @@ impl fmt::Display for Written {
 }
 
 /// The text of the stage's report on one connection.
-fn loaded(alloc: Global, bytes: &[u8]) -> Result<String, AllocError> {
+pub fn loaded(alloc: Global, bytes: &[u8]) -> Result<String, AllocError> {
     let written = Written {
         report: load(alloc, bytes)?,
     };
@@ -145,6 +145,21 @@ fn closed_before_its_page(rt: HostRuntime) -> Result<(), Fail> {
     assert_eq!(rt;
         report.as_str(),
         "module 3: incomplete, 0 of 1 pages\nstrays 0\n"
+    );
+    Ok(())
+}
+
+#[test]
+fn another_module_opened_before(rt: HostRuntime) -> Result<(), Fail> {
+    let mut text = Text::new(rt.alloc());
+    text.open(1, 1)?;
+    text.open(0, 1)?;
+    text.page(0, 0, &[RET])?;
+    text.close(0)?;
+    let report = loaded(rt.alloc(), text.bytes.as_slice())?;
+    assert_eq!(rt;
+        report.as_str(),
+        "module 1: lost, fault 9\nconnection 0: fault 9\nstrays 3\n"
     );
     Ok(())
 }
