@@ -1,0 +1,61 @@
+//! The commands, carried out.
+
+use crate::check::check;
+use crate::code::MOST_BYTES;
+use crate::command_line::Line;
+use crate::failure::Failure;
+use crate::images::write_images;
+use crate::report::{status_of, write_report};
+use lfi_stage::stage::load;
+use std::fs::{self, File};
+use std::io::{self, Read};
+
+/// The name by which the standard output is told of.
+const OUTPUT: &str = "standard output";
+
+/// The bytes of a file of code, of which no more are read than tell that they are too many.
+fn read_code(rt: &HostRuntime, path: &str) -> io::Result<Vec<u8>> {
+    let mut bytes = Vec::new(rt.alloc());
+    let file = File::open(rt, path)?;
+    file.take(MOST_BYTES as u64 + 1).read_to_end(&mut bytes)?;
+    Ok(bytes)
+}
+
+/// Prints what is found of the code in a file, and answers the exit status.
+fn run_check(rt: &HostRuntime, path: &str) -> Result<u8, Failure> {
+    match read_code(rt, path) {
+        Ok(bytes) => {
+            let verdict = check(&bytes);
+            match rt.println(verdict) {
+                Ok(()) => Ok(verdict.status()),
+                Err(_) => Err(Failure::writing(rt.alloc(), OUTPUT)),
+            }
+        }
+        Err(error) => Err(Failure::reading(rt.alloc(), path, error)),
+    }
+}
+
+/// Loads the modules of the stream in a file, prints the report, writes the whole images to a
+/// folder where one is named, and answers the exit status.
+fn run_load(rt: &HostRuntime, folder: Option<&str>, path: &str) -> Result<u8, Failure> {
+    let bytes = match fs::read(rt, path) {
+        Ok(bytes) => bytes,
+        Err(error) => return Err(Failure::reading(rt.alloc(), path, error)),
+    };
+    let report = load(rt.alloc(), &bytes)?;
+    if write_report(&report, &mut io::writer(rt)).is_err() {
+        return Err(Failure::writing(rt.alloc(), OUTPUT));
+    }
+    if let Some(folder) = folder {
+        write_images(rt, folder, &report)?;
+    }
+    Ok(status_of(&report))
+}
+
+/// Carries out what the program is asked for, and answers the exit status.
+pub fn run(rt: &HostRuntime, line: Line<'_>) -> Result<u8, Failure> {
+    match line {
+        Line::Check { file } => run_check(rt, file),
+        Line::Load { out, stream } => run_load(rt, out, stream),
+    }
+}

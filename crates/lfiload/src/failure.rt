@@ -1,0 +1,34 @@
+//! Why the program fails.
+
+use std::alloc::{AllocError, Global};
+use std::io;
+use thiserror::Error;
+
+/// Why a command could not be carried out. The exit status is then 3.
+#[derive(Debug, Drop, Error)]
+pub enum Failure {
+    #[error("cannot read {0}")]
+    CannotRead(String),
+    #[error("cannot write {0}")]
+    CannotWrite(String),
+    #[error("no memory")]
+    NoMemory(#[from(alloc)] AllocError),
+}
+
+impl Failure {
+    /// What a failed read of this file says.
+    pub fn reading(alloc: Global, path: &str, error: io::Error) -> Failure {
+        match (error.kind(), String::from_str(alloc, path)) {
+            (io::ErrorKind::OutOfMemory, _) | (_, Err(_)) => Failure::NoMemory(AllocError),
+            (_, Ok(path)) => Failure::CannotRead(path),
+        }
+    }
+
+    /// What a failed write of this file says.
+    pub fn writing(alloc: Global, path: &str) -> Failure {
+        match String::from_str(alloc, path) {
+            Ok(path) => Failure::CannotWrite(path),
+            Err(_) => Failure::NoMemory(AllocError),
+        }
+    }
+}

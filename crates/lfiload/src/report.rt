@@ -1,0 +1,135 @@
+//! What `lfiload load` prints of a report.
+
+ghost use Rattle.std.specs.Prelude.{◌≡◌, ◌≤◌, ◌↔◌, Some, None, All, IsTrue};
+ghost use Rattle.lfiload.specs.Reporting.{outcome_text, module_text, fault_text, is_well, IsWell};
+
+use lfi_frame::FrameFault;
+use lfi_model::Outcome;
+use lfi_rules::Fault;
+use lfi_stage::report::ModuleReport;
+use lfi_stage::settle::Report;
+use std::fmt;
+use std::io::{self, Write};
+
+/// What became of a module, in words.
+#[derive(Clone, Copy)]
+struct OutcomeWords(Outcome);
+
+impl fmt::Display for OutcomeWords {
+    ghost output = { λ words. Some (outcome_text words.0) };
+
+    fn fmt<W: fmt::Write>(&self, f: &mut fmt::Formatter<W>) -> fmt::Result {
+        match self.0 {
+            Outcome::Unused => write!(f, "unused"),
+            Outcome::Complete { words } => write!(f, "complete, {words} words"),
+            Outcome::Refused(Fault { word, rule }) => write!(f, "refused, word {word} rule {rule}"),
+            Outcome::Incomplete { pages, of } => write!(f, "incomplete, {pages} of {of} pages"),
+            Outcome::Lost(fault) => {
+                let number = fault.number();
+                write!(f, "lost, fault {number}")
+            }
+            Outcome::PageFault(index) => write!(f, "page fault, index {index}"),
+            Outcome::NoMemory => write!(f, "no memory"),
+        }
+    }
+}
+
+/// What became of a module, as a line.
+#[derive(Clone, Copy)]
+struct ModuleLine {
+    module: usize,
+    outcome: OutcomeWords,
+}
+
+impl fmt::Display for ModuleLine {
+    ghost output = { λ line. Some (module_text line.module line.outcome.0) };
+
+    fn fmt<W: fmt::Write>(&self, f: &mut fmt::Formatter<W>) -> fmt::Result {
+        let module = self.module;
+        let outcome = self.outcome;
+        write!(f, "module {module}: {outcome}")
+    }
+}
+
+/// The fault of a connection, as a line.
+#[derive(Clone, Copy)]
+struct FaultLine {
+    connection: usize,
+    fault: FrameFault,
+}
+
+impl fmt::Display for FaultLine {
+    ghost output = { λ line. Some (fault_text line.connection line.fault) };
+
+    fn fmt<W: fmt::Write>(&self, f: &mut fmt::Formatter<W>) -> fmt::Result {
+        let connection = self.connection;
+        let number = self.fault.number();
+        write!(f, "connection {connection}: fault {number}")
+    }
+}
+
+/// Writes a line for each module that was claimed, by their numbers.
+fn write_modules<W: Write>(report: &Report, writer: &mut W) -> io::Result<()> {
+    for (module, told) in report.modules.iter().enumerate() {
+        if told.outcome != Outcome::Unused {
+            let line = ModuleLine {
+                module,
+                outcome: OutcomeWords(told.outcome),
+            };
+            writeln!(writer, "{line}")?;
+        }
+    }
+    Ok(())
+}
+
+/// Writes a line for each connection that came to a fault, by their numbers.
+fn write_faults<W: Write>(report: &Report, writer: &mut W) -> io::Result<()> {
+    for (connection, fault) in report.faults.iter().enumerate() {
+        if let Some(fault) = *fault {
+            let line = FaultLine { connection, fault };
+            writeln!(writer, "{line}")?;
+        }
+    }
+    Ok(())
+}
+
+/// Writes a report: the modules that were claimed, the faults of connections, and how many strays came.
+pub fn write_report<W: Write>(report: &Report, writer: &mut W) -> io::Result<()> {
+    write_modules(report, writer)?;
+    write_faults(report, writer)?;
+    writeln!(writer, "strays {}", report.strays)
+}
+
+/// Whether a module is whole, or was not claimed.
+fn is_well(outcome: Outcome) -> bool
+    ensures { result ≡ is_well outcome }
+{
+    matches!(outcome, Outcome::Unused | Outcome::Complete { .. })
+}
+
+/// Whether each of these modules is whole, or was not claimed.
+fn all_well(modules: &[ModuleReport]) -> bool
+    ensures { IsTrue result ↔ All (λ told. IsTrue (is_well told.outcome)) modules.now }
+{
+    modules.iter().all(|told| is_well(told.outcome))
+}
+
+/// Whether none of these connections came to a fault.
+fn none_failed(faults: &[Option<FrameFault>]) -> bool
+    ensures { IsTrue result ↔ All (λ fault. fault ≡ None) faults.now }
+{
+    faults.iter().all(|fault| fault.is_none())
+}
+
+/// The exit status of a report: 0 where each module that was claimed is whole and no connection
+/// came to a fault, else 1.
+pub fn status_of(report: &Report) -> u8
+    ensures well { (result ≡ 0) ↔ IsWell report.now }
+    ensures most { result ≤ 1 }
+{
+    if all_well(&report.modules) && none_failed(&report.faults) {
+        0
+    } else {
+        1
+    }
+}
