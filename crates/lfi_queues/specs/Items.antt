@@ -1,5 +1,5 @@
 -- What contracts see of an item, and what its type keeps. (docs/DEFINITIONS.md, "Items")
-use Rattle.std.specs.Prelude.{◌≡◌, ℕ, min, ◌-◌, ◌*◌, ◌<◌, ◌≤◌, List, length}
+use Rattle.std.specs.Prelude.{◌≡◌, ℕ, min, ◌-◌, ◌*◌, ◌<◌, ◌≤◌, length}
 use Rattle.lfi_queues.specs.declared.item.Kind.{Kind}
 use Rattle.lfi_queues.specs.declared.item.Kind.TheVariants.{Open, Page, End}
 
