@@ -1,7 +1,8 @@
 //! What `lfiload load` prints of a report.
 
-ghost use Rattle.std.specs.Prelude.{◌≡◌, ◌≤◌, ◌↔◌, Some, None, All, IsTrue};
-ghost use Rattle.lfiload.specs.Reporting.{outcome_text, module_text, fault_text, is_well, IsWell};
+ghost use Rattle.std.specs.Prelude.{◌≡◌, ◌≤◌, ◌↔◌, Some, None, All, IsTrue, OnOk};
+ghost use Rattle.std.specs.Io.KnownBytes.{Appends};
+ghost use Rattle.lfiload.specs.Reporting.{module_line, fault_line, module_lines, fault_lines, report_text, outcome_text, module_text, fault_text, is_well, IsWell};
 
 use lfi_frame::FrameFault;
 use lfi_model::Outcome;
@@ -68,35 +69,63 @@ impl fmt::Display for FaultLine {
     }
 }
 
-/// Writes a line for each module that was claimed, by their numbers.
-fn write_modules<W: Write>(report: &Report, writer: &mut W) -> io::Result<()> {
-    for (module, told) in report.modules.iter().enumerate() {
-        if told.outcome != Outcome::Unused {
-            let line = ModuleLine {
-                module,
-                outcome: OutcomeWords(told.outcome),
-            };
-            writeln!(writer, "{line}")?;
+/// Writes the line of a module, where it was claimed.
+fn write_module<W: Write>(module: usize, outcome: Outcome, writer: &mut W) -> io::Result<()>
+    ensures { OnOk result (Appends (W.contents writer.old) (W.contents writer.new) (module_line «module» outcome)) }
+{
+    if outcome == Outcome::Unused {
+        return Ok(());
+    }
+    let line = ModuleLine {
+        module,
+        outcome: OutcomeWords(outcome),
+    };
+    writeln!(writer, "{line}")
+}
+
+/// Writes the line of a connection, where it came to a fault.
+fn write_fault<W: Write>(
+    connection: usize,
+    fault: Option<FrameFault>,
+    writer: &mut W,
+) -> io::Result<()>
+    ensures { OnOk result (Appends (W.contents writer.old) (W.contents writer.new) (fault_line connection fault)) }
+{
+    match fault {
+        Some(fault) => {
+            let line = FaultLine { connection, fault };
+            writeln!(writer, "{line}")
         }
+        None => Ok(()),
+    }
+}
+
+/// Writes a line for each module that was claimed, by their numbers.
+fn write_modules<W: Write>(modules: &[ModuleReport], writer: &mut W) -> io::Result<()>
+    ensures { OnOk result (Appends (W.contents writer.old) (W.contents writer.new) (module_lines 0 modules.now)) }
+{
+    for (module, told) in modules.iter().enumerate() {
+        write_module(module, told.outcome, writer)?;
     }
     Ok(())
 }
 
 /// Writes a line for each connection that came to a fault, by their numbers.
-fn write_faults<W: Write>(report: &Report, writer: &mut W) -> io::Result<()> {
-    for (connection, fault) in report.faults.iter().enumerate() {
-        if let Some(fault) = *fault {
-            let line = FaultLine { connection, fault };
-            writeln!(writer, "{line}")?;
-        }
+fn write_faults<W: Write>(faults: &[Option<FrameFault>], writer: &mut W) -> io::Result<()>
+    ensures { OnOk result (Appends (W.contents writer.old) (W.contents writer.new) (fault_lines 0 faults.now)) }
+{
+    for (connection, fault) in faults.iter().enumerate() {
+        write_fault(connection, *fault, writer)?;
     }
     Ok(())
 }
 
 /// Writes a report: the modules that were claimed, the faults of connections, and how many strays came.
-pub fn write_report<W: Write>(report: &Report, writer: &mut W) -> io::Result<()> {
-    write_modules(report, writer)?;
-    write_faults(report, writer)?;
+pub fn write_report<W: Write>(report: &Report, writer: &mut W) -> io::Result<()>
+    ensures { OnOk result (Appends (W.contents writer.old) (W.contents writer.new) (report_text report.now)) }
+{
+    write_modules(&report.modules, writer)?;
+    write_faults(&report.faults, writer)?;
     writeln!(writer, "strays {}", report.strays)
 }
 
