@@ -56,6 +56,7 @@ fn plainly(alloc: Global, bytes: &[u8]) -> Result<String, AllocError> {
 #[test]
 fn cut_at_every_byte(rt: HostRuntime) -> Result<(), Fail> {
     let text = one_word(rt.alloc(), 0, RET)?;
+    assert_eq!(rt; text.bytes.len(), 40);
     for len in 0..=40usize {
         let report = loaded(rt.alloc(), &text.bytes[..len])?;
         assert_eq!(rt;
@@ -73,7 +74,9 @@ fn spoiled_in_every_byte(rt: HostRuntime) -> Result<(), Fail> {
     for at in 0..40usize {
         for byte in [0u8, 1, 2, 3, 4, 16, 128, 255] {
             let mut bytes = Vec::from_slice(rt.alloc(), text.bytes.as_slice())?;
-            bytes[at] = byte;
+            if let Some(place) = bytes.get_mut(at) {
+                *place = byte;
+            }
             let report = loaded(rt.alloc(), bytes.as_slice())?;
             let plain = plainly(rt.alloc(), bytes.as_slice())?;
             assert_eq!(rt; report.as_str(), plain.as_str(), "byte {at} is {byte}");
