@@ -29,6 +29,9 @@ pub enum LoadFault {
 /// The name by which the standard output is told of.
 const OUTPUT: &str = "standard output";
 
+/// The name by which the standard error is told of.
+const ERRORS: &str = "standard error";
+
 /// The bytes of a file of code, of which no more are read than tell that they are too many.
 fn read_code(rt: &HostRuntime, path: &str) -> io::Result<Vec<u8>> {
     let mut bytes = Vec::new(rt.alloc());
@@ -76,10 +79,14 @@ fn run_load(rt: &HostRuntime, folder: Option<&str>, path: &str) -> Result<u8, Fa
         Err(LoadFault::NoMemory) => return Err(Failure::NoMemory(AllocError)),
         Err(LoadFault::NotWritten) => return Err(Failure::writing(rt.alloc(), OUTPUT)),
     };
-    if let Some(folder) = folder {
-        write_images(rt, folder, &report)?;
+    let Some(folder) = folder else {
+        return Ok(status_of(&report));
+    };
+    match write_images(rt, folder, &report) {
+        Ok(true) => Ok(status_of(&report)),
+        Ok(false) => Ok(Failure::STATUS),
+        Err(_) => Err(Failure::writing(rt.alloc(), ERRORS)),
     }
-    Ok(status_of(&report))
 }
 
 /// Carries out what the program is asked for, and answers the exit status.

@@ -16,6 +16,14 @@ pub enum Failure {
 }
 
 impl Failure {
+    /// The exit status of a program that fails.
+    pub const STATUS: u8 = 3;
+
+    /// Tells of it on the standard error.
+    pub fn tell(&self, rt: &HostRuntime) -> io::Result<()> {
+        eprintln!(rt; "lfiload: {self}")
+    }
+
     /// What a failed read of this file says.
     pub fn reading(alloc: Global, path: &str, error: io::Error) -> Failure {
         match (error.kind(), String::from_str(alloc, path)) {

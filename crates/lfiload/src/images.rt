@@ -8,6 +8,7 @@ use lfi_stage::report::ImageState;
 use lfi_stage::settle::Report;
 use std::alloc::{AllocError, Global};
 use std::fs::File;
+use std::io;
 
 /// The path of a module's image in this folder.
 fn image_path(alloc: Global, folder: &str, module: usize) -> Result<String, AllocError> {
@@ -25,13 +26,28 @@ fn write_file(rt: &HostRuntime, path: &str, image: &CompleteImage) -> Result<(),
     }
 }
 
-/// Writes each whole image of a report to the file of its module in this folder.
-pub fn write_images(rt: &HostRuntime, folder: &str, report: &Report) -> Result<(), Failure> {
+/// Writes a module's image to its file in this folder.
+fn write_module(
+    rt: &HostRuntime,
+    folder: &str,
+    module: usize,
+    image: &CompleteImage,
+) -> Result<(), Failure> {
+    let path = image_path(rt.alloc(), folder, module)?;
+    write_file(rt, path.as_str(), image)
+}
+
+/// Writes each whole image of a report to the file of its module in this folder. It tells of each
+/// that can't be written on the standard error, and answers whether all were.
+pub fn write_images(rt: &HostRuntime, folder: &str, report: &Report) -> io::Result<bool> {
+    let mut all = true;
     for (module, told) in report.modules.iter().enumerate() {
         if let ImageState::Whole(image) = &told.image {
-            let path = image_path(rt.alloc(), folder, module)?;
-            write_file(rt, path.as_str(), image)?;
+            if let Err(failure) = write_module(rt, folder, module, image) {
+                failure.tell(rt)?;
+                all = false;
+            }
         }
     }
-    Ok(())
+    Ok(all)
 }

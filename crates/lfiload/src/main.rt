@@ -16,13 +16,10 @@ use std::alloc::AllocError;
 use std::process::ExitCode;
 use std::{env, io};
 
-/// The status where the program fails.
-const FAILED: u8 = 3;
-
-/// Tells of a failure on the standard error.
+/// Tells of a failure, and answers its exit status.
 fn fail(rt: &HostRuntime, failure: Failure) -> io::Result<u8> {
-    eprintln!(rt; "lfiload: {failure}")?;
-    Ok(FAILED)
+    failure.tell(rt)?;
+    Ok(Failure::STATUS)
 }
 
 /// Tells what is wrong with the command line, by the parser's text.
