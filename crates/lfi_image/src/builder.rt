@@ -6,14 +6,12 @@ ghost use Rattle.lfi_rules.specs.Verdicts.{Judges, fault_after};
 ghost use Rattle.lfi_image.specs.Image.{Module, Image, IsImage};
 ghost use Rattle.lfi_image.specs.Built.{IsBuilt, words_in, page_count, due, with_words};
 
+use crate::places::{PAGE_WORDS, Places};
 use a64_effects::Need;
 use lfi_rules::{Fault, PageVerdict, seam};
 use page_buf::SealedPage;
 use std::alloc::{AllocError, Global};
 use std::marker::Model;
-
-/// The words of a full page.
-const PAGE_WORDS: usize = 1024;
 
 /// The rule that a word meets what the word before it opens, and that a module's last word opens nothing.
 const OPEN_NEED: u8 = 10;
@@ -69,15 +67,28 @@ impl Builder {
         requires slot { slot < 16 }
         ensures { IfOk result (λ b. b ≡ record { count = count; entry = entry; slot = slot; words = [] }) }
     {
-        let pages = Vec::with_capacity(alloc, (count as usize).div_ceil(PAGE_WORDS))?;
-        Ok(Builder {
+        let places = Places::new(alloc, count)?;
+        Ok(Builder::over(places, count, entry, slot))
+    }
+
+    /// The same module in places that were reserved before; `count` is at most [`Places::words`] of these. It takes no
+    /// memory.
+    pub fn over(places: Places, count: u32, entry: u32, slot: u16) -> Builder
+        requires count { (1 ≤ count) × (count ≤ 4194304) }
+        requires places { count ≤ places }
+        requires entry { entry < count }
+        requires slot { slot < 16 }
+        ensures { result ≡ record { count = count; entry = entry; slot = slot; words = [] } }
+    {
+        let Places { pages, words: _ } = places;
+        Builder {
             pages,
             count,
             entry,
             slot,
             placed: 0,
             tail: Need::Nothing,
-        })
+        }
     }
 
     /// Places a page, unless it brings a fault: then it comes back with the first fault of the words placed and its
