@@ -4,7 +4,7 @@ use crate::build::{NOP, RET, Text, one_word, told};
 use crate::cuts::cut_short;
 use lfi_model::{Cause, Outcome};
 use lfi_stage::settle::Report;
-use lfi_stage::stage::load;
+use lfi_stage::stage::{load, load_in_pieces};
 use std::alloc::{AllocError, Global};
 use std::fmt;
 use std::test::Fail;
@@ -42,6 +42,16 @@ pub fn loaded(alloc: Global, bytes: &[u8]) -> Result<String, AllocError> {
     format!(in alloc; "{written}")
 }
 
+/// The text of the stage's report on one connection that comes in pieces of so many bytes.
+fn loaded_in_pieces(alloc: Global, bytes: &[u8], most: usize) -> Result<String, AllocError>
+    requires { 1 ≤ most }
+{
+    let written = Written {
+        report: load_in_pieces(alloc, bytes, most)?,
+    };
+    format!(in alloc; "{written}")
+}
+
 /// The text of the plain program's report on one connection, of which at most the first message
 /// is an Open: its module is claimed, where it has at most 1,024 words.
 fn plainly(alloc: Global, bytes: &[u8]) -> Result<String, AllocError> {
@@ -63,6 +73,49 @@ fn cut_at_every_byte(rt: HostRuntime) -> Result<(), Fail> {
             report.as_str(),
             cut_short(len, Cause::End),
             "after {len} bytes"
+        );
+    }
+    Ok(())
+}
+
+#[test]
+fn in_pieces_of_every_length(rt: HostRuntime) -> Result<(), Fail> {
+    let text = one_word(rt.alloc(), 0, RET)?;
+    for most in 1..=41usize {
+        let report = loaded_in_pieces(rt.alloc(), text.bytes.as_slice(), most)?;
+        assert_eq!(rt;
+            report.as_str(),
+            "module 0: complete, 1 words\nstrays 0\n",
+            "pieces of {most}"
+        );
+    }
+    Ok(())
+}
+
+#[test]
+fn cut_at_every_byte_in_pieces_of_one(rt: HostRuntime) -> Result<(), Fail> {
+    let text = one_word(rt.alloc(), 0, RET)?;
+    assert_eq!(rt; text.bytes.len(), 40);
+    for len in 0..=40usize {
+        let report = loaded_in_pieces(rt.alloc(), &text.bytes[..len], 1)?;
+        assert_eq!(rt;
+            report.as_str(),
+            cut_short(len, Cause::End),
+            "after {len} bytes"
+        );
+    }
+    Ok(())
+}
+
+#[test]
+fn a_full_page_in_pieces(rt: HostRuntime) -> Result<(), Fail> {
+    let text = of_words(rt.alloc(), 7, 1024)?;
+    for most in 1..=5usize {
+        let report = loaded_in_pieces(rt.alloc(), text.bytes.as_slice(), most)?;
+        assert_eq!(rt;
+            report.as_str(),
+            "module 7: complete, 1024 words\nstrays 0\n",
+            "pieces of {most}"
         );
     }
     Ok(())

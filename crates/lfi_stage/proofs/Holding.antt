@@ -17,7 +17,8 @@ use Rattle.lfi_model.specs.Items.{Share, after_message, after_header, is_of, is_
 use Rattle.lfi_stage.specs.declared.coming.Coming.{Coming}
 use Rattle.lfi_stage.specs.declared.receiver.Receiver.{Receiver}
 use Rattle.lfi_stage.specs.Places.{progress_at, is_claimed, claims_of}
-use Rattle.lfi_stage.specs.Receivers.{made_by, Agrees, Awaits, IsPassed, IsUnopened, Holds}
+use Rattle.lfi_stage.specs.Claims.{claims_in}
+use Rattle.lfi_stage.specs.Receivers.{made_by, Agrees, Awaits, IsPassed, IsDuePage, IsUnopened, Holds}
 use Rattle.std.proofs.lemmas.Bool.{and_parts, and_from, eqb-true, eq-eqb, lt-ltb, ltb-true, cases_lt}
 use Rattle.std.proofs.Math.Seq.{take-length}
 use Rattle.std.specs.Prelude.{nat_lt, nat_le, not, ◌&&◌}
@@ -177,6 +178,12 @@ due_page r c ms rest k n p index len was due same_module same_words same_pages e
       awaits = (ap (λ z. progress_at r.modules z) same_module ∙ was ∙ going, is ∙ told, empty ∙ sym none);
       opens = holds.opens;
     }
+
+-- the page that is due, told by the messages
+pub due_now : (r : Receiver) (ms : List Message) (k n p index len : ℕ) → progress_at r.modules k ≡ Going n p → is_due n p index len ≡ true → Holds r ms [] → IsDuePage (share_of (claims_in ms k) k ms short).progress index len
+due_now r ms k n p index len was due holds =
+    let same : (share_of (claims_in ms k) k ms short).progress ≡ Going n p = ap (λ b. (share_of b k ms short).progress) (sym (holds.opens.claims k)) ∙ holds.agrees.progress k ∙ was in
+    subst (λ q. IsDuePage q index len) (sym same) due
 
 -- Payload bytes of a page that is passed over.
 pub passing_on : (r : Receiver) (ms : List Message) (rest more : List ℕ) (m index len : ℕ) → r.coming ≡ None → Holds r ms rest → rest_of rest ≡ unfinished m index len → rest_of (rest ++ more) ≡ unfinished m index len → Holds r ms (rest ++ more)

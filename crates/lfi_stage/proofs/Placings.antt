@@ -1,7 +1,6 @@
 -- What the verifier has placed of a module, after one more item.
 use Rattle.std.proofs.Common.{◌≡◌, ℕ, ◌+◌, ◌-◌, ◌*◌, ◌/◌, ◌<◌, ◌≤◌, List, [], ◌∷◌, ◌++◌, length, Option, Some, None, refl, sym, ◌∙◌, ap, subst, arith, true, min, length-append, append_assoc}
-use Rattle.std.specs.Prelude.{is_some, IfSome, IfNone, IfOk, Result, Ok, Err}
-use Rattle.std.specs.Result.{result_ok}
+use Rattle.std.specs.Prelude.{is_some, IfSome, IfNone}
 use Rattle.std.specs.Option.{option_map}
 use Rattle.std.proofs.lemmas.List.{append-nil}
 use Rattle.std.proofs.lemmas.List.Concat.{flat_map-append}
@@ -22,7 +21,7 @@ use Rattle.lfi_model.proofs.Faults.{breaks_within, fault_stays, placed_to_fault,
 use Rattle.lfi_model.proofs.Numbered.{end_snoc}
 use Rattle.lfi_stage.specs.declared.verifier.Placing.{Placing}
 use Rattle.lfi_stage.specs.declared.verifier.Ended.{Ended}
-use Rattle.lfi_stage.specs.Verifiers.{words_at, entry_by, entry_at, builder_of, HasPlaced, HasBuilt, IsPlacing}
+use Rattle.lfi_stage.specs.Verifiers.{words_at, entry_by, entry_at, builder_of, HasPlaced, IsPlacing}
 
 -- a beginning that is no shorter is the whole
 begins_whole : {A : Type 0} (us pages : List A) → Begins us pages → length pages ≤ length us → us ≡ pages
@@ -133,7 +132,7 @@ module _ (m : ℕ) (p : Placing) (taken : List ItemView) (item : ItemView) (was 
     pages = pages_snoc taken item ∙ ap (λ k. pages_of taken ++ page_of k) is
 
     -- of which it is known what is placed
-    pub page_by : (q : Placing) → q.words ≡ p.words → q.ended ≡ p.ended → HasBuilt m q q.builder (taken ++ item ∷ []) → IsPlacing m q (taken ++ item ∷ [])
+    pub page_by : (q : Placing) → q.words ≡ p.words → q.ended ≡ p.ended → HasPlaced m q q.builder (taken ++ item ∷ []) → IsPlacing m q (taken ++ item ∷ [])
     page_by q same_n same_ended built = record {
       first = was.first;
       rest = was.rest ++ item ∷ [];
@@ -144,46 +143,39 @@ module _ (m : ℕ) (p : Placing) (taken : List ItemView) (item : ItemView) (was 
       pages = λ e some. absurd (let none : p.ended ≡ None = no_ended in cc);
     }
 
-    -- there is no memory for it
-    pub page_unbuilt : p.builder ≡ None → IsPlacing m p (taken ++ item ∷ [])
-    page_unbuilt none = page_by p refl refl (subst (λ o. HasBuilt m p o (taken ++ item ∷ [])) (sym none) tt)
-
-    has : (b : Module) → p.builder ≡ Some b → HasPlaced m p b taken
-    has b some = subst (λ o. HasBuilt m p o taken) some was.built
-
     -- an earlier one brought a fault
-    pub page_after_fault : (b : Module) (fault : Fault) → p.builder ≡ Some b → p.fault ≡ Some fault → IsPlacing m p (taken ++ item ∷ [])
-    page_after_fault b fault some found =
-        let h = has b some in
+    pub page_after_fault : (fault : Fault) → p.fault ≡ Some fault → IsPlacing m p (taken ++ item ∷ [])
+    page_after_fault fault found =
+        let h = was.built in
         let n : ℕ = words_at taken in
         let first : FirstFault (all_words (pages_of taken)) n (Some fault) = subst (λ f. FirstFault (all_words (pages_of taken)) n f) found h.fault in
         let on : FirstFault (all_words (pages_of taken ++ words_of bytes ∷ [])) n (Some fault) =
         subst (λ l. FirstFault l n (Some fault)) (sym (words_snoc (pages_of taken) (words_of bytes))) (fault_stays (all_words (pages_of taken)) (words_of bytes) n fault first) in
-        page_by p refl refl (subst (λ o. HasBuilt m p o (taken ++ item ∷ [])) (sym some) (record {
+        page_by p refl refl (record {
           us = h.us;
           placed = subst (λ k. Placed k (pages_of (taken ++ item ∷ [])) h.us) (sym same_words) (subst (λ l. Placed n l h.us) (sym pages) (placed_on n (pages_of taken) h.us (words_of bytes) fault h.placed first));
           builder = h.builder ∙ sym (same_builder h.us);
           fault = subst (λ k. FirstFault (all_words (pages_of (taken ++ item ∷ []))) k p.fault) (sym same_words)
               (subst (λ l. FirstFault (all_words l) n p.fault) (sym pages) (subst (λ f. FirstFault (all_words (pages_of taken ++ words_of bytes ∷ [])) n f) (sym found) on));
           whole = λ none. absurd (cc);
-        }))
+        })
 
-    -- or none can be placed any more
+    -- so none can be placed any more
     pub page_over : is_some p.fault ≡ true → IsPlacing m p (taken ++ item ∷ [])
-    page_over some = by p.builder p.fault refl refl some
+    page_over some = by p.fault refl some
       where
-        by : (o : Option Module) (f : Option Fault) → p.builder ≡ o → p.fault ≡ f → is_some f ≡ true → IsPlacing m p (taken ++ item ∷ [])
-        by None f none found some = page_unbuilt none
-        by (Some b) None built found some = absurd (cc)
-        by (Some b) (Some fault) built found some = page_after_fault b fault built found
+        by : (f : Option Fault) → p.fault ≡ f → is_some f ≡ true → IsPlacing m p (taken ++ item ∷ [])
+        by None found some = absurd (cc)
+        by (Some fault) found some = page_after_fault fault found
 
     fits : IsItem item → KindFits item.words item.ordinal (Page bytes)
     fits typed = subst (λ k. KindFits item.words item.ordinal k) is typed.kind_fits
 
     -- it has the length due
-    pub page_length : (b : Module) → p.builder ≡ Some b → p.fault ≡ None → IsItem item → length (words_of bytes) ≡ due b
-    page_length b some none typed =
-        let h = has b some in
+    pub page_length : p.fault ≡ None → IsItem item → length (words_of bytes) ≡ due p.builder
+    page_length none typed =
+        let h = was.built in
+        let b : Module = p.builder in
         let f = fits typed in
         let n : ℕ = words_at taken in
         let same : page_words item.words item.ordinal ≡ min 1024 (n - 1024 * length (pages_of taken)) =
@@ -196,10 +188,12 @@ module _ (m : ℕ) (p : Placing) (taken : List ItemView) (item : ItemView) (was 
         omega arith
 
     -- it is placed
-    pub page_placed : (q : Placing) (b c : Module) → q.words ≡ p.words → q.ended ≡ p.ended → p.builder ≡ Some b → p.fault ≡ None → IsItem item → q.builder ≡ Some c → c ≡ with_words b (words_of bytes)
-        → q.fault ≡ None → FirstFault (b.words ++ words_of bytes) b.count None → IsPlacing m q (taken ++ item ∷ [])
-    page_placed q b c same_n same_ended some none typed now grown lawful_now lawful =
-        let h = has b some in
+    pub page_placed : (q : Placing) → q.words ≡ p.words → q.ended ≡ p.ended → p.fault ≡ None → IsItem item → q.builder ≡ with_words p.builder (words_of bytes)
+        → q.fault ≡ None → FirstFault (p.builder.words ++ words_of bytes) p.builder.count None → IsPlacing m q (taken ++ item ∷ [])
+    page_placed q same_n same_ended none typed grown lawful_now lawful =
+        let h = was.built in
+        let b : Module = p.builder in
+        let c : Module = q.builder in
         let n : ℕ = words_at taken in
         let faultless : FirstFault (all_words (pages_of taken)) n None = subst (λ f. FirstFault (all_words (pages_of taken)) n f) none h.fault in
         let all : h.us ≡ pages_of taken = placed_all n (pages_of taken) h.us h.placed faultless in
@@ -211,24 +205,25 @@ module _ (m : ℕ) (p : Placing) (taken : List ItemView) (item : ItemView) (was 
         let c_words : c.words ≡ b.words ++ words_of bytes = ap (λ z. z.words) grown in
         let words_us : c.words ≡ all_words us = c_words ∙ ap (λ l. l ++ words_of bytes) b_words ∙ sym (words_snoc (pages_of taken) (words_of bytes)) in
         let as_built : c ≡ builder_of m taken us = grown ∙ (λ i. record { count = (ap (λ z. z.count) h.builder) i; entry = (ap (λ z. z.entry) h.builder) i; slot = (ap (λ z. z.slot) h.builder) i; words = (sym c_words ∙ words_us) i }) in
-        let long : length (words_of bytes) ≡ due b = page_length b some none typed in
+        let long : length (words_of bytes) ≡ due b = page_length none typed in
         let before = h.whole none in
         let split : length c.words ≡ length b.words + length (words_of bytes) = ap length c_words ∙ length-append b.words (words_of bytes) in
         let more : length (pages_of (taken ++ item ∷ [])) ≡ length (pages_of taken) + 1 = ap length pages ∙ length-append (pages_of taken) (words_of bytes ∷ []) in
-        page_by q same_n same_ended (subst (λ o. HasBuilt m q o (taken ++ item ∷ [])) (sym now) (record {
+        page_by q same_n same_ended (record {
           us = us;
           placed = subst (λ k. Placed k (pages_of (taken ++ item ∷ [])) us) (sym same_words) (subst (λ l. Placed n l us) (sym pages) (placed_whole n us whole_us));
           builder = as_built ∙ sym (same_builder us);
           fault = subst (λ k. FirstFault (all_words (pages_of (taken ++ item ∷ []))) k q.fault) (sym same_words)
               (subst (λ l. FirstFault (all_words l) n q.fault) (sym pages) (subst (λ f. FirstFault (all_words us) n f) (sym lawful_now) whole_us));
           whole = λ _. (let w = same_words in omega arith);
-        }))
+        })
 
     -- it brings the first fault
-    pub page_refused : (q : Placing) (b : Module) (fault : Fault) → q.words ≡ p.words → q.ended ≡ p.ended → p.builder ≡ Some b → p.fault ≡ None → q.builder ≡ Some b
-        → q.fault ≡ Some fault → FirstFault (b.words ++ words_of bytes) b.count (Some fault) → IsPlacing m q (taken ++ item ∷ [])
-    page_refused q b fault same_n same_ended some none now found first =
-        let h = has b some in
+    pub page_refused : (q : Placing) (fault : Fault) → q.words ≡ p.words → q.ended ≡ p.ended → p.fault ≡ None → q.builder ≡ p.builder
+        → q.fault ≡ Some fault → FirstFault (p.builder.words ++ words_of bytes) p.builder.count (Some fault) → IsPlacing m q (taken ++ item ∷ [])
+    page_refused q fault same_n same_ended none now found first =
+        let h = was.built in
+        let b : Module = p.builder in
         let n : ℕ = words_at taken in
         let faultless : FirstFault (all_words (pages_of taken)) n None = subst (λ f. FirstFault (all_words (pages_of taken)) n f) none h.fault in
         let all : h.us ≡ pages_of taken = placed_all n (pages_of taken) h.us h.placed faultless in
@@ -239,20 +234,20 @@ module _ (m : ℕ) (p : Placing) (taken : List ItemView) (item : ItemView) (was 
         let on : FirstFault (all_words (pages_of taken ++ words_of bytes ∷ [])) n (Some fault) = subst (λ l. FirstFault l n (Some fault)) (sym (words_snoc (pages_of taken) (words_of bytes))) here in
         let stays : Placed n (pages_of taken ++ words_of bytes ∷ []) h.us =
         subst (λ u. Placed n (pages_of taken ++ words_of bytes ∷ []) u) (sym all) (placed_to_fault n (pages_of taken) [] (words_of bytes) fault faultless here) in
-        page_by q same_n same_ended (subst (λ o. HasBuilt m q o (taken ++ item ∷ [])) (sym now) (record {
+        page_by q same_n same_ended (record {
           us = h.us;
           placed = subst (λ k. Placed k (pages_of (taken ++ item ∷ [])) h.us) (sym same_words) (subst (λ l. Placed n l h.us) (sym pages) stays);
-          builder = h.builder ∙ sym (same_builder h.us);
+          builder = now ∙ h.builder ∙ sym (same_builder h.us);
           fault = subst (λ k. FirstFault (all_words (pages_of (taken ++ item ∷ []))) k q.fault) (sym same_words)
               (subst (λ l. FirstFault (all_words l) n q.fault) (sym pages) (subst (λ f. FirstFault (all_words (pages_of taken ++ words_of bytes ∷ [])) n f) (sym found) on));
           whole = λ none'. absurd (cc);
-        }))
+        })
 
     -- what became of it
-    pub page_tried : (b c : Module) (r : Option Fault) → p.builder ≡ Some b → p.fault ≡ None → IsItem item → FirstFault (b.words ++ words_of bytes) b.count r → IfNone r (c ≡ with_words b (words_of bytes)) → IfSome r (λ _. c ≡ b)
-        → IsPlacing m (record p { builder = Some c; fault = r }) (taken ++ item ∷ [])
-    page_tried b c None some none typed first placed refused = page_placed (record p { builder = Some c; fault = None }) b c refl refl some none typed refl placed refl first
-    page_tried b c (Some fault) some none typed first placed refused = page_refused (record p { builder = Some c; fault = Some fault }) b fault refl refl some none (ap Some refused) refl first
+    pub page_tried : (c : Module) (r : Option Fault) → p.fault ≡ None → IsItem item → FirstFault (p.builder.words ++ words_of bytes) p.builder.count r → IfNone r (c ≡ with_words p.builder (words_of bytes)) → IfSome r (λ _. c ≡ p.builder)
+        → IsPlacing m (record p { builder = c; fault = r }) (taken ++ item ∷ [])
+    page_tried c None none typed first placed refused = page_placed (record p { builder = c; fault = None }) refl refl none typed placed refl first
+    page_tried c (Some fault) none typed first placed refused = page_refused (record p { builder = c; fault = Some fault }) fault refl refl none refused refl first
 
   -- the End
   pub end_noted : (e : Ended) → item.kind ≡ End e.reason → item.ordinal ≡ e.pages + 1 → IsPlacing m (record p { ended = Some e }) (taken ++ item ∷ [])
@@ -264,7 +259,7 @@ module _ (m : ℕ) (p : Placing) (taken : List ItemView) (item : ItemView) (was 
         rest = was.rest ++ item ∷ [];
         opened = ap (λ l. l ++ item ∷ []) was.opened;
         words = was.words;
-        built = built q refl pages p.builder was.built;
+        built = built q refl refl pages was.built;
         reason = sym (end_snoc taken item not_ended ∙ ap (λ k. reason_at k None) is);
         pages = λ e' some.
             let same : e ≡ e' = cc in
@@ -273,28 +268,22 @@ module _ (m : ℕ) (p : Placing) (taken : List ItemView) (item : ItemView) (was 
             let es : e.pages ≡ e'.pages = ap (λ z. z.pages) same in omega arith;
       }
     where
-      built : (q : Placing) → q.fault ≡ p.fault → pages_of (taken ++ item ∷ []) ≡ pages_of taken → (o : Option Module) → HasBuilt m p o taken → HasBuilt m q o (taken ++ item ∷ [])
-      built q same pages None h = tt
-      built q same pages (Some b) h = record {
+      built : (q : Placing) → q.fault ≡ p.fault → q.builder ≡ p.builder → pages_of (taken ++ item ∷ []) ≡ pages_of taken → HasPlaced m p p.builder taken → HasPlaced m q q.builder (taken ++ item ∷ [])
+      built q same same_b pages h = record {
         us = h.us;
         placed = subst (λ k. Placed k (pages_of (taken ++ item ∷ [])) h.us) (sym same_words) (subst (λ l. Placed (words_at taken) l h.us) (sym pages) h.placed);
-        builder = h.builder ∙ sym (same_builder h.us);
+        builder = same_b ∙ h.builder ∙ sym (same_builder h.us);
         fault = subst (λ k. FirstFault (all_words (pages_of (taken ++ item ∷ []))) k q.fault) (sym same_words)
             (subst (λ l. FirstFault (all_words l) (words_at taken) q.fault) (sym pages) (subst (λ f. FirstFault (all_words (pages_of taken)) (words_at taken) f) (sym same) h.fault));
-        whole = λ none. h.whole (sym same ∙ none) ∙ (λ i. min (sym same_words i) (1024 * length (sym pages i)));
+        whole = λ none. ap (λ z. length z.words) same_b ∙ h.whole (sym same ∙ none) ∙ (λ i. min (sym same_words i) (1024 * length (sym pages i)));
       }
 
 pub no_break : (n k r : ℕ) → Breaks [] n k r → ⊥
 no_break n k r h = let within : k < 0 = breaks_within [] n k r h in omega arith
 
--- a builder that was made
-pub built_new : {E : Type 0} (o : Option Module) (r : Result Module E) → o ≡ result_ok r → (b n : Module) → IfOk r (λ b'. b' ≡ n) → o ≡ Some b → b ≡ n
-built_new o (Ok b') is b n h some = let same : b' ≡ b = cc in sym same ∙ h
-built_new o (Err e) is b n h some = absurd (cc)
-
 -- nothing but the Open has come
 pub just_opened : (m : ℕ) (q : Placing) (first : ItemView) (entry : ℕ) → first.«module» ≡ m → first.words ≡ q.words → first.kind ≡ Open entry → q.fault ≡ None → q.ended ≡ None
-    → ((b : Module) → q.builder ≡ Some b → b ≡ record { count = q.words; entry = entry; slot = m; words = [] }) → IsPlacing m q (first ∷ [])
+    → q.builder ≡ record { count = q.words; entry = entry; slot = m; words = [] } → IsPlacing m q (first ∷ [])
 just_opened m q first entry number words is no_fault no_end new =
     let no_page : pages_of (first ∷ []) ≡ [] = ap (λ k. page_of k ++ []) is in
     let lawful : (n : ℕ) → FirstFault [] n None = λ n k r h. no_break n k r h in
@@ -303,17 +292,16 @@ just_opened m q first entry number words is no_fault no_end new =
       rest = [];
       opened = refl;
       words = sym words;
-      built = by q.builder refl no_page lawful;
+      built = built no_page lawful;
       reason = ap (λ o. option_map (λ e. e.reason) o) no_end ∙ sym (ap (λ k. reason_at k None) is);
       pages = λ e some. absurd (cc);
     }
   where
-    by : (o : Option Module) → q.builder ≡ o → pages_of (first ∷ []) ≡ [] → ((n : ℕ) → FirstFault [] n None) → HasBuilt m q o (first ∷ [])
-    by None e no_page lawful = tt
-    by (Some b) e no_page lawful = record {
+    built : pages_of (first ∷ []) ≡ [] → ((n : ℕ) → FirstFault [] n None) → HasPlaced m q q.builder (first ∷ [])
+    built no_page lawful = record {
       us = [];
       placed = subst (λ l. Placed first.words l []) (sym no_page) (placed_whole first.words [] (lawful first.words));
-      builder = new b e ∙ (λ i. record { count = sym words i; entry = sym (ap entry_by is) i; slot = m; words = [] });
+      builder = new ∙ (λ i. record { count = sym words i; entry = sym (ap entry_by is) i; slot = m; words = [] });
       fault = subst (λ f. FirstFault (all_words (pages_of (first ∷ []))) first.words f) (sym no_fault) (subst (λ l. FirstFault (all_words l) first.words None) (sym no_page) (lawful first.words));
-      whole = λ none. ap (λ z. length z.words) (new b e) ∙ (let l = ap length no_page in omega arith);
+      whole = λ none. ap (λ z. length z.words) new ∙ (let l = ap length no_page in omega arith);
     }

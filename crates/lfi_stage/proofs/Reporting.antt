@@ -18,19 +18,19 @@ use Rattle.lfi_stage.specs.declared.verifier.Ended.{Ended}
 use Rattle.lfi_stage.specs.declared.report.ImageState.{ImageState}
 use Rattle.lfi_stage.specs.declared.report.ImageState.TheVariants.{Absent, Whole}
 use Rattle.lfi_stage.specs.declared.report.ModuleReport.{ModuleReport}
-use Rattle.lfi_stage.specs.Verifiers.{words_at, builder_of, HasPlaced, HasBuilt, HasEnded, IsPlacing}
-use Rattle.lfi_stage.specs.Tells.{IsImageOf, Tells, one_pass, HasEnd}
+use Rattle.lfi_stage.specs.Verifiers.{words_at, builder_of, HasPlaced, HasEnded, IsPlacing}
+use Rattle.lfi_stage.specs.Tells.{IsImageOf, Tells, HasEnd}
 use Rattle.lfi_stage.proofs.Placings.{placed_all, no_break}
 
 -- a module whose words have no fault, by its End
 pub told_by : (m : ℕ) (b : Module) (words : ℕ) (e : Ended) (items : List ItemView) (outcome : Outcome) (image : ImageState) → HasEnded m b words e items → outcome ≡ by_end (words_at items) items e.reason
     → IsImageOf m items (pages_of items) outcome image → Tells m (record { outcome = outcome; image = image }) items
-told_by m b words e items outcome image ended is holds = one_pass (record {
+told_by m b words e items outcome image ended is holds = record {
   outcome = loads items ended.opened;
   us = pages_of items;
   placed = placed_whole (words_at items) (pages_of items) ended.lawful;
   image = holds;
-})
+}
   where
     loads : (l : List ItemView) → l ≡ ended.first ∷ ended.rest → Load (words_at items) items outcome
     loads l same = subst (λ z. Load (words_at items) z outcome) (sym ended.opened) (
@@ -69,9 +69,9 @@ module _ (m : ℕ) (b : Module) (words : ℕ) (e : Ended) (items : List ItemView
   whole_image i is same = (is ∙ (λ j. record { entry = (ap (λ z. z.entry) ended.builder) j; slot = (ap (λ z. z.slot) ended.builder) j; words = words_is j }), same)
 
 -- where there is no fault, all pages are placed
-pub ended_by : (m : ℕ) (p : Placing) (b : Module) (e : Ended) (items : List ItemView) (reason : Reason) → IsPlacing m p items → end_of items ≡ Some reason → p.builder ≡ Some b → p.fault ≡ None → p.ended ≡ Some e → HasEnded m b p.words e items
+pub ended_by : (m : ℕ) (p : Placing) (b : Module) (e : Ended) (items : List ItemView) (reason : Reason) → IsPlacing m p items → end_of items ≡ Some reason → p.builder ≡ b → p.fault ≡ None → p.ended ≡ Some e → HasEnded m b p.words e items
 ended_by m p b e items reason was ended built none some =
-    let h : HasPlaced m p b items = subst (λ o. HasBuilt m p o items) built was.built in
+    let h : HasPlaced m p b items = subst (λ o. HasPlaced m p o items) built was.built in
     let lawful : FirstFault (all_words (pages_of items)) (words_at items) None = subst (λ f. FirstFault (all_words (pages_of items)) (words_at items) f) none h.fault in
     let all = placed_all (words_at items) (pages_of items) h.us h.placed lawful in
     record {
@@ -87,12 +87,12 @@ ended_by m p b e items reason was ended built none some =
 
 -- a module that wasn't opened
 pub told_nothing : (m : ℕ) (items : List ItemView) → items ≡ [] → Tells m (record { outcome = outcome_kind.Unused; image = Absent }) items
-told_nothing m items none = one_pass (record {
+told_nothing m items none = record {
   outcome = subst (λ l. Load (words_at l) l outcome_kind.Unused) (sym none) refl;
   us = [];
   placed = subst (λ l. Placed (words_at l) (pages_of l) []) (sym none) (placed_whole 0 [] (λ k r h. no_break 0 k r h));
   image = none;
-})
+}
 
 -- what became of a module that was
 pub told_some : (m : ℕ) (p : Placing) (told : ModuleReport) (items : List ItemView) → IsPlacing m p items → HasEnd items → ((reason : Reason) → end_of items ≡ Some reason → Tells m told items) → Tells m told items

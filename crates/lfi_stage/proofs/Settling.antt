@@ -1,6 +1,6 @@
 -- What a put and a take after each other do, and what is kept of one pass of each kind.
-use Rattle.std.proofs.Common.{rules, arith, ◌≡◌, ◌≢◌, ℕ, ◌+◌, ◌-◌, ◌^◌, ◌<◌, zero, suc, List, [], ◌∷◌, ◌++◌, length, length-append, length-drop, take, drop, get_or, min, Option, Some, None, IsSome, true, false, option_to_list, refl, sym, ◌∙◌, ap, subst}
-use Rattle.std.proofs.Math.Seq.{take-length}
+use Rattle.std.proofs.Common.{rules, arith, ◌≡◌, ◌≢◌, ℕ, ◌+◌, ◌-◌, ◌^◌, ◌<◌, ◌≤◌, zero, suc, List, [], ◌∷◌, ◌++◌, length, length-append, length-drop, length-take, take, drop, get_or, min, Option, Some, None, IsSome, true, false, option_to_list, refl, sym, ◌∙◌, ap, subst}
+use Rattle.std.proofs.lemmas.List.{take-take}
 use Rattle.std.specs.Prelude.{sum, slice_get, slice_index, is_some}
 use Rattle.lfi_frame.specs.declared.fault.FrameFault.{FrameFault}
 use Rattle.lfi_frame.specs.Streams.{Message, Cut}
@@ -16,7 +16,7 @@ use Rattle.lfi_stage.specs.declared.settle.Report.{Report}
 use Rattle.lfi_stage.specs.Claims.{claims_in}
 use Rattle.lfi_stage.specs.Verified.{Handled}
 use Rattle.lfi_stage.specs.Verifiers.{HandledBy, placing_at}
-use Rattle.lfi_stage.specs.Tells.{Tells, one_pass, no_memory, IsOnePass, HasEnd}
+use Rattle.lfi_stage.specs.Tells.{Tells, HasEnd}
 use Rattle.lfi_stage.specs.Reports.{puts_of, takes_of, AreParts, Reports}
 use Rattle.lfi_stage.proofs.Books.{numbered}
 use Rattle.lfi_stage.proofs.Holding.{idle_items}
@@ -121,9 +121,8 @@ module _ (r r' : Receiver) (v v' : Verifier) (intake : QueueView) (texts : ℕ �
   the_first zero q e = (refl, cc)
   the_first (suc c) q e = absurd (cc)
 
-  nothing_told : (m : ℕ) (t : ModuleReport) (l : List ItemView) → l ≡ [] → Tells m t l → IsOnePass m t []
-  nothing_told m t l none (one_pass p) = subst (λ z. IsOnePass m t z) none p
-  nothing_told m t l none (no_memory some a b) = absurd (some none)
+  nothing_told : (m : ℕ) (t : ModuleReport) (l : List ItemView) → l ≡ [] → Tells m t l → Tells m t []
+  nothing_told m t l none p = subst (λ z. Tells m t z) none p
 
   pub settled_one : Reports (r ∷ []) texts report
   settled_one = record {
@@ -222,18 +221,21 @@ takes_nothing zero xs none = refl
 takes_nothing (suc m) [] none = refl
 takes_nothing (suc m) (x ∷ xs) none = absurd (let l = ap length none in omega arith)
 
--- a piece from a place to the end
-pub piece_is : (n : ℕ) (xs : List ℕ) → take (length xs - n) (drop n xs) ≡ drop n xs
-piece_is n xs = ap (λ k. take k (drop n xs)) (sym (length-drop n xs)) ∙ take-length (drop n xs)
-
 -- a text that goes on by a part of the rest
 pub take_on : (n k : ℕ) (xs : List ℕ) → take n xs ++ take k (drop n xs) ≡ take (n + k) xs
 take_on zero k xs = (let e : k ≡ 0 + k = omega arith in ap (λ m. take m xs) e)
 take_on (suc n) k [] = takes_nothing k [] refl ∙ sym (takes_nothing (suc n + k) [] refl)
 take_on (suc n) k (x ∷ xs) = (let e : suc (n + k) ≡ suc n + k = omega arith in ap (λ l. x ∷ l) (take_on n k xs) ∙ ap (λ m. take m (x ∷ xs)) e)
 
-pub rest_left : (n : ℕ) (xs : List ℕ) → n < length xs → drop n xs ≢ []
-rest_left n xs less none = absurd (let l = ap length none in let d = length-drop n xs in omega arith)
+-- a piece of the rest that isn't empty
+pub piece_some : (n end : ℕ) (xs : List ℕ) → n < length xs → n < end → take (end - n) (drop n xs) ≢ []
+piece_some n end xs less more none = absurd (let l = ap length none in let t = length-take (end - n) (drop n xs) in let d = length-drop n xs in omega arith)
+
+-- what was used of it
+pub take_piece : (n k end : ℕ) (xs : List ℕ) → k ≤ length (take (end - n) (drop n xs)) → take n xs ++ take k (take (end - n) (drop n xs)) ≡ take (n + k) xs
+take_piece n k end xs within =
+    let less : k ≤ end - n = (let t = length-take (end - n) (drop n xs) in omega arith) in
+    ap (λ l. take n xs ++ l) (take-take k (end - n) (drop n xs) less) ∙ take_on n k xs
 
 pub not_some : {A : Type 0} (o : Option A) → (is_some o ≡ true → ⊥) → o ≡ None
 not_some None h = refl

@@ -432,9 +432,17 @@ pub not_over : (o : Option Cause) (text : List ℕ) → o ≡ None → IsOver o 
 not_over None text e = tt
 not_over (Some cause) text e = absurd cc
 
-pub starved_over : (o : Option Cause) (text : List ℕ) → (o ≡ None) ⊎ (o ≡ Some cause_kind.Starved) → IsOver o text
-starved_over o text (inl none) = not_over o text none
-starved_over o text (inr starved) = subst (λ c. IsOver c text) (sym starved) tt
+pub header_over : (r : Receiver) (o : Option Cause) (feed : Feed) (bytes used : List ℕ) (m index len : ℕ) → (stands : StandsFor r bytes) → r.cause ≡ None → used ≢ []
+    → FeedStands feed stands.messages (stands.rest ++ used) → length (stands.rest ++ used) ≡ 12 → rest_of (stands.rest ++ used) ≡ unfinished m index len
+    → ((messages : List Message) (rest : List ℕ) → Holds (record r { feed = feed }) messages [] → FeedStands feed messages rest → length rest ≡ 12 → rest_of rest ≡ unfinished m index len → IsOver o (flat_map spelling messages ++ rest))
+    → IsOver o (bytes ++ used)
+header_over r o feed bytes used m index len stands none some now twelve is goes =
+    let runs = running r bytes stands none in
+    let ms : List Message = stands.messages in
+    let before : rest_of stands.rest ≡ short = short_before stands.rest used some (omega arith) in
+    let h : Holds r ms [] = holds_short r ms stands.rest [] before refl runs.holds in
+    let h' : Holds (record r { feed = feed }) ms [] = record { agrees = h.agrees; awaits = h.awaits; opens = h.opens } in
+    subst (λ l. IsOver o l) (grown_text bytes used stands.rest ms stands.cut) (goes ms (stands.rest ++ used) h' now twelve is)
 
 -- what is due, where an End comes into the hand
 pub due_next : (r : Receiver) (new : List Progress) (x : ItemView) (k n p : ℕ) → r.hand ≡ None → k < 16 → progress_at r.modules k ≡ Going n p → ((m : ℕ) → progress_at new m ≡ (if m == k then Over else progress_at r.modules m))

@@ -116,12 +116,29 @@ pub record IsFaulty (text : List ℕ) : Type 0 where
   pub cut : Cut text messages rest
   pub shows : rest_of rest ≡ faulty fault
 
--- What a turn may end the input for, when the text has come so far: a header's fault, or no memory for a page; nothing else.
+-- the page is the one due of an open module
+abbrev pub IsDuePage : Progress → (index len : ℕ) → Type 0
+IsDuePage (Going n p) index len = is_due n p index len ≡ true
+IsDuePage progress index len = ⊥
+
+-- The text ends with the header of a page that is due, for which memory is to be taken.
+pub record AsksMemory (text : List ℕ) : Type 0 where
+  pub messages : List Message
+  pub rest : List ℕ
+  pub m : ℕ
+  pub index : ℕ
+  pub len : ℕ
+  pub cut : Cut text messages rest
+  pub header : rest_of rest ≡ unfinished m index len
+  pub bare : drop 12 rest ≡ []
+  pub due : IsDuePage (share_of (claims_in messages m) m messages short).progress index len
+
+-- What a turn may end the input for, when the text has come so far: a header's fault, or, at the header of a page that is due, no memory for it; nothing else.
 abbrev pub IsOver : Option Cause → List ℕ → Type 0
 IsOver None text = Unit {0}
 IsOver (Some End) text = IsFaulty text
 IsOver (Some Failed) text = ⊥
-IsOver (Some Starved) text = Unit {0}
+IsOver (Some Starved) text = AsksMemory text
 
 -- how many items it still has to put, once its input has ended
 abbrev pub due_of : Receiver → ℕ

@@ -12,7 +12,7 @@ use Rattle.lfi_stage.specs.declared.settle.Report.{Report}
 use Rattle.lfi_stage.specs.Claims.{claims_in}
 use Rattle.lfi_stage.specs.Receivers.{pass_of, cause_of, claimed_by, cause_after}
 use Rattle.lfi_stage.specs.Verified.{pass_of as take_pass_of, Handled}
-use Rattle.lfi_stage.specs.Tells.{Tells, IsOnePass}
+use Rattle.lfi_stage.specs.Tells.{Tells}
 
 -- what each receiver's pass put, and each verifier's took, by their numbers
 abbrev pub puts_of : List Receiver → ℕ → List ItemView
@@ -42,7 +42,7 @@ pub record Reports (receivers : List Receiver) (texts : ℕ → List ℕ) (repor
   pub claimed : (m : ℕ) → m < 16 → (c : ℕ) (r : Receiver) → slice_get receivers c ≡ Some r → claimed_by r m ≡ true →
       (told : ModuleReport) × (slice_get report.modules m ≡ Some told) × Tells m told (items c m)
   pub unclaimed : (m : ℕ) → m < 16 → ((c : ℕ) (r : Receiver) → slice_get receivers c ≡ Some r → claimed_by r m ≡ false) →
-      (told : ModuleReport) × (slice_get report.modules m ≡ Some told) × IsOnePass m told []
+      (told : ModuleReport) × (slice_get report.modules m ≡ Some told) × Tells m told []
   -- no fault is told of a connection without a receiver
   pub no_fault : (c : ℕ) → slice_get receivers c ≡ None → get_or report.faults c None ≡ None
   pub counted : length strays ≡ length receivers

@@ -1,14 +1,15 @@
 -- A new stage, and the text that one hears. (docs/DEFINITIONS.md, "Stages")
-use Rattle.std.specs.Prelude.{◌≡◌, ℕ, List, [], ◌∷◌, take, length, Option, Some, None}
+use Rattle.std.specs.Prelude.{◌≡◌, ℕ, List, [], ◌∷◌, ◌++◌, Option, Some, None}
 use Rattle.lfi_queues.specs.Passes.{new_pass}
 use Rattle.lfi_stage.specs.declared.receiver.Receiver.{Receiver}
 use Rattle.lfi_stage.specs.declared.verifier.Verifier.{Verifier}
 use Rattle.lfi_stage.specs.declared.stage.Stage.{Stage}
 use Rattle.lfi_model.specs.declared.connection.Cause.{Cause}
+use Rattle.lfi_model.specs.declared.connection.Cause.TheVariants.{Starved}
 use Rattle.lfi_stage.specs.Shares.{intake_of}
 use Rattle.lfi_stage.specs.declared.settle.Report.{Report}
 use Rattle.lfi_stage.specs.Reports.{Reports}
-use Rattle.lfi_stage.specs.Receivers.{pass_of, hand_of, cause_of, StandsFor, IsOver}
+use Rattle.lfi_stage.specs.Receivers.{pass_of, hand_of, cause_of, StandsFor, AsksMemory}
 use Rattle.lfi_stage.specs.Verified.{pass_of as take_pass_of, Handled}
 
 -- One receiver and one verifier, of which nothing was done, with the passes of an empty intake.
@@ -27,15 +28,19 @@ pub record IsNew (stage : Stage) : Type 0 where
   pub running : cause_of receiver ≡ None
   pub handled : Handled verifier
 
--- How much of the text was heard: all of it, unless the input was over before; that is at a header's fault, or where there was no memory for a page.
-abbrev pub IsHeard : Option Cause → ℕ → List ℕ → Type 0
-IsHeard None heard text = heard ≡ length text
-IsHeard (Some cause) heard text = IsOver (Some cause) (take heard text)
+-- How much of the text was heard: all of it, unless there was no memory for a page; then all up to the end of that page's header.
+abbrev pub IsHeard : Option Cause → (heard text : List ℕ) → Type 0
+IsHeard (Some Starved) heard text = AsksMemory heard × (rest : List ℕ) × (text ≡ heard ++ rest)
+IsHeard cause heard text = heard ≡ text
+
+-- The receiver stands for what was heard of the text.
+pub record HasHeard (receiver : Receiver) (text : List ℕ) : Type 0 where
+  pub heard : List ℕ
+  pub is_heard : IsHeard (cause_of receiver) heard text
+  pub stands : StandsFor receiver heard
 
 -- The report is one plain pass over what one receiver heard of this text.
 pub record IsLoaded (text : List ℕ) (report : Report) : Type 0 where
   pub receiver : Receiver
-  pub heard : ℕ
-  pub is_heard : IsHeard (cause_of receiver) heard text
-  pub stands : StandsFor receiver (take heard text)
-  pub reports : Reports (receiver ∷ []) (λ c. take heard text) report
+  pub hears : HasHeard receiver text
+  pub reports : Reports (receiver ∷ []) (λ c. hears.heard) report

@@ -4,7 +4,7 @@ use Rattle.lfi_queues.specs.Items.{ItemView}
 use Rattle.lfi_rules.specs.Verdicts.{all_words}
 use Rattle.lfi_image.specs.Image.{Image}
 use Rattle.lfi_model.specs.declared.outcome.Outcome.{Outcome}
-use Rattle.lfi_model.specs.declared.outcome.Outcome.TheVariants.{Complete, NoMemory}
+use Rattle.lfi_model.specs.declared.outcome.Outcome.TheVariants.{Complete}
 use Rattle.lfi_model.specs.Outcomes.{Load, pages_of, end_of, Placed}
 use Rattle.lfi_queues.specs.declared.item.Reason.{Reason}
 use Rattle.lfi_stage.specs.declared.report.ImageState.{ImageState}
@@ -22,17 +22,12 @@ IsImageOf m items us outcome Absent = items ≡ []
 IsImageOf m items us outcome (Part b) = (b ≡ builder_of m items us) × ((n : ℕ) → outcome ≢ Complete n)
 IsImageOf m items us outcome (Whole i) = (i ≡ image_of m items us) × (outcome ≡ Complete (words_at items))
 
--- It is one plain pass over the items, and the image holds the longest lawful beginning of their pages.
-pub record IsOnePass (m : ℕ) (told : ModuleReport) (items : List ItemView) : Type 0 where
+-- What the report says of module m is one plain pass over these items, and the image holds the longest lawful beginning of their pages.
+pub record Tells (m : ℕ) (told : ModuleReport) (items : List ItemView) : Type 0 where
   pub outcome : Load (words_at items) items told.outcome
   pub us : List (List ℕ)
   pub placed : Placed (words_at items) (pages_of items) us
   pub image : IsImageOf m items us told.outcome told.image
-
--- What the report says of module m, which has these items: one plain pass; or that there was no memory for its builder.
-pub data Tells (m : ℕ) (told : ModuleReport) (items : List ItemView) : Type 0 where
-  one_pass : IsOnePass m told items → Tells m told items
-  no_memory : items ≢ [] → told.outcome ≡ NoMemory → told.image ≡ Absent → Tells m told items
 
 -- where a module has items, it has an End
 abbrev pub HasEnd : List ItemView → Type 0

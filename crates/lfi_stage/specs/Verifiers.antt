@@ -37,18 +37,13 @@ pub record HasPlaced (m : ℕ) (p : Placing) (b : Module) (taken : List ItemView
   pub fault : FirstFault (all_words (pages_of taken)) (words_at taken) p.fault
   pub whole : p.fault ≡ None → length b.words ≡ min (words_at taken) (1024 * length (pages_of taken))
 
--- or there was no memory for its builder
-abbrev pub HasBuilt : ℕ → Placing → Option Module → List ItemView → Type 0
-HasBuilt m p None taken = Unit {0}
-HasBuilt m p (Some b) taken = HasPlaced m p b taken
-
 -- Of module m these items were taken.
 pub record IsPlacing (m : ℕ) (p : Placing) (taken : List ItemView) : Type 0 where
   pub first : ItemView
   pub rest : List ItemView
   pub opened : taken ≡ first ∷ rest
   pub words : p.words ≡ first.words
-  pub built : HasBuilt m p p.builder taken
+  pub built : HasPlaced m p p.builder taken
   pub reason : option_map (λ e. e.reason) p.ended ≡ end_of taken
   pub pages : (e : _) → p.ended ≡ Some e → e.pages ≡ length (pages_of taken)
 

@@ -5,12 +5,11 @@ ghost use Rattle.lfi_stage.specs.Claims.{claims_in};
 ghost use Rattle.lfi_frame.specs.Feeds.{FeedStands, feed_fault};
 ghost use Rattle.lfi_stage.specs.Shares.{intake_of};
 ghost use Rattle.lfi_frame.specs.declared.fault.FrameFault.{FrameFault};
-ghost use Rattle.lfi_frame.specs.Streams.{Message, open_message, page_message, close_message, rest_of, unfinished, spelling, IsMessage};
+ghost use Rattle.lfi_frame.specs.Streams.{Message, open_message, page_message, close_message, rest_of, short, unfinished, spelling, IsMessage};
 ghost use Rattle.lfi_queues.specs.declared.item.Kind.TheVariants.{End};
-ghost use Rattle.lfi_model.specs.declared.connection.Cause.TheVariants.{Starved};
 ghost use Rattle.lfi_model.specs.declared.connection.Progress.{Progress};
 ghost use Rattle.lfi_model.specs.declared.connection.Progress.TheVariants.{Going, Over};
-ghost use Rattle.lfi_model.specs.Items.{item_of, reason_of, fault_by_cause};
+ghost use Rattle.lfi_model.specs.Items.{item_of, reason_of, fault_by_cause, share_of};
 ghost use Rattle.lfi_stage.specs.Places.{progress_at, IsPossible};
 
 use crate::coming::{Coming, is_due};
@@ -82,7 +81,7 @@ impl Receiver {
     ghost use Rattle.lfi_stage.specs.declared.receiver.Begun.TheVariants as begun;
     ghost use Rattle.lfi_stage.specs.declared.receiver.Turn.TheVariants as turn;
     ghost use Rattle.lfi_stage.specs.Turns.{PutsAsTold};
-    ghost use Rattle.lfi_stage.specs.Receivers.{pass_of, claimed_by, cause_of, hand_of, fault_of, strays_at, made_by, cause_after, Agrees, Awaits, IsUnopened, Holds, StandsFor, IsOver, IsFinished, due_of, AfterEnd};
+    ghost use Rattle.lfi_stage.specs.Receivers.{pass_of, claimed_by, cause_of, hand_of, fault_of, strays_at, made_by, cause_after, Agrees, Awaits, IsUnopened, Holds, StandsFor, IsOver, IsDuePage, IsFinished, due_of, AfterEnd};
 
     /// A receiver of which no byte has come, with its pass.
     pub(crate) fn new(alloc: Global, pass: PutPass) -> Receiver
@@ -220,6 +219,7 @@ impl Receiver {
         ensures agrees { (messages : List Message) → Holds self.old messages [] → Agrees self.new.modules (made_by self.new) self.new.strays messages (unfinished «module» index len) }
         ensures holds { result ≢ begun.Starved → (messages : List Message) (rest : List ℕ) → Holds self.old messages [] → rest_of rest ≡ unfinished «module» index len → drop 12 rest ≡ [] → Holds self.new messages rest }
         ensures claims { (messages : List Message) → Holds self.old messages [] → (m : ℕ) → claimed_by self.new m ≡ claims_in messages m }
+        ensures starved { result ≡ begun.Starved → (messages : List Message) → Holds self.old messages [] → IsDuePage (share_of (claims_in messages «module») «module» messages short).progress index len }
         ensures hand { result ≡ begun.Stray → self.new.hand ≡ None }
         ensures rest { self.new ≡ record self.old { modules = self.new.modules; coming = self.new.coming; hand = self.new.hand; strays = self.new.strays } }
     {
@@ -322,7 +322,8 @@ impl Receiver {
         requires in_range { («module» < 16) × (0 < len) × (len ≤ 4096) × (len % 4 ≡ 0) }
         ensures stands { (messages : List Message) (rest : List ℕ) → Holds self.old messages [] → FeedStands self.old.feed messages rest → feed_fault self.old.feed ≡ None
             → length rest ≡ 12 → rest_of rest ≡ unfinished «module» index len → StandsFor self.new (flat_map spelling messages ++ rest) }
-        ensures over { (self.new.cause ≡ None) ⊎ (self.new.cause ≡ Some Starved) }
+        ensures over { (messages : List Message) (rest : List ℕ) → Holds self.old messages [] → FeedStands self.old.feed messages rest → length rest ≡ 12 → rest_of rest ≡ unfinished «module» index len
+            → IsOver self.new.cause (flat_map spelling messages ++ rest) }
         ensures pass { self.new.pass ≡ self.old.pass }
         ensures stray { IsTrue result → self.new.hand ≡ None }
     {

@@ -17,7 +17,7 @@ use lfi_queues::Reason;
 /// What is there of a module's image.
 #[derive(Drop)]
 pub enum ImageState {
-    /// Nothing: the module wasn't opened, or there was no memory for it.
+    /// Nothing: the module wasn't opened.
     Absent,
     /// The pages placed, which aren't all, or were not closed.
     Part(Builder),
@@ -87,12 +87,6 @@ impl Placing {
             fault,
             ended,
         } = self;
-        let Some(builder) = builder else {
-            return ModuleReport {
-                outcome: Outcome::NoMemory,
-                image: ImageState::Absent,
-            };
-        };
         match (fault, ended) {
             (Some(fault), _) => ModuleReport {
                 outcome: Outcome::Refused(fault),

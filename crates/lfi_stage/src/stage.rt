@@ -2,7 +2,7 @@
 
 ghost use Rattle.std.specs.Prelude.{◌≡◌, ◌≢◌, ℕ, ◌+◌, ◌<◌, ◌≤◌, List, [], ◌∷◌, ◌++◌, length, take, is_some, Some, None, IfOk, slice_get};
 ghost use Rattle.lfi_queues.specs.Passes.{IsSamePass, new_pass};
-ghost use Rattle.lfi_stage.specs.Stages.{IsHeard, IsLoaded};
+ghost use Rattle.lfi_stage.specs.Stages.{HasHeard, IsLoaded};
 ghost use Rattle.lfi_stage.specs.Shares.{intake_of};
 ghost use Rattle.lfi_stage.specs.Receivers.{pass_of, cause_of, hand_of, StandsFor};
 ghost use Rattle.lfi_stage.specs.Verified.{pass_of as take_pass_of, Handled};
@@ -27,7 +27,8 @@ impl Stage {
     ghost use Rattle.lfi_stage.specs.Stages.{IsNew};
     ghost use Rattle.lfi_queues.specs.Passes.{new_pass};
 
-    /// A stage of one receiver and one verifier.
+    /// A stage of one receiver and one verifier, with the memory for the pages of all modules.
+    /// `Err` only where memory is refused.
     pub fn new(alloc: Global, receivers: usize, verifiers: usize) -> Result<Stage, AllocError>
         requires receivers { receivers ≡ 1 }
         requires verifiers { verifiers ≡ 1 }
@@ -48,10 +49,11 @@ impl Stage {
         requires take { take ≡ new_pass intake.queue 0 }
         ensures { IfOk result IsNew }
     {
+        let verifier = Verifier::new(alloc, take)?;
         let mut receivers = Vec::new(alloc);
         let mut verifiers = Vec::new(alloc);
         receivers.push(Receiver::new(alloc, put))?;
-        verifiers.push(Verifier::new(alloc, take))?;
+        verifiers.push(verifier)?;
         Ok(Stage {
             receivers,
             verifiers,
@@ -60,9 +62,16 @@ impl Stage {
     }
 }
 
-/// Hands a text to the receiver, up to its end or a fault, and answers how many bytes of it were
-/// used. The verifier takes each item as soon as it is put.
-fn hear(receiver: &mut Receiver, verifier: &mut Verifier, shared: &mut Shared, text: &[u8]) -> usize
+/// Hands a text to the receiver in pieces of `most` bytes or fewer, up to its end or a fault. The
+/// verifier takes each item as soon as it is put.
+fn hear(
+    receiver: &mut Receiver,
+    verifier: &mut Verifier,
+    shared: &mut Shared,
+    text: &[u8],
+    most: usize,
+)
+    requires some { 1 ≤ most }
     requires fresh { StandsFor receiver.old [] }
     requires empty_handed { hand_of receiver.old ≡ None }
     requires running { cause_of receiver.old ≡ None }
@@ -71,8 +80,7 @@ fn hear(receiver: &mut Receiver, verifier: &mut Verifier, shared: &mut Shared, t
     requires empty { (intake_of shared.old).held ≡ [] }
     requires all { (pass_of receiver.old).items ≡ (take_pass_of verifier.old).items }
     requires handled { Handled verifier.old }
-    ensures stands { StandsFor receiver.new (take result text.now) }
-    ensures heard { IsHeard (cause_of receiver.new) result text.now }
+    ensures heard { HasHeard receiver.new text.now }
     ensures put { IsSamePass (pass_of receiver.old) (pass_of receiver.new) }
     ensures take { IsSamePass (take_pass_of verifier.old) (take_pass_of verifier.new) }
     ensures queue { (intake_of shared.new).queue ≡ (intake_of shared.old).queue }
@@ -82,11 +90,11 @@ fn hear(receiver: &mut Receiver, verifier: &mut Verifier, shared: &mut Shared, t
 {
     let mut used = 0;
     while used < text.len() && !receiver.is_over() {
-        let (count, _) = receiver.turn(shared, &text[used..]);
+        let end = used + most.min(text.len() - used);
+        let (count, _) = receiver.turn(shared, &text[used..end]);
         used += count;
         drain(verifier, shared);
     }
-    used
 }
 
 /// What became of a text that one receiver heard and one verifier took.
@@ -96,7 +104,9 @@ fn load_by(
     mut verifier: Verifier,
     mut shared: Shared,
     text: &[u8],
+    most: usize,
 ) -> Result<Report, AllocError>
+    requires some { 1 ≤ most }
     requires one { ((intake_of shared).queue.putters ≡ 1) × ((intake_of shared).queue.takers ≡ 1) }
     requires fresh { StandsFor receiver [] }
     requires empty_handed { hand_of receiver ≡ None }
@@ -109,7 +119,7 @@ fn load_by(
 {
     let mut receivers = Vec::new(alloc);
     let mut verifiers = Vec::new(alloc);
-    hear(&mut receiver, &mut verifier, &mut shared, text);
+    hear(&mut receiver, &mut verifier, &mut shared, text, most);
     receivers.push(receiver)?;
     verifiers.push(verifier)?;
     Ok(settle(receivers, verifiers, shared))
@@ -124,9 +134,25 @@ fn load_by(
 pub fn load(alloc: Global, text: &[u8]) -> Result<Report, AllocError>
     ensures { IfOk result (λ report. IsLoaded text.now report) }
 {
+    load_in_pieces(alloc, text, usize::MAX)
+}
+
+/// Loads the modules of one connection's text that is handed over in pieces of `most` bytes, at
+/// least 1, or fewer, on one thread. The report says the same whatever `most` is.
+///
+/// # Errors
+///
+/// `AllocError` where there is no memory for the stage; no memory for a page is told in the
+/// report.
+pub fn load_in_pieces(alloc: Global, text: &[u8], most: usize) -> Result<Report, AllocError>
+    requires some { 1 ≤ most }
+    ensures { IfOk result (λ report. IsLoaded text.now report) }
+{
     let mut stage = Stage::new(alloc, 1, 1)?;
     match (stage.receivers.pop(), stage.verifiers.pop()) {
-        (Some(receiver), Some(verifier)) => load_by(alloc, receiver, verifier, stage.shared, text),
+        (Some(receiver), Some(verifier)) => {
+            load_by(alloc, receiver, verifier, stage.shared, text, most)
+        }
         _ => unreachable!(),
     }
 }

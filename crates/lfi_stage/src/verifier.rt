@@ -1,6 +1,6 @@
 //! The verifier, which judges the pages of modules and places them.
 
-ghost use Rattle.std.specs.Prelude.{◌≡◌, ◌≢◌, ℕ, ◌+◌, ◌<◌, ◌≤◌, ◌==◌, ◌↔◌, List, [], ◌∷◌, ◌++◌, Option, Some, None, IfSome, IfNone, length, if◌then◌else◌};
+ghost use Rattle.std.specs.Prelude.{◌≡◌, ◌≢◌, ℕ, ◌+◌, ◌<◌, ◌≤◌, ◌==◌, ◌↔◌, List, [], ◌∷◌, ◌++◌, Option, Some, None, IfSome, IfNone, IfOk, get_or, length, if◌then◌else◌};
 ghost use Rattle.page_buf.specs.Spelled.{words_of};
 ghost use Rattle.lfi_rules.specs.Faults.{FirstFault};
 ghost use Rattle.lfi_image.specs.Built.{due, with_words};
@@ -12,13 +12,16 @@ ghost use Rattle.lfi_stage.specs.Shares.{intake_of};
 use crate::modules::MODULES;
 use crate::report::{ModuleReport, report_of};
 use crate::shared::Shared;
-use lfi_image::Builder;
+use lfi_image::{Builder, Places};
 use lfi_queues::{Item, Kind, Reason, TakePass};
 use lfi_rules::{Fault, judge};
 use page_buf::SealedPage;
-use std::alloc::Global;
+use std::alloc::{AllocError, Global};
 use std::array;
 use std::marker::Model;
+
+/// The most words of a module.
+const MOST_WORDS: u32 = 4_194_304;
 
 /// What a turn did.
 #[derive(Clone, Copy, Debug, PartialEq, Eq)]
@@ -55,8 +58,8 @@ fn place(builder: &mut Builder, page: SealedPage) -> Option<Fault>
 pub(crate) struct Placing {
     /// Its words in all.
     pub(crate) words: u32,
-    /// What is placed of it; nothing where there was no memory for it.
-    pub(crate) builder: Option<Builder>,
+    /// What is placed of it.
+    pub(crate) builder: Builder,
     /// Its first fault.
     pub(crate) fault: Option<Fault>,
     /// Its End, once that has come.
@@ -66,16 +69,16 @@ pub(crate) struct Placing {
 impl Placing {
     ghost use Rattle.lfi_stage.specs.Verifiers.{IsPlacing};
 
-    /// A module of which nothing but its Open has come.
-    fn new(alloc: Global, module: u16, words: u32, entry: u32) -> Placing
+    /// A module of which nothing but its Open has come, with the memory for its pages.
+    fn new(places: Places, module: u16, words: u32, entry: u32) -> Placing
         requires module { «module» < 16 }
-        requires words { words ≤ 4194304 }
+        requires words { words ≤ places }
         requires entry { entry < words }
         ensures { (first : ItemView) → first.«module» ≡ «module» → first.words ≡ words → first.kind ≡ Open entry → IsPlacing «module» result (first ∷ []) }
     {
         Placing {
             words,
-            builder: Builder::new(alloc, words, entry, module).ok(),
+            builder: Builder::over(places, words, entry, module),
             fault: None,
             ended: None,
         }
@@ -88,13 +91,10 @@ impl Placing {
         if self.fault.is_some() {
             return;
         }
-        let Some(builder) = &mut self.builder else {
-            return;
-        };
-        if page.len_words() != builder.due() {
+        if page.len_words() != self.builder.due() {
             return;
         }
-        self.fault = place(builder, page);
+        self.fault = place(&mut self.builder, page);
     }
 
     /// The End.
@@ -105,69 +105,77 @@ impl Placing {
     }
 }
 
+/// Memory for the pages of each module.
+fn reserve(alloc: Global) -> Result<[Option<Places>; MODULES], AllocError>
+    ensures { IfOk result (λ spare. (m : ℕ) → m < 16 → get_or spare m None ≡ Some 4194304) }
+{
+    let mut spare = array::from_fn(|_| None);
+    for module in 0..MODULES {
+        spare[module] = Some(Places::new(alloc, MOST_WORDS)?);
+    }
+    Ok(spare)
+}
+
 /// The modules that a verifier places, by their numbers.
 #[derive(Drop)]
 pub(crate) struct Placings {
-    places: [Option<Placing>; MODULES],
+    /// Memory for the modules whose Open hasn't come.
+    spare: [Option<Places>; MODULES],
+    placings: [Option<Placing>; MODULES],
 }
 
 impl Model for Placings {
-    ghost use Rattle.std.specs.Prelude.{List, Option, ◌≡◌, length};
+    ghost use Rattle.std.specs.Prelude.{List, Option, Some, None, ◌≡◌, ◌<◌, ℕ, length, get_or};
     ghost use Rattle.lfi_stage.specs.declared.verifier.Placing.{Placing};
 
     ghost Value = { List (Option Placing) };
 
-    ghost view = { λ p. p.places };
+    ghost view = { λ p. p.placings };
 
-    ghost invariant = { λ p. length p.places ≡ 16 };
+    ghost invariant = { λ p. (length p.placings ≡ 16) × (length p.spare ≡ 16) × ((m : ℕ) → m < 16 → get_or p.placings m None ≡ None → get_or p.spare m None ≡ Some 4194304) };
 }
 
 impl Placings {
-    ghost use Rattle.lfi_stage.specs.Verifiers.{placing_at, HandledBy};
+    ghost use Rattle.lfi_stage.specs.Verifiers.{placing_at, HandledBy, HandledAll};
     ghost use Rattle.lfi_stage.specs.Tells.{Tells, HasEnd};
     ghost use Rattle.lfi_stage.specs.declared.report.ModuleReport.{ModuleReport};
     ghost use Rattle.std.specs.Prelude.{slice_get};
 
-    /// No Open has come.
-    fn new() -> Placings
-        ensures { (m : ℕ) → placing_at result m ≡ None }
+    /// No Open has come, and the memory for all modules is reserved.
+    fn new(alloc: Global) -> Result<Placings, AllocError>
+        ensures { IfOk result (λ p. (m : ℕ) → placing_at p m ≡ None) }
     {
-        Placings {
-            places: array::from_fn(|_| None),
-        }
+        Ok(Placings {
+            spare: reserve(alloc)?,
+            placings: array::from_fn(|_| None),
+        })
+    }
+
+    /// Handles one more item.
+    fn handle(&mut self, item: Item)
+        ensures { (taken : List ItemView) → HandledAll self.old taken → HandledAll self.new (taken ++ item ∷ []) }
+    {
+        let module = item.module as usize;
+        let before = self.placings[module].take();
+        self.placings[module] = after(&mut self.spare[module], before, item);
     }
 
     /// What became of each module.
     pub(crate) fn into_reports(self) -> [ModuleReport; MODULES]
         ensures { (m : ℕ) → m < 16 → (told : ModuleReport) × (slice_get result m ≡ Some told) × ((items : List ItemView) → HandledBy m (placing_at self m) items → HasEnd items → Tells m told items) }
     {
-        self.places.map(report_of)
-    }
-
-    /// Takes a module, 0 to 15, out.
-    fn take(&mut self, module: u16) -> Option<Placing>
-        requires { «module» < 16 }
-        ensures taken { result ≡ placing_at self.old «module» }
-        ensures others { (m : ℕ) → m ≢ «module» → placing_at self.new m ≡ placing_at self.old m }
-    {
-        self.places[module as usize].take()
-    }
-
-    /// Puts a module, 0 to 15, in.
-    fn put(&mut self, module: u16, placing: Option<Placing>)
-        requires { «module» < 16 }
-        ensures put { placing_at self.new «module» ≡ placing }
-        ensures others { (m : ℕ) → m ≢ «module» → placing_at self.new m ≡ placing_at self.old m }
-    {
-        self.places[module as usize] = placing;
+        self.placings.map(report_of)
     }
 }
 
 ghost use Rattle.lfi_stage.specs.Verifiers.{HandledBy, HandledAll};
 
-/// One item of a module, which was so before: what it is then.
-fn after(alloc: Global, before: Option<Placing>, item: Item) -> Option<Placing>
-    ensures { (m : ℕ) (taken : List ItemView) → item.«module» ≡ m → HandledBy m before taken → IsModule (taken ++ item ∷ []) → HandledBy m result (taken ++ item ∷ []) }
+/// One item of a module, which was so before: what it is then. Its Open takes the memory that is
+/// reserved for it.
+fn after(spare: &mut Option<Places>, before: Option<Placing>, item: Item) -> Option<Placing>
+    requires spare { before ≡ None → spare.old ≡ Some 4194304 }
+    ensures spare { result ≡ None → spare.new ≡ Some 4194304 }
+    ensures handled { (m : ℕ) (taken : List ItemView) → item.«module» ≡ m → HandledBy m before taken → IsModule (taken ++ item ∷ []) → HandledBy m result (taken ++ item ∷ []) }
 {
     let Item {
         module,
@@ -176,7 +184,10 @@ fn after(alloc: Global, before: Option<Placing>, item: Item) -> Option<Placing>
         kind,
     } = item;
     match (before, kind) {
-        (None, Kind::Open { entry }) => Some(Placing::new(alloc, module, words, entry)),
+        (None, Kind::Open { entry }) => match spare.take() {
+            Some(places) => Some(Placing::new(places, module, words, entry)),
+            None => unreachable!(),
+        },
         (Some(mut placing), Kind::Page(page)) => {
             placing.page(page);
             Some(placing)
@@ -195,7 +206,6 @@ fn after(alloc: Global, before: Option<Placing>, item: Item) -> Option<Placing>
 /// The verifier of a stage.
 #[derive(Drop)]
 pub struct Verifier {
-    alloc: Global,
     pass: TakePass,
     placings: Placings,
 }
@@ -208,32 +218,20 @@ impl Verifier {
     ghost use Rattle.lfi_stage.specs.declared.report.ModuleReport.{ModuleReport};
     ghost use Rattle.std.specs.Prelude.{slice_get};
 
-    /// A verifier that has taken nothing, with its pass.
-    pub(crate) fn new(alloc: Global, pass: TakePass) -> Verifier
+    /// A verifier that has taken nothing, with its pass. The memory for the pages of all modules
+    /// is reserved.
+    pub(crate) fn new(alloc: Global, pass: TakePass) -> Result<Verifier, AllocError>
         requires { pass.items ≡ [] }
-        ensures handled { Handled result }
-        ensures pass { pass_of result ≡ pass }
+        ensures { IfOk result (λ verifier. Handled verifier × (pass_of verifier ≡ pass)) }
     {
-        Verifier {
-            alloc,
+        Ok(Verifier {
             pass,
-            placings: Placings::new(),
-        }
+            placings: Placings::new(alloc)?,
+        })
     }
 
-    /// Handles an item that has come to it.
-    fn handle(&mut self, item: Item)
-        ensures handled { (taken : List ItemView) → HandledAll self.old.placings taken → HandledAll self.new.placings (taken ++ item ∷ []) }
-        ensures pass { self.new.pass ≡ self.old.pass }
-    {
-        let module = item.module;
-        let before = self.placings.take(module);
-        let now = after(self.alloc, before, item);
-        self.placings.put(module, now);
-    }
-
-    /// One turn: it takes an item, judges it where it is a page, and places it. It takes memory
-    /// for the builder of a module at its Open alone.
+    /// One turn: it takes an item, judges it where it is a page, and places it. It takes no
+    /// memory.
     pub fn turn(&mut self, shared: &mut Shared) -> Turn
         requires { (pass_of self.old).queue ≡ (intake_of shared.old).queue }
         ensures takes { TakesAsTold result (pass_of self.old) (pass_of self.new) (intake_of shared.old) (intake_of shared.new) }
@@ -241,7 +239,7 @@ impl Verifier {
     {
         match shared.intake.take(&mut self.pass) {
             Some(item) => {
-                self.handle(item);
+                self.placings.handle(item);
                 Turn::Worked
             }
             None => Turn::Idle,

@@ -1,4 +1,4 @@
-use Rattle.std.proofs.Common.{rules, ◌≡◌, ◌∙◌, ◌∷◌, [], List, ℕ, take, ap, sym, subst}
+use Rattle.std.proofs.Common.{rules, ◌≡◌, ◌∙◌, ◌∷◌, [], List, ℕ, ap, sym, subst}
 use Rattle.std.specs.Prelude.{slice_get}
 use Rattle.lfi_queues.specs.Kept.{Kept}
 use Rattle.lfi_stage.specs.Reports.{puts_of, takes_of, AreParts, Reports}
@@ -25,13 +25,11 @@ settle-requires-clause-parts c =
 pub returns : goal.returns
 returns c =
     let r : c.push.new.self.items ≡ c.hear.new.receiver ∷ [] = search rules in
-    let text : List ℕ = take c.hear.result c.args.text.now in
+    let heard : List ℕ = c.hear.ensures.heard.heard in
     record {
       receiver = c.hear.new.receiver;
-      heard = c.hear.result;
-      is_heard = c.hear.ensures.heard;
-      stands = c.hear.ensures.stands;
-      reports = subst (λ l. Reports l (λ k. take c.hear.result c.args.text.now) c.settle.result) r
-          (c.settle.ensures (λ k. take c.hear.result c.args.text.now)
-          (λ k q at. stands_one c.hear.new.receiver k q (take c.hear.result c.args.text.now) (sym (ap (λ l. slice_get l k) r) ∙ at) c.hear.ensures.stands));
+      hears = c.hear.ensures.heard;
+      reports = subst (λ l. Reports l (λ k. heard) c.settle.result) r
+          (c.settle.ensures (λ k. heard)
+          (λ k q at. stands_one c.hear.new.receiver k q heard (sym (ap (λ l. slice_get l k) r) ∙ at) c.hear.ensures.heard.stands));
     }

@@ -5,7 +5,7 @@ use Rattle.lfi_model.specs.Items.{is_due}
 use Rattle.lfi_stage.specs.Places.{progress_at}
 use Rattle.lfi_stage.specs.Receivers.{Agrees, Holds, made_by, claimed_by}
 use Rattle.lfi_stage.proofs.Events.{IsShut, header_stray, claims_kept}
-use Rattle.lfi_stage.proofs.Holding.{stray_page, undue_page, due_page, due_agrees, undue_agrees, shut_by}
+use Rattle.lfi_stage.proofs.Holding.{stray_page, undue_page, due_page, due_agrees, due_now, undue_agrees, shut_by}
 use Rattle.lfi_stage.proofs.receiver.Receiver.page.Goals as goal
 
 pub returns-in_default : goal.returns-in_default
@@ -19,6 +19,7 @@ returns-in_default c =
       holds = λ _ ms rest holds is none.
           subst (λ q. Holds q ms rest) (sym c.stray.ensures) (stray_page r ms rest c.args.«module» c.args.index c.args.len c.requires.in_range.0 shut holds is);
       claims = λ ms holds m. ap (λ q. claimed_by q m) c.stray.ensures ∙ holds.opens.claims m;
+      starved = λ e. absurd cc;
       hand = λ _. ap (λ q. q.hand) c.stray.ensures ∙ c.requires.free;
       rest = search rules;
     }
@@ -65,3 +66,10 @@ returns-in-Err-clause-agrees c = λ ms holds.
     let was : progress_at r.modules c.args.«module» ≡ Going c.in-Going.words c.in-Going.pages = search rules in
     let due : is_due c.in-Going.words c.in-Going.pages c.args.index c.args.len ≡ true = sym c.is_due.ensures ∙ c.if-not-is_due.false in
     due_agrees r ms c.args.«module» c.in-Going.words c.in-Going.pages c.args.index c.args.len was due holds
+
+pub returns-in-Err-clause-starved : goal.returns-in-Err-clause-starved
+returns-in-Err-clause-starved c = λ _ ms holds.
+    let r = c.args.self.now in
+    let was : progress_at r.modules c.args.«module» ≡ Going c.in-Going.words c.in-Going.pages = search rules in
+    let due : is_due c.in-Going.words c.in-Going.pages c.args.index c.args.len ≡ true = sym c.is_due.ensures ∙ c.if-not-is_due.false in
+    due_now r ms c.args.«module» c.in-Going.words c.in-Going.pages c.args.index c.args.len was due holds

@@ -1,7 +1,7 @@
 use Rattle.std.proofs.Common.{arith, ◌≡◌, ◌≢◌, ◌∙◌, ◌++◌, [], subst, ap, take, length, length-append, length-take, List, ℕ}
 use Rattle.lfi_frame.specs.Streams.{open_message, close_message}
 use Rattle.lfi_frame.specs.Feeds.{IsTold}
-use Rattle.lfi_stage.proofs.Standing.{running, more_stands, message_stands, header_stands, payload_stands, fault_stands, fault_over, not_over, starved_over, some_used, fault_used}
+use Rattle.lfi_stage.proofs.Standing.{running, more_stands, message_stands, header_stands, payload_stands, fault_stands, fault_over, not_over, header_over, some_used, fault_used}
 use Rattle.lfi_stage.proofs.receiver.Receiver.read.Goals as goal
 
 pub returns-in-More-clause-stands : goal.returns-in-More-clause-stands
@@ -78,7 +78,13 @@ pub returns-in-Close-clause-over : goal.returns-in-Close-clause-over
 returns-in-Close-clause-over c = λ bytes stands. not_over _ _ (ap (λ z. z.cause) c.close.ensures.rest ∙ c.requires.running)
 
 pub returns-in-Page-clause-over : goal.returns-in-Page-clause-over
-returns-in-Page-clause-over c = λ bytes stands. starved_over _ _ c.begin.ensures.over
+returns-in-Page-clause-over c = λ bytes stands.
+    let r = c.args.self.now in
+    let used : List ℕ = take c.in-Ok.field-0.used c.args.piece.now in
+    let runs = running r bytes stands c.requires.running in
+    let told = subst (λ g. IsTold g c.feed.new.self stands.messages stands.rest used) c.in-Page.is (c.in-Ok.ensures.told stands.messages stands.rest runs.feed) in
+    let some : used ≢ [] = some_used c.args.piece.now c.in-Ok.field-0 (c.in-Ok.ensures.moves runs.faultless) (c.in-Ok.ensures.empty runs.faultless) (λ e. absurd (let is = c.in-Page.is in cc)) in
+    header_over r c.begin.new.self.cause c.feed.new.self bytes used c.in-Page.«module» c.in-Page.index c.in-Page.len stands c.requires.running some told.0 told.1 told.2 c.begin.ensures.over
 
 pub returns-in-Err-clause-over : goal.returns-in-Err-clause-over
 returns-in-Err-clause-over c = λ bytes stands.

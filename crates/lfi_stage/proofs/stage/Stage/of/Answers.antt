@@ -3,17 +3,17 @@ use Rattle.lfi_stage.proofs.stage.Stage.of.Goals as goal
 
 pub returns : goal.returns
 returns c = record {
-  receiver = c.new.result;
-  verifier = c.new-2.result;
+  receiver = c.new-2.result;
+  verifier = c.in_ok-verifier.verifier;
   receivers = search rules;
   verifiers = search rules;
   putters = c.requires.counts.0;
   takers = c.requires.counts.1;
   empty = c.requires.empty;
-  put = c.new.ensures.pass ∙ c.requires.put;
-  take = c.new-2.ensures.pass ∙ c.requires.take;
-  stands = c.new.ensures.stands;
-  empty_handed = c.new.ensures.empty_handed;
-  running = c.new.ensures.running;
-  handled = c.new-2.ensures.handled;
+  put = c.new-2.ensures.pass ∙ c.requires.put;
+  take = c.in_ok-verifier.ensures.1 ∙ c.requires.take;
+  stands = c.new-2.ensures.stands;
+  empty_handed = c.new-2.ensures.empty_handed;
+  running = c.new-2.ensures.running;
+  handled = c.in_ok-verifier.ensures.0;
 }

@@ -1,11 +1,10 @@
-use Rattle.std.proofs.Common.{◌≡◌, rules, Some, None}
+use Rattle.std.proofs.Common.{◌≡◌, rules, Some, None, refl}
 use Rattle.lfi_stage.proofs.Reporting.{ended_by}
 use Rattle.lfi_stage.proofs.verifier.Placing.into_report.Goals as goal
 
 pub returns-in-None-Some : goal.returns-in-None-Some
 returns-in-None-Some c = λ m items reason was ended.
     let p = c.args.self in
-    let built : p.builder ≡ Some c.in-Some.builder = search rules in
     let none : p.fault ≡ None = search rules in
     let some : p.ended ≡ Some c.in-None-Some.ended = search rules in
-    c.by_end.ensures m items (ended_by m p c.in-Some.builder c.in-None-Some.ended items reason was ended built none some)
+    c.by_end.ensures m items (ended_by m p p.builder c.in-None-Some.ended items reason was ended refl none some)

@@ -12,6 +12,6 @@ pub returns : goal.returns
 returns c = λ m in_range.
     let e : ModuleReport = record { outcome = Unused; image = Absent } in
     let made = c.map.ensures.items.at m None e in_range in
-    let told : (k : ℕ) (items : List ItemView) → HandledBy k (get_or c.self.inside.places m None) items → HasEnd items → Tells k (get_or c.map.result m e) items = made.2.met in
+    let told : (k : ℕ) (items : List ItemView) → HandledBy k (get_or c.self.inside.placings m None) items → HasEnd items → Tells k (get_or c.map.result m e) items = made.2.met in
     let long = c.map.ensures.items.long in
     (get_or c.map.result m e, slice_get-get_or c.map.result m e (omega arith), λ items handled ended. told m items (subst (λ l. HandledBy m (placing_at l m) items) (sym c.self.view_is) handled) ended)

@@ -1,6 +1,6 @@
 use Rattle.std.proofs.Common.{rules, ◌≡◌, subst}
 use Rattle.lfi_stage.specs.Verified.{Handled}
-use Rattle.lfi_stage.proofs.stage.load.Goals as goal
+use Rattle.lfi_stage.proofs.stage.load_in_pieces.Goals as goal
 
 pub load_by-requires-clause-handled : goal.load_by-requires-clause-handled
 load_by-requires-clause-handled c =
