@@ -1,5 +1,7 @@
 //! Streams through the stage, and through the plain program beside it.
 
+ghost use Rattle.std.specs.Prelude.{◌≤◌};
+
 use crate::build::{NOP, RET, Text, one_word, told};
 use crate::cuts::cut_short;
 use lfi_model::{Cause, Outcome};
