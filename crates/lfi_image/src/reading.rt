@@ -75,15 +75,19 @@ fn page_of(alloc: Global, bytes: &[u8]) -> Result<SealedPage, ImageFault>
     }
 }
 
-/// Reads a page of so many bytes.
-fn read_sealed<R: Read>(alloc: Global, reader: &mut R, len: usize) -> Result<SealedPage, ImageFault>
+/// Reads a page of so many bytes, by way of the buffer.
+fn read_sealed<R: Read>(
+    alloc: Global,
+    reader: &mut R,
+    buffer: &mut [u8; PAGE_BYTES],
+    len: usize,
+) -> Result<SealedPage, ImageFault>
     requires { (0 < len) × (len ≤ 4096) × (len % 4 ≡ 0) }
     ensures { MatchResult result
         (λ page. Consumes (R.remaining reader.old) (R.remaining reader.new) page × (length page ≡ len) × (code_of (words_of page) ≡ page))
         (λ fault. IsShort (R.remaining reader.old) len fault) }
 {
-    let mut bytes = [0; PAGE_BYTES];
-    let bytes = &mut bytes[..len];
+    let bytes = &mut buffer[..len];
     read_bytes(reader, bytes)?;
     let page = page_of(alloc, bytes)?;
     Ok(page)
@@ -93,6 +97,7 @@ fn read_sealed<R: Read>(alloc: Global, reader: &mut R, len: usize) -> Result<Sea
 fn read_page<R: Read>(
     alloc: Global,
     reader: &mut R,
+    buffer: &mut [u8; PAGE_BYTES],
     builder: &mut Builder,
 ) -> Result<(), ImageFault>
     requires { length builder.old.words < builder.old.count }
@@ -100,7 +105,7 @@ fn read_page<R: Read>(
         (λ _. ReadsPage (R.remaining reader.old) (R.remaining reader.new) builder.old builder.new)
         (λ fault. IsPageFault (R.remaining reader.old) builder.old fault) }
 {
-    let page = read_sealed(alloc, reader, 4 * builder.due())?;
+    let page = read_sealed(alloc, reader, buffer, 4 * builder.due())?;
     let verdict = judge(&page, builder.placed(), builder.words());
     if let Err((fault, _)) = builder.append(page, verdict) {
         return Err(ImageFault::Unlawful(fault));
@@ -121,8 +126,9 @@ fn read_code<R: Read>(
         × (builder.new.count ≡ builder.old.count) × (builder.new.entry ≡ builder.old.entry) × (builder.new.slot ≡ builder.old.slot))
         (λ fault. IfSome (R.remaining reader.old) (λ code. IsCodeFault builder.old.count code fault)) }
 {
+    let mut buffer = [0; PAGE_BYTES];
     while builder.placed() < builder.words() {
-        read_page(alloc, reader, builder)?;
+        read_page(alloc, reader, &mut buffer, builder)?;
     }
     Ok(())
 }
