@@ -1,3 +1,4 @@
+pub mod Ahead
 pub mod Building
 pub mod Headers
 pub mod Pieces

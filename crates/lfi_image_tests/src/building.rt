@@ -1,6 +1,7 @@
 //! Builders: what they take, what they give back, and when they are whole.
 
 use crate::rows::{GUARD_LINK, LOAD_LINK, MOVE_STACK, NOP, RET, append, builder, image};
+use lfi_image::{Builder, Places};
 use lfi_rules::Fault;
 use std::alloc::Global;
 use std::test::Fail;
@@ -31,6 +32,40 @@ fn an_unfinished_builder_comes_back(rt: HostRuntime) -> Result<(), Fail> {
     assert!(rt; image.words() == 2 && image.placed() == 2);
     assert!(rt; image.entry() == 1 && image.slot() == 3);
     assert_eq!(rt; (image.word(0), image.word(1)), (0xD503_201F, 0xD65F_03C0));
+    Ok(())
+}
+
+#[test]
+fn places_are_reserved_before_the_module_is_known(rt: HostRuntime) -> Result<(), Fail> {
+    let places = Places::new(rt.alloc(), 1025)?;
+    assert_eq!(rt; places.words(), 1025);
+    let mut builder = Builder::over(places, 2, 1, 3);
+    assert_eq!(rt;
+        (
+            builder.words(),
+            builder.entry(),
+            builder.slot(),
+            builder.placed()
+        ),
+        (2, 1, 3, 0)
+    );
+    let code = NOP.repeat(rt.alloc(), 2)?;
+    assert_eq!(rt; append(rt.alloc(), &mut builder, &code)?, None);
+    let Ok(image) = builder.finish() else {
+        panic!(rt; "all words are placed")
+    };
+    assert_eq!(rt; (image.words(), image.entry(), image.slot()), (2, 1, 3));
+    let mut longest = Builder::over(Places::new(rt.alloc(), 1025)?, 1025, 1024, 15);
+    let first = page_ending(rt.alloc(), NOP)?;
+    assert_eq!(rt; append(rt.alloc(), &mut longest, &first)?, None);
+    assert_eq!(rt; append(rt.alloc(), &mut longest, &RET)?, None);
+    let Ok(image) = longest.finish() else {
+        panic!(rt; "all words of both pages are placed")
+    };
+    assert_eq!(rt;
+        (image.words(), image.entry(), image.slot()),
+        (1025, 1024, 15)
+    );
     Ok(())
 }
 
