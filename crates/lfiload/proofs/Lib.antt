@@ -1,2 +1,4 @@
+mod Asked
+mod Given
 mod Lines
 mod Spelled

@@ -1,2 +1,3 @@
 pub mod Checking
+pub mod CommandLine
 pub mod Reporting

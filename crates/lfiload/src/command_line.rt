@@ -1,7 +1,14 @@
 //! The command line.
 
+ghost use Rattle.std.specs.Prelude.{◌≡◌, IfOk, IfErr, map, string_bytes, false};
+ghost use Rattle.clap.specs.Words.{app_of, fault_of};
+ghost use Rattle.lfiload.specs.CommandLine.{Makes, IsLine, IsLineFault, fault_from, check_app, load_app, lfiload_app};
+
+use crate::help;
+use clap::error::ErrorKind;
 use clap::{Arg, ArgMatches, Command, Error};
-use std::alloc::Global;
+use std::alloc::{AllocError, AllocFailed, Global};
+use thiserror::Error;
 
 /// What the program is asked for.
 #[derive(Clone, Copy, PartialEq, Eq, Debug)]
@@ -17,51 +24,99 @@ pub enum Line<'a> {
     },
 }
 
-/// The command and its subcommands.
-fn command<'a>(alloc: Global) -> Result<Command<'a>, Error> {
+/// Why the words of the command line ask for nothing that can be carried out.
+#[derive(Debug, Drop, Error)]
+pub enum LineFault {
+    /// There was no memory to read them.
+    #[error("no memory")]
+    NoMemory,
+    /// They are wrong, or they ask for help: the parser's text, and its exit status.
+    #[error("{0}")]
+    Usage(Error),
+}
+
+impl From<AllocError> for LineFault {
+    ghost use Rattle.std.specs.Prelude.{◌≡◌};
+    ghost use Rattle.lfiload.specs.declared.command_line.LineFault.TheVariants.{NoMemory};
+
+    ghost from_gives = { λ _ fault. fault ≡ NoMemory };
+
+    fn from(_error: AllocError) -> LineFault {
+        LineFault::NoMemory
+    }
+}
+
+impl From<Error> for LineFault {
+    ghost from_gives = { λ error fault. fault ≡ fault_from error };
+
+    fn from(error: Error) -> LineFault {
+        match error.kind() {
+            ErrorKind::OutOfMemory => LineFault::NoMemory,
+            _ => LineFault::Usage(error),
+        }
+    }
+}
+
+/// The command `check` and its words.
+fn check_command<'a>(alloc: Global) -> Result<Command<'a>, AllocError>
+    ensures { IfOk result (Makes check_app) }
+{
     let file = Arg::new(alloc, "FILE")
-        .help("plain code words, little-endian")
+        .help("plain code words, the lowest byte first")
         .required(true);
-    let check = Command::new(alloc, "check")
+    Command::new(alloc, "check")
         .about("Tells whether the code in a file is lawful")
-        .arg(file)?;
-    let out = Arg::new(alloc, "out")
-        .long("out")
-        .value_name("DIR")
-        .help("the folder that the images are written to");
+        .after_help(help::CHECK)
+        .arg(file)
+}
+
+/// The command `load` and its words.
+fn load_command<'a>(alloc: Global) -> Result<Command<'a>, AllocError>
+    ensures { IfOk result (Makes load_app) }
+{
+    let out = Arg::new(alloc, "out").long("out").value_name("DIR").help(
+        "the folder that the images of complete modules are written to",
+    );
     let stream = Arg::new(alloc, "STREAM")
         .help("a file with one connection's bytes")
         .required(true);
-    let load = Command::new(alloc, "load")
-        .about("Loads the modules of a stream")
+    Command::new(alloc, "load")
+        .about("Loads the modules of a stream, and prints its report")
+        .after_help(help::LOAD)
         .arg(out)?
-        .arg(stream)?;
-    let command = Command::new(alloc, "lfiload")
-        .about("Verifies and loads modules of sandboxed code")
-        .subcommand_required(true)
-        .subcommand(check)?
-        .subcommand(load)?;
-    Ok(command)
+        .arg(stream)
 }
 
-/// The value of a required argument.
-fn required<'a>(matches: &ArgMatches<'a>, id: &str) -> &'a str {
-    matches.get_str(id).unwrap_or("")
+/// The program's command, with its subcommands.
+fn command<'a>(alloc: Global) -> Result<Command<'a>, AllocError>
+    ensures { IfOk result (Makes lfiload_app) }
+{
+    Command::new(alloc, "lfiload")
+        .about("Verifies and loads modules of sandboxed code")
+        .after_help(help::PROGRAM)
+        .subcommand_required(true)
+        .disable_help_subcommand(true)
+        .subcommand(check_command(alloc)?)?
+        .subcommand(load_command(alloc)?)
 }
 
 /// Parses the words of the command line, of which the first is the program's name.
-pub fn read_line<'a>(alloc: Global, words: &'a [String]) -> Result<Line<'a>, Error> {
+///
+/// Which words make which line, and which kind of fault, is what the parser's own definitions say
+/// of this program's command; its texts are in no contract.
+pub fn read_line<'a>(alloc: Global, words: &'a [String]) -> Result<Line<'a>, LineFault>
+    ensures line { IfOk result (IsLine (map string_bytes words.now)) }
+    ensures fault { IfErr result (IsLineFault (map string_bytes words.now)) }
+{
     let matches = command(alloc)?.try_get_matches_from(words)?;
     if let Some(check) = matches.subcommand_matches("check") {
         return Ok(Line::Check {
-            file: required(check, "FILE"),
+            file: check.get_str("FILE").unwrap(),
         });
     }
-    Ok(match matches.subcommand_matches("load") {
-        Some(load) => Line::Load {
-            out: load.get_str("out"),
-            stream: required(load, "STREAM"),
-        },
-        None => Line::Check { file: "" },
+    let load = matches.subcommand_matches("load").unwrap();
+    Ok(Line::Load {
+        out: load.get_str("out"),
+        stream: load.get_str("STREAM").unwrap(),
     })
 }

@@ -1,11 +1,12 @@
 //! The commands, carried out.
 
-ghost use Rattle.std.specs.Prelude.{IfOk};
+ghost use Rattle.std.specs.Prelude.{◌≡◌, ◌⊎◌, ◌≤◌, ◌++◌, IfOk, OnOk, codes};
 ghost use Rattle.std.specs.Io.KnownBytes.{Appends};
 ghost use Rattle.lfi_stage.specs.Stages.{IsLoaded};
+ghost use Rattle.lfiload.specs.Checking.{Checks, text_of};
 ghost use Rattle.lfiload.specs.Reporting.{report_text};
 
-use crate::check::check;
+use crate::check::{Verdict, check};
 use crate::code::MOST_BYTES;
 use crate::command_line::Line;
 use crate::failure::Failure;
@@ -27,10 +28,7 @@ pub enum LoadFault {
 }
 
 /// The name by which the standard output is told of.
-const OUTPUT: &str = "standard output";
-
-/// The name by which the standard error is told of.
-const ERRORS: &str = "standard error";
+pub const OUTPUT: &str = "standard output";
 
 /// The bytes of a file of code, of which no more are read than tell that they are too many.
 fn read_code(rt: &HostRuntime, path: &str) -> io::Result<Vec<u8>> {
@@ -40,17 +38,26 @@ fn read_code(rt: &HostRuntime, path: &str) -> io::Result<Vec<u8>> {
     Ok(bytes)
 }
 
-/// Prints what is found of the code in a file, and answers the exit status.
-fn run_check(rt: &HostRuntime, path: &str) -> Result<u8, Failure> {
-    match read_code(rt, path) {
-        Ok(bytes) => {
-            let verdict = check(&bytes);
-            match rt.println(verdict) {
-                Ok(()) => Ok(verdict.status()),
-                Err(_) => Err(Failure::writing(rt.alloc(), OUTPUT)),
-            }
-        }
-        Err(error) => Err(Failure::reading(rt.alloc(), path, error)),
+/// Judges code, and writes what is found of it.
+pub fn check_text<W: Write>(bytes: &[u8], writer: &mut W) -> io::Result<Verdict>
+    ensures { IfOk result (λ verdict. Checks bytes.now verdict × Appends (W.contents writer.old) (W.contents writer.new) (text_of verdict ++ codes "\n")) }
+{
+    let verdict = check(bytes);
+    writeln!(writer, "{verdict}")?;
+    Ok(verdict)
+}
+
+/// Writes what is found of the code in a file, and answers the exit status.
+fn run_check<O: Write>(rt: &HostRuntime, path: &str, out: &mut O) -> Result<u8, Failure>
+    ensures { IfOk result (λ status. status ≤ 1) }
+{
+    let bytes = match read_code(rt, path) {
+        Ok(bytes) => bytes,
+        Err(error) => return Err(Failure::reading(rt.alloc(), path, error)),
+    };
+    match check_text(&bytes, out) {
+        Ok(verdict) => Ok(verdict.status()),
+        Err(_) => Err(Failure::writing(rt.alloc(), OUTPUT)),
     }
 }
 
@@ -67,32 +74,51 @@ pub fn load_text<W: Write>(alloc: Global, text: &[u8], writer: &mut W) -> Result
     }
 }
 
-/// Loads the modules of the stream in a file, prints the report, writes the whole images to a
+/// Loads the modules of the stream in a file, writes the report, writes the whole images to a
 /// folder where one is named, and answers the exit status.
-fn run_load(rt: &HostRuntime, folder: Option<&str>, path: &str) -> Result<u8, Failure> {
+fn run_load<O: Write, E: Write>(
+    rt: &HostRuntime,
+    folder: Option<&str>,
+    path: &str,
+    out: &mut O,
+    err: &mut E,
+) -> Result<u8, Failure>
+    ensures { IfOk result (λ status. (status ≤ 1) ⊎ (status ≡ 3)) }
+{
     let bytes = match fs::read(rt, path) {
         Ok(bytes) => bytes,
         Err(error) => return Err(Failure::reading(rt.alloc(), path, error)),
     };
-    let report = match load_text(rt.alloc(), &bytes, &mut io::writer(rt)) {
+    let report = match load_text(rt.alloc(), &bytes, out) {
         Ok(report) => report,
         Err(LoadFault::NoMemory) => return Err(Failure::NoMemory(AllocError)),
         Err(LoadFault::NotWritten) => return Err(Failure::writing(rt.alloc(), OUTPUT)),
     };
-    let Some(folder) = folder else {
-        return Ok(status_of(&report));
+    let written = match folder {
+        Some(folder) => write_images(rt, folder, &report, err),
+        None => true,
     };
-    match write_images(rt, folder, &report) {
-        Ok(true) => Ok(status_of(&report)),
-        Ok(false) => Ok(Failure::STATUS),
-        Err(_) => Err(Failure::writing(rt.alloc(), ERRORS)),
+    if written {
+        Ok(status_of(&report))
+    } else {
+        Ok(Failure::STATUS)
     }
 }
 
 /// Carries out what the program is asked for, and answers the exit status.
-pub fn run(rt: &HostRuntime, line: Line<'_>) -> Result<u8, Failure> {
+pub fn run<O: Write, E: Write>(
+    rt: &HostRuntime,
+    line: Line<'_>,
+    out: &mut O,
+    err: &mut E,
+) -> Result<u8, Failure>
+    ensures { IfOk result (λ status. (status ≤ 1) ⊎ (status ≡ 3)) }
+{
     match line {
-        Line::Check { file } => run_check(rt, file),
-        Line::Load { out, stream } => run_load(rt, out, stream),
+        Line::Check { file } => run_check(rt, file, out),
+        Line::Load {
+            out: folder,
+            stream,
+        } => run_load(rt, folder, stream, out, err),
     }
 }

@@ -1,7 +1,9 @@
 //! Why the program fails.
 
+ghost use Rattle.std.specs.Prelude.{◌≡◌, OnOk};
+
 use std::alloc::{AllocError, Global};
-use std::io;
+use std::io::{self, Write};
 use thiserror::Error;
 
 /// Why a command could not be carried out. The exit status is then 3.
@@ -19,9 +21,12 @@ impl Failure {
     /// The exit status of a program that fails.
     pub const STATUS: u8 = 3;
 
-    /// Tells of it on the standard error.
-    pub fn tell(&self, rt: &HostRuntime) -> io::Result<()> {
-        eprintln!(rt; "lfiload: {self}")
+    /// Tells of it by a line. The exit status is the same where the line can't be written.
+    pub fn tell<E: Write>(&self, err: &mut E) -> u8
+        ensures { result ≡ 3 }
+    {
+        let _ = writeln!(err, "lfiload: {self}");
+        Failure::STATUS
     }
 
     /// What a failed read of this file says.

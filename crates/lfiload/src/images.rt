@@ -1,14 +1,12 @@
 //! The files of whole images.
 
-ghost use Rattle.std.specs.Prelude.{◌≡◌, ◌++◌, IfOk, string_bytes, codes};
-
 use crate::failure::Failure;
 use lfi_image::{CompleteImage, write_image};
 use lfi_stage::report::ImageState;
 use lfi_stage::settle::Report;
 use std::alloc::{AllocError, Global};
 use std::fs::File;
-use std::io;
+use std::io::Write;
 
 /// The path of a module's image in this folder.
 fn image_path(alloc: Global, folder: &str, module: usize) -> Result<String, AllocError> {
@@ -38,16 +36,21 @@ fn write_module(
 }
 
 /// Writes each whole image of a report to the file of its module in this folder. It tells of each
-/// that can't be written on the standard error, and answers whether all were.
-pub fn write_images(rt: &HostRuntime, folder: &str, report: &Report) -> io::Result<bool> {
+/// that can't be written, and answers whether all were.
+pub fn write_images<E: Write>(
+    rt: &HostRuntime,
+    folder: &str,
+    report: &Report,
+    err: &mut E,
+) -> bool {
     let mut all = true;
     for (module, told) in report.modules.iter().enumerate() {
         if let ImageState::Whole(image) = &told.image {
             if let Err(failure) = write_module(rt, folder, module, image) {
-                failure.tell(rt)?;
+                failure.tell(err);
                 all = false;
             }
         }
     }
-    Ok(all)
+    all
 }

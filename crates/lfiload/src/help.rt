@@ -1,0 +1,38 @@
+//! What `--help` says of the commands and of their answers.
+
+/// Of the program: the exit statuses.
+pub const PROGRAM: &str = "Exit status:
+  0  check: the code is lawful. load: each module is complete or unused, and no connection has a fault.
+  1  It isn't so: the printed lines say why.
+  2  The words of the command line are wrong.
+  3  A device failed, or memory was refused: a line on the standard error says which.";
+
+/// Of `check`: its lines.
+pub const CHECK: &str = "Prints one line:
+  lawful, N words  The N words are a lawful module (status 0).
+  word K rule R    Word K, counted from 0, is the first that breaks a rule, and R is the least rule that it breaks (status 1).
+  bad length       The file is empty, no multiple of 4 bytes, or above 16,777,216 bytes (status 1).
+
+On the standard error:
+  lfiload: cannot read PATH  The file can't be read (status 3).
+  lfiload: no memory         There was no memory for it (status 3).";
+
+/// Of `load`: its lines.
+pub const LOAD: &str =
+    "Prints a line for each module that was opened, one for a connection's fault, and the strays:
+  module M: complete, N words             All its words came, and they are lawful.
+  module M: refused, word K rule R        Its first fault.
+  module M: incomplete, P of Q pages      It was closed when only P pages had come.
+  module M: lost, fault F                 Its connection came to fault F while it was open.
+  module M: page fault, index I           Page I wasn't the one due, or hadn't its length.
+  module M: no memory                     There was no memory for it.
+  connection C: fault F                   Its stream has fault F: 1 to 7 a header, 8 no memory, 9 its end.
+  strays N                                N messages belonged to no open module of their connection.
+The status is 0 where each module is complete and no connection has a fault, else 1.
+
+With --out DIR, the image of each complete module M is written to DIR/module-MM.img, M in two digits.
+
+On the standard error:
+  lfiload: cannot read PATH   The stream can't be read; nothing is loaded (status 3).
+  lfiload: cannot write PATH  An image can't be written (status 3).
+  lfiload: no memory          There was no memory to load it (status 3).";
