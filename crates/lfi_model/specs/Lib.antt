@@ -1,3 +1,4 @@
 pub mod Items
 pub mod Modules
 pub mod Outcomes
+pub mod Texts

@@ -1,5 +1,8 @@
 //! What became of a module.
 
+ghost use Rattle.std.specs.Prelude.{Some};
+ghost use Rattle.lfi_model.specs.Texts.{outcome_text};
+
 use lfi_frame::FrameFault;
 use lfi_rules::Fault;
 use std::fmt;
@@ -24,6 +27,8 @@ pub enum Outcome {
 }
 
 impl fmt::Display for Outcome {
+    ghost output = { λ outcome. Some (outcome_text outcome) };
+
     fn fmt<W: fmt::Write>(&self, f: &mut fmt::Formatter<W>) -> fmt::Result {
         match self {
             Outcome::Unused => write!(f, "unused"),

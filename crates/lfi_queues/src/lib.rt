@@ -4,6 +4,8 @@
 pub mod intake;
 pub mod item;
 pub mod pass;
+#[cfg(test)]
+mod tests;
 
 pub use intake::Intake;
 pub use item::{Item, Kind, Reason};

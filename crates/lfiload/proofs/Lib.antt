@@ -1,4 +1,5 @@
 mod Asked
 mod Given
 mod Lines
+mod Paths
 mod Spelled

@@ -1,3 +1,4 @@
 pub mod Checking
 pub mod CommandLine
+pub mod Images
 pub mod Reporting

@@ -1,5 +1,8 @@
 //! The files of whole images.
 
+ghost use Rattle.std.specs.Prelude.{◌≡◌, ◌<◌, IfOk, string_bytes};
+ghost use Rattle.lfiload.specs.Images.{image_path_of};
+
 use crate::failure::Failure;
 use lfi_image::{CompleteImage, write_image};
 use lfi_stage::report::ImageState;
@@ -8,9 +11,11 @@ use std::alloc::{AllocError, Global};
 use std::fs::File;
 use std::io::Write;
 
-/// The path of a module's image in this folder.
-fn image_path(alloc: Global, folder: &str, module: usize) -> Result<String, AllocError> {
-    format!(in alloc; "{folder}/module-{module:02}.img")
+/// The path of a module's image in this folder: the module's number in two digits.
+fn image_path(alloc: Global, folder: &str, number: usize) -> Result<String, AllocError>
+    ensures { number < 100 → IfOk result (λ path. string_bytes path ≡ image_path_of folder.now number) }
+{
+    format!(in alloc; "{folder}/module-{number:02}.img")
 }
 
 /// Writes an image to a file at this path.
@@ -28,10 +33,10 @@ fn write_file(rt: &HostRuntime, path: &str, image: &CompleteImage) -> Result<(),
 fn write_module(
     rt: &HostRuntime,
     folder: &str,
-    module: usize,
+    number: usize,
     image: &CompleteImage,
 ) -> Result<(), Failure> {
-    let path = image_path(rt.alloc(), folder, module)?;
+    let path = image_path(rt.alloc(), folder, number)?;
     write_file(rt, path.as_str(), image)
 }
 
@@ -44,9 +49,9 @@ pub fn write_images<E: Write>(
     err: &mut E,
 ) -> bool {
     let mut all = true;
-    for (module, told) in report.modules.iter().enumerate() {
+    for (number, told) in report.modules.iter().enumerate() {
         if let ImageState::Whole(image) = &told.image {
-            if let Err(failure) = write_module(rt, folder, module, image) {
+            if let Err(failure) = write_module(rt, folder, number, image) {
                 failure.tell(err);
                 all = false;
             }

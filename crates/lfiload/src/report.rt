@@ -2,53 +2,29 @@
 
 ghost use Rattle.std.specs.Prelude.{◌≡◌, ◌≤◌, ◌↔◌, Some, None, All, IsTrue, OnOk};
 ghost use Rattle.std.specs.Io.KnownBytes.{Appends};
-ghost use Rattle.lfiload.specs.Reporting.{module_line, fault_line, module_lines, fault_lines, report_text, outcome_text, module_text, fault_text, is_well, IsWell};
+ghost use Rattle.lfiload.specs.Reporting.{module_line, fault_line, module_lines, fault_lines, report_text, module_text, fault_text, is_well, IsWell};
 
 use lfi_frame::FrameFault;
 use lfi_model::Outcome;
-use lfi_rules::Fault;
 use lfi_stage::report::ModuleReport;
 use lfi_stage::settle::Report;
 use std::fmt;
 use std::io::{self, Write};
 
-/// What became of a module, in words.
-#[derive(Clone, Copy)]
-struct OutcomeWords(Outcome);
-
-impl fmt::Display for OutcomeWords {
-    ghost output = { λ words. Some (outcome_text words.0) };
-
-    fn fmt<W: fmt::Write>(&self, f: &mut fmt::Formatter<W>) -> fmt::Result {
-        match self.0 {
-            Outcome::Unused => write!(f, "unused"),
-            Outcome::Complete { words } => write!(f, "complete, {words} words"),
-            Outcome::Refused(Fault { word, rule }) => write!(f, "refused, word {word} rule {rule}"),
-            Outcome::Incomplete { pages, of } => write!(f, "incomplete, {pages} of {of} pages"),
-            Outcome::Lost(fault) => {
-                let number = fault.number();
-                write!(f, "lost, fault {number}")
-            }
-            Outcome::PageFault(index) => write!(f, "page fault, index {index}"),
-            Outcome::NoMemory => write!(f, "no memory"),
-        }
-    }
-}
-
 /// What became of a module, as a line.
 #[derive(Clone, Copy)]
 struct ModuleLine {
-    module: usize,
-    outcome: OutcomeWords,
+    number: usize,
+    outcome: Outcome,
 }
 
 impl fmt::Display for ModuleLine {
-    ghost output = { λ line. Some (module_text line.module line.outcome.0) };
+    ghost output = { λ line. Some (module_text line.number line.outcome) };
 
     fn fmt<W: fmt::Write>(&self, f: &mut fmt::Formatter<W>) -> fmt::Result {
-        let module = self.module;
+        let number = self.number;
         let outcome = self.outcome;
-        write!(f, "module {module}: {outcome}")
+        write!(f, "module {number}: {outcome}")
     }
 }
 
@@ -70,16 +46,13 @@ impl fmt::Display for FaultLine {
 }
 
 /// Writes the line of a module, where it was claimed.
-fn write_module<W: Write>(module: usize, outcome: Outcome, writer: &mut W) -> io::Result<()>
-    ensures { OnOk result (Appends (W.contents writer.old) (W.contents writer.new) (module_line «module» outcome)) }
+fn write_module<W: Write>(number: usize, outcome: Outcome, writer: &mut W) -> io::Result<()>
+    ensures { OnOk result (Appends (W.contents writer.old) (W.contents writer.new) (module_line number outcome)) }
 {
     if outcome == Outcome::Unused {
         return Ok(());
     }
-    let line = ModuleLine {
-        module,
-        outcome: OutcomeWords(outcome),
-    };
+    let line = ModuleLine { number, outcome };
     writeln!(writer, "{line}")
 }
 
@@ -104,8 +77,8 @@ fn write_fault<W: Write>(
 fn write_modules<W: Write>(modules: &[ModuleReport], writer: &mut W) -> io::Result<()>
     ensures { OnOk result (Appends (W.contents writer.old) (W.contents writer.new) (module_lines 0 modules.now)) }
 {
-    for (module, told) in modules.iter().enumerate() {
-        write_module(module, told.outcome, writer)?;
+    for (number, told) in modules.iter().enumerate() {
+        write_module(number, told.outcome, writer)?;
     }
     Ok(())
 }

@@ -3,5 +3,5 @@ use Rattle.std.specs.Io.KnownBytes.{Appends}
 use Rattle.lfiload.specs.Reporting.{module_lines}
 use Rattle.lfiload.proofs.report.write_modules.Given as goal
 
-abbrev pub invariant-loop-module : goal.invariant-loop-module
-invariant-loop-module g l = Appends (g.W.Write.contents l.initial.writer) (g.W.Write.contents l.writer) (module_lines 0 (take l.module l.modules))
+abbrev pub invariant-loop-number : goal.invariant-loop-number
+invariant-loop-number g l = Appends (g.W.Write.contents l.initial.writer) (g.W.Write.contents l.writer) (module_lines 0 (take l.number l.modules))
