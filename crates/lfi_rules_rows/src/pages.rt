@@ -1,4 +1,6 @@
 //! Modules page by page: the verdict on a page, and the verdicts one after another.
+ghost use Rattle.std.specs.Prelude.{◌≤◌};
+
 use crate::rows::fault_of;
 use a64_effects::Need;
 use lfi_rules::{Fault, PageVerdict, judge, seam};
@@ -158,6 +160,90 @@ fn judges_far_branches(rt: HostRuntime) -> Result<(), Fail> {
                 assert_eq!(rt; verdict.inner, Some(fault), "{word:#x}");
             }
             None => assert!(rt; false, "{word:#x}"),
+        }
+    }
+    Ok(())
+}
+
+/// The first fault of a module of n words that is cut into pages of so many, by their verdicts; rule 0 where a page doesn't
+/// fit.
+fn fault_by_pages(
+    rt: &HostRuntime,
+    words: &[u32],
+    size: usize,
+    n: u32,
+) -> Result<Option<Fault>, AllocError>
+    requires { 1 ≤ size }
+{
+    let mut left = Need::Nothing;
+    let mut first = 0u32;
+    for page in words.chunks(size) {
+        let Some(verdict) = verdict_of(rt, page, first, n)? else {
+            return Ok(Some(Fault {
+                word: first,
+                rule: 0,
+            }));
+        };
+        if let Some(fault) = seam(left, &verdict) {
+            return Ok(Some(fault));
+        }
+        left = verdict.tail;
+        first = first.saturating_add(u32::try_from(page.len()).unwrap_or(u32::MAX));
+    }
+    if left == Need::Nothing {
+        return Ok(None);
+    }
+    Ok(Some(Fault {
+        word: n.saturating_sub(1),
+        rule: 10,
+    }))
+}
+
+/// A module of 2,100 words, all NOP but one or two, in pages of many sizes: the fault is the same however it is cut.
+#[test]
+fn cuts_into_many(rt: HostRuntime) -> Result<(), Fail> {
+    let rows: [(usize, &[u32], Option<(u32, u8)>); 24] = [
+        (0, &[NOP], None),
+        (0, &[0xD4000001], Some((0, 1))),
+        (1023, &[0xD4000001], Some((1023, 1))),
+        (1024, &[0xAA0003F5], Some((1024, 3))),
+        (2099, &[0xF9400256], Some((2099, 6))),
+        (1022, &[0xF94006BE, 0xD63F03C0], None),
+        (1023, &[0xF94006BE, 0xD63F03C0], None),
+        (1024, &[0xF94006BE, 0xD63F03C0], None),
+        (1023, &[0xF94006BE], Some((1024, 10))),
+        (999, &[0xA8C17BFD, GUARD], None),
+        (999, &[0xA8C17BFD], Some((1000, 10))),
+        (1023, &[0xA8C17BFD, GUARD], None),
+        (1023, &[0xA8C17BFD, 0xF90003E0], Some((1024, 10))),
+        (2047, &[0xD10043FF, 0xF90003E0], None),
+        (2047, &[0xD10043FF, 0xF90007E0], Some((2048, 10))),
+        (2047, &[0xD10043FF, 0xD4000001], Some((2048, 1))),
+        (2047, &[0xD10043FF, 0xD10043FF], Some((2048, 10))),
+        (2098, &[0xD10043FF, 0xF90003E0], None),
+        (2099, &[0xD10043FF], Some((2099, 10))),
+        (2099, &[0xF94006BE], Some((2099, 10))),
+        (1000, &[0x1400044B], None),
+        (1000, &[0x1400044C], Some((1000, 8))),
+        (1000, &[0x17FFFC18], None),
+        (1000, &[0x17FFFC17], Some((1000, 8))),
+    ];
+    for (at, changed, expected) in rows {
+        let expected = expected.map(|(word, rule)| Fault { word, rule });
+        let mut words = Vec::with_capacity(rt.alloc(), 2100)?;
+        for place in 0..2100usize {
+            let word = changed.get(place.wrapping_sub(at)).copied();
+            words.push(word.unwrap_or(NOP))?;
+        }
+        assert_eq!(rt; fault_of(&rt, &words)?, expected, "{at}");
+        for size in [
+            1usize, 2, 3, 7, 100, 1000, 1001, 1023, 1024, 1025, 2048, 2099, 2100,
+        ] {
+            assert_eq!(rt;
+                fault_by_pages(&rt, &words, size, 2100)?,
+                expected,
+                "{at} by {size}"
+            );
         }
     }
     Ok(())

@@ -14,7 +14,7 @@ pub fn fault_of(rt: &HostRuntime, words: &[u32]) -> Result<Option<Fault>, AllocE
 }
 
 /// Words that are lawful modules.
-const LAWFUL: [u32; 209] = [
+const LAWFUL: [u32; 214] = [
     0xF9400240, // LDR X0, [X18]
     0xF94002A0, // LDR X0, [X21]
     0xF94002E0, // LDR X0, [X23]
@@ -201,6 +201,11 @@ const LAWFUL: [u32; 209] = [
     0x79400256, // LDRH W22, [X18]
     0x52800016, // MOVZ W22, #0
     0x12000016, // AND W22, W0, #1
+    0x72000016, // ANDS W22, W0, #1
+    0x11000416, // ADD W22, W0, #1
+    0x31000416, // ADDS W22, W0, #1
+    0x0B010016, // ADD W22, W0, W1
+    0x0B214016, // ADD W22, W0, W1, UXTW
     0x8B3F42B7, // ADD X23, X21, WZR, UXTW
     0x8B3842B8, // ADD X24, X21, W24, UXTW
     0x8B3662BF, // ADD SP, X21, X22, UXTX
@@ -403,7 +408,7 @@ const RULE_5: [u32; 14] = [
 ];
 
 /// Words that write x22 as X: rule 6.
-const RULE_6: [u32; 14] = [
+const RULE_6: [u32; 16] = [
     0xAA0003F6, // MOV X22, X0
     0x8B2042B6, // ADD X22, X21, W0, UXTW
     0xF9400256, // LDR X22, [X18]
@@ -414,6 +419,8 @@ const RULE_6: [u32; 14] = [
     0xB9800256, // LDRSW X22, [X18]
     0xD2800016, // MOVZ X22, #0
     0x92407C16, // AND X22, X0, #0xffffffff
+    0xF2400016, // ANDS X22, X0, #1
+    0xB1000416, // ADDS X22, X0, #1
     0x10000016, // ADR X22
     0x9BC27C36, // UMULH X22
     0xF94002B6, // LDR X22, [X21]
@@ -586,7 +593,7 @@ fn single_words(rt: HostRuntime) -> Result<(), Fail> {
 }
 
 /// Modules of two words, one after another: the second meets what the first opens.
-const MET: [u32; 36] = [
+const MET: [u32; 58] = [
     0x8B2042B2, 0xF9400240, // guard, then a load
     0xF94006BE, 0xD63F03C0, // runtime call
     0xF947FEBE, 0xD63F03C0, // the last entry
@@ -605,10 +612,21 @@ const MET: [u32; 36] = [
     0xD10043FF, 0xA90007E0, // probe
     0xD10043FF, 0x294007E0, // probe
     0xD10043FF, 0x290007E0, // probe
+    0xF94003FE, 0x8B3E42BE, // LDR X30, [SP]
+    0xF84087FE, 0x8B3E42BE, // LDR X30, [SP], #8
+    0xF8408FFE, 0x8B3E42BE, // LDR X30, [SP, #8]!
+    0xF84002BE, 0x8B3E42BE, // LDUR X30, [X21]
+    0xF840025E, 0x8B3E42BE, // LDUR X30, [X18]
+    0xF8614ABE, 0x8B3E42BE, // LDR X30, [X21, W1, UXTW]
+    0xA94003FE, 0x8B3E42BE, // LDP X30, X0, [SP]
+    0xA9407BE0, 0x8B3E42BE, // LDP X0, X30, [SP]
+    0xA940025E, 0x8B3E42BE, // LDP X30, X0, [X18]
+    0xA9C17BFD, 0x8B3E42BE, // LDP X29, X30, [SP, #16]!
+    0xA8C103FE, 0x8B3E42BE, // LDP X30, X0, [SP], #16
 ];
 
 /// Modules of two words, one after another: the second breaks rule 10.
-const UNMET: [u32; 84] = [
+const UNMET: [u32; 106] = [
     0xF94802BE, 0xD63F03C0, // behind the table
     0xD10043FF, 0xF90007E0, //
     0xA8C17BFD, 0xD503201F, //
@@ -651,6 +669,17 @@ const UNMET: [u32; 84] = [
     0xD10043FF, 0xA9000640, // probe
     0xD10043FF, 0xF8214AA0, // probe
     0xD503201F, 0xD10043FF, // probe left open
+    0xF94003FE, 0xD503201F, // LDR X30, [SP]
+    0xF84087FE, 0xD503201F, // LDR X30, [SP], #8
+    0xF8408FFE, 0xD503201F, // LDR X30, [SP, #8]!
+    0xF84002BE, 0xD503201F, // LDUR X30, [X21]
+    0xF840025E, 0xD503201F, // LDUR X30, [X18]
+    0xF8614ABE, 0xD503201F, // LDR X30, [X21, W1, UXTW]
+    0xA94003FE, 0xD503201F, // LDP X30, X0, [SP]
+    0xA9407BE0, 0xD503201F, // LDP X0, X30, [SP]
+    0xA940025E, 0xD503201F, // LDP X30, X0, [X18]
+    0xA9C17BFD, 0xD503201F, // LDP X29, X30, [SP, #16]!
+    0xA8C103FE, 0xD503201F, // LDP X30, X0, [SP], #16
 ];
 
 #[test]
@@ -718,6 +747,12 @@ fn modules(rt: HostRuntime) -> Result<(), Fail> {
     assert_eq!(rt;
         fault_of(&rt, &[0xD10043FF, 0xD10043FF, 0xF90003E0])?,
         Some(Fault { word: 1, rule: 10 })
+    );
+    // the probe itself loads x30
+    assert_eq!(rt; fault_of(&rt, &[0xD10043FF, 0xF94003FE, 0x8B3E42BE])?, None);
+    assert_eq!(rt;
+        fault_of(&rt, &[0xD10043FF, 0xF94003FE, 0xD63F03C0])?,
+        Some(Fault { word: 2, rule: 10 })
     );
     assert_eq!(rt;
         fault_of(&rt, &[0xF94006BE, 0xF94006BE, 0xD63F03C0])?,
