@@ -197,6 +197,9 @@ fn read_code<R: Read>(
 /// [`ImageFault::Magic`], [`ImageFault::Profile`], [`ImageFault::Counts`] and [`ImageFault::Base`]; page by page
 /// [`ImageFault::Truncated`], or [`ImageFault::Unlawful`] as soon as a page shows it; then [`ImageFault::More`].
 /// [`ImageFault::NoMemory`] and [`ImageFault::Device`] come where they happen.
+///
+/// Up to 65,536 bytes are asked for a call, and none past the code but one. So where a page shows a fault, up to fifteen pages
+/// that follow it may have been read; they change nothing of the answer.
 pub fn read_image<R: Read>(alloc: Global, reader: &mut R) -> Result<CompleteImage, ImageFault>
     ensures image { IfOk result (λ image. IsImage image) }
     ensures file { IfOk result (λ image. IfSome (R.remaining reader.old) (λ bytes. FileOf image bytes)) }

@@ -77,7 +77,7 @@ fn write_pages<W: Write>(writer: &mut W, pages: &[SealedPage]) -> Result<(), Ima
 }
 
 /// Writes an image's file. `Err` is [`ImageFault::Device`], where a write failed or took nothing of what was left:
-/// then a beginning of the file was written.
+/// then a beginning of the file was written. The header is one write, and then sixteen pages are one. It takes no memory.
 pub fn write_image<W: Write>(image: &CompleteImage, writer: &mut W) -> Result<(), ImageFault>
     ensures { Writes (W.contents writer.old) (W.contents writer.new) (file_of image.now) result }
 {

@@ -1,8 +1,8 @@
 //! What is wrong with a file, in the order in which it is asked.
 
-use crate::rows::ONE_RET;
+use crate::rows::{ONE_RET, page_of};
 use lfi_image::{ImageFault, read_image};
-use lfi_rules::Fault;
+use lfi_rules::{Fault, check_all};
 use std::test::Fail;
 
 fn fault(rt: &HostRuntime, bytes: &[u8]) -> Option<ImageFault> {
@@ -57,6 +57,34 @@ fn each_header_byte(rt: HostRuntime) {
             assert_eq!(rt; got, number(at, value), "byte {at} is {value}");
         }
     }
+}
+
+#[test]
+fn each_code_byte(rt: HostRuntime) -> Result<(), Fail> {
+    let mut lawful = 0u32;
+    for at in 24..28 {
+        for value in 0..=255u8 {
+            let mut bytes = ONE_RET;
+            bytes[at] = value;
+            let page = page_of(rt.alloc(), &bytes[24..])?;
+            assert_eq!(rt; page.len_words(), 1);
+            let want = check_all(&page).map(ImageFault::Unlawful);
+            assert!(rt;
+                matches!(
+                    want,
+                    None | Some(ImageFault::Unlawful(Fault { word: 0, .. }))
+                ),
+                "byte {at} is {value}"
+            );
+            assert_eq!(rt; fault(&rt, &bytes), want, "byte {at} is {value}");
+            if want.is_none() {
+                lawful = lawful.saturating_add(1);
+            }
+        }
+    }
+    // RET itself four times, at least.
+    assert!(rt; lawful >= 4);
+    Ok(())
 }
 
 #[test]
