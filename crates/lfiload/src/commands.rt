@@ -14,7 +14,7 @@ use crate::images::write_images;
 use crate::report::{status_of, write_report};
 use lfi_stage::settle::Report;
 use lfi_stage::stage::load;
-use std::alloc::{AllocError, Global};
+use std::alloc::Global;
 use std::fs::{self, File};
 use std::io::{self, Read, Write};
 
@@ -91,7 +91,7 @@ fn run_load<O: Write, E: Write>(
     };
     let report = match load_text(rt.alloc(), &bytes, out) {
         Ok(report) => report,
-        Err(LoadFault::NoMemory) => return Err(Failure::NoMemory(AllocError)),
+        Err(LoadFault::NoMemory) => return Err(Failure::NoMemory),
         Err(LoadFault::NotWritten) => return Err(Failure::writing(rt.alloc(), OUTPUT)),
     };
     let written = match folder {

@@ -8,7 +8,7 @@ use crate::command_line::{LineFault, read_line};
 use crate::commands::{OUTPUT, run};
 use crate::failure::Failure;
 use clap::error::ErrorKind;
-use std::alloc::{AllocError, Global};
+use std::alloc::Global;
 use std::io::Write;
 
 /// Writes the parser's text, help to the output and all else to the errors, and answers the exit
@@ -51,7 +51,7 @@ pub fn run_words<O: Write, E: Write>(
             Ok(status) => status,
             Err(failure) => failure.tell(err),
         },
-        Err(LineFault::NoMemory) => Failure::NoMemory(AllocError).tell(err),
+        Err(LineFault::NoMemory) => Failure::NoMemory.tell(err),
         Err(LineFault::Usage(error)) => tell_usage(rt.alloc(), &error, out, err),
     }
 }

@@ -48,6 +48,12 @@ fn run_line(rt: &HostRuntime, line: &str) -> Result<Ran, AllocError> {
     Ok(Ran { status, out, err })
 }
 
+/// Makes an empty folder for a test's files. The test removes it at its end.
+fn begin(rt: &HostRuntime, folder: &str) -> io::Result<()> {
+    let _ = fs::remove_dir_all(rt, folder);
+    fs::create_dir(rt, folder)
+}
+
 /// A writer that takes `left` bytes more, and then fails.
 #[derive(Drop)]
 struct Full {
@@ -71,18 +77,48 @@ impl Write for Full {
 
 #[test]
 fn checks_files(rt: HostRuntime) -> Result<(), Fail> {
+    begin(&rt, "checked.tmp")?;
     let guarded: [u8; 8] = [0xB2, 0x42, 0x20, 0x8B, 0x40, 0x02, 0x40, 0xF9];
-    fs::write(&rt, "one_ret.code", RET.as_slice())?;
-    fs::write(&rt, "guarded.code", guarded.as_slice())?;
-    fs::write(&rt, "bare_load.code", [0x20, 0x00, 0x40, 0xF9].as_slice())?;
-    fs::write(&rt, "empty.code", b"".as_slice())?;
-    fs::write(&rt, "three.code", [0xC0, 0x03, 0x5F].as_slice())?;
+    fs::write(&rt, "checked.tmp/one_ret.code", RET.as_slice())?;
+    fs::write(&rt, "checked.tmp/guarded.code", guarded.as_slice())?;
+    fs::write(
+        &rt,
+        "checked.tmp/bare_load.code",
+        [0x20, 0x00, 0x40, 0xF9].as_slice(),
+    )?;
+    fs::write(&rt, "checked.tmp/empty.code", b"".as_slice())?;
+    fs::write(&rt, "checked.tmp/three.code", [0xC0, 0x03, 0x5F].as_slice())?;
     for (line, status, out, err) in [
-        ("lfiload check one_ret.code", 0, "lawful, 1 words\n", ""),
-        ("lfiload check guarded.code", 0, "lawful, 2 words\n", ""),
-        ("lfiload check bare_load.code", 1, "word 0 rule 2\n", ""),
-        ("lfiload check empty.code", 1, "bad length\n", ""),
-        ("lfiload check three.code", 1, "bad length\n", ""),
+        (
+            "lfiload check checked.tmp/one_ret.code",
+            0,
+            "lawful, 1 words\n",
+            "",
+        ),
+        (
+            "lfiload check checked.tmp/guarded.code",
+            0,
+            "lawful, 2 words\n",
+            "",
+        ),
+        (
+            "lfiload check checked.tmp/bare_load.code",
+            1,
+            "word 0 rule 2\n",
+            "",
+        ),
+        (
+            "lfiload check checked.tmp/empty.code",
+            1,
+            "bad length\n",
+            "",
+        ),
+        (
+            "lfiload check checked.tmp/three.code",
+            1,
+            "bad length\n",
+            "",
+        ),
         (
             "lfiload check missing.code",
             3,
@@ -95,33 +131,39 @@ fn checks_files(rt: HostRuntime) -> Result<(), Fail> {
         assert_eq!(rt; ran.err.as_slice(), err.as_bytes(), "{line}");
         assert_eq!(rt; ran.status, status, "{line}");
     }
+    fs::remove_dir_all(&rt, "checked.tmp")?;
     Ok(())
 }
 
 #[test]
 fn loads_streams(rt: HostRuntime) -> Result<(), Fail> {
-    fs::write(&rt, "one_ret.stream", ONE_RET.as_slice())?;
-    fs::write(&rt, "cut.stream", &ONE_RET[..12])?;
-    fs::write(&rt, "empty.stream", b"".as_slice())?;
-    let _ = fs::remove_dir_all(&rt, "images");
-    fs::create_dir(&rt, "images")?;
+    begin(&rt, "loaded.tmp")?;
+    fs::write(&rt, "loaded.tmp/one_ret.stream", ONE_RET.as_slice())?;
+    fs::write(&rt, "loaded.tmp/cut.stream", &ONE_RET[..12])?;
+    fs::write(&rt, "loaded.tmp/empty.stream", b"".as_slice())?;
+    fs::create_dir(&rt, "loaded.tmp/images")?;
     let cut = "module 0: lost, fault 9\nconnection 0: fault 9\nstrays 0\n";
     for (line, status, out, err) in [
-        ("lfiload load one_ret.stream", 0, ONE_RET_REPORT, ""),
         (
-            "lfiload load --out images one_ret.stream",
+            "lfiload load loaded.tmp/one_ret.stream",
             0,
             ONE_RET_REPORT,
             "",
         ),
         (
-            "lfiload load --out nowhere one_ret.stream",
+            "lfiload load --out loaded.tmp/images loaded.tmp/one_ret.stream",
+            0,
+            ONE_RET_REPORT,
+            "",
+        ),
+        (
+            "lfiload load --out nowhere loaded.tmp/one_ret.stream",
             3,
             ONE_RET_REPORT,
             "lfiload: cannot write nowhere/module-00.img\n",
         ),
-        ("lfiload load cut.stream", 1, cut, ""),
-        ("lfiload load empty.stream", 0, "strays 0\n", ""),
+        ("lfiload load loaded.tmp/cut.stream", 1, cut, ""),
+        ("lfiload load loaded.tmp/empty.stream", 0, "strays 0\n", ""),
         (
             "lfiload load missing.stream",
             3,
@@ -134,8 +176,9 @@ fn loads_streams(rt: HostRuntime) -> Result<(), Fail> {
         assert_eq!(rt; ran.err.as_slice(), err.as_bytes(), "{line}");
         assert_eq!(rt; ran.status, status, "{line}");
     }
-    let image = fs::read(&rt, "images/module-00.img")?;
+    let image = fs::read(&rt, "loaded.tmp/images/module-00.img")?;
     assert_eq!(rt; image.as_slice(), ONE_RET_IMAGE.as_slice());
+    fs::remove_dir_all(&rt, "loaded.tmp")?;
     Ok(())
 }
 
@@ -172,11 +215,15 @@ fn answers_wrong_words_and_help(rt: HostRuntime) -> Result<(), Fail> {
 
 #[test]
 fn answers_where_a_write_fails(rt: HostRuntime) -> Result<(), Fail> {
-    fs::write(&rt, "written.code", RET.as_slice())?;
-    fs::write(&rt, "written.stream", ONE_RET.as_slice())?;
+    begin(&rt, "written.tmp")?;
+    fs::write(&rt, "written.tmp/written.code", RET.as_slice())?;
+    fs::write(&rt, "written.tmp/written.stream", ONE_RET.as_slice())?;
     for (line, length) in [
-        ("lfiload check written.code", 16),
-        ("lfiload load written.stream", ONE_RET_REPORT.len()),
+        ("lfiload check written.tmp/written.code", 16),
+        (
+            "lfiload load written.tmp/written.stream",
+            ONE_RET_REPORT.len(),
+        ),
     ] {
         let words = words(rt.alloc(), line)?;
         for left in 0..=length {
@@ -196,5 +243,6 @@ fn answers_where_a_write_fails(rt: HostRuntime) -> Result<(), Fail> {
         let status = run_words(&rt, &words, &mut Full { left: 0 }, &mut Full { left: 0 });
         assert_eq!(rt; status, 3, "{line}");
     }
+    fs::remove_dir_all(&rt, "written.tmp")?;
     Ok(())
 }
