@@ -1,4 +1,3 @@
-pub mod Ahead
 pub mod Building
 pub mod Headers
 pub mod Pieces

@@ -71,7 +71,7 @@ take_front : (xs ys : List ℕ) → take (length xs) (xs ++ ys) ≡ xs
 take_front [] ys = refl
 take_front (x ∷ xs) ys = ap (λ l. x ∷ l) (take_front xs ys)
 
-pub take_past : (front rest : List ℕ) (k : ℕ) → length front ≤ k → take k (front ++ rest) ≡ front ++ take (k - length front) rest
+take_past : (front rest : List ℕ) (k : ℕ) → length front ≤ k → take k (front ++ rest) ≡ front ++ take (k - length front) rest
 take_past [] rest k low = ap (λ n. take n rest) (let e : k ≡ k - 0 = omega arith in e)
 take_past (x ∷ front) rest zero low = absurd (omega (arith, low))
 take_past (x ∷ front) rest (suc k) low = ap (λ l. x ∷ l) (take_past front rest k (omega (arith, low)) ∙ ap (λ n. front ++ take n rest) (let e : k - length front ≡ suc k - suc (length front) = omega arith in e))

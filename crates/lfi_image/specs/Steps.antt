@@ -1,16 +1,12 @@
 -- What the steps of reading a file do.
-use Rattle.std.specs.Prelude.{◌≡◌, ℕ, ◌*◌, ◌<◌, ◌≤◌, List, ◌++◌, length, slice_range, Option, Some, None, IfSome, ⊤}
-use Rattle.std.specs.Io.KnownBytes.{Consumes, prepend_known}
+use Rattle.std.specs.Prelude.{◌≡◌, ℕ, ◌*◌, ◌<◌, ◌≤◌, List, ◌++◌, length, Option, Some, None, IfSome, ⊤}
+use Rattle.std.specs.Io.KnownBytes.{Consumes}
 use Rattle.page_buf.specs.Spelled.{words_of}
 use Rattle.lfi_rules.specs.Faults.{FirstFault}
 use Rattle.lfi_image.specs.declared.fault.ImageFault.{ImageFault}
 use Rattle.lfi_image.specs.declared.fault.ImageFault.TheVariants.{Truncated, Unlawful, NoMemory, Device}
 use Rattle.lfi_image.specs.Image.{Module, code_of}
 use Rattle.lfi_image.specs.Built.{due, with_words}
-
--- what is to come: the bytes of a buffer from one place to another, which were read ahead, and then what the reader has left
-abbrev pub to_come : Option (List ℕ) → List ℕ → (from to : ℕ) → Option (List ℕ)
-to_come known buffer from to = prepend_known (slice_range buffer from to) known
 
 -- Fewer bytes than that are left, or memory ran out, or the reader failed.
 abbrev pub IsShort : Option (List ℕ) → ℕ → ImageFault → Type 0
