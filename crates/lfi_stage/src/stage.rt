@@ -138,7 +138,7 @@ pub fn load(alloc: Global, text: &[u8]) -> Result<Report, AllocError>
 }
 
 /// Loads the modules of one connection's text that is handed over in pieces of `most` bytes, at
-/// least 1, or fewer, on one thread. The report says the same whatever `most` is.
+/// least 1, or fewer, on one thread. What is promised of the report is the same whatever `most` is.
 ///
 /// # Errors
 ///
