@@ -75,17 +75,26 @@ impl WordCount {
 /// How many words a module has, and the one at which it is entered.
 #[derive(Clone, Copy, PartialEq, Eq, Debug)]
 pub struct Extent {
-    /// How many words the module has.
-    pub words: WordCount,
-    /// The word that is entered, below `words`.
-    pub entry: u32,
-    ghost entry_in_range: { entry < words },
+    words: WordCount,
+    entry: u32,
+}
+
+impl Model for Extent {
+    ghost use Rattle.lfi_module.specs.Extents.{ExtentView, IsExtent};
+
+    ghost Value = { ExtentView };
+
+    ghost view = { λ e. record { words = e.words; entry = e.entry } };
+
+    ghost invariant = { λ e. IsExtent (record { words = e.words; entry = e.entry }) };
+
+    ghost inverse = { λ v. record { words = v.words; entry = v.entry } };
 }
 
 impl Extent {
     /// A module of so many words that is entered at the word `entry`; `None` where that isn't one of them.
     pub fn new(words: WordCount, entry: u32) -> Option<Extent>
-        ensures some { IfSome result (λ extent. (extent.words ≡ words) × (extent.entry ≡ entry)) }
+        ensures some { IfSome result (λ extent. extent ≡ record { words = words; entry = entry }) }
         ensures none { IfNone result (words ≤ entry) }
     {
         if entry < words.number() {
@@ -93,5 +102,20 @@ impl Extent {
         } else {
             None
         }
+    }
+
+    /// How many words the module has.
+    pub fn words(self) -> WordCount
+        ensures { result ≡ self.words }
+    {
+        self.words
+    }
+
+    /// The word at which it is entered, below `words`.
+    pub fn entry(self) -> u32
+        ensures value { result ≡ self.entry }
+        ensures range { result < self.words }
+    {
+        self.entry
     }
 }
