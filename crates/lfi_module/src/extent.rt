@@ -2,7 +2,7 @@
 
 ghost use Rattle.std.specs.Prelude.{◌≡◌, ◌≤◌, ◌<◌, ◌⊎◌, IfSome, IfNone};
 ghost use Rattle.lfi_module.specs.Numbers.{most_words};
-ghost use Rattle.lfi_module.specs.Pages.{page_count, words_due};
+ghost use Rattle.lfi_module.specs.Pages.{page_count, words_due, bytes_in_page, is_due};
 
 use crate::page_size::PageSize;
 use std::marker::Model;
@@ -42,6 +42,14 @@ impl WordCount {
         }
     }
 
+    /// So many words, which are known to be in range: 1 to 4,194,304.
+    pub fn of(words: u32) -> WordCount
+        requires { (1 ≤ words) × (words ≤ most_words) }
+        ensures { result ≡ words }
+    {
+        WordCount { words }
+    }
+
     /// As many words as a module can have.
     pub fn most() -> WordCount
         ensures { result ≡ most_words }
@@ -69,6 +77,22 @@ impl WordCount {
         ensures { result ≡ words_due size self come }
     {
         self.words.saturating_sub(come).min(size.words())
+    }
+
+    /// How many bytes page `index` has; 0 where there is no such page.
+    pub fn bytes_in_page(self, size: PageSize, index: u32) -> u32
+        ensures { result ≡ bytes_in_page size self index }
+    {
+        let before = u64::from(size.words()) * u64::from(index);
+        let left = u64::from(self.words).saturating_sub(before);
+        4 * left.min(u64::from(size.words())) as u32
+    }
+
+    /// Whether page `index`, of so many bytes, is the one that has to come after the first `come` pages.
+    pub fn is_due(self, size: PageSize, come: u32, index: u32, bytes: u32) -> bool
+        ensures { result ≡ is_due size self come index bytes }
+    {
+        index == come && index < self.pages(size) && bytes == self.bytes_in_page(size, index)
     }
 }
 

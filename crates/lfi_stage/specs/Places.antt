@@ -2,7 +2,8 @@
 use Rattle.std.specs.Prelude.{ℕ, ◌<◌, ◌≤◌, List, get_or, Bool, true, false}
 use Rattle.lfi_model.specs.declared.connection.Progress.{Progress}
 use Rattle.lfi_model.specs.declared.connection.Progress.TheVariants.{Unclaimed, Going}
-use Rattle.lfi_model.specs.Items.{page_count}
+use Rattle.lfi_module.specs.Numbers.{page_words}
+use Rattle.lfi_module.specs.Pages.{page_count}
 
 -- how far module m is
 abbrev pub progress_at : List Progress → ℕ → Progress
@@ -10,7 +11,7 @@ progress_at places m = get_or places m Unclaimed
 
 -- a module's words are in range, and no more pages of it have come than it has
 abbrev pub IsPossible : Progress → Type 0
-IsPossible (Going words pages) = (0 < words) × (words ≤ 4194304) × (pages ≤ page_count words)
+IsPossible (Going words pages) = (0 < words) × (words ≤ 4194304) × (pages ≤ page_count page_words words)
 IsPossible progress = Unit {0}
 
 -- the connection has claimed the module
