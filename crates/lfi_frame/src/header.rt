@@ -121,6 +121,6 @@ impl Header {
     fn is_page_length(&self) -> bool
         ensures { result ≡ is_page_length self.now.b }
     {
-        self.b != 0 && self.b <= PageSize::profile().bytes() && self.b % WORD_BYTES == 0
+        self.b != 0 && self.b <= PageSize::PROFILE.bytes() && self.b % WORD_BYTES == 0
     }
 }

@@ -27,15 +27,15 @@ impl Model for WordCount {
 }
 
 impl WordCount {
-    /// The most words that a module has.
-    pub const MOST: u32 = 4_194_304;
+    /// As many words as a module can have: 4,194,304.
+    pub const MOST: WordCount = WordCount { words: 4_194_304 };
 
     /// So many words; `None` where they are none, or more than a module has.
     pub fn new(words: u32) -> Option<WordCount>
         ensures some { IfSome result (λ n. n ≡ words) }
         ensures none { IfNone result ((words ≡ 0) ⊎ (most_words < words)) }
     {
-        if words == 0 || words > Self::MOST {
+        if words == 0 || words > Self::MOST.words {
             None
         } else {
             Some(WordCount { words })
@@ -48,13 +48,6 @@ impl WordCount {
         ensures { result ≡ words }
     {
         WordCount { words }
-    }
-
-    /// As many words as a module can have.
-    pub fn most() -> WordCount
-        ensures { result ≡ most_words }
-    {
-        WordCount { words: Self::MOST }
     }
 
     /// The number, 1 to 4,194,304.

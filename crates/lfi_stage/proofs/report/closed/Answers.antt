@@ -15,7 +15,7 @@ returns-in-Ok c = λ m items ended.
 
 pub returns-in-Err : goal.returns-in-Err
 returns-in-Err c = λ m items ended.
-    let outcome = c.page_count.ensures in
+    let outcome = c.pages.ensures in
     let told = told_by m c.args.builder c.args.words c.args.ended items (outcome_kind.Incomplete c.args.ended.pages (page_count page_words c.args.words)) (Part c.in-Err.builder) ended
     (incomplete m c.args.builder c.args.words c.args.ended items ended c.requires c.in-Err.ensures.0)
     (c.in-Err.ensures.1 ∙ ended.builder, λ n e. absurd (cc)) in
