@@ -4,7 +4,6 @@ ghost use Rattle.std.specs.Prelude.{Some};
 ghost use Rattle.lfi_model.specs.Texts.{outcome_text};
 
 use lfi_frame::FrameFault;
-use lfi_module::WordCount;
 use lfi_rules::Fault;
 use std::fmt;
 
@@ -14,7 +13,7 @@ pub enum Outcome {
     /// No connection claimed it.
     Unused,
     /// All its words came, and they are lawful.
-    Complete { words: WordCount },
+    Complete { words: u32 },
     /// Its first fault.
     Refused(Fault),
     /// It was closed when only the first pages had come.
@@ -33,10 +32,7 @@ impl fmt::Display for Outcome {
     fn fmt<W: fmt::Write>(&self, f: &mut fmt::Formatter<W>) -> fmt::Result {
         match self {
             Outcome::Unused => write!(f, "unused"),
-            Outcome::Complete { words } => {
-                let words = words.number();
-                write!(f, "complete, {words} words")
-            }
+            Outcome::Complete { words } => write!(f, "complete, {words} words"),
             Outcome::Refused(Fault { word, rule }) => write!(f, "refused, word {word} rule {rule}"),
             Outcome::Incomplete { pages, of } => write!(f, "incomplete, {pages} of {of} pages"),
             Outcome::Lost(fault) => {

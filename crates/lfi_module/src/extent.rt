@@ -82,10 +82,10 @@ impl WordCount {
     }
 
     /// Whether page `index`, of so many bytes, is the one that has to come after the first `come` pages.
-    pub fn is_due(self, size: PageSize, come: u32, index: u32, bytes: u32) -> bool
+    pub fn is_due(self, size: PageSize, come: u32, index: u32, bytes: usize) -> bool
         ensures { result ≡ is_due size self come index bytes }
     {
-        index == come && index < self.pages(size) && bytes == self.bytes_in_page(size, index)
+        index == come && index < self.pages(size) && bytes == self.bytes_in_page(size, index) as usize
     }
 }
 

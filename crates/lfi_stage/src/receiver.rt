@@ -231,7 +231,7 @@ impl Receiver {
             words,
             pages,
         };
-        if !words.is_due(PageSize::PROFILE, pages, index, len) {
+        if !words.is_due(PageSize::PROFILE, pages, index, len as usize) {
             self.end_module(ended, Reason::PageFault(index));
             return Begun::Awaited;
         }

@@ -51,7 +51,9 @@ fn closed(builder: Builder, words: WordCount, ended: Ended) -> ModuleReport
 {
     match builder.finish() {
         Ok(image) => ModuleReport {
-            outcome: Outcome::Complete { words },
+            outcome: Outcome::Complete {
+                words: words.number(),
+            },
             image: ImageState::Whole(image),
         },
         Err(builder) => {
