@@ -1,6 +1,6 @@
 //! What instructions read and write, where they access memory and branch, and what they ask of the next word: by the
 //! operations of the Arm manual's C6.2, and this project's profile.
-use a64_effects::{Form, Need, RegSet, address, meets, opens, reads, target, writes};
+use a64_effects::{Form, Need, RegisterSet, address, meets, opens, reads, target, writes};
 use a64_word::{IndexExtend, Register, Width, decode};
 use std::test::Fail;
 
@@ -236,7 +236,7 @@ fn expected(uses: &[(u32, u8, Width)], word: u32, place: u8) -> Option<Width> {
     None
 }
 
-fn width_at(set: &RegSet, place: u8) -> Option<Width> {
+fn width_at(set: &RegisterSet, place: u8) -> Option<Width> {
     if place < 31 {
         set.register(place)
     } else {

@@ -1,4 +1,4 @@
-use a64_word::{AddSubImmediate, Branch, Inst, Register, Width, Words, decode, encode};
+use a64_word::{AddSubImmediate, Branch, Instruction, Register, Width, Words, decode, encode};
 use std::alloc::Global;
 use std::test::Fail;
 
@@ -94,16 +94,16 @@ fn refuses_what_is_out_of_range(rt: HostRuntime) {
         rn: x0,
         rd: x0,
     };
-    assert_eq!(rt; encode(&Inst::AddSubImmediate(too_large)), None);
+    assert_eq!(rt; encode(&Instruction::AddSubImmediate(too_large)), None);
     assert_eq!(rt;
-        encode(&Inst::Branch(Branch {
+        encode(&Instruction::Branch(Branch {
             link: false,
             offset: 33_554_432
         })),
         None
     );
     assert_eq!(rt;
-        encode(&Inst::Branch(Branch {
+        encode(&Instruction::Branch(Branch {
             link: false,
             offset: -33_554_432
         })),
@@ -121,7 +121,7 @@ fn gives_masks(rt: HostRuntime) {
     ];
     for (word, mask) in rows {
         match decode(word) {
-            Some(Inst::LogicalImmediate(i)) => assert_eq!(rt; i.mask(), mask, "{word:#x}"),
+            Some(Instruction::LogicalImmediate(i)) => assert_eq!(rt; i.mask(), mask, "{word:#x}"),
             _ => assert!(rt; false, "{word:#x}"),
         }
     }
