@@ -42,7 +42,7 @@ pub enum Instruction {
 }
 
 ghost use Rattle.a64_word.specs.Encoding.{Spells, Encodes};
-ghost use Rattle.a64_word.specs.Groups.{IsDataImmediate, IsDataRegister, IsBranch, IsLoadStore, DecodesGroup};
+ghost use Rattle.a64_word.specs.inner.Groups.{IsDataImmediate, IsDataRegister, IsBranch, IsLoadStore, DecodesGroup};
 
 /// The instruction of "Data Processing -- Immediate" that a word spells, by bits 23 to 25.
 fn data_immediate(word: u32) -> Option<Instruction>
