@@ -441,57 +441,6 @@ fn addresses_of_an_index(rt: HostRuntime) {
 
 /// A word, its place, and the place where it branches.
 const TARGETS: [(u32, u32, Option<i64>); 11] = [
-    (0xF9400240, 18u8, Form::Offset, 0, 8),
-    (0xF97FFE40, 18u8, Form::Offset, 32760, 8),
-    (0x397FFE40, 18u8, Form::Offset, 4095, 1),
-    (0x797FFE40, 18u8, Form::Offset, 8190, 2),
-    (0xB97FFE40, 18u8, Form::Offset, 16380, 4),
-    (0xF8500240, 18u8, Form::Offset, -256, 8),
-    (0x384FF240, 18u8, Form::Offset, 255, 1),
-    (0xF85007E0, 31u8, Form::PostIndex, -256, 8),
-    (0xF81F0FFE, 31u8, Form::PreIndex, -16, 8),
-    (0xA97FFFE0, 31u8, Form::Offset, -8, 16),
-    (0xA95F83E1, 31u8, Form::Offset, 504, 16),
-    (0xA96007E0, 31u8, Form::Offset, -512, 16),
-    (0x296007E0, 31u8, Form::Offset, -256, 8),
-    (0x295F87E0, 31u8, Form::Offset, 252, 8),
-    (0xA8C17BFD, 31u8, Form::PostIndex, 16, 16),
-    (0xA9BF7BFD, 31u8, Form::PreIndex, -16, 16),
-    ];
-    for (word, base, form, offset, bytes) in rows {
-    let found = decode(word);
-    let at = match &found {
-    Some(i) => address(i),
-    None => None,
-    };
-    assert!(rt; at.is_some(), "{word:#x}");
-    if let Some(at) = at {
-    assert_eq!(rt; at.base.number(), base, "{word:#x}");
-    assert_eq!(rt; at.form, form, "{word:#x}");
-    assert_eq!(rt; at.offset, offset, "{word:#x}");
-    assert_eq!(rt; at.bytes, bytes, "{word:#x}");
-    }
-    }
-    if let Some(i) = decode(0xF8615AA0) {
-    let form = match address(&i) {
-    Some(at) => at.form,
-    None => Form::Offset,
-    };
-    let index = Form::Index {
-    register: Register::new(1),
-    extend: IndexExtend::Uxtw,
-    scaled: true,
-    };
-    assert_eq!(rt; form, index);
-    }
-    if let Some(i) = decode(0xD503201F) {
-    assert!(rt; address(&i).is_none());
-    }
-    }
-    
-    #[test]
-    fn targets(rt: HostRuntime) {
-    let rows = [
     (0x14000001, 5, Some(6)),
     (0x17FFFFFF, 0, Some(-1)),
     (0x95FFFFFF, 1, Some(33554432)),

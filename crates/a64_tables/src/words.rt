@@ -1,65 +1,24 @@
 use crate::spelling::{first_not_spelled, first_spelled, is_spelled_back};
-use a64_word::{AddSubImmediate, Branch, Instruction, Register, Width, Words, decode, encode, word_at, word_count};
+use a64_word::{
+    AddSubImmediate, Branch, Instruction, Register, Width, Words, decode, encode, word_at,
+    word_count,
+};
 use std::alloc::Global;
 use std::test::Fail;
 
 /// Words that spell instructions.
 const SPELLED: [u32; 44] = [
-    0xA90003E0,
-    0x8B2042B2,
-    0xF9400240,
-    0xF9400020,
-    0xF94006BE,
-    0xD63F03C0,
-    0xD503201F,
-    0xF947FEBE,
-    0xF94802BE,
-    0xA8C17BFD,
-    0x8B3E42BE,
-    0xD10043FF,
-    0xF90003E0,
-    0xF90007E0,
-    0x14000002,
-    0xAA0003F5,
-    0x2A0003F6,
-    0xF9400256,
-    0xB9400256,
-    0x14000001,
-    0x17FFFFFF,
-    0xD65F03C0,
-    0x143FFFFF,
-    0xF85007E0,
-    0xD28000E0,
-    0xF94002BE,
-    0xD10003FF,
-    0xF8614AA0,
-    0xF8615AA0,
-    0xF861CAA0,
-    0xF8616AA0,
-    0x8B2052B2,
-    0xD61F0240,
-    0xD65F0240,
-    0x8B3662BF,
-    0xEB01001F,
-    0x93407C20,
-    0xDAC01020,
-    0x9AC20820,
-    0x9AC20C20,
-    0x92401C20,
-    0x12003C20,
-    0x9200F020,
-    0x9201F020,
+    0xA90003E0, 0x8B2042B2, 0xF9400240, 0xF9400020, 0xF94006BE, 0xD63F03C0, 0xD503201F, 0xF947FEBE,
+    0xF94802BE, 0xA8C17BFD, 0x8B3E42BE, 0xD10043FF, 0xF90003E0, 0xF90007E0, 0x14000002, 0xAA0003F5,
+    0x2A0003F6, 0xF9400256, 0xB9400256, 0x14000001, 0x17FFFFFF, 0xD65F03C0, 0x143FFFFF, 0xF85007E0,
+    0xD28000E0, 0xF94002BE, 0xD10003FF, 0xF8614AA0, 0xF8615AA0, 0xF861CAA0, 0xF8616AA0, 0x8B2052B2,
+    0xD61F0240, 0xD65F0240, 0x8B3662BF, 0xEB01001F, 0x93407C20, 0xDAC01020, 0x9AC20820, 0x9AC20C20,
+    0x92401C20, 0x12003C20, 0x9200F020, 0x9201F020,
 ];
 
 /// Words that spell none.
 const NOT_SPELLED: [u32; 7] = [
-    0xA94003E0,
-    0x8B2056B2,
-    0xF8408400,
-    0x1200FC20,
-    0x9240FC20,
-    0x12401C20,
-    0xD4000001,
+    0xA94003E0, 0x8B2056B2, 0xF8408400, 0x1200FC20, 0x9240FC20, 0x12401C20, 0xD4000001,
 ];
 
 #[test]
