@@ -9,13 +9,13 @@ use Rattle.lfi_frame.specs.declared.header.Header.{Header}
 use Rattle.lfi_frame.specs.declared.fault.FrameFault.{FrameFault}
 use Rattle.lfi_frame.specs.declared.fault.FrameFault.TheVariants.{Kind, SecondByte, Module, PageLength, CloseNumbers, WordCount, Entry, NoMemory, Ended, ReadFailed}
 use Rattle.lfi_frame.specs.declared.feed.Feed.{Feed}
-use Rattle.lfi_frame.specs.declared.feed.Got.{Got}
-use Rattle.lfi_frame.specs.declared.feed.Got.TheVariants.{Open, Page, Payload, Close}
-use Rattle.lfi_frame.specs.declared.feed.Place.{Place}
-use Rattle.lfi_frame.specs.declared.feed.Place.TheVariants as place
-use Rattle.lfi_frame.specs.Places.{is_between}
+use Rattle.lfi_frame.specs.declared.answer.Got.{Got}
+use Rattle.lfi_frame.specs.declared.answer.Got.TheVariants.{Open, Page, Payload, Close}
+use Rattle.lfi_frame.specs.declared.feed.Position.{Position}
+use Rattle.lfi_frame.specs.declared.feed.Position.TheVariants as position
+use Rattle.lfi_frame.specs.inner.Positions.{is_between}
 use Rattle.lfi_frame.specs.Streams.{Cut, AreBytes, Message, open_message, page_message, close_message, header_of, payload_of, spelling, header_at, header_bytes, header_fault, IsMessage, short, faulty, unfinished, whole, rest_after, rest_of}
-use Rattle.lfi_frame.specs.Feeds.{IsAtEnd, fault_at, page_header, IsInPage, IsSeen, IsAt, FeedStands, IsTold, got_by, answer_by, answer_to, place_by, place_after}
+use Rattle.lfi_frame.specs.Feeds.{IsAtEnd, fault_at, page_header, IsInPage, IsSeen, IsAt, FeedStands, IsTold, got_by, answer_by, answer_to, position_by, position_after}
 use Rattle.lfi_frame.proofs.Headers.{header_spells, header_fits, sound}
 use Rattle.lfi_frame.proofs.Cuts.{rest_long, rest_short, rest_spelled, page_is, open_is, close_is, message_is, comes_by, long_by}
 
@@ -58,13 +58,13 @@ page_ends rest used left p all =
     )
 
 -- a feed between two messages
-between : (new : Feed) (messages : List Message) (message : Message) → new.place ≡ place.Header 0 → All IsMessage messages → IsMessage message → FeedStands new (messages ++ message ∷ []) []
+between : (new : Feed) (messages : List Message) (message : Message) → new.position ≡ position.Header 0 → All IsMessage messages → IsMessage message → FeedStands new (messages ++ message ∷ []) []
 between new messages message at_start each is = record {
   each = All-push IsMessage messages message each is;
-  place = subst (λ p. IsAt new.held p []) (sym at_start) (lit< tt, refl, λ i. lit< tt);
+  position = subst (λ p. IsAt new.held p []) (sym at_start) (lit< tt, refl, λ i. lit< tt);
 }
 
-payload_by : (b : Bool) (left used : ℕ) (new : Feed) (messages : List Message) (rest : List ℕ) (bytes : List ℕ) → length bytes ≡ used → used ≤ left → ((b ≡ true) × (left - used ≡ 0)) ⊎ ((b ≡ false) × (left - used ≢ 0)) → new.place ≡ (if b then place.Header 0 else place.Payload (left - used)) → All IsMessage messages → IsInPage rest left → IsTold (Payload b) new messages rest bytes
+payload_by : (b : Bool) (left used : ℕ) (new : Feed) (messages : List Message) (rest : List ℕ) (bytes : List ℕ) → length bytes ≡ used → used ≤ left → ((b ≡ true) × (left - used ≡ 0)) ⊎ ((b ≡ false) × (left - used ≢ 0)) → new.position ≡ (if b then position.Header 0 else position.Payload (left - used)) → All IsMessage messages → IsInPage rest left → IsTold (Payload b) new messages rest bytes
 payload_by true left used new messages rest bytes len most test is each p =
     let all : length bytes ≡ left = elim test [ inl t ↦ (let z = t.1 in omega arith) | inr f ↦ (let no_path : true ≡ false = f.0 in absurd (cc)) ] in
     let e = page_ends rest bytes left p all in
@@ -85,13 +85,13 @@ payload_by false left used new messages rest bytes len most test is each p =
       p.len,
       page_rest rest left p,
       page_rest (rest ++ bytes) (left - length bytes) goes,
-      record { each = each; place = subst (λ q. IsAt new.held q (rest ++ bytes)) (sym is) (subst (λ n. IsInPage (rest ++ bytes) (left - n)) len goes) },
+      record { each = each; position = subst (λ q. IsAt new.held q (rest ++ bytes)) (sym is) (subst (λ n. IsInPage (rest ++ bytes) (left - n)) len goes) },
     )
 
 -- what a call tells inside a page
-pub payload_told : (old new : Feed) (left used : ℕ) (piece : List ℕ) (messages : List Message) (rest : List ℕ) → old.place ≡ place.Payload left → used ≤ length piece → used ≤ left → new.place ≡ (if left - used == 0 then place.Header 0 else place.Payload (left - used)) → FeedStands old messages rest → IsTold (Payload (left - used == 0)) new messages rest (take used piece)
+pub payload_told : (old new : Feed) (left used : ℕ) (piece : List ℕ) (messages : List Message) (rest : List ℕ) → old.position ≡ position.Payload left → used ≤ length piece → used ≤ left → new.position ≡ (if left - used == 0 then position.Header 0 else position.Payload (left - used)) → FeedStands old messages rest → IsTold (Payload (left - used == 0)) new messages rest (take used piece)
 payload_told old new left used piece messages rest was within most is stands =
-    payload_by (left - used == 0) left used new messages rest (take used piece) (omega (arith, length-take used piece)) most (eqb_tells (left - used) 0) is stands.each (subst (λ p. IsAt old.held p rest) was stands.place)
+    payload_by (left - used == 0) left used new messages rest (take used piece) (omega (arith, length-take used piece)) most (eqb_tells (left - used) 0) is stands.each (subst (λ p. IsAt old.held p rest) was stands.position)
 
 -- after a header
 
@@ -139,45 +139,45 @@ module _ (new : Feed) (messages : List Message) (rest used : List ℕ) (each : A
         unended = (sound h none).some two;
       }
 
-  sound_told : (got : Got) → header_fault h ≡ None → got ≡ got_by h → new.place ≡ place_by None h → IsTold got new messages rest used
+  sound_told : (got : Got) → header_fault h ≡ None → got ≡ got_by h → new.position ≡ position_by None h → IsTold got new messages rest used
   sound_told got none brings is =
       let fits = header_fits (rest ++ used) small in
       elim (sound h none).kind [
         | inl two ↦
             let page = in_page none two in
             let b = eq-eqb h.kind 2 two in
-            let g : got ≡ Page h.«module» h.a h.b = brings ∙ ap (λ b. if b then Page h.«module» h.a h.b else if h.kind == 1 then Open h.«module» h.a h.b else Close h.«module») b in
-            let p : new.place ≡ place.Payload h.b = is ∙ ap (λ b. if b then place.Payload h.b else place.Header 0) b in
-            subst (λ g. IsTold g new messages rest used) (sym g) (record { each = each; place = subst (λ q. IsAt new.held q (rest ++ used)) (sym p) page }, twelve, page_rest (rest ++ used) h.b page)
+            let g : got ≡ Page h.«module» h.a h.b = brings ∙ ap (λ b. if b then Page h.«module» h.a h.b else if h.kind == 1 then Open h.«module» (record { words = h.a; entry = h.b }) else Close h.«module») b in
+            let p : new.position ≡ position.Payload h.b = is ∙ ap (λ b. if b then position.Payload h.b else position.Header 0) b in
+            subst (λ g. IsTold g new messages rest used) (sym g) (record { each = each; position = subst (λ q. IsAt new.held q (rest ++ used)) (sym p) page }, twelve, page_rest (rest ++ used) h.b page)
         | inr other ↦ elim other [
           | inl one ↦
               let message = open_message h.«module» h.a h.b in
-              let g : got ≡ Open h.«module» h.a h.b = brings ∙ ap (λ k. if k == 2 then Page h.«module» h.a h.b else if k == 1 then Open h.«module» h.a h.b else Close h.«module») one in
-              let p : new.place ≡ place.Header 0 = is ∙ ap (λ k. if k == 2 then place.Payload h.b else place.Header 0) one in
+              let g : got ≡ Open h.«module» (record { words = h.a; entry = h.b }) = brings ∙ ap (λ k. if k == 2 then Page h.«module» h.a h.b else if k == 1 then Open h.«module» (record { words = h.a; entry = h.b }) else Close h.«module») one in
+              let p : new.position ≡ position.Header 0 = is ∙ ap (λ k. if k == 2 then position.Payload h.b else position.Header 0) one in
               subst (λ g. IsTold g new messages rest used) (sym g) (between new messages message p each (message_is message h (open_is h none one) none fits.0 fits.1), spelled message (open_is h none one) refl)
           | inr three ↦
               let message = close_message h.«module» in
-              let g : got ≡ Close h.«module» = brings ∙ ap (λ k. if k == 2 then Page h.«module» h.a h.b else if k == 1 then Open h.«module» h.a h.b else Close h.«module») three in
-              let p : new.place ≡ place.Header 0 = is ∙ ap (λ k. if k == 2 then place.Payload h.b else place.Header 0) three in
+              let g : got ≡ Close h.«module» = brings ∙ ap (λ k. if k == 2 then Page h.«module» h.a h.b else if k == 1 then Open h.«module» (record { words = h.a; entry = h.b }) else Close h.«module») three in
+              let p : new.position ≡ position.Header 0 = is ∙ ap (λ k. if k == 2 then position.Payload h.b else position.Header 0) three in
               subst (λ g. IsTold g new messages rest used) (sym g) (between new messages message p each (message_is message h (close_is h none three) none fits.0 fits.1), spelled message (close_is h none three) refl)
         ]
       ]
 
-  told_by : (f : Option FrameFault) (got : Got) → header_fault h ≡ f → Ok got ≡ answer_by f h → new.place ≡ place_by f h → IsTold got new messages rest used
+  told_by : (f : Option FrameFault) (got : Got) → header_fault h ≡ f → Ok got ≡ answer_by f h → new.position ≡ position_by f h → IsTold got new messages rest used
   told_by (Some fault) got e answer is = absurd (cc)
   told_by None got e answer is = sound_told got e (cc) is
 
-  pub header_told : (got : Got) → Ok got ≡ answer_to h → new.place ≡ place_after h → IsTold got new messages rest used
+  pub header_told : (got : Got) → Ok got ≡ answer_to h → new.position ≡ position_after h → IsTold got new messages rest used
   header_told got answer is = told_by (header_fault h) got refl answer is
 
-  failed_by : (f : Option FrameFault) (fault : FrameFault) → header_fault h ≡ f → Err fault ≡ answer_by f h → new.place ≡ place_by f h → FeedStands new messages (rest ++ used) × (rest_of (rest ++ used) ≡ faulty fault)
+  failed_by : (f : Option FrameFault) (fault : FrameFault) → header_fault h ≡ f → Err fault ≡ answer_by f h → new.position ≡ position_by f h → FeedStands new messages (rest ++ used) × (rest_of (rest ++ used) ≡ faulty fault)
   failed_by None fault e answer is = absurd (cc)
   failed_by (Some first) fault e answer is =
       let same : first ≡ fault = cc in
       let shows : rest_of (rest ++ used) ≡ faulty first = rest_long (rest ++ used) (omega arith) ∙ ap (λ f. rest_after f h (length (drop 12 (rest ++ used)))) e in
-      (record { each = each; place = subst (λ q. IsAt new.held q (rest ++ used)) (sym is) (faulty_seen first (rest ++ used) shows) }, shows ∙ ap faulty same)
+      (record { each = each; position = subst (λ q. IsAt new.held q (rest ++ used)) (sym is) (faulty_seen first (rest ++ used) shows) }, shows ∙ ap faulty same)
 
-  pub header_failed : (fault : FrameFault) → Err fault ≡ answer_to h → new.place ≡ place_after h → FeedStands new messages (rest ++ used) × ((rest_of (rest ++ used) ≡ faulty fault) ⊎ (used ≡ []))
+  pub header_failed : (fault : FrameFault) → Err fault ≡ answer_to h → new.position ≡ position_after h → FeedStands new messages (rest ++ used) × ((rest_of (rest ++ used) ≡ faulty fault) ⊎ (used ≡ []))
   header_failed fault answer is = let f = failed_by (header_fault h) fault refl answer is in (f.0, inl f.1)
 
 pub not_eqb : (a b : ℕ) → a ≢ b → (a == b) ≡ false
@@ -211,34 +211,34 @@ some_held filled held rest long some few is none =
       | inr f ↦ (let nonzero : filled ≢ 0 = f.1 in absurd (omega (arith, length-take filled held)))
     ]
 
-inside_rest : (p : Place) (held rest : List ℕ) → 12 ≤ length held → ((fault : FrameFault) → p ≡ place.Over fault → ⊥) → is_between p ≡ false → IsAt held p rest → (rest ≢ []) × (rest_of rest ≢ whole)
-inside_rest (place.Header filled) held rest long going inside at_place = (
-  some_held filled held rest long inside at_place.0 at_place.1,
-  not_whole rest (let few = at_place.0 in subst (λ l. length l < 12) (sym at_place.1) (let t = take_some filled held in omega arith)),
+inside_rest : (p : Position) (held rest : List ℕ) → 12 ≤ length held → ((fault : FrameFault) → p ≡ position.Faulty fault → ⊥) → is_between p ≡ false → IsAt held p rest → (rest ≢ []) × (rest_of rest ≢ whole)
+inside_rest (position.Header filled) held rest long going inside at_position = (
+  some_held filled held rest long inside at_position.0 at_position.1,
+  not_whole rest (let few = at_position.0 in subst (λ l. length l < 12) (sym at_position.1) (let t = take_some filled held in omega arith)),
 )
-inside_rest (place.Payload left) held rest long going inside at_place = (
-  λ n. (let e : length rest ≡ 0 = ap length n in let l = page_long rest left at_place in absurd (omega arith)),
-  λ w. (let f : unfinished at_place.m at_place.index at_place.len ≡ whole = sym (page_rest rest left at_place) ∙ w in absurd (cc)),
+inside_rest (position.Payload left) held rest long going inside at_position = (
+  λ n. (let e : length rest ≡ 0 = ap length n in let l = page_long rest left at_position in absurd (omega arith)),
+  λ w. (let f : unfinished at_position.m at_position.index at_position.len ≡ whole = sym (page_rest rest left at_position) ∙ w in absurd (cc)),
 )
-inside_rest (place.Over fault) held rest long going inside at_place = absurd (going fault refl)
+inside_rest (position.Faulty fault) held rest long going inside at_position = absurd (going fault refl)
 
-told_end : (p : Place) (rest : List ℕ) → ((fault : FrameFault) → p ≡ place.Over fault → ⊥) → rest ≢ [] → IsAtEnd (fault_at p) rest (Err Ended)
-told_end (place.Header filled) rest going some = (some, refl)
-told_end (place.Payload left) rest going some = (some, refl)
-told_end (place.Over fault) rest going some = absurd (going fault refl)
+told_end : (p : Position) (rest : List ℕ) → ((fault : FrameFault) → p ≡ position.Faulty fault → ⊥) → rest ≢ [] → IsAtEnd (fault_at p) rest (Err Ended)
+told_end (position.Header filled) rest going some = (some, refl)
+told_end (position.Payload left) rest going some = (some, refl)
+told_end (position.Faulty fault) rest going some = absurd (going fault refl)
 
-pub ended_inside : (old new : Feed) (messages : List Message) (rest : List ℕ) → 12 ≤ length old.held → ((fault : FrameFault) → old.place ≡ place.Over fault → ⊥) → is_between old.place ≡ false → new.place ≡ place.Over Ended → FeedStands old messages rest → FeedStands new messages rest × IsAtEnd (fault_at old.place) rest (Err Ended)
+pub ended_inside : (old new : Feed) (messages : List Message) (rest : List ℕ) → 12 ≤ length old.held → ((fault : FrameFault) → old.position ≡ position.Faulty fault → ⊥) → is_between old.position ≡ false → new.position ≡ position.Faulty Ended → FeedStands old messages rest → FeedStands new messages rest × IsAtEnd (fault_at old.position) rest (Err Ended)
 ended_inside old new messages rest long going inside is stands =
-    let e = inside_rest old.place old.held rest long going inside stands.place in
-    (record { each = stands.each; place = subst (λ p. IsAt new.held p rest) (sym is) (e.0, e.1) }, told_end old.place rest going e.0)
+    let e = inside_rest old.position old.held rest long going inside stands.position in
+    (record { each = stands.each; position = subst (λ p. IsAt new.held p rest) (sym is) (e.0, e.1) }, told_end old.position rest going e.0)
 
-empty_by : (p : Place) (held rest : List ℕ) → is_between p ≡ true → IsAt held p rest → IsAtEnd (fault_at p) rest (Ok tt)
-empty_by (place.Header filled) held rest t at_place = at_place.1 ∙ ap (λ n. take n held) (eqb-true filled 0 t)
-empty_by (place.Payload left) held rest t at_place = absurd (cc)
-empty_by (place.Over fault) held rest t at_place = absurd (cc)
+empty_by : (p : Position) (held rest : List ℕ) → is_between p ≡ true → IsAt held p rest → IsAtEnd (fault_at p) rest (Ok tt)
+empty_by (position.Header filled) held rest t at_position = at_position.1 ∙ ap (λ n. take n held) (eqb-true filled 0 t)
+empty_by (position.Payload left) held rest t at_position = absurd (cc)
+empty_by (position.Faulty fault) held rest t at_position = absurd (cc)
 
-pub ended_between : (old : Feed) (messages : List Message) (rest : List ℕ) → is_between old.place ≡ true → FeedStands old messages rest → FeedStands old messages rest × IsAtEnd (fault_at old.place) rest (Ok tt)
-ended_between old messages rest t stands = (stands, empty_by old.place old.held rest t stands.place)
+pub ended_between : (old : Feed) (messages : List Message) (rest : List ℕ) → is_between old.position ≡ true → FeedStands old messages rest → FeedStands old messages rest × IsAtEnd (fault_at old.position) rest (Ok tt)
+ended_between old messages rest t stands = (stands, empty_by old.position old.held rest t stands.position)
 
 -- what a feed stands for is cut
 not_seen : (fault : FrameFault) (rest : List ℕ) → IsSeen fault rest → rest_of rest ≢ whole
@@ -253,10 +253,10 @@ not_seen CloseNumbers rest s = λ w. let f : faulty CloseNumbers ≡ whole = sym
 not_seen WordCount rest s = λ w. let f : faulty WordCount ≡ whole = sym s ∙ w in absurd (cc)
 not_seen Entry rest s = λ w. let f : faulty Entry ≡ whole = sym s ∙ w in absurd (cc)
 
-stops_at : (p : Place) (held rest : List ℕ) → IsAt held p rest → rest_of rest ≢ whole
-stops_at (place.Header filled) held rest at_place = not_whole rest (let few = at_place.0 in subst (λ l. length l < 12) (sym at_place.1) (let t = take_some filled held in omega arith))
-stops_at (place.Payload left) held rest at_place = λ w. (let f : unfinished at_place.m at_place.index at_place.len ≡ whole = sym (page_rest rest left at_place) ∙ w in absurd (cc))
-stops_at (place.Over fault) held rest at_place = not_seen fault rest at_place
+stops_at : (p : Position) (held rest : List ℕ) → IsAt held p rest → rest_of rest ≢ whole
+stops_at (position.Header filled) held rest at_position = not_whole rest (let few = at_position.0 in subst (λ l. length l < 12) (sym at_position.1) (let t = take_some filled held in omega arith))
+stops_at (position.Payload left) held rest at_position = λ w. (let f : unfinished at_position.m at_position.index at_position.len ≡ whole = sym (page_rest rest left at_position) ∙ w in absurd (cc))
+stops_at (position.Faulty fault) held rest at_position = not_seen fault rest at_position
 
 pub stands_cut : (feed : Feed) (messages : List Message) (rest : List ℕ) → FeedStands feed messages rest → Cut (flat_map spelling messages ++ rest) messages rest
-stands_cut feed messages rest stands = record { spelled = refl; each = stands.each; stops = stops_at feed.place feed.held rest stands.place }
+stands_cut feed messages rest stands = record { spelled = refl; each = stands.each; stops = stops_at feed.position feed.held rest stands.position }

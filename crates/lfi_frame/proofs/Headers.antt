@@ -3,14 +3,15 @@ use Rattle.std.proofs.Common.{zero, suc, ◌≢◌, ◌≡◌, ℕ, ◌+◌, ◌
 use Rattle.std.specs.Prelude.{Option, Some, None, Bool, true, false, not, ◌||◌, ◌&&◌, ◌==◌, ◌%◌, nat_lt, nat_le, if◌then◌else◌, slice_index}
 use Rattle.std.proofs.lemmas.Nat.{le_bytes_2, le_bytes_4}
 use Rattle.std.proofs.lemmas.List.{get_or-drop}
-use Rattle.std.proofs.lemmas.Bool.{ltb-false, eq-eqb, eqb-true, leb-false}
+use Rattle.std.proofs.lemmas.Bool.{ltb-false, ltb-true, eq-eqb, eqb-true, leb-false, leb-true}
 use Rattle.std.proofs.lemmas.Bool.Decides.{eqb_tells}
 use Rattle.byteorder.specs.Endian.{little_bytes, little_number}
 use Rattle.byteorder.specs.Numbers.{little_number-reads_back, little_from-lt}
 use Rattle.lfi_frame.specs.declared.header.Header.{Header}
 use Rattle.lfi_frame.specs.declared.fault.FrameFault.{FrameFault}
 use Rattle.lfi_frame.specs.declared.fault.FrameFault.TheVariants.{Kind, SecondByte, Module, PageLength, CloseNumbers}
-use Rattle.lfi_frame.specs.Streams.{AreBytes, header_at, header_bytes, header_fault}
+use Rattle.lfi_module.specs.Numbers.{module_count, page_bytes}
+use Rattle.lfi_frame.specs.Streams.{AreBytes, header_at, header_bytes, header_fault, is_page_length}
 
 -- the header that a header's bytes spell
 pub header_back : (h : Header) (xs : List ℕ) → h.«module» < 2 ^ 16 → h.a < 2 ^ 32 → h.b < 2 ^ 32 → header_at (header_bytes h ++ xs) ≡ h
@@ -84,10 +85,11 @@ second_false false c e t = absurd (cc)
 pub record IsSound (h : Header) : Type 0 where
   pub kind : (h.kind ≡ 2) ⊎ ((h.kind ≡ 1) ⊎ (h.kind ≡ 3))
   pub second : h.second ≡ 0
-  pub m_below : h.«module» < 16
+  pub m_below : h.«module» < module_count
   pub zeros : h.kind ≡ 3 → (h.a ≡ 0) × (h.b ≡ 0)
   pub some : h.kind ≡ 2 → 0 < h.b
-  pub few : h.kind ≡ 2 → h.b ≤ 4096
+  pub few : h.kind ≡ 2 → h.b ≤ page_bytes
+  pub whole : h.kind ≡ 2 → h.b % 4 ≡ 0
 
 above_zero : (n : ℕ) → (n == 0) ≡ false → 0 < n
 above_zero zero e = absurd (cc)
@@ -110,24 +112,21 @@ pub sound : (h : Header) → header_fault h ≡ None → IsSound h
 sound h none =
     let one = passed (h.kind == 0 || nat_lt 3 h.kind) Kind _ none in
     let two = passed (not (h.second == 0)) SecondByte _ one.1 in
-    let three = passed (nat_le 16 h.«module») Module _ two.1 in
-    let four = passed (h.kind == 2 && (h.b == 0 || nat_lt 4096 h.b || not (h.b % 4 == 0))) PageLength _ three.1 in
+    let three = passed (nat_le module_count h.«module») Module _ two.1 in
+    let four = passed (h.kind == 2 && not (is_page_length h.b)) PageLength _ three.1 in
     let five = passed (h.kind == 3 && not (h.a == 0 && h.b == 0)) CloseNumbers _ four.1 in
+    let in_range = λ (k : h.kind ≡ 2).
+        both (nat_lt 0 h.b && nat_le h.b page_bytes) (h.b % 4 == 0) (not_false (is_page_length h.b) (second_false (h.kind == 2) (not (is_page_length h.b)) four.0 (eq-eqb h.kind 2 k))) in
     record {
       kind = kind_among h.kind one.0;
       second = eqb-true h.second 0 (not_false (h.second == 0) two.0);
-      m_below = leb-false 16 h.«module» three.0;
+      m_below = leb-false module_count h.«module» three.0;
       zeros = λ k.
           let z = both (h.a == 0) (h.b == 0) (not_false (h.a == 0 && h.b == 0) (second_false (h.kind == 3) (not (h.a == 0 && h.b == 0)) five.0 (eq-eqb h.kind 3 k))) in
           (eqb-true h.a 0 z.0, eqb-true h.b 0 z.1);
-      some = λ k.
-          let z = second_false (h.kind == 2) (h.b == 0 || nat_lt 4096 h.b || not (h.b % 4 == 0)) four.0 (eq-eqb h.kind 2 k) in
-          let y = neither (h.b == 0 || nat_lt 4096 h.b) (not (h.b % 4 == 0)) z in
-          above_zero h.b (neither (h.b == 0) (nat_lt 4096 h.b) y.0).0;
-      few = λ k.
-          let z = second_false (h.kind == 2) (h.b == 0 || nat_lt 4096 h.b || not (h.b % 4 == 0)) four.0 (eq-eqb h.kind 2 k) in
-          let y = neither (h.b == 0 || nat_lt 4096 h.b) (not (h.b % 4 == 0)) z in
-          ltb-false 4096 h.b (neither (h.b == 0) (nat_lt 4096 h.b) y.0).1;
+      some = λ k. let z = in_range k in ltb-true 0 h.b (both (nat_lt 0 h.b) (nat_le h.b page_bytes) z.0).0;
+      few = λ k. let z = in_range k in leb-true h.b page_bytes (both (nat_lt 0 h.b) (nat_le h.b page_bytes) z.0).1;
+      whole = λ k. let z = in_range k in eqb-true (h.b % 4) 0 z.1;
     }
 
 -- the numbers of a header of bytes fit

@@ -5,9 +5,9 @@ use Rattle.std.proofs.lemmas.List.{append-nil, take-append-drop, drop-append-le}
 use Rattle.std.proofs.lemmas.Grind.{flat_map-append}
 use Rattle.lfi_frame.specs.declared.fault.FrameFault.{FrameFault}
 use Rattle.lfi_frame.specs.declared.feed.Feed.{Feed}
-use Rattle.lfi_frame.specs.declared.feed.Step.{Step}
-use Rattle.lfi_frame.specs.declared.feed.Got.{Got}
-use Rattle.lfi_frame.specs.declared.feed.Got.TheVariants.{More, Open, Page, Payload, Close}
+use Rattle.lfi_frame.specs.declared.answer.Step.{Step}
+use Rattle.lfi_frame.specs.declared.answer.Got.{Got}
+use Rattle.lfi_frame.specs.declared.answer.Got.TheVariants.{More, Open, Page, Payload, Close}
 use Rattle.lfi_frame.specs.Streams.{Cut, Message, open_message, page_message, close_message, spelling, short, faulty, unfinished, rest_of}
 use Rattle.lfi_frame.specs.Feeds.{FeedStands, IsTold, Tells, used_in}
 use Rattle.lfi_frame.specs.Runs.{Call, AreCalls, used_by, Heard, hear_got, hear_answer, hear, nothing_heard, joined, UseUp}
@@ -62,7 +62,7 @@ got_heard More old new heard rest used agrees told = (
   ]),
   same_text heard.messages rest used,
 )
-got_heard (Open m words entry) old new heard rest used agrees told = new_message new heard (open_message m words entry) rest used [] told.0 told.1
+got_heard (Open m extent) old new heard rest used agrees told = new_message new heard (open_message m extent.words extent.entry) rest used [] told.0 told.1
 got_heard (Close m) old new heard rest used agrees told = new_message new heard (close_message m) rest used [] told.0 told.1
 got_heard (Page m index len) old new heard rest used agrees told =
     (rest ++ used, record { stands = told.0; page = λ n j k e. (let s = same_page m index len n j k (sym told.2 ∙ e) in (s.0, s.1, sym (nothing_after (rest ++ used) told.1))) }, same_text heard.messages rest used)

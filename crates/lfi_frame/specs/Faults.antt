@@ -17,14 +17,14 @@ number_of Ended = 9
 number_of ReadFailed = 10
 
 -- what `{}` prints of a fault
-abbrev pub text_of : FrameFault → List ℕ
-text_of Kind = codes "unknown kind of message"
-text_of SecondByte = codes "second byte not zero"
-text_of Module = codes "no such module"
-text_of PageLength = codes "page length out of range"
-text_of CloseNumbers = codes "close with numbers"
-text_of WordCount = codes "word count out of range"
-text_of Entry = codes "entry past the last word"
-text_of NoMemory = codes "no memory for a page"
-text_of Ended = codes "input ended too early"
-text_of ReadFailed = codes "read failed"
+abbrev pub fault_text : FrameFault → List ℕ
+fault_text Kind = codes "unknown kind of message"
+fault_text SecondByte = codes "second byte not zero"
+fault_text Module = codes "no such module"
+fault_text PageLength = codes "page length out of range"
+fault_text CloseNumbers = codes "close with numbers"
+fault_text WordCount = codes "word count out of range"
+fault_text Entry = codes "entry past the last word"
+fault_text NoMemory = codes "no memory for a page"
+fault_text Ended = codes "input ended too early"
+fault_text ReadFailed = codes "read failed"

@@ -1,14 +1,15 @@
 -- What a feed stands for, and what its answers tell. The messages are those of docs/DEFINITIONS.md, "stream format".
 use Rattle.std.specs.Prelude.{◌≡◌, ◌≢◌, ℕ, ◌%◌, ◌≤◌, ◌<◌, ◌+◌, ◌==◌, ◌^◌, true, false, List, [], ◌∷◌, ◌++◌, length, take, drop, ◌⊎◌, Option, Some, None, Result, Ok, Err, All, if◌then◌else◌}
+use Rattle.lfi_module.specs.Numbers.{page_bytes}
 use Rattle.lfi_frame.specs.declared.header.Header.{Header}
 use Rattle.lfi_frame.specs.declared.fault.FrameFault.{FrameFault}
 use Rattle.lfi_frame.specs.declared.fault.FrameFault.TheVariants.{NoMemory, Ended, ReadFailed}
 use Rattle.lfi_frame.specs.declared.feed.Feed.{Feed}
-use Rattle.lfi_frame.specs.declared.feed.Step.{Step}
-use Rattle.lfi_frame.specs.declared.feed.Got.{Got}
-use Rattle.lfi_frame.specs.declared.feed.Got.TheVariants.{More, Open, Page, Payload, Close}
-use Rattle.lfi_frame.specs.declared.feed.Place.{Place}
-use Rattle.lfi_frame.specs.declared.feed.Place.TheVariants as place
+use Rattle.lfi_frame.specs.declared.answer.Step.{Step}
+use Rattle.lfi_frame.specs.declared.answer.Got.{Got}
+use Rattle.lfi_frame.specs.declared.answer.Got.TheVariants.{More, Open, Page, Payload, Close}
+use Rattle.lfi_frame.specs.declared.feed.Position.{Position}
+use Rattle.lfi_frame.specs.declared.feed.Position.TheVariants as position
 use Rattle.lfi_frame.specs.Streams.{AreBytes, Message, open_message, page_message, close_message, spelling, header_bytes, header_fault, IsMessage, rest_of, faulty, unfinished, short, whole}
 
 -- the header of a page
@@ -34,23 +35,23 @@ IsSeen ReadFailed rest = rest_of rest ≢ whole
 IsSeen Ended rest = (rest ≢ []) × (rest_of rest ≢ whole)
 IsSeen fault rest = rest_of rest ≡ faulty fault
 
--- what a place and the held bytes say of the bytes since the last whole message
-abbrev pub IsAt : List ℕ → Place → List ℕ → Type 0
-IsAt held (place.Header filled) rest = (filled < 12) × (rest ≡ take filled held) × AreBytes rest
-IsAt held (place.Payload left) rest = IsInPage rest left
-IsAt held (place.Over fault) rest = IsSeen fault rest
+-- what a position and the held bytes say of the bytes since the last whole message
+abbrev pub IsAt : List ℕ → Position → List ℕ → Type 0
+IsAt held (position.Header filled) rest = (filled < 12) × (rest ≡ take filled held) × AreBytes rest
+IsAt held (position.Payload left) rest = IsInPage rest left
+IsAt held (position.Faulty fault) rest = IsSeen fault rest
 
 -- The feed has been given the spellings of these messages, and then these bytes.
 pub record FeedStands (feed : Feed) (messages : List Message) (rest : List ℕ) : Type 0 where
   pub each : All IsMessage messages
-  pub place : IsAt feed.held feed.place rest
+  pub position : IsAt feed.held feed.position rest
 
 -- What a call tells that used these bytes after that rest.
 abbrev pub IsTold : Got → Feed → List Message → List ℕ → List ℕ → Type 0
 IsTold More new messages rest used =
     FeedStands new messages (rest ++ used) × ((rest_of (rest ++ used) ≡ short) ⊎ (used ≡ []))
-IsTold (Open m words entry) new messages rest used =
-    FeedStands new (messages ++ open_message m words entry ∷ []) [] × (rest ++ used ≡ spelling (open_message m words entry))
+IsTold (Open m extent) new messages rest used =
+    FeedStands new (messages ++ open_message m extent.words extent.entry ∷ []) [] × (rest ++ used ≡ spelling (open_message m extent.words extent.entry))
 IsTold (Page m index len) new messages rest used =
     FeedStands new messages (rest ++ used) × (length (rest ++ used) ≡ 12) × (rest_of (rest ++ used) ≡ unfinished m index len)
 IsTold (Payload false) new messages rest used =
@@ -61,11 +62,9 @@ IsTold (Payload true) new messages rest used =
 IsTold (Close m) new messages rest used =
     FeedStands new (messages ++ close_message m ∷ []) [] × (rest ++ used ≡ spelling (close_message m))
 
--- the numbers that an answer tells are in range
+-- the length of a page that an answer tells is that of whole words, at least one and at most a full page's
 abbrev pub IsInRange : Got → Type 0
-IsInRange (Open m words entry) = (m < 16) × (words ≤ 4194304) × (entry < words)
-IsInRange (Page m index len) = (m < 16) × (0 < len) × (len ≤ 4096) × (len % 4 ≡ 0)
-IsInRange (Close m) = m < 16
+IsInRange (Page m index len) = (0 < len) × (len ≤ page_bytes) × (len % 4 ≡ 0)
 IsInRange got = Unit {0}
 
 -- the bytes that a call used
@@ -102,15 +101,15 @@ Tells (Err fault) new messages rest piece =
 abbrev pub IsFed : Feed → List ℕ → Result Step (ℕ × FrameFault) → Feed → Type 0
 IsFed old piece answer new = (messages : List Message) (rest : List ℕ) → FeedStands old messages rest → Tells answer new messages rest piece
 
--- the fault of a stream at a place
-abbrev pub fault_at : Place → Option FrameFault
-fault_at (place.Header filled) = None
-fault_at (place.Payload left) = None
-fault_at (place.Over fault) = Some fault
+-- the fault of a stream at a position
+abbrev pub fault_at : Position → Option FrameFault
+fault_at (position.Header filled) = None
+fault_at (position.Payload left) = None
+fault_at (position.Faulty fault) = Some fault
 
 -- the fault of a feed's stream, once it has one
 abbrev pub feed_fault : Feed → Option FrameFault
-feed_fault feed = fault_at feed.place
+feed_fault feed = fault_at feed.position
 
 -- the fault that an answer tells
 abbrev pub fault_told : Result Step (ℕ × FrameFault) → Option FrameFault
@@ -130,7 +129,7 @@ IsAtEnd (Some before) rest answer = Unit {0}
 
 -- what a header brings, and where a feed is after it
 abbrev pub got_by : Header → Got
-got_by h = if h.kind == 2 then Page h.«module» h.a h.b else if h.kind == 1 then Open h.«module» h.a h.b else Close h.«module»
+got_by h = if h.kind == 2 then Page h.«module» h.a h.b else if h.kind == 1 then Open h.«module» (record { words = h.a; entry = h.b }) else Close h.«module»
 
 abbrev pub answer_by : Option FrameFault → Header → Result Got FrameFault
 answer_by (Some fault) h = Err fault
@@ -139,9 +138,9 @@ answer_by None h = Ok (got_by h)
 abbrev pub answer_to : Header → Result Got FrameFault
 answer_to h = answer_by (header_fault h) h
 
-abbrev pub place_by : Option FrameFault → Header → Place
-place_by (Some fault) h = place.Over fault
-place_by None h = if h.kind == 2 then place.Payload h.b else place.Header 0
+abbrev pub position_by : Option FrameFault → Header → Position
+position_by (Some fault) h = position.Faulty fault
+position_by None h = if h.kind == 2 then position.Payload h.b else position.Header 0
 
-abbrev pub place_after : Header → Place
-place_after h = place_by (header_fault h) h
+abbrev pub position_after : Header → Position
+position_after h = position_by (header_fault h) h

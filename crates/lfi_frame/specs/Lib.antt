@@ -1,6 +1,5 @@
 pub mod Faults
-pub mod Kinds
-pub mod Places
+pub mod inner
 pub mod Streams
 pub mod Feeds
 pub mod Runs

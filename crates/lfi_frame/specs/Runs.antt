@@ -2,9 +2,9 @@
 use Rattle.std.specs.Prelude.{◌≡◌, ℕ, true, false, List, [], ◌∷◌, ◌++◌, take, drop, flat_map, Result, Ok, Err}
 use Rattle.lfi_frame.specs.declared.fault.FrameFault.{FrameFault}
 use Rattle.lfi_frame.specs.declared.feed.Feed.{Feed}
-use Rattle.lfi_frame.specs.declared.feed.Step.{Step}
-use Rattle.lfi_frame.specs.declared.feed.Got.{Got}
-use Rattle.lfi_frame.specs.declared.feed.Got.TheVariants.{More, Open, Page, Payload, Close}
+use Rattle.lfi_frame.specs.declared.answer.Step.{Step}
+use Rattle.lfi_frame.specs.declared.answer.Got.{Got}
+use Rattle.lfi_frame.specs.declared.answer.Got.TheVariants.{More, Open, Page, Payload, Close}
 use Rattle.lfi_frame.specs.Streams.{Message, open_message, page_message, close_message}
 use Rattle.lfi_frame.specs.Feeds.{IsFed, used_in}
 
@@ -32,7 +32,7 @@ pub record Heard : Type 0 where
 
 abbrev pub hear_got : Got → Heard → List ℕ → Heard
 hear_got More heard used = heard
-hear_got (Open m words entry) heard used = record heard { messages = heard.messages ++ open_message m words entry ∷ [] }
+hear_got (Open m extent) heard used = record heard { messages = heard.messages ++ open_message m extent.words extent.entry ∷ [] }
 hear_got (Page m index len) heard used = record { messages = heard.messages; m = m; index = index; payload = [] }
 hear_got (Payload false) heard used = record heard { payload = heard.payload ++ used }
 hear_got (Payload true) heard used = record heard { messages = heard.messages ++ page_message heard.m heard.index (heard.payload ++ used) ∷ [] }

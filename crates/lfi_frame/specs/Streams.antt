@@ -1,6 +1,7 @@
 -- A stream of bytes as messages. Source of all here: docs/DEFINITIONS.md, "stream format" (this project's own format).
-use Rattle.std.specs.Prelude.{◌≡◌, ◌≢◌, ℕ, ◌<◌, ◌==◌, ◌%◌, ◌^◌, nat_lt, nat_le, ◌||◌, ◌&&◌, not, if◌then◌else◌, List, [], ◌∷◌, ◌++◌, length, drop, slice_index, Option, Some, None, flat_map, All}
+use Rattle.std.specs.Prelude.{◌≡◌, ◌≢◌, ℕ, ◌<◌, ◌==◌, ◌%◌, ◌^◌, nat_lt, nat_le, ◌||◌, ◌&&◌, not, if◌then◌else◌, Bool, List, [], ◌∷◌, ◌++◌, length, drop, slice_index, Option, Some, None, flat_map, All}
 use Rattle.byteorder.specs.Endian.{little_bytes, little_number}
+use Rattle.lfi_module.specs.Numbers.{module_count, most_words, page_bytes}
 use Rattle.lfi_frame.specs.declared.header.Header.{Header}
 use Rattle.lfi_frame.specs.declared.fault.FrameFault.{FrameFault}
 use Rattle.lfi_frame.specs.declared.fault.FrameFault.TheVariants.{Kind, SecondByte, Module, PageLength, CloseNumbers, WordCount, Entry}
@@ -45,15 +46,19 @@ header_at bytes = record {
   b = little_number 4 (drop 8 bytes);
 }
 
+-- a page's payload is whole words, at least one and at most a full page's
+abbrev pub is_page_length : ℕ → Bool
+is_page_length bytes = nat_lt 0 bytes && nat_le bytes page_bytes && bytes % 4 == 0
+
 -- The first fault that a header shows by itself: of its kind (1 Open, 2 Page, 3 Close), its second byte, its module, the length of a page, the numbers of a Close, the words of an Open (at most 4,194,304) and its entry.
 abbrev pub header_fault : Header → Option FrameFault
 header_fault h =
     if h.kind == 0 || nat_lt 3 h.kind then Some Kind
     else if not (h.second == 0) then Some SecondByte
-    else if nat_le 16 h.«module» then Some Module
-    else if h.kind == 2 && (h.b == 0 || nat_lt 4096 h.b || not (h.b % 4 == 0)) then Some PageLength
+    else if nat_le module_count h.«module» then Some Module
+    else if h.kind == 2 && not (is_page_length h.b) then Some PageLength
     else if h.kind == 3 && not (h.a == 0 && h.b == 0) then Some CloseNumbers
-    else if h.kind == 1 && (h.a == 0 || nat_lt 4194304 h.a) then Some WordCount
+    else if h.kind == 1 && (h.a == 0 || nat_lt most_words h.a) then Some WordCount
     else if h.kind == 1 && nat_le h.a h.b then Some Entry
     else None
 

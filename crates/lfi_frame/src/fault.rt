@@ -1,7 +1,7 @@
 //! What can be wrong with a stream.
 
 ghost use Rattle.std.specs.Prelude.{◌≡◌, Some};
-ghost use Rattle.lfi_frame.specs.Faults.{number_of, text_of};
+ghost use Rattle.lfi_frame.specs.Faults.{number_of, fault_text};
 
 use std::error::Error;
 use std::fmt;
@@ -56,7 +56,7 @@ impl FrameFault {
 }
 
 impl fmt::Display for FrameFault {
-    ghost output = { λ fault. Some (text_of fault) };
+    ghost output = { λ fault. Some (fault_text fault) };
 
     /// Writes what is wrong in plain words, without the number.
     fn fmt<W: fmt::Write>(&self, f: &mut fmt::Formatter<W>) -> fmt::Result {

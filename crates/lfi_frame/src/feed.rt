@@ -3,47 +3,21 @@
 //! Source of the format: docs/DEFINITIONS.md, "stream format".
 
 ghost use Rattle.std.specs.Prelude.{◌≡◌, ◌≢◌, ℕ, ◌<◌, ◌≤◌, ◌⊎◌, List, [], ◌++◌, length, take, Result, Ok, Err, Option, Some, None, IfSome, IfOk};
-ghost use Rattle.lfi_frame.specs.Places.{filled_at, left_at, is_between};
+ghost use Rattle.lfi_frame.specs.inner.Positions.{filled_at, left_at, is_between};
 
+use crate::answer::{Got, Step};
 use crate::fault::FrameFault;
-use crate::header::{HEADER_BYTES, Header, Kind};
-
-/// What the bytes that a call used have brought.
-#[derive(Clone, Copy, Debug, PartialEq, Eq)]
-pub enum Got {
-    /// The whole piece was used, or it was empty, and nothing came to its end.
-    More,
-    /// A whole Open: of this module, 0 to 15, with this number of words, 1 to 4,194,304, and this
-    /// entry word, below it.
-    Open { module: u16, words: u32, entry: u32 },
-    /// The header of a page: of this module, with this index in it, and a payload of `len` bytes, 4
-    /// to 4,096 and a multiple of 4, which follows.
-    Page { module: u16, index: u32, len: u32 },
-    /// The used bytes are payload of the page whose header came last. Where it ended, the last of
-    /// them is the page's last byte.
-    Payload { ended: bool },
-    /// A whole Close of this module.
-    Close { module: u16 },
-}
-
-/// One call's answer: how many bytes of the piece it used, and what they brought.
-#[derive(Clone, Copy, Debug, PartialEq, Eq)]
-pub struct Step {
-    /// The bytes used, from the piece's first on.
-    pub used: usize,
-    /// What they brought.
-    pub got: Got,
-}
+use crate::header::{HEADER_BYTES, Header};
 
 /// Where in its stream a feed is.
 #[derive(Clone, Copy, Debug, PartialEq, Eq)]
-pub enum Place {
+pub enum Position {
     /// So many bytes of a header have come, 0 to 11. With 0 it is between two messages.
     Header { filled: usize },
     /// So many bytes of a payload are still to come, at least 1.
     Payload { left: u32 },
     /// The stream has this fault.
-    Over(FrameFault),
+    Faulty(FrameFault),
 }
 
 /// A reader of a stream that comes in pieces, cut anywhere. Of the stream it holds the bytes of one
@@ -51,15 +25,15 @@ pub enum Place {
 #[derive(Debug, Drop)]
 pub struct Feed {
     held: [u8; HEADER_BYTES],
-    place: Place,
-    ghost header_room: { filled_at place < 12 },
-    ghost payload_left: { 0 < left_at place },
+    position: Position,
+    ghost header_room: { filled_at position < 12 },
+    ghost payload_left: { 0 < left_at position },
 }
 
 impl Feed {
     ghost use Rattle.lfi_frame.specs.declared.fault.FrameFault.TheVariants.{NoMemory, Ended, ReadFailed};
     ghost use Rattle.lfi_frame.specs.Streams.{Message, header_at};
-    ghost use Rattle.lfi_frame.specs.Feeds.{FeedStands, IsFed, IsInRange, feed_fault, UsesAll, UsesPayload, IsHeaderUsed, fault_at, fault_told, used_in, IsAtEnd, fault_ended, answer_to, place_after};
+    ghost use Rattle.lfi_frame.specs.Feeds.{FeedStands, IsFed, IsInRange, feed_fault, UsesAll, UsesPayload, IsHeaderUsed, fault_at, fault_told, used_in, IsAtEnd, fault_ended, answer_to, position_after};
 
     /// A feed of which no byte has come.
     pub fn new() -> Feed
@@ -68,7 +42,7 @@ impl Feed {
     {
         Feed {
             held: [0; HEADER_BYTES],
-            place: Place::Header { filled: 0 },
+            position: Position::Header { filled: 0 },
         }
     }
 
@@ -93,16 +67,16 @@ impl Feed {
         ensures over { IfSome (feed_fault self.old)
             (λ fault. (result ≡ Err (0, fault)) × (self.new ≡ self.old)) }
     {
-        match self.place {
-            Place::Over(fault) => Err((0, fault)),
-            Place::Header { filled } => self.feed_header(filled, piece),
-            Place::Payload { left } => Ok(self.feed_payload(left, piece)),
+        match self.position {
+            Position::Faulty(fault) => Err((0, fault)),
+            Position::Header { filled } => self.feed_header(filled, piece),
+            Position::Payload { left } => Ok(self.feed_payload(left, piece)),
         }
     }
 
     /// `feed` where bytes of a header are to come.
     fn feed_header(&mut self, filled: usize, piece: &[u8]) -> Result<Step, (usize, FrameFault)>
-        requires { self.old.place ≡ Place.Header filled }
+        requires { self.old.position ≡ Position.Header filled }
         ensures told { IsFed self.old piece.now result self.new }
         ensures range { IfOk result (λ step. IsInRange step.got) }
         ensures within { used_in result ≤ length piece.now }
@@ -117,7 +91,7 @@ impl Feed {
         self.held[filled..filled + used].copy_from_slice(&piece[..used]);
         let filled = filled + used;
         if filled < HEADER_BYTES {
-            self.place = Place::Header { filled };
+            self.position = Position::Header { filled };
             return Ok(Step {
                 used,
                 got: Got::More,
@@ -133,43 +107,21 @@ impl Feed {
     fn begin(&mut self) -> Result<Got, FrameFault>
         ensures answer { result ≡ answer_to (header_at self.old.held) }
         ensures range { IfOk result IsInRange }
-        ensures place { self.new.place ≡ place_after (header_at self.old.held) }
+        ensures position { self.new.position ≡ position_after (header_at self.old.held) }
         ensures held { self.new.held ≡ self.old.held }
     {
-        let header = Header::read(&self.held);
-        match header.judge() {
-            Err(fault) => {
-                self.place = Place::Over(fault);
-                Err(fault)
-            }
-            Ok(Kind::Open) => {
-                self.place = Place::Header { filled: 0 };
-                Ok(Got::Open {
-                    module: header.module,
-                    words: header.a,
-                    entry: header.b,
-                })
-            }
-            Ok(Kind::Page) => {
-                self.place = Place::Payload { left: header.b };
-                Ok(Got::Page {
-                    module: header.module,
-                    index: header.a,
-                    len: header.b,
-                })
-            }
-            Ok(Kind::Close) => {
-                self.place = Place::Header { filled: 0 };
-                Ok(Got::Close {
-                    module: header.module,
-                })
-            }
-        }
+        let answer = Header::read(&self.held).judge();
+        self.position = match answer {
+            Err(fault) => Position::Faulty(fault),
+            Ok(Got::Page { len, .. }) => Position::Payload { left: len },
+            Ok(_) => Position::Header { filled: 0 },
+        };
+        answer
     }
 
     /// `feed` where bytes of a payload are to come.
     fn feed_payload(&mut self, left: u32, piece: &[u8]) -> Step
-        requires { self.old.place ≡ Place.Payload left }
+        requires { self.old.position ≡ Position.Payload left }
         ensures told { IsFed self.old piece.now (Ok result) self.new }
         ensures range { IsInRange result.got }
         ensures within { result.used ≤ length piece.now }
@@ -188,9 +140,9 @@ impl Feed {
         let used = piece.len().min(left as usize);
         let left = left - used as u32;
         if left == 0 {
-            self.place = Place::Header { filled: 0 };
+            self.position = Position::Header { filled: 0 };
         } else {
-            self.place = Place::Payload { left };
+            self.position = Position::Payload { left };
         }
         Step {
             used,
@@ -211,24 +163,24 @@ impl Feed {
         ensures over { IfSome (feed_fault self.old)
             (λ fault. (result ≡ Err fault) × (self.new ≡ self.old)) }
     {
-        if let Place::Over(fault) = self.place {
+        if let Position::Faulty(fault) = self.position {
             return Err(fault);
         }
         if self.is_between() {
             return Ok(());
         }
-        self.place = Place::Over(FrameFault::Ended);
+        self.position = Position::Faulty(FrameFault::Ended);
         Err(FrameFault::Ended)
     }
 
     /// Whether nothing has come since the last whole message.
     fn is_between(&self) -> bool
-        ensures { result ≡ is_between self.now.place }
+        ensures { result ≡ is_between self.now.position }
     {
-        match self.place {
-            Place::Header { filled } => filled == 0,
-            Place::Payload { .. } => false,
-            Place::Over(_) => false,
+        match self.position {
+            Position::Header { filled } => filled == 0,
+            Position::Payload { .. } => false,
+            Position::Faulty(_) => false,
         }
     }
 
@@ -241,17 +193,17 @@ impl Feed {
         ensures first { feed_fault self.old ≡ None → feed_fault self.new ≡ Some fault }
         ensures over { IfSome (feed_fault self.old) (λ _. self.new ≡ self.old) }
     {
-        if let Place::Over(_) = self.place {
+        if let Position::Faulty(_) = self.position {
             return;
         }
-        self.place = Place::Over(fault);
+        self.position = Position::Faulty(fault);
     }
 }
 
 impl Default for Feed {
     ghost use Rattle.lfi_frame.specs.Feeds.{FeedStands, fault_at};
 
-    ghost is_default = { λ feed. FeedStands feed [] [] × (fault_at feed.place ≡ None) };
+    ghost is_default = { λ feed. FeedStands feed [] [] × (fault_at feed.position ≡ None) };
 
     /// A feed of which no byte has come, as `Feed::new` makes it.
     fn default() -> Feed {

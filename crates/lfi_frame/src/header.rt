@@ -4,32 +4,26 @@
 //! header of a Page is followed by its payload of `b`
 //! bytes. Source: docs/DEFINITIONS.md, "stream format".
 
-ghost use Rattle.std.specs.Prelude.{◌≡◌, IfSome, IfOk};
+ghost use Rattle.std.specs.Prelude.{◌≡◌, IfOk};
 ghost use Rattle.std.specs.Result.{result_err};
-ghost use Rattle.lfi_frame.specs.Streams.{header_at, header_fault};
-ghost use Rattle.lfi_frame.specs.Kinds.{kind_of, kind_number, AreInRange};
+ghost use Rattle.lfi_frame.specs.Streams.{header_at, header_fault, is_page_length};
+ghost use Rattle.lfi_frame.specs.inner.Kinds.{kind_of};
+ghost use Rattle.lfi_frame.specs.Feeds.{IsInRange, answer_to};
 
+use crate::answer::Got;
 use crate::fault::FrameFault;
 use byteorder::{ByteOrder, LittleEndian};
+use lfi_module::{Extent, ModuleNumber, PageSize, WordCount};
 
 /// The bytes of a header.
 pub const HEADER_BYTES: usize = 12;
 
-/// The number of modules, which are 0 to 15.
-pub const MODULES: u16 = 16;
-
-/// The most bytes in the payload of a Page.
-pub const PAGE_BYTES: u32 = 4096;
-
 /// The bytes of an instruction word, of which a payload is a whole number.
 const WORD_BYTES: u32 = 4;
 
-/// The most words of a module.
-pub const MAX_WORDS: u32 = 4_194_304;
-
 /// What a message is about, by the first byte of its header.
 #[derive(Clone, Copy, Debug, PartialEq, Eq)]
-pub(crate) enum Kind {
+pub(crate) enum MessageKind {
     /// A module begins: 1.
     Open,
     /// A page of a module: 2.
@@ -38,15 +32,15 @@ pub(crate) enum Kind {
     Close,
 }
 
-impl Kind {
+impl MessageKind {
     /// The kind with this number, `None` where there is none.
-    fn of(number: u8) -> Option<Kind>
+    fn of(number: u8) -> Option<MessageKind>
         ensures { result ≡ kind_of number }
     {
         match number {
-            1 => Some(Kind::Open),
-            2 => Some(Kind::Page),
-            3 => Some(Kind::Close),
+            1 => Some(MessageKind::Open),
+            2 => Some(MessageKind::Page),
+            3 => Some(MessageKind::Close),
             _ => None,
         }
     }
@@ -90,29 +84,43 @@ impl Header {
         self.judge().err()
     }
 
-    /// The kind of a header without a fault, or the first fault that it shows.
-    pub(crate) fn judge(&self) -> Result<Kind, FrameFault>
+    /// What a header without a fault brings, or the first fault that it shows.
+    pub(crate) fn judge(&self) -> Result<Got, FrameFault>
+        ensures answer { result ≡ answer_to self.now }
         ensures fault { result_err result ≡ header_fault self.now }
-        ensures kind { IfOk result (λ kind. kind_number kind ≡ self.now.kind) }
-        ensures range { IfOk result (λ kind. AreInRange kind self.now) }
+        ensures range { IfOk result IsInRange }
     {
-        let Some(kind) = Kind::of(self.kind) else {
+        let Some(kind) = MessageKind::of(self.kind) else {
             return Err(FrameFault::Kind);
         };
         if self.second != 0 {
             return Err(FrameFault::SecondByte);
         }
-        if self.module >= MODULES {
+        let Some(module) = ModuleNumber::new(self.module) else {
             return Err(FrameFault::Module);
-        }
+        };
         match kind {
-            Kind::Open if self.a == 0 || self.a > MAX_WORDS => Err(FrameFault::WordCount),
-            Kind::Open if self.b >= self.a => Err(FrameFault::Entry),
-            Kind::Page if self.b == 0 || self.b > PAGE_BYTES || self.b % WORD_BYTES != 0 => {
-                Err(FrameFault::PageLength)
+            MessageKind::Open => {
+                let words = WordCount::new(self.a).ok_or(FrameFault::WordCount)?;
+                let extent = Extent::new(words, self.b).ok_or(FrameFault::Entry)?;
+                Ok(Got::Open { module, extent })
             }
-            Kind::Close if self.a != 0 || self.b != 0 => Err(FrameFault::CloseNumbers),
-            _ => Ok(kind),
+            MessageKind::Page if !self.is_page_length() => Err(FrameFault::PageLength),
+            MessageKind::Page => Ok(Got::Page {
+                module,
+                index: self.a,
+                len: self.b,
+            }),
+            MessageKind::Close if self.a != 0 || self.b != 0 => Err(FrameFault::CloseNumbers),
+            MessageKind::Close => Ok(Got::Close { module }),
         }
+    }
+
+    /// Whether its second number is that of a page's payload: whole words, at least one and at
+    /// most a full page's.
+    fn is_page_length(&self) -> bool
+        ensures { result ≡ is_page_length self.now.b }
+    {
+        self.b != 0 && self.b <= PageSize::profile().bytes() && self.b % WORD_BYTES == 0
     }
 }

@@ -6,11 +6,13 @@
 //! the bytes as messages.
 #![tactic(auto)]
 
+pub mod answer;
 pub mod fault;
 pub mod feed;
 pub mod header;
 pub mod laws;
 
+pub use answer::{Got, Step};
 pub use fault::FrameFault;
-pub use feed::{Feed, Got, Step};
-pub use header::{HEADER_BYTES, MAX_WORDS, MODULES, PAGE_BYTES};
+pub use feed::Feed;
+pub use header::{HEADER_BYTES, Header};

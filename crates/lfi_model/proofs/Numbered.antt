@@ -3,14 +3,14 @@ use Rattle.std.proofs.Common.{ap, ◌∙◌, ◌≡◌, ℕ, ◌+◌, ◌==◌, 
 use Rattle.std.specs.List.{filter, fold, list_any}
 use Rattle.std.proofs.lemmas.List.{append-nil}
 use Rattle.lfi_queues.specs.Items.{ItemView}
-use Rattle.lfi_queues.specs.declared.item.Kind.{Kind}
-use Rattle.lfi_queues.specs.declared.item.Kind.TheVariants.{Open, Page, End}
+use Rattle.lfi_queues.specs.declared.item.ItemKind.{ItemKind}
+use Rattle.lfi_queues.specs.declared.item.ItemKind.TheVariants.{Open, Page, End}
 use Rattle.lfi_queues.specs.declared.item.Reason.{Reason}
 use Rattle.lfi_queues.specs.declared.item.Reason.TheVariants.{Close, PageFault}
 use Rattle.lfi_model.specs.declared.connection.Progress.{Progress}
-use Rattle.lfi_model.specs.declared.connection.Progress.TheVariants.{Unclaimed, Going, Over}
+use Rattle.lfi_model.specs.declared.connection.Progress.TheVariants.{Unclaimed, Going, Ended}
 use Rattle.lfi_model.specs.declared.connection.Cause.{Cause}
-use Rattle.lfi_model.specs.declared.connection.Cause.TheVariants.{End as Ended, Failed, Starved}
+use Rattle.lfi_model.specs.declared.connection.Cause.TheVariants.{End as AtEnd, Failed, Starved}
 use Rattle.lfi_frame.specs.Streams.{Message}
 use Rattle.lfi_frame.specs.Streams.{open_message, page_message, close_message}
 use Rattle.lfi_frame.specs.Streams.{Rest}
@@ -18,7 +18,9 @@ use Rattle.lfi_frame.specs.Streams.{short, faulty, unfinished, whole}
 use Rattle.lfi_frame.specs.declared.fault.FrameFault.{FrameFault}
 use Rattle.lfi_frame.specs.declared.fault.FrameFault.TheVariants as fault_kind
 use Rattle.lfi_frame.specs.Streams.{rest_of}
-use Rattle.lfi_model.specs.Items.{Share, after_header, after_message, after_page, after_rest, connection_fault, ends_of, fault_by_cause, fault_of, is_due, is_going, is_inside, is_of, item_of, items_of, modules, nothing_yet, reason_of, share_at, with_item, with_stray}
+use Rattle.lfi_model.specs.Items.{Share, after_header, after_message, after_page, after_rest, connection_fault, ends_of, fault_by_cause, fault_of, is_going, is_inside, is_of, item_of, items_of, modules, nothing_yet, reason_of, share_at, with_item, with_stray}
+use Rattle.lfi_module.specs.Numbers.{page_words}
+use Rattle.lfi_module.specs.Pages.{is_due}
 use Rattle.lfi_model.specs.Outcomes.{end_of, reason_at}
 use Rattle.lfi_model.specs.Modules.{Member, FitsAfter, OpensFirst, IsNext, IsModule}
 
@@ -44,7 +46,7 @@ numbered_more items x numbered next before after y e =
       | inr h ↦ numbered before h.0 y h.1
     ]
 
-end_step : (kind : Kind) (later more : Option Reason) → reason_at kind later ≡ None → (later ≡ None → more ≡ None) → reason_at kind more ≡ None
+end_step : (kind : ItemKind) (later more : Option Reason) → reason_at kind later ≡ None → (later ≡ None → more ≡ None) → reason_at kind more ≡ None
 end_step (Open entry) later more h goes = goes h
 end_step (Page bytes) later more h goes = goes h
 end_step (End reason) later more h goes = absurd (cc)
@@ -71,13 +73,13 @@ pub record IsOver (items : List ItemView) : Type 0 where
 abbrev pub Stands : Progress → List ItemView → Type 0
 Stands Unclaimed items = items ≡ []
 Stands (Going n p) items = IsGoing n p items
-Stands Over items = IsOver items
+Stands Ended items = IsOver items
 
 pub end_snoc : (items : List ItemView) (x : ItemView) → end_of items ≡ None → end_of (items ++ x ∷ []) ≡ reason_at x.kind None
 end_snoc [] x e = refl
 end_snoc (i ∷ items) x e = end_by i.kind (end_of items) (end_of (items ++ x ∷ [])) (reason_at x.kind None) e (λ h. end_snoc items x h)
   where
-    end_by : (kind : Kind) (later more last : Option Reason) → reason_at kind later ≡ None → (later ≡ None → more ≡ last) → reason_at kind more ≡ last
+    end_by : (kind : ItemKind) (later more last : Option Reason) → reason_at kind later ≡ None → (later ≡ None → more ≡ last) → reason_at kind more ≡ last
     end_by (Open entry) later more last e h = h e
     end_by (Page bytes) later more last e h = h e
     end_by (End reason) later more last e h = absurd (cc)
@@ -87,13 +89,13 @@ nothing : ItemView
 nothing = item_of 0 0 0 (Open 0)
 
 -- a page or an End comes after the Open
-later : (p : ℕ) (items : List ItemView) (kind : Kind) → length items ≡ p + 1 → OpensFirst (nothing ∷ []) kind → OpensFirst items kind
+later : (p : ℕ) (items : List ItemView) (kind : ItemKind) → length items ≡ p + 1 → OpensFirst (nothing ∷ []) kind → OpensFirst items kind
 later p [] kind long h = absurd (omega arith)
 later p (i ∷ items) (Open entry) long h = h
 later p (i ∷ items) (Page bytes) long h = h
 later p (i ∷ items) (End reason) long h = h
 
-going_on : (m n p : ℕ) (items : List ItemView) (kind : Kind) → OpensFirst (nothing ∷ []) kind → IsGoing n p items → IsModule (items ++ item_of m (p + 1) n kind ∷ [])
+going_on : (m n p : ℕ) (items : List ItemView) (kind : ItemKind) → OpensFirst (nothing ∷ []) kind → IsGoing n p items → IsModule (items ++ item_of m (p + 1) n kind ∷ [])
 going_on m n p items kind h g = numbered_more items (item_of m (p + 1) n kind) g.numbered (record { ordinal = sym g.long; opens = later p items kind g.long h; fits = g.fits (item_of m (p + 1) n kind) refl })
 
 no_end_yet : (n p : ℕ) (items : List ItemView) → length items ≡ p + 1 → ((x : ItemView) → x.words ≡ n → FitsAfter items x) → end_of items ≡ None
@@ -142,7 +144,7 @@ either false s t hs ht = ht
 
 page_stands : (m n p : ℕ) (s : Share) (index len : ℕ) (due : Share) → IsGoing n p s.items → Stands due.progress due.items → Stands (after_page m n p s index len due).progress (after_page m n p s index len due).items
 page_stands m n p s index len due g d =
-    either (is_due n p index len) due (with_item s (item_of m (p + 1) n (End (PageFault index))) Over) d (over m n p s.items (PageFault index) g)
+    either (is_due page_words n p index len) due (with_item s (item_of m (p + 1) n (End (PageFault index))) Ended) d (over m n p s.items (PageFault index) g)
 
 same_stands : (s : Share) (progress : Progress) → s.progress ≡ progress → Stands progress s.items → Stands s.progress s.items
 same_stands s progress e h = subst (λ q. Stands q s.items) (sym e) h
@@ -155,9 +157,9 @@ message_stands claimed m s Unclaimed (close_message k) e h = same_stands s Uncla
 message_stands claimed m s (Going n p) (open_message k words entry) e h = same_stands s (Going n p) e h
 message_stands claimed m s (Going n p) (page_message k index payload) e h = page_stands m n p s index (length payload) (with_item s (item_of m (p + 1) n (Page payload)) (Going n (p + 1))) h (page_more m n p s.items payload h)
 message_stands claimed m s (Going n p) (close_message k) e h = over m n p s.items Close h
-message_stands claimed m s Over (open_message k words entry) e h = same_stands s Over e h
-message_stands claimed m s Over (page_message k index payload) e h = same_stands s Over e h
-message_stands claimed m s Over (close_message k) e h = same_stands s Over e h
+message_stands claimed m s Ended (open_message k words entry) e h = same_stands s Ended e h
+message_stands claimed m s Ended (page_message k index payload) e h = same_stands s Ended e h
+message_stands claimed m s Ended (close_message k) e h = same_stands s Ended e h
 
 messages_stand : (claimed : Bool) (m : ℕ) (messages : List Message) (s : Share) → Stands s.progress s.items →
     Stands (fold (λ t message. after_message claimed m t t.progress message) s messages).progress (fold (λ t message. after_message claimed m t t.progress message) s messages).items
@@ -168,7 +170,7 @@ messages_stand claimed m (message ∷ messages) s h =
 header_stands : (m : ℕ) (s : Share) (progress : Progress) (index len : ℕ) → s.progress ≡ progress → Stands progress s.items → Stands (after_header m s progress index len).progress (after_header m s progress index len).items
 header_stands m s Unclaimed index len e h = same_stands s Unclaimed e h
 header_stands m s (Going n p) index len e h = page_stands m n p s index len s h (same_stands s (Going n p) e h)
-header_stands m s Over index len e h = same_stands s Over e h
+header_stands m s Ended index len e h = same_stands s Ended e h
 
 rest_stands : (m : ℕ) (s : Share) (rest : Rest) → Stands s.progress s.items → Stands (after_rest m s rest).progress (after_rest m s rest).items
 rest_stands m s short h = h
@@ -180,7 +182,7 @@ ends_stand : (m : ℕ) (progress : Progress) (items : List ItemView) (fault : Op
 ends_stand m Unclaimed items fault h = subst (λ l. IsModule (l ++ [])) (sym h) module_none
 ends_stand m (Going n p) items (Some fault) g = going_on m n p items (End (reason_of fault)) tt g
 ends_stand m (Going n p) items None g = subst IsModule (sym (append-nil items)) g.numbered
-ends_stand m Over items fault h = subst IsModule (sym (append-nil items)) h.numbered
+ends_stand m Ended items fault h = subst IsModule (sym (append-nil items)) h.numbered
 
 stands_at : (messages : List Message) (rest : List ℕ) (cause : Cause) (claimed : ℕ → Bool) (m : ℕ) → Stands (share_at messages rest cause claimed m).progress (share_at messages rest cause claimed m).items
 stands_at messages rest cause claimed m =
@@ -193,7 +195,7 @@ items_numbered messages rest cause claimed m =
 
 -- with a message or a module left open there is a fault
 by_cause : (cause : Cause) → (fault : FrameFault) × (fault_by_cause cause true ≡ Some fault)
-by_cause Ended = (fault_kind.Ended, refl)
+by_cause AtEnd = (fault_kind.Ended, refl)
 by_cause Failed = (fault_kind.ReadFailed, refl)
 by_cause Starved = (fault_kind.NoMemory, refl)
 
@@ -217,7 +219,7 @@ ends_sure m (Going n p) items fault g sure =
     let f = sure refl in
     let o = over m n p items (reason_of f.0) g in
     inr (o.reason, subst (λ z. end_of (items ++ ends_of m (Going n p) z) ≡ Some o.reason) (sym f.1) o.ended)
-ends_sure m Over items fault h sure = inr (h.reason, ap end_of (append-nil items) ∙ h.ended)
+ends_sure m Ended items fault h sure = inr (h.reason, ap end_of (append-nil items) ∙ h.ended)
 
 -- a connection that has ended has ended each of its modules
 pub items_end : (messages : List Message) (rest : List ℕ) (cause : Cause) (claimed : ℕ → Bool) (m : ℕ) → Member modules m →

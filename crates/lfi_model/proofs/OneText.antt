@@ -1,6 +1,7 @@
 -- What a text makes is determined by it.
 use Rattle.std.proofs.Common.{◌≡◌, ℕ, ◌<◌, Bool, List, Option, sym, ◌∙◌}
 use Rattle.lfi_frame.specs.declared.fault.FrameFault.{FrameFault}
+use Rattle.lfi_module.specs.Numbers.{module_count}
 use Rattle.lfi_frame.proofs.Cuts.{only}
 use Rattle.lfi_queues.specs.Items.{ItemView}
 use Rattle.lfi_model.specs.declared.connection.Cause.{Cause}
@@ -14,7 +15,7 @@ module _ (bytes : List ℕ) (cause : Cause) (claimed : ℕ → Bool) (items othe
   rest_same : one.rest ≡ two.rest
   rest_same = (only bytes one.messages two.messages one.rest two.rest one.cut two.cut).1
 
-  pub same_items : (m : ℕ) → m < 16 → items m ≡ other m
+  pub same_items : (m : ℕ) → m < module_count → items m ≡ other m
   same_items m in_range =
       one.items_are m in_range ∙ (λ i. items_of (messages_same i) (rest_same i) cause claimed m) ∙ sym (two.items_are m in_range)
 

@@ -1,29 +1,20 @@
 -- The items of one connection, module by module. (docs/DEFINITIONS.md, "Items of a connection")
-use Rattle.std.specs.Prelude.{◌≡◌, ℕ, ◌+◌, ◌-◌, ◌*◌, ◌/◌, ◌<◌, ◌==◌, nat_lt, min, Bool, true, false, ◌||◌, ◌&&◌, not, if◌then◌else◌, List, [], ◌∷◌, ◌++◌, length, Option, Some, None, fold, filter, sum_by}
+use Rattle.std.specs.Prelude.{◌≡◌, ℕ, ◌+◌, ◌<◌, ◌==◌, Bool, true, false, ◌||◌, ◌&&◌, not, if◌then◌else◌, List, [], ◌∷◌, ◌++◌, length, Option, Some, None, fold, filter, sum_by}
 use Rattle.std.specs.List.{list_any}
+use Rattle.lfi_module.specs.Numbers.{module_count, page_words}
+use Rattle.lfi_module.specs.Pages.{is_due}
 use Rattle.lfi_frame.specs.declared.fault.FrameFault.{FrameFault}
 use Rattle.lfi_frame.specs.declared.fault.FrameFault.TheVariants as fault
 use Rattle.lfi_frame.specs.Streams.{Message, open_message, page_message, close_message, header_of, Rest, faulty, unfinished, rest_of, Cut}
 use Rattle.lfi_queues.specs.Items.{ItemView}
-use Rattle.lfi_queues.specs.declared.item.Kind.{Kind}
-use Rattle.lfi_queues.specs.declared.item.Kind.TheVariants.{Open, Page, End}
+use Rattle.lfi_queues.specs.declared.item.ItemKind.{ItemKind}
+use Rattle.lfi_queues.specs.declared.item.ItemKind.TheVariants.{Open, Page, End}
 use Rattle.lfi_queues.specs.declared.item.Reason.{Reason}
 use Rattle.lfi_queues.specs.declared.item.Reason.TheVariants.{Close, Lost, PageFault, NoMemory}
 use Rattle.lfi_model.specs.declared.connection.Cause.{Cause}
 use Rattle.lfi_model.specs.declared.connection.Cause.TheVariants as cause
 use Rattle.lfi_model.specs.declared.connection.Progress.{Progress}
-use Rattle.lfi_model.specs.declared.connection.Progress.TheVariants.{Unclaimed, Going, Over}
-
--- how many pages a module of n words has, and how many bytes its page p
-abbrev pub page_count : ℕ → ℕ
-page_count n = (n + 1023) / 1024
-
-abbrev pub page_len : (n p : ℕ) → ℕ
-page_len n p = min 4096 (4 * n - 4096 * p)
-
--- page `index` of `len` bytes is the one that has to come after the first p pages of a module of n words
-abbrev pub is_due : (n p : ℕ) → (index len : ℕ) → Bool
-is_due n p index len = index == p && nat_lt index (page_count n) && len == page_len n index
+use Rattle.lfi_model.specs.declared.connection.Progress.TheVariants.{Unclaimed, Going, Ended}
 
 -- What one module got of a connection: its items, the strays, and how far it is.
 pub record Share : Type 0 where
@@ -40,14 +31,14 @@ with_stray s = record { items = s.items; strays = s.strays + 1; progress = s.pro
 abbrev pub with_item : Share → ItemView → Progress → Share
 with_item s item progress = record { items = s.items ++ item ∷ []; strays = s.strays; progress = progress }
 
-abbrev pub item_of : (m ordinal words : ℕ) → Kind → ItemView
+abbrev pub item_of : (m ordinal words : ℕ) → ItemKind → ItemView
 item_of m ordinal words kind = record { «module» = m; ordinal = ordinal; words = words; kind = kind }
 
 -- a page of module m, where the first p of n words' pages have come: `then_due` where it is the one due, else the End
 abbrev pub after_page : (m n p : ℕ) → Share → (index len : ℕ) → Share → Share
 after_page m n p s index len then_due =
-    if is_due n p index len then then_due
-    else with_item s (item_of m (p + 1) n (End (PageFault index))) Over
+    if is_due page_words n p index len then then_due
+    else with_item s (item_of m (p + 1) n (End (PageFault index))) Ended
 
 -- one more message of module m, which is claimed or isn't
 abbrev pub after_message : Bool → ℕ → Share → Progress → Message → Share
@@ -55,7 +46,7 @@ after_message claimed m s Unclaimed (open_message _ words entry) =
     if claimed then with_item s (item_of m 0 words (Open entry)) (Going words 0) else with_stray s
 after_message claimed m s (Going n p) (page_message _ index payload) =
     after_page m n p s index (length payload) (with_item s (item_of m (p + 1) n (Page payload)) (Going n (p + 1)))
-after_message claimed m s (Going n p) (close_message _) = with_item s (item_of m (p + 1) n (End Close)) Over
+after_message claimed m s (Going n p) (close_message _) = with_item s (item_of m (p + 1) n (End Close)) Ended
 after_message claimed m s progress message = with_stray s
 
 -- the header of a page whose payload isn't whole
@@ -126,6 +117,6 @@ pub record ItemsOf (bytes : List ℕ) (cause : Cause) (claimed : ℕ → Bool) (
   pub messages : List Message
   pub rest : List ℕ
   pub cut : Cut bytes messages rest
-  pub items_are : (m : ℕ) → m < 16 → items m ≡ items_of messages rest cause claimed m
+  pub items_are : (m : ℕ) → m < module_count → items m ≡ items_of messages rest cause claimed m
   pub fault_is : found ≡ connection_fault messages rest cause claimed
   pub strays_are : strays ≡ strays_of messages rest cause claimed

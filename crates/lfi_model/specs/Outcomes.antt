@@ -1,8 +1,8 @@
 -- What becomes of a module, by one plain pass over its items. (docs/DEFINITIONS.md, "Outcomes")
 use Rattle.std.specs.Prelude.{◌≡◌, ℕ, ◌≤◌, ◌==◌, if◌then◌else◌, List, [], ◌∷◌, ◌++◌, length, Option, Some, None, flat_map}
 use Rattle.lfi_queues.specs.Items.{ItemView}
-use Rattle.lfi_queues.specs.declared.item.Kind.{Kind}
-use Rattle.lfi_queues.specs.declared.item.Kind.TheVariants.{Page, End}
+use Rattle.lfi_queues.specs.declared.item.ItemKind.{ItemKind}
+use Rattle.lfi_queues.specs.declared.item.ItemKind.TheVariants.{Page, End}
 use Rattle.lfi_queues.specs.declared.item.Reason.{Reason}
 use Rattle.lfi_queues.specs.declared.item.Reason.TheVariants.{Close, Lost, PageFault, NoMemory}
 use Rattle.lfi_rules.specs.declared.fault.Fault.{Fault}
@@ -11,10 +11,11 @@ use Rattle.lfi_rules.specs.Verdicts.{all_words}
 use Rattle.page_buf.specs.Spelled.{words_of}
 use Rattle.lfi_model.specs.declared.outcome.Outcome.{Outcome}
 use Rattle.lfi_model.specs.declared.outcome.Outcome.TheVariants as outcome
-use Rattle.lfi_model.specs.Items.{page_count}
+use Rattle.lfi_module.specs.Numbers.{page_words}
+use Rattle.lfi_module.specs.Pages.{page_count}
 
 -- the pages of a module's items, each as its words
-abbrev pub page_of : Kind → List (List ℕ)
+abbrev pub page_of : ItemKind → List (List ℕ)
 page_of (Page bytes) = words_of bytes ∷ []
 page_of kind = []
 
@@ -22,7 +23,7 @@ abbrev pub pages_of : List ItemView → List (List ℕ)
 pages_of items = flat_map (λ item. page_of item.kind) items
 
 -- why it ended, where it has
-abbrev pub reason_at : Kind → Option Reason → Option Reason
+abbrev pub reason_at : ItemKind → Option Reason → Option Reason
 reason_at (End reason) later = Some reason
 reason_at kind later = later
 
@@ -33,7 +34,7 @@ end_of (item ∷ items) = reason_at item.kind (end_of items)
 -- the outcome of a module of n words, by its End, where there is no fault in its words
 abbrev pub by_end : ℕ → List ItemView → Reason → Outcome
 by_end n items Close =
-    if length (all_words (pages_of items)) == n then outcome.Complete n else outcome.Incomplete (length (pages_of items)) (page_count n)
+    if length (all_words (pages_of items)) == n then outcome.Complete n else outcome.Incomplete (length (pages_of items)) (page_count page_words n)
 by_end n items (Lost fault) = outcome.Lost fault
 by_end n items (PageFault index) = outcome.PageFault index
 by_end n items NoMemory = outcome.NoMemory

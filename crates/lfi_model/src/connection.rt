@@ -1,5 +1,7 @@
 //! What is known of one connection.
 
+use lfi_module::WordCount;
+
 /// What ended the input of a connection.
 #[derive(Clone, Copy, Debug, PartialEq, Eq)]
 pub enum Cause {
@@ -17,7 +19,7 @@ pub enum Progress {
     /// The connection hasn't claimed it.
     Unclaimed,
     /// It is open: so many words in all, and so many pages of it have come.
-    Going { words: u32, pages: u32 },
+    Going { words: WordCount, pages: u32 },
     /// It has ended.
-    Over,
+    Ended,
 }

@@ -1,6 +1,7 @@
 //! Laws of the definitions.
 
 ghost use Rattle.std.specs.Prelude.{◌≡◌, ◌<◌, ℕ, Bool, List, [], ◌∷◌, ◌++◌, ◌⊎◌, if◌then◌else◌, Option, Some, None};
+ghost use Rattle.lfi_module.specs.Numbers.{module_count};
 ghost use Rattle.lfi_frame.specs.declared.fault.FrameFault.{FrameFault};
 ghost use Rattle.lfi_frame.specs.Streams.{Message, short};
 ghost use Rattle.lfi_queues.specs.Items.{ItemView};
@@ -38,7 +39,7 @@ pub fn one_more_message()
 /// A text makes one list of items of each module, one fault and one number of strays.
 pub fn one_items()
     ensures items { (bytes : List ℕ) (cause : Cause) (claimed : ℕ → Bool) (items other : ℕ → List ItemView) (found last : Option FrameFault) (strays more : ℕ) →
-        ItemsOf bytes cause claimed items found strays → ItemsOf bytes cause claimed other last more → (m : ℕ) → m < 16 → items m ≡ other m }
+        ItemsOf bytes cause claimed items found strays → ItemsOf bytes cause claimed other last more → (m : ℕ) → m < module_count → items m ≡ other m }
     ensures fault { (bytes : List ℕ) (cause : Cause) (claimed : ℕ → Bool) (items other : ℕ → List ItemView) (found last : Option FrameFault) (strays more : ℕ) →
         ItemsOf bytes cause claimed items found strays → ItemsOf bytes cause claimed other last more → found ≡ last }
     ensures strays { (bytes : List ℕ) (cause : Cause) (claimed : ℕ → Bool) (items other : ℕ → List ItemView) (found last : Option FrameFault) (strays more : ℕ) →

@@ -10,14 +10,16 @@ use Rattle.lfi_frame.specs.declared.fault.FrameFault.{FrameFault}
 use Rattle.lfi_frame.specs.declared.fault.FrameFault.TheVariants as fault
 use Rattle.lfi_frame.specs.Streams.{Message, open_message, page_message, close_message, IsMessage, Rest, short, faulty, unfinished, whole, rest_of}
 use Rattle.lfi_queues.specs.Items.{ItemView}
-use Rattle.lfi_queues.specs.declared.item.Kind.TheVariants.{Open, Page, End}
+use Rattle.lfi_queues.specs.declared.item.ItemKind.TheVariants.{Open, Page, End}
 use Rattle.lfi_queues.specs.declared.item.Reason.{Reason}
 use Rattle.lfi_queues.specs.declared.item.Reason.TheVariants.{Close, PageFault}
 use Rattle.lfi_rules.specs.Verdicts.{all_words}
 use Rattle.lfi_model.specs.declared.connection.Cause.{Cause}
 use Rattle.lfi_model.specs.declared.connection.Progress.{Progress}
-use Rattle.lfi_model.specs.declared.connection.Progress.TheVariants.{Unclaimed, Going, Over}
-use Rattle.lfi_model.specs.Items.{Share, nothing_yet, with_stray, with_item, item_of, page_count, page_len, is_due, after_page, after_message, after_header, after_rest, is_of, ends_of, reason_of, items_of, share_at, connection_fault}
+use Rattle.lfi_model.specs.declared.connection.Progress.TheVariants.{Unclaimed, Going, Ended}
+use Rattle.lfi_model.specs.Items.{Share, nothing_yet, with_stray, with_item, item_of, after_page, after_message, after_header, after_rest, is_of, ends_of, reason_of, items_of, share_at, connection_fault}
+use Rattle.lfi_module.specs.Numbers.{page_words}
+use Rattle.lfi_module.specs.Pages.{page_count, bytes_in_page, is_due}
 use Rattle.lfi_model.specs.Outcomes.{page_of, pages_of}
 use Rattle.lfi_model.proofs.Faults.{all_words-append}
 use Rattle.page_buf.specs.Spelled.{words_of}
@@ -42,7 +44,7 @@ record Grows (items : List ItemView) (n p : ℕ) : Type 0 where
 abbrev Stands : Progress → List ItemView → Type 0
 Stands Unclaimed items = items ≡ []
 Stands (Going n p) items = Grows items n p
-Stands Over items = (n : ℕ) × (p : ℕ) × Grows items n p
+Stands Ended items = (n : ℕ) × (p : ℕ) × Grows items n p
 
 added : (items : List ItemView) (x : ItemView) → pages_of (items ++ x ∷ []) ≡ pages_of items ++ page_of x.kind
 added items x = flat_map-append (λ item. page_of item.kind) items (x ∷ []) ∙ ap (λ l. pages_of items ++ l) (append-nil (page_of x.kind))
@@ -63,7 +65,7 @@ end_more m k n p items reason g =
       count = counted items x n g.count;
     }
 
-page_more : (m k n p : ℕ) (items : List ItemView) (bytes : List ℕ) → p < page_count n → length bytes ≡ page_len n p → Grows items n p → Grows (items ++ item_of m k n (Page bytes) ∷ []) n (p + 1)
+page_more : (m k n p : ℕ) (items : List ItemView) (bytes : List ℕ) → p < page_count page_words n → length bytes ≡ bytes_in_page page_words n p → Grows items n p → Grows (items ++ item_of m k n (Page bytes) ∷ []) n (p + 1)
 page_more m k n p items bytes below len g =
     let x = item_of m k n (Page bytes) in
     let pages : pages_of (items ++ x ∷ []) ≡ pages_of items ++ words_of bytes ∷ [] = added items x in
@@ -111,19 +113,19 @@ both : (b c : Bool) → (b && c) ≡ true → (b ≡ true) × (c ≡ true)
 both true c e = (refl, e)
 both false c e = absurd (cc)
 
-due_says : (n p index len : ℕ) → is_due n p index len ≡ true → (index ≡ p) × ((p < page_count n) × (len ≡ page_len n p))
+due_says : (n p index len : ℕ) → is_due page_words n p index len ≡ true → (index ≡ p) × ((p < page_count page_words n) × (len ≡ bytes_in_page page_words n p))
 due_says n p index len e =
-    let one = both (index == p && nat_lt index (page_count n)) (len == page_len n index) e in
-    let two = both (index == p) (nat_lt index (page_count n)) one.0 in
+    let one = both (index == p && nat_lt index (page_count page_words n)) (len == bytes_in_page page_words n index) e in
+    let two = both (index == p) (nat_lt index (page_count page_words n)) one.0 in
     let same : index ≡ p = eqb-true index p two.0 in
-    (same, (subst (λ i. i < page_count n) same (ltb-true index (page_count n) two.1), subst (λ i. len ≡ page_len n i) same (eqb-true len (page_len n index) one.1)))
+    (same, (subst (λ i. i < page_count page_words n) same (ltb-true index (page_count page_words n) two.1), subst (λ i. len ≡ bytes_in_page page_words n i) same (eqb-true len (bytes_in_page page_words n index) one.1)))
 
 same_stands : (s : Share) (progress : Progress) → s.progress ≡ progress → Stands progress s.items → Stands s.progress s.items
 same_stands s progress e h = subst (λ q. Stands q s.items) (sym e) h
 
-page_stands : (m n p : ℕ) (s : Share) (index len : ℕ) (due : Share) → Grows s.items n p → (is_due n p index len ≡ true → Stands due.progress due.items) →
+page_stands : (m n p : ℕ) (s : Share) (index len : ℕ) (due : Share) → Grows s.items n p → (is_due page_words n p index len ≡ true → Stands due.progress due.items) →
     Stands (after_page m n p s index len due).progress (after_page m n p s index len due).items
-page_stands m n p s index len due g d = either (is_due n p index len) due (with_item s (item_of m (p + 1) n (End (PageFault index))) Over) d (n, p, end_more m (p + 1) n p s.items (PageFault index) g)
+page_stands m n p s index len due g d = either (is_due page_words n p index len) due (with_item s (item_of m (p + 1) n (End (PageFault index))) Ended) d (n, p, end_more m (p + 1) n p s.items (PageFault index) g)
 
 message_stands : (claimed : Bool) (m : ℕ) (s : Share) (progress : Progress) (message : Message) → IsMessage message → s.progress ≡ progress → Stands progress s.items →
     Stands (after_message claimed m s progress message).progress (after_message claimed m s progress message).items
@@ -136,9 +138,9 @@ message_stands claimed m s (Going n p) (page_message k index payload) is e h =
     page_stands m n p s index (length payload) (with_item s (item_of m (p + 1) n (Page payload)) (Going n (p + 1))) h
     (λ due. (let says = due_says n p index (length payload) due in page_more m (p + 1) n p s.items payload says.1.0 says.1.1 h))
 message_stands claimed m s (Going n p) (close_message k) is e h = (n, p, end_more m (p + 1) n p s.items Close h)
-message_stands claimed m s Over (open_message k words entry) is e h = same_stands s Over e h
-message_stands claimed m s Over (page_message k index payload) is e h = same_stands s Over e h
-message_stands claimed m s Over (close_message k) is e h = same_stands s Over e h
+message_stands claimed m s Ended (open_message k words entry) is e h = same_stands s Ended e h
+message_stands claimed m s Ended (page_message k index payload) is e h = same_stands s Ended e h
+message_stands claimed m s Ended (close_message k) is e h = same_stands s Ended e h
 
 abbrev StandsAs : Share → Type 0
 StandsAs s = Stands s.progress s.items
@@ -160,7 +162,7 @@ module _ (claimed : Bool) (m : ℕ) where
 header_stands : (m : ℕ) (s : Share) (progress : Progress) (index len : ℕ) → s.progress ≡ progress → Stands progress s.items → Stands (after_header m s progress index len).progress (after_header m s progress index len).items
 header_stands m s Unclaimed index len e h = same_stands s Unclaimed e h
 header_stands m s (Going n p) index len e h = page_stands m n p s index len s h (λ _. same_stands s (Going n p) e h)
-header_stands m s Over index len e h = same_stands s Over e h
+header_stands m s Ended index len e h = same_stands s Ended e h
 
 rest_stands : (m : ℕ) (s : Share) (rest : Rest) → StandsAs s → StandsAs (after_rest m s rest)
 rest_stands m s short h = h
@@ -178,7 +180,7 @@ ends_sized : (m : ℕ) (progress : Progress) (items : List ItemView) (found : Op
 ends_sized m Unclaimed items found h = subst (λ l. IsSized (l ++ [])) (sym h) (record { most = omega arith; room = omega arith; pages = omega arith })
 ends_sized m (Going n p) items (Some found) g = sized (items ++ item_of m (p + 1) n (End (reason_of found)) ∷ []) n p (end_more m (p + 1) n p items (reason_of found) g)
 ends_sized m (Going n p) items None g = subst IsSized (sym (append-nil items)) (sized items n p g)
-ends_sized m Over items found h = subst IsSized (sym (append-nil items)) (sized items h.0 h.1 h.2)
+ends_sized m Ended items found h = subst IsSized (sym (append-nil items)) (sized items h.0 h.1 h.2)
 
 -- what a connection makes of a module is of a module's size
 pub items_sized : (messages : List Message) (rest : List ℕ) (cause : Cause) (claimed : ℕ → Bool) (m : ℕ) → All IsMessage messages → IsSized (items_of messages rest cause claimed m)

@@ -7,7 +7,8 @@ use Rattle.lfi_queues.specs.declared.item.Reason.TheVariants.{Close, Lost, PageF
 use Rattle.lfi_rules.specs.declared.fault.Fault.{Fault}
 use Rattle.lfi_model.specs.declared.outcome.Outcome.{Outcome}
 use Rattle.lfi_model.specs.declared.outcome.Outcome.TheVariants as outcome
-use Rattle.lfi_model.specs.Items.{page_count}
+use Rattle.lfi_module.specs.Numbers.{page_words}
+use Rattle.lfi_module.specs.Pages.{page_count}
 use Rattle.lfi_model.specs.Outcomes.{end_of}
 
 -- pages as their words
@@ -21,7 +22,7 @@ IsEnded (item ∷ items) = IsSome (end_of (item ∷ items))
 
 -- the outcome of a module of n words by its End, where so many words and pages came and have no fault
 abbrev pub outcome_by : (n words pages : ℕ) → Reason → Outcome
-outcome_by n words pages Close = if words == n then outcome.Complete n else outcome.Incomplete pages (page_count n)
+outcome_by n words pages Close = if words == n then outcome.Complete n else outcome.Incomplete pages (page_count page_words n)
 outcome_by n words pages (Lost fault) = outcome.Lost fault
 outcome_by n words pages (PageFault index) = outcome.PageFault index
 outcome_by n words pages NoMemory = outcome.NoMemory

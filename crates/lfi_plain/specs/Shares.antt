@@ -2,15 +2,15 @@
 use Rattle.std.specs.Prelude.{ℕ, List, [], map, slice_index_or}
 use Rattle.std.specs.Global.{Vec}
 use Rattle.lfi_queues.specs.Items.{ItemView}
-use Rattle.lfi_queues.specs.declared.item.Kind.{Kind}
-use Rattle.lfi_queues.specs.declared.item.Kind.TheVariants as kind
+use Rattle.lfi_queues.specs.declared.item.ItemKind.{ItemKind}
+use Rattle.lfi_queues.specs.declared.item.ItemKind.TheVariants as kind
 use Rattle.lfi_model.specs.Items.{Share}
 use Rattle.lfi_plain.specs.declared.share.PlainKind.{PlainKind}
 use Rattle.lfi_plain.specs.declared.share.PlainKind.TheVariants.{Open, Page, End}
 use Rattle.lfi_plain.specs.declared.share.PlainItem.{PlainItem}
 use Rattle.lfi_plain.specs.declared.share.PlainShare.{PlainShare}
 
-abbrev pub kind_by : PlainKind → Kind
+abbrev pub kind_by : PlainKind → ItemKind
 kind_by (Open entry) = kind.Open entry
 kind_by (Page bytes) = kind.Page bytes.items
 kind_by (End reason) = kind.End reason

@@ -1,9 +1,11 @@
 //! What one module gets of a connection.
 
 ghost use Rattle.std.specs.Prelude.{◌≡◌, ◌+◌, ◌++◌, true, ◌<◌, ◌≤◌, ◌^◌, ℕ, map, IfOk};
-ghost use Rattle.lfi_model.specs.Items.{page_count, item_of, reason_of, is_due, is_going, nothing_yet, with_stray, with_item, after_message, after_rest, share_of, ends_of};
-ghost use Rattle.lfi_queues.specs.declared.item.Kind.TheVariants as kind;
-ghost use Rattle.lfi_model.specs.declared.connection.Progress.TheVariants.{Unclaimed, Going, Over};
+ghost use Rattle.lfi_model.specs.Items.{item_of, reason_of, is_going, nothing_yet, with_stray, with_item, after_message, after_rest, share_of, ends_of};
+ghost use Rattle.lfi_module.specs.Numbers.{page_words};
+ghost use Rattle.lfi_module.specs.Pages.{page_count, is_due};
+ghost use Rattle.lfi_queues.specs.declared.item.ItemKind.TheVariants as kind;
+ghost use Rattle.lfi_model.specs.declared.connection.Progress.TheVariants.{Unclaimed, Going, Ended};
 ghost use Rattle.lfi_plain.specs.Shares.{share_by, item_by, items_by};
 ghost use Rattle.lfi_plain.specs.Messages.{message_of, rest_by};
 
@@ -51,7 +53,7 @@ pub struct PlainShare {
 
 /// How many pages a module of so many words has.
 pub fn page_count(words: u32) -> u32
-    ensures { result ≡ page_count words }
+    ensures { result ≡ page_count page_words words }
 {
     words.div_ceil(1024)
 }
@@ -59,7 +61,7 @@ pub fn page_count(words: u32) -> u32
 /// Whether page `index` of `len` bytes is the one that has to come after the first `pages` pages
 /// of a module of so many words.
 pub fn is_due(words: u32, pages: u32, index: u32, len: usize) -> bool
-    ensures { result ≡ is_due words pages index len }
+    ensures { result ≡ is_due page_words words pages index len }
 {
     let left = (4 * u64::from(words)).saturating_sub(4096 * u64::from(pages));
     index == pages && index < page_count(words) && len as u64 == left.min(4096)
@@ -110,7 +112,7 @@ impl PlainShare {
         pages: u32,
         reason: Reason,
     ) -> Result<PlainShare, AllocError>
-        ensures { IfOk result (λ share. share_by share ≡ with_item (share_by self) (item_of «module» (pages + 1) words (kind.End reason)) Over) }
+        ensures { IfOk result (λ share. share_by share ≡ with_item (share_by self) (item_of «module» (pages + 1) words (kind.End reason)) Ended) }
     {
         let item = PlainItem {
             module,
@@ -118,7 +120,7 @@ impl PlainShare {
             words,
             kind: PlainKind::End(reason),
         };
-        self.with(item, Progress::Over)
+        self.with(item, Progress::Ended)
     }
 
     /// One more message of a module that isn't open.
@@ -195,7 +197,7 @@ impl PlainShare {
         match self.progress {
             Progress::Unclaimed => self.opened(claimed, module, message),
             Progress::Going { words, pages } => self.going(alloc, module, words, pages, message),
-            Progress::Over => Ok(self.stray()),
+            Progress::Ended => Ok(self.stray()),
         }
     }
 

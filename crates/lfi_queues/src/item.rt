@@ -3,17 +3,9 @@
 ghost use Rattle.std.specs.Prelude.{◌≡◌, ◌<◌, ◌≤◌};
 
 use lfi_frame::FrameFault;
+use lfi_module::{ModuleNumber, WordCount};
 use page_buf::SealedPage;
 use std::marker::Model;
-
-/// The number of modules, 0 to 15.
-pub const MODULES: usize = 16;
-
-/// The most words that a module has.
-pub const MAX_WORDS: u32 = 4_194_304;
-
-/// The words of a page; only a module's last page may have fewer.
-pub const PAGE_WORDS: u32 = 1024;
 
 /// Why a module ended.
 #[derive(Clone, Copy, Debug, PartialEq, Eq)]
@@ -30,7 +22,7 @@ pub enum Reason {
 
 /// What an item brings.
 #[derive(Drop)]
-pub enum Kind {
+pub enum ItemKind {
     /// The module's opening, with the word where its code is entered.
     Open { entry: u32 },
     /// The next page of its code.
@@ -39,19 +31,19 @@ pub enum Kind {
     End(Reason),
 }
 
-/// One of the numbered items of a module. Its type keeps that module, words and entry are in
-/// range, that ordinal 0 is the Open alone and no ordinal is above 4,097, and that a page has
-/// exactly the words due (docs/DEFINITIONS.md, "Items").
+/// One of the numbered items of a module. Its type keeps that ordinal 0 is the Open alone, with an
+/// entry below the words, that no ordinal is above 4,097, and that a page has exactly the words due
+/// (docs/DEFINITIONS.md, "Items").
 #[derive(Drop)]
 pub struct Item {
-    /// The module, 0 to 15.
-    pub module: u16,
+    /// The module.
+    pub module: ModuleNumber,
     /// The item's place among those of its module: 0 the Open, then the pages, then the End.
     pub ordinal: u32,
-    /// How many words the whole module has, 1 to 4,194,304.
-    pub words: u32,
+    /// How many words the whole module has.
+    pub words: WordCount,
     /// What it brings.
-    pub kind: Kind,
+    pub kind: ItemKind,
 }
 
 impl Model for Item {

@@ -8,5 +8,5 @@ pub mod pass;
 mod tests;
 
 pub use intake::Intake;
-pub use item::{Item, Kind, Reason};
+pub use item::{Item, ItemKind, Reason};
 pub use pass::{PutPass, QueueId, TakePass};

@@ -2,7 +2,8 @@
 
 ghost use Rattle.std.specs.Prelude.{◌≡◌, ◌≤◌};
 
-use crate::{Intake, Item, Kind, PutPass, Reason, TakePass};
+use crate::{Intake, Item, ItemKind, PutPass, Reason, TakePass};
+use lfi_module::{ModuleNumber, WordCount};
 use page_buf::{OpenPage, SealedPage};
 use std::process::Abort;
 use std::test::Fail;
@@ -15,10 +16,10 @@ fn closing(number: u32) -> Item
     requires { number ≤ 256 }
 {
     Item {
-        module: (number % 16) as u16,
+        module: ModuleNumber::at(number as usize % ModuleNumber::COUNT),
         ordinal: number + 1,
-        words: number + 1,
-        kind: Kind::End(Reason::Close),
+        words: WordCount::of(number + 1),
+        kind: ItemKind::End(Reason::Close),
     }
 }
 
@@ -26,9 +27,10 @@ fn closing(number: u32) -> Item
 fn is_closing(item: &Item, number: u32) -> bool
     requires { number ≤ 256 }
 {
-    let place = (u32::from(item.module), item.ordinal, item.words);
-    let closes = matches!(item.kind, Kind::End(Reason::Close));
-    closes && place == (number % 16, number + 1, number + 1)
+    u32::from(item.module.number()) == number % 16
+        && item.ordinal == number + 1
+        && item.words.number() == number + 1
+        && matches!(item.kind, ItemKind::End(Reason::Close))
 }
 
 /// A sealed page of the two words.
@@ -46,18 +48,21 @@ fn bringing(rt: &(impl Abort + AllocGlobal)) -> Result<Item, Fail> {
     let page = page(rt)?;
     assert!(rt; page.bytes().len() == 8);
     Ok(Item {
-        module: 5,
+        module: ModuleNumber::at(5),
         ordinal: 1,
-        words: 2,
-        kind: Kind::Page(page),
+        words: WordCount::of(2),
+        kind: ItemKind::Page(page),
     })
 }
 
 /// Whether it is that item, with the bytes of its page.
 fn is_bringing(item: &Item) -> bool {
     match &item.kind {
-        Kind::Page(page) => {
-            page.bytes() == CODE.as_slice() && (item.module, item.ordinal, item.words) == (5, 1, 2)
+        ItemKind::Page(page) => {
+            page.bytes() == CODE.as_slice()
+                && item.module.number() == 5
+                && item.ordinal == 1
+                && item.words.number() == 2
         }
         _ => false,
     }

@@ -4,11 +4,13 @@ use Rattle.std.proofs.lemmas.Bool.{eq-eqb}
 use Rattle.std.proofs.lemmas.Bool.Decides.{eqb_tells}
 use Rattle.lfi_frame.specs.Streams.{Message, open_message, page_message, close_message, header_of, short, faulty, unfinished}
 use Rattle.lfi_queues.specs.Items.{ItemView}
-use Rattle.lfi_queues.specs.declared.item.Kind.TheVariants.{Open, Page, End}
+use Rattle.lfi_queues.specs.declared.item.ItemKind.TheVariants.{Open, Page, End}
 use Rattle.lfi_queues.specs.declared.item.Reason.TheVariants.{PageFault}
 use Rattle.lfi_model.specs.declared.connection.Progress.{Progress}
-use Rattle.lfi_model.specs.declared.connection.Progress.TheVariants.{Unclaimed, Going, Over}
-use Rattle.lfi_model.specs.Items.{Share, after_message, after_header, is_due, item_of, share_of, with_item, with_stray}
+use Rattle.lfi_model.specs.declared.connection.Progress.TheVariants.{Unclaimed, Going, Ended}
+use Rattle.lfi_model.specs.Items.{Share, after_message, after_header, item_of, share_of, with_item, with_stray}
+use Rattle.lfi_module.specs.Numbers.{page_words}
+use Rattle.lfi_module.specs.Pages.{is_due}
 use Rattle.lfi_model.proofs.Growing.{share_snoc}
 use Rattle.lfi_stage.specs.Places.{progress_at, is_claimed, claims_of}
 use Rattle.lfi_stage.specs.Receivers.{Agrees, IsPassed, IsUnopened, KnowsOpens}
@@ -102,12 +104,12 @@ IsNoOpen message = (m : ℕ) (s : Share) → after_message true m s s.progress m
 page_no_open : (of index : ℕ) (payload : List ℕ) (m : ℕ) (s : Share) (q : Progress) → after_message true m s q (page_message of index payload) ≡ after_message false m s q (page_message of index payload)
 page_no_open of index payload m s Unclaimed = refl
 page_no_open of index payload m s (Going n p) = refl
-page_no_open of index payload m s Over = refl
+page_no_open of index payload m s Ended = refl
 
 close_no_open : (of m : ℕ) (s : Share) (q : Progress) → after_message true m s q (close_message of) ≡ after_message false m s q (close_message of)
 close_no_open of m s Unclaimed = refl
 close_no_open of m s (Going n p) = refl
-close_no_open of m s Over = refl
+close_no_open of m s Ended = refl
 
 pub page_is_no_open : (of index : ℕ) (payload : List ℕ) → IsNoOpen (page_message of index payload)
 page_is_no_open of index payload m s = page_no_open of index payload m s s.progress
@@ -234,27 +236,27 @@ by_undue true s t e = absurd (cc)
 
 -- it is the one due
 pub header_due : (places : List Progress) (made : List ItemView) (count : ℕ) (ms : List Message) (k n p index len : ℕ) → Agrees places made count ms short
-    → progress_at places k ≡ Going n p → is_due n p index len ≡ true → Agrees places made count ms (unfinished k index len)
+    → progress_at places k ≡ Going n p → is_due page_words n p index len ≡ true → Agrees places made count ms (unfinished k index len)
 header_due places made count ms k n p index len agrees was due =
     agrees_same places places made count ms ms short (unfinished k index len) agrees (λ m. refl) (λ m. elim (eqb_tells m k) [
       | inr apart ↦ unfinished_other (claims_of places m) k m index len ms apart.1
       | inl e ↦
           let same = e.1 in
           subst (λ z. share_in places ms (unfinished k index len) z ≡ share_in places ms short z) (sym same)
-          (unfinished_own (claims_of places k) k index len ms (Going n p) (agrees.progress k ∙ was) ∙ by_due (is_due n p index len) _ _ due)
+          (unfinished_own (claims_of places k) k index len ms (Going n p) (agrees.progress k ∙ was) ∙ by_due (is_due page_words n p index len) _ _ due)
     ])
 
 -- it is another
 pub header_undue : (places new : List Progress) (made : List ItemView) (count : ℕ) (ms : List Message) (k n p index len : ℕ) → Agrees places made count ms short
-    → progress_at places k ≡ Going n p → is_due n p index len ≡ false → ((m : ℕ) → progress_at new m ≡ (if m == k then Over else progress_at places m))
+    → progress_at places k ≡ Going n p → is_due page_words n p index len ≡ false → ((m : ℕ) → progress_at new m ≡ (if m == k then Ended else progress_at places m))
     → Agrees new (made ++ item_of k (p + 1) n (End (PageFault index)) ∷ []) count ms (unfinished k index len)
 header_undue places new made count ms k n p index len agrees was undue at =
     let x : ItemView = item_of k (p + 1) n (End (PageFault index)) in
-    let claims : claims_of new k ≡ claims_of places k = ap is_claimed (changed_at places new k Over at) ∙ sym (ap is_claimed was) in
-    agrees_item places new made count ms ms short (unfinished k index len) k x Over agrees refl at
-    (λ m apart. ap (λ b. share_of b m ms (unfinished k index len)) (claims_other places new k Over at m apart) ∙ unfinished_other (claims_of places m) k m index len ms apart)
+    let claims : claims_of new k ≡ claims_of places k = ap is_claimed (changed_at places new k Ended at) ∙ sym (ap is_claimed was) in
+    agrees_item places new made count ms ms short (unfinished k index len) k x Ended agrees refl at
+    (λ m apart. ap (λ b. share_of b m ms (unfinished k index len)) (claims_other places new k Ended at m apart) ∙ unfinished_other (claims_of places m) k m index len ms apart)
     (ap (λ b. share_of b k ms (unfinished k index len)) claims ∙ unfinished_own (claims_of places k) k index len ms (Going n p) (agrees.progress k ∙ was)
-    ∙ by_undue (is_due n p index len) _ _ undue)
+    ∙ by_undue (is_due page_words n p index len) _ _ undue)
 
 -- its module isn't open
 abbrev pub IsShut : Progress → Type 0
@@ -264,7 +266,7 @@ IsShut progress = Unit {0}
 shut_header : (m : ℕ) (s : Share) (q : Progress) (index len : ℕ) → IsShut q → after_header m s q index len ≡ with_stray s
 shut_header m s Unclaimed index len h = refl
 shut_header m s (Going n p) index len h = absurd h
-shut_header m s Over index len h = refl
+shut_header m s Ended index len h = refl
 
 pub header_stray : (places : List Progress) (made : List ItemView) (count : ℕ) (ms : List Message) (k index len : ℕ) → Agrees places made count ms short → k < 16
     → IsShut (progress_at places k) → Agrees places made (min (count + 1) (2 ^ 64 - 1)) ms (unfinished k index len)
@@ -275,7 +277,7 @@ header_stray places made count ms k index len agrees in_range shut =
 
 -- The page of module k is whole: it was kept.
 pub page_kept : (places new : List Progress) (made : List ItemView) (count : ℕ) (ms : List Message) (k n p index len : ℕ) (payload : List ℕ) → Agrees places made count ms (unfinished k index len)
-    → progress_at places k ≡ Going n p → length payload ≡ len → is_due n p index len ≡ true → (share_in places ms short k).progress ≡ Going n p
+    → progress_at places k ≡ Going n p → length payload ≡ len → is_due page_words n p index len ≡ true → (share_in places ms short k).progress ≡ Going n p
     → ((m : ℕ) → progress_at new m ≡ (if m == k then Going n (p + 1) else progress_at places m))
     → Agrees new (made ++ item_of k (p + 1) n (Page payload) ∷ []) count (ms ++ page_message k index payload ∷ []) short
 page_kept places new made count ms k n p index len payload agrees was long due base at =
@@ -284,21 +286,21 @@ page_kept places new made count ms k n p index len payload agrees was long due b
     let q : Progress = Going n (p + 1) in
     let claims : claims_of new k ≡ claims_of places k = ap is_claimed (changed_at places new k q at) ∙ sym (ap is_claimed was) in
     let now : share_in places ms (unfinished k index len) k ≡ share_in places ms short k =
-    unfinished_own (claims_of places k) k index len ms (Going n p) base ∙ by_due (is_due n p index len) _ _ due in
-    let due' : is_due n p index (length payload) ≡ true = ap (λ l. is_due n p index l) long ∙ due in
+    unfinished_own (claims_of places k) k index len ms (Going n p) base ∙ by_due (is_due page_words n p index len) _ _ due in
+    let due' : is_due page_words n p index (length payload) ≡ true = ap (λ l. is_due page_words n p index l) long ∙ due in
     agrees_item places new made count ms (ms ++ message ∷ []) (unfinished k index len) short k x q agrees refl at
     (λ m apart. ap (λ b. share_of b m (ms ++ message ∷ []) short) (claims_other places new k q at m apart) ∙ share_other (claims_of places m) m ms message apart
     ∙ sym (unfinished_other (claims_of places m) k m index len ms apart))
     (ap (λ b. share_of b k (ms ++ message ∷ []) short) claims ∙ share_by (claims_of places k) k ms message (Going n p) refl base
-    ∙ by_due (is_due n p index (length payload)) _ _ due' ∙ ap (λ s. with_item s x q) (sym now))
+    ∙ by_due (is_due page_words n p index (length payload)) _ _ due' ∙ ap (λ s. with_item s x q) (sym now))
 
 -- it was passed over
 same_passed : (claimed : Bool) (k : ℕ) (s : Share) (q : Progress) (index len : ℕ) (payload : List ℕ) → length payload ≡ len → IsPassed q index len
     → after_message claimed k s q (page_message k index payload) ≡ after_header k s q index len
 same_passed claimed k s Unclaimed index len payload long h = refl
 same_passed claimed k s (Going n p) index len payload long h =
-    by_undue (is_due n p index (length payload)) _ _ (ap (λ l. is_due n p index l) long ∙ h) ∙ sym (by_undue (is_due n p index len) _ _ h)
-same_passed claimed k s Over index len payload long h = refl
+    by_undue (is_due page_words n p index (length payload)) _ _ (ap (λ l. is_due page_words n p index l) long ∙ h) ∙ sym (by_undue (is_due page_words n p index len) _ _ h)
+same_passed claimed k s Ended index len payload long h = refl
 
 pub page_passed : (places : List Progress) (made : List ItemView) (count : ℕ) (ms : List Message) (k index len : ℕ) (payload : List ℕ) → Agrees places made count ms (unfinished k index len)
     → length payload ≡ len → IsPassed (share_in places ms short k).progress index len → Agrees places made count (ms ++ page_message k index payload ∷ []) short

@@ -7,13 +7,15 @@ use Rattle.lfi_frame.specs.declared.fault.FrameFault.{FrameFault}
 use Rattle.lfi_frame.specs.declared.header.Header.{Header}
 use Rattle.lfi_frame.proofs.Cuts.{rest_short, rest_long}
 use Rattle.lfi_queues.specs.Items.{ItemView}
-use Rattle.lfi_queues.specs.declared.item.Kind.TheVariants.{Open, Page, End}
+use Rattle.lfi_queues.specs.declared.item.ItemKind.TheVariants.{Open, Page, End}
 use Rattle.lfi_queues.specs.declared.item.Reason.TheVariants.{Close, PageFault}
 use Rattle.lfi_model.specs.declared.connection.Progress.{Progress}
-use Rattle.lfi_model.specs.declared.connection.Progress.TheVariants.{Unclaimed, Going, Over}
+use Rattle.lfi_model.specs.declared.connection.Progress.TheVariants.{Unclaimed, Going, Ended}
 use Rattle.lfi_model.specs.declared.connection.Cause.{Cause}
 use Rattle.lfi_model.specs.Items.{after_rest, connection_fault, ends_of, items_of}
-use Rattle.lfi_model.specs.Items.{Share, after_message, after_header, is_of, is_due, nothing_yet, item_of, page_len, share_of, with_item, with_stray}
+use Rattle.lfi_model.specs.Items.{Share, after_message, after_header, is_of, nothing_yet, item_of, share_of, with_item, with_stray}
+use Rattle.lfi_module.specs.Numbers.{page_words}
+use Rattle.lfi_module.specs.Pages.{is_due, bytes_in_page}
 use Rattle.lfi_stage.specs.declared.coming.Coming.{Coming}
 use Rattle.lfi_stage.specs.declared.receiver.Receiver.{Receiver}
 use Rattle.lfi_stage.specs.Places.{progress_at, is_claimed, claims_of}
@@ -22,7 +24,8 @@ use Rattle.lfi_stage.specs.Receivers.{made_by, Agrees, Awaits, IsPassed, IsDuePa
 use Rattle.std.proofs.lemmas.Bool.{and_parts, and_from, eqb-true, eq-eqb, lt-ltb, ltb-true, cases_lt}
 use Rattle.std.proofs.Math.Seq.{take-length}
 use Rattle.std.specs.Prelude.{nat_lt, nat_le, not, ◌&&◌}
-use Rattle.lfi_model.specs.Items.{page_count}
+use Rattle.lfi_module.specs.Numbers.{page_words}
+use Rattle.lfi_module.specs.Pages.{page_count}
 use Rattle.lfi_stage.proofs.Events.{unfinished_own, changed_at, header_due, header_undue, header_stray, page_kept, page_passed, message_item, message_stray, open_claims, opens_on, opens_same, opens_stray, opens_claiming, claims_kept, close_is_no_open, page_is_no_open, IsShut}
 
 -- between two messages no page is awaited
@@ -38,7 +41,7 @@ coming_none None places ms h = refl
 open_strays : (k words entry : ℕ) (s : Share) (p : Progress) → after_message (is_claimed p) k s p (open_message k words entry) ≡ with_stray s
 open_strays k words entry s Unclaimed = refl
 open_strays k words entry s (Going n q) = refl
-open_strays k words entry s Over = refl
+open_strays k words entry s Ended = refl
 
 pub stray_open : (r : Receiver) (ms : List Message) (k words entry : ℕ) → k < 16 → (not r.opened && nat_le words 1024) ≡ false → Holds r ms [] → Holds (record r { opened = true; strays = min (r.strays + 1) (2 ^ 64 - 1) }) (ms ++ open_message k words entry ∷ []) []
 stray_open r ms k words entry in_range refused holds = record {
@@ -50,7 +53,7 @@ stray_open r ms k words entry in_range refused holds = record {
 close_strays : (k : ℕ) (s : Share) (p : Progress) → IsShut p → after_message (is_claimed p) k s p (close_message k) ≡ with_stray s
 close_strays k s Unclaimed h = refl
 close_strays k s (Going n q) h = absurd h
-close_strays k s Over h = refl
+close_strays k s Ended h = refl
 
 pub stray_close : (r : Receiver) (ms : List Message) (k : ℕ) → k < 16 → IsShut (progress_at r.modules k) → Holds r ms [] → Holds (record r { strays = min (r.strays + 1) (2 ^ 64 - 1) }) (ms ++ close_message k ∷ []) []
 stray_close r ms k in_range shut holds = record {
@@ -100,21 +103,21 @@ claiming_open r ms new k words entry free may at holds =
     }
 
 pub ending_close : (r : Receiver) (ms : List Message) (new : List Progress) (k n p : ℕ) → r.hand ≡ None → progress_at r.modules k ≡ Going n p
-    → ((m : ℕ) → progress_at new m ≡ (if m == k then Over else progress_at r.modules m)) → Holds r ms []
+    → ((m : ℕ) → progress_at new m ≡ (if m == k then Ended else progress_at r.modules m)) → Holds r ms []
     → Holds (record r { modules = new; hand = Some (item_of k (p + 1) n (End Close)) }) (ms ++ close_message k ∷ []) []
 ending_close r ms new k n p free was at holds =
     let x : ItemView = item_of k (p + 1) n (End Close) in
     record {
       agrees = subst (λ l. Agrees new l r.strays (ms ++ close_message k ∷ []) short) (sym (made_one r x free))
-          (message_item r.modules new (made_by r) r.strays ms (close_message k) k x (Going n p) Over holds.agrees refl refl was at refl (λ s. refl));
+          (message_item r.modules new (made_by r) r.strays ms (close_message k) k x (Going n p) Ended holds.agrees refl refl was at refl (λ s. refl));
       awaits = awaits_none r.coming r.modules new ms (ms ++ close_message k ∷ []) holds.awaits;
-      opens = opens_on r.opened r.modules new ms (close_message k) (close_is_no_open k) refl (claims_kept r.modules new k (Going n p) Over was at refl) holds.opens;
+      opens = opens_on r.opened r.modules new ms (close_message k) (close_is_no_open k) refl (claims_kept r.modules new k (Going n p) Ended was at refl) holds.opens;
     }
 
 pub shut_by : (p : Progress) → ((words pages : ℕ) → p ≡ Going words pages → ⊥) → IsShut p
 shut_by Unclaimed h = tt
 shut_by (Going n q) h = absurd (h n q refl)
-shut_by Over h = tt
+shut_by Ended h = tt
 
 -- The header of a page that is a stray.
 pub stray_page : (r : Receiver) (ms : List Message) (rest : List ℕ) (k index len : ℕ) → k < 16 → IsShut (progress_at r.modules k) → Holds r ms [] → rest_of rest ≡ unfinished k index len
@@ -128,7 +131,7 @@ stray_page r ms rest k index len in_range shut holds is = record {
     shut_passed : (q : Progress) (index len : ℕ) → IsShut q → IsPassed q index len
     shut_passed Unclaimed i l h = tt
     shut_passed (Going n p) i l h = absurd h
-    shut_passed Over i l h = tt
+    shut_passed Ended i l h = tt
 
     passed_shut : (m i l : ℕ) → unfinished k index len ≡ unfinished m i l → IsPassed (share_of (claims_of r.modules m) m ms short).progress i l
     passed_shut m i l e =
@@ -136,12 +139,12 @@ stray_page r ms rest k index len in_range shut holds is = record {
         subst (λ q. IsPassed q i l) (sym (holds.agrees.progress m)) (shut_passed (progress_at r.modules m) i l (subst (λ z. IsShut (progress_at r.modules z)) same shut))
 
 -- The header of a page that isn't the one due.
-pub undue_page : (r : Receiver) (new : List Progress) (ms : List Message) (rest : List ℕ) (k n p index len : ℕ) → r.hand ≡ None → progress_at r.modules k ≡ Going n p → is_due n p index len ≡ false
-    → ((m : ℕ) → progress_at new m ≡ (if m == k then Over else progress_at r.modules m)) → Holds r ms [] → rest_of rest ≡ unfinished k index len
+pub undue_page : (r : Receiver) (new : List Progress) (ms : List Message) (rest : List ℕ) (k n p index len : ℕ) → r.hand ≡ None → progress_at r.modules k ≡ Going n p → is_due page_words n p index len ≡ false
+    → ((m : ℕ) → progress_at new m ≡ (if m == k then Ended else progress_at r.modules m)) → Holds r ms [] → rest_of rest ≡ unfinished k index len
     → Holds (record r { modules = new; hand = Some (item_of k (p + 1) n (End (PageFault index))) }) ms rest
 undue_page r new ms rest k n p index len free was undue at holds is =
     let x : ItemView = item_of k (p + 1) n (End (PageFault index)) in
-    let claims : claims_of new k ≡ claims_of r.modules k = ap is_claimed (changed_at r.modules new k Over at) ∙ sym (ap is_claimed was) in
+    let claims : claims_of new k ≡ claims_of r.modules k = ap is_claimed (changed_at r.modules new k Ended at) ∙ sym (ap is_claimed was) in
     record {
       agrees = subst (λ z. Agrees new (r.pass.items ++ x ∷ []) r.strays ms z) (sym is)
           (subst (λ l. Agrees new l r.strays ms (unfinished k index len)) (sym (made_one r x free)) (header_undue r.modules new (made_by r) r.strays ms k n p index len holds.agrees was undue at));
@@ -152,27 +155,27 @@ undue_page r new ms rest k n p index len free was undue at holds is =
           let here : IsPassed (share_of (claims_of new k) k ms short).progress index len = subst (λ q. IsPassed q index len) (sym share) undue in
           let there : IsPassed (share_of (claims_of new m) m ms short).progress index len = subst (λ z. IsPassed (share_of (claims_of new z) z ms short).progress index len) same here in
           subst (λ z. IsPassed (share_of (claims_of new m) m ms short).progress z l) same_index (subst (λ z. IsPassed (share_of (claims_of new m) m ms short).progress index z) same_len there));
-      opens = opens_same r.opened r.modules new ms (claims_kept r.modules new k (Going n p) Over was at refl) holds.opens;
+      opens = opens_same r.opened r.modules new ms (claims_kept r.modules new k (Going n p) Ended was at refl) holds.opens;
     }
 
 -- The header of the page that is due: it is awaited, with the memory for it.
-pub due_agrees : (r : Receiver) (ms : List Message) (k n p index len : ℕ) → progress_at r.modules k ≡ Going n p → is_due n p index len ≡ true → Holds r ms [] → Agrees r.modules (made_by r) r.strays ms (unfinished k index len)
+pub due_agrees : (r : Receiver) (ms : List Message) (k n p index len : ℕ) → progress_at r.modules k ≡ Going n p → is_due page_words n p index len ≡ true → Holds r ms [] → Agrees r.modules (made_by r) r.strays ms (unfinished k index len)
 due_agrees r ms k n p index len was due holds = header_due r.modules (made_by r) r.strays ms k n p index len holds.agrees was due
 
-due_says : (n p index len : ℕ) → is_due n p index len ≡ true → (index ≡ p) × (len ≡ page_len n index)
+due_says : (n p index len : ℕ) → is_due page_words n p index len ≡ true → (index ≡ p) × (len ≡ bytes_in_page page_words n index)
 due_says n p index len due =
-    let last = and_parts (index == p && nat_lt index (page_count n)) (len == page_len n index) due in
-    let first = and_parts (index == p) (nat_lt index (page_count n)) last.0 in
-    (eqb-true index p first.0, eqb-true len (page_len n index) last.1)
+    let last = and_parts (index == p && nat_lt index (page_count page_words n)) (len == bytes_in_page page_words n index) due in
+    let first = and_parts (index == p) (nat_lt index (page_count page_words n)) last.0 in
+    (eqb-true index p first.0, eqb-true len (bytes_in_page page_words n index) last.1)
 
-pub due_page : (r : Receiver) (c : Coming) (ms : List Message) (rest : List ℕ) (k n p index len : ℕ) → progress_at r.modules k ≡ Going n p → is_due n p index len ≡ true
+pub due_page : (r : Receiver) (c : Coming) (ms : List Message) (rest : List ℕ) (k n p index len : ℕ) → progress_at r.modules k ≡ Going n p → is_due page_words n p index len ≡ true
     → c.«module» ≡ k → c.words ≡ n → c.pages ≡ p → c.page ≡ [] → Holds r ms [] → rest_of rest ≡ unfinished k index len → drop 12 rest ≡ []
     → Holds (record r { coming = Some c }) ms rest
 due_page r c ms rest k n p index len was due same_module same_words same_pages empty holds is none =
     let says = due_says n p index len due in
     let at_index = says.0 in let of_len = says.1 in
     let going : Going n p ≡ Going c.words c.pages = cc in
-    let told : unfinished k index len ≡ unfinished c.«module» c.pages (page_len c.words c.pages) = cc in
+    let told : unfinished k index len ≡ unfinished c.«module» c.pages (bytes_in_page page_words c.words c.pages) = cc in
     record {
       agrees = subst (λ z. Agrees r.modules (made_by r) r.strays ms z) (sym is) (due_agrees r ms k n p index len was due holds);
       awaits = (ap (λ z. progress_at r.modules z) same_module ∙ was ∙ going, is ∙ told, empty ∙ sym none);
@@ -180,7 +183,7 @@ due_page r c ms rest k n p index len was due same_module same_words same_pages e
     }
 
 -- the page that is due, told by the messages
-pub due_now : (r : Receiver) (ms : List Message) (k n p index len : ℕ) → progress_at r.modules k ≡ Going n p → is_due n p index len ≡ true → Holds r ms [] → IsDuePage (share_of (claims_in ms k) k ms short).progress index len
+pub due_now : (r : Receiver) (ms : List Message) (k n p index len : ℕ) → progress_at r.modules k ≡ Going n p → is_due page_words n p index len ≡ true → Holds r ms [] → IsDuePage (share_of (claims_in ms k) k ms short).progress index len
 due_now r ms k n p index len was due holds =
     let same : (share_of (claims_in ms k) k ms short).progress ≡ Going n p = ap (λ b. (share_of b k ms short).progress) (sym (holds.opens.claims k)) ∙ holds.agrees.progress k ∙ was in
     subst (λ q. IsDuePage q index len) (sym same) due
@@ -231,7 +234,7 @@ keeping_on r c d ms rest more m index len some same_module same_words same_pages
     let long : 12 ≤ length rest = (unfinished_long rest m index len is).0 in
     let a : Awaits (Some c) r.modules ms rest = subst (λ o. Awaits o r.modules ms rest) some holds.awaits in
     let going : Going c.words c.pages ≡ Going d.words d.pages = cc in
-    let told : unfinished c.«module» c.pages (page_len c.words c.pages) ≡ unfinished d.«module» d.pages (page_len d.words d.pages) = cc in
+    let told : unfinished c.«module» c.pages (bytes_in_page page_words c.words c.pages) ≡ unfinished d.«module» d.pages (bytes_in_page page_words d.words d.pages) = cc in
     record {
       agrees = subst (λ z. Agrees r.modules (made_by r) r.strays ms z) (is ∙ sym is') holds.agrees;
       awaits = (
@@ -248,20 +251,20 @@ take_all xs n e = ap (λ z. take z xs) (sym e) ∙ take-length xs
 -- before its page's header a module that is open now was open just so
 open_before : (k n p index len : ℕ) (s : Share) (q : Progress) → s.progress ≡ q → (after_header k s q index len).progress ≡ Going n p → q ≡ Going n p
 open_before k n p index len s Unclaimed e h = absurd (cc)
-open_before k n p index len s (Going n' p') e h = by (is_due n' p' index len) h
+open_before k n p index len s (Going n' p') e h = by (is_due page_words n' p' index len) h
   where
-    by : (b : Bool) → (if b then s else with_item s (item_of k (p' + 1) n' (End (PageFault index))) Over).progress ≡ Going n p → Going n' p' ≡ Going n p
+    by : (b : Bool) → (if b then s else with_item s (item_of k (p' + 1) n' (End (PageFault index))) Ended).progress ≡ Going n p → Going n' p' ≡ Going n p
     by true h = sym e ∙ h
     by false h = absurd (cc)
-open_before k n p index len s Over e h = absurd (cc)
+open_before k n p index len s Ended e h = absurd (cc)
 
 -- enough bytes for the whole page leave nothing to come
 pub keeping_whole : (r : Receiver) (c : Coming) (ms : List Message) (rest more : List ℕ) (m index len : ℕ) → r.coming ≡ Some c → c.left ≤ length more → Holds r ms rest → rest_of rest ≡ unfinished m index len
     → rest_of (rest ++ more) ≡ unfinished m index len → ⊥
 keeping_whole r c ms rest more m index len some enough holds is is' =
     let a : Awaits (Some c) r.modules ms rest = subst (λ o. Awaits o r.modules ms rest) some holds.awaits in
-    let e : unfinished c.«module» c.pages (page_len c.words c.pages) ≡ unfinished m index len = sym a.1 ∙ is in
-    let same_len : page_len c.words c.pages ≡ len = cc in
+    let e : unfinished c.«module» c.pages (bytes_in_page page_words c.words c.pages) ≡ unfinished m index len = sym a.1 ∙ is in
+    let same_len : bytes_in_page page_words c.words c.pages ≡ len = cc in
     let now = unfinished_long (rest ++ more) m index len is' in
     let before = unfinished_long rest m index len is in
     let split : length (drop 12 (rest ++ more)) ≡ length (drop 12 rest) + length more = ap length (drop_append_left 12 rest more before.0) ∙ length-append (drop 12 rest) more in
@@ -275,8 +278,8 @@ pub keeping_short : (r : Receiver) (c : Coming) (ms : List Message) (rest more :
     → length (drop 12 rest ++ more) ≡ len → ⊥
 keeping_short r c ms rest more m index len some few holds is long =
     let a : Awaits (Some c) r.modules ms rest = subst (λ o. Awaits o r.modules ms rest) some holds.awaits in
-    let e : unfinished c.«module» c.pages (page_len c.words c.pages) ≡ unfinished m index len = sym a.1 ∙ is in
-    let same_len : page_len c.words c.pages ≡ len = cc in
+    let e : unfinished c.«module» c.pages (bytes_in_page page_words c.words c.pages) ≡ unfinished m index len = sym a.1 ∙ is in
+    let same_len : bytes_in_page page_words c.words c.pages ≡ len = cc in
     let split : length (drop 12 rest ++ more) ≡ length (drop 12 rest) + length more = length-append (drop 12 rest) more in
     let page : length c.page ≡ length (drop 12 rest) = ap length a.2 in
     let d : length c.page + c.left ≡ len = c.coming.length_due ∙ same_len in
@@ -288,15 +291,15 @@ pub keeping_ends : (r : Receiver) (c : Coming) (new : List Progress) (ms : List 
     → Holds (record r { modules = new; coming = None; hand = Some (item_of c.«module» (c.pages + 1) c.words (Page (c.page ++ take c.left more))) }) (ms ++ page_message m index (drop 12 rest ++ more) ∷ []) []
 keeping_ends r c new ms rest more m index len free some at enough holds is long =
     let a : Awaits (Some c) r.modules ms rest = subst (λ o. Awaits o r.modules ms rest) some holds.awaits in
-    let e : unfinished c.«module» c.pages (page_len c.words c.pages) ≡ unfinished m index len = sym a.1 ∙ is in
-    let same : c.«module» ≡ m = cc in let same_index : c.pages ≡ index = cc in let same_len : page_len c.words c.pages ≡ len = cc in
+    let e : unfinished c.«module» c.pages (bytes_in_page page_words c.words c.pages) ≡ unfinished m index len = sym a.1 ∙ is in
+    let same : c.«module» ≡ m = cc in let same_index : c.pages ≡ index = cc in let same_len : bytes_in_page page_words c.words c.pages ≡ len = cc in
     let payload : List ℕ = drop 12 rest ++ more in
     let whole : length more ≡ c.left = (let d = c.coming.length_due in let l = length-append (drop 12 rest) more in let p = ap length a.2 in omega arith) in
     let bytes : c.page ++ take c.left more ≡ payload = (λ i. a.2 i ++ take_all more c.left whole i) in
     let x : ItemView = item_of c.«module» (c.pages + 1) c.words (Page payload) in
-    let due : is_due c.words c.pages index len ≡ true =
-    and_from _ _ (and_from _ _ (eq-eqb index c.pages (sym same_index)) (lt-ltb index (page_count c.words) (subst (λ z. z < page_count c.words) same_index c.coming.due)))
-    (eq-eqb len (page_len c.words index) (sym same_len ∙ ap (λ z. page_len c.words z) same_index)) in
+    let due : is_due page_words c.words c.pages index len ≡ true =
+    and_from _ _ (and_from _ _ (eq-eqb index c.pages (sym same_index)) (lt-ltb index (page_count page_words c.words) (subst (λ z. z < page_count page_words c.words) same_index c.coming.due)))
+    (eq-eqb len (bytes_in_page page_words c.words index) (sym same_len ∙ ap (λ z. bytes_in_page page_words c.words z) same_index)) in
     let kept : Agrees r.modules (made_by r) r.strays ms (unfinished c.«module» index len) = subst (λ z. Agrees r.modules (made_by r) r.strays ms z) (is ∙ ap (λ z. unfinished z index len) (sym same)) holds.agrees in
     let base : (share_of (claims_of r.modules c.«module») c.«module» ms short).progress ≡ Going c.words c.pages =
     open_before c.«module» c.words c.pages index len (share_of (claims_of r.modules c.«module») c.«module» ms short) (share_of (claims_of r.modules c.«module») c.«module» ms short).progress refl
@@ -311,8 +314,8 @@ keeping_ends r c new ms rest more m index len free some at enough holds is long 
       opens = opens_on r.opened r.modules new ms (page_message m index payload) (page_is_no_open m index payload) refl (claims_kept r.modules new c.«module» (Going c.words c.pages) (Going c.words (c.pages + 1)) a.0 at refl) holds.opens;
     }
 
-pub undue_agrees : (r : Receiver) (new : List Progress) (ms : List Message) (k n p index len : ℕ) → r.hand ≡ None → progress_at r.modules k ≡ Going n p → is_due n p index len ≡ false
-    → ((m : ℕ) → progress_at new m ≡ (if m == k then Over else progress_at r.modules m)) → Holds r ms []
+pub undue_agrees : (r : Receiver) (new : List Progress) (ms : List Message) (k n p index len : ℕ) → r.hand ≡ None → progress_at r.modules k ≡ Going n p → is_due page_words n p index len ≡ false
+    → ((m : ℕ) → progress_at new m ≡ (if m == k then Ended else progress_at r.modules m)) → Holds r ms []
     → Agrees new (r.pass.items ++ item_of k (p + 1) n (End (PageFault index)) ∷ []) r.strays ms (unfinished k index len)
 undue_agrees r new ms k n p index len free was undue at holds =
     subst (λ l. Agrees new l r.strays ms (unfinished k index len)) (sym (made_one r (item_of k (p + 1) n (End (PageFault index))) free)) (header_undue r.modules new (made_by r) r.strays ms k n p index len holds.agrees was undue at)

@@ -1,4 +1,5 @@
 -- What the verifier has placed of a module, after one more item.
+use Rattle.lfi_module.specs.Numbers.{page_words}
 use Rattle.std.proofs.Common.{◌≡◌, ℕ, ◌+◌, ◌-◌, ◌*◌, ◌/◌, ◌<◌, ◌≤◌, List, [], ◌∷◌, ◌++◌, length, Option, Some, None, refl, sym, ◌∙◌, ap, subst, arith, true, min, length-append, append_assoc}
 use Rattle.std.specs.Prelude.{is_some, IfSome, IfNone}
 use Rattle.std.specs.Option.{option_map}
@@ -7,8 +8,8 @@ use Rattle.std.proofs.lemmas.List.Concat.{flat_map-append}
 use Rattle.page_buf.specs.Spelled.{words_of}
 use Rattle.page_buf.proofs.Spelled.{words_count}
 use Rattle.lfi_queues.specs.Items.{ItemView, IsItem, KindFits, page_words}
-use Rattle.lfi_queues.specs.declared.item.Kind.{Kind}
-use Rattle.lfi_queues.specs.declared.item.Kind.TheVariants.{Open, Page, End}
+use Rattle.lfi_queues.specs.declared.item.ItemKind.{ItemKind}
+use Rattle.lfi_queues.specs.declared.item.ItemKind.TheVariants.{Open, Page, End}
 use Rattle.lfi_queues.specs.declared.item.Reason.{Reason}
 use Rattle.lfi_rules.specs.declared.fault.Fault.{Fault}
 use Rattle.lfi_rules.specs.Faults.{Breaks, FirstFault}
@@ -52,7 +53,7 @@ pages_rest first before [] numbered none = refl
 pages_rest first before (y ∷ ys) numbered none =
     by (λ e. pages_rest first (before ++ y ∷ []) ys (subst (λ l. IsModule l) (sym (append_assoc (first ∷ before) (y ∷ []) ys)) numbered) e) y.kind refl ((numbered (first ∷ before) ys y refl).opens)
   where
-    by : (end_of ys ≡ None → length (pages_of ys) ≡ length ys) → (kind : Kind) → y.kind ≡ kind → OpensFirst (first ∷ before) kind → length (pages_of (y ∷ ys)) ≡ length (y ∷ ys)
+    by : (end_of ys ≡ None → length (pages_of ys) ≡ length ys) → (kind : ItemKind) → y.kind ≡ kind → OpensFirst (first ∷ before) kind → length (pages_of (y ∷ ys)) ≡ length (y ∷ ys)
     by rest (Open entry) is h = absurd h
     by rest (Page bytes) is h =
         let e : end_of ys ≡ None = sym (ap (λ k. reason_at k (end_of ys)) is) ∙ none in
@@ -61,12 +62,12 @@ pages_rest first before (y ∷ ys) numbered none =
         page ∙ (omega arith)
     by rest (End reason) is h = absurd (let e : Some reason ≡ None = sym (ap (λ k. reason_at k (end_of ys)) is) ∙ none in cc)
 
-opens_no_page : (kind : Kind) → OpensFirst [] kind → (page_of kind ≡ []) × (reason_at kind None ≡ None)
+opens_no_page : (kind : ItemKind) → OpensFirst [] kind → (page_of kind ≡ []) × (reason_at kind None ≡ None)
 opens_no_page (Open entry) h = (refl, refl)
 opens_no_page (Page bytes) h = absurd h
 opens_no_page (End reason) h = absurd h
 
-end_later : (kind : Kind) (later : Option Reason) → reason_at kind later ≡ None → later ≡ None
+end_later : (kind : ItemKind) (later : Option Reason) → reason_at kind later ≡ None → later ≡ None
 end_later (Open entry) later e = e
 end_later (Page bytes) later e = e
 end_later (End reason) later e = absurd (cc)

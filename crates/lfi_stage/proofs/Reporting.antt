@@ -10,7 +10,8 @@ use Rattle.lfi_rules.specs.Verdicts.{all_words}
 use Rattle.lfi_image.specs.Image.{Module, Image}
 use Rattle.lfi_model.specs.declared.outcome.Outcome.{Outcome}
 use Rattle.lfi_model.specs.declared.outcome.Outcome.TheVariants as outcome_kind
-use Rattle.lfi_model.specs.Items.{page_count}
+use Rattle.lfi_module.specs.Numbers.{page_words}
+use Rattle.lfi_module.specs.Pages.{page_count}
 use Rattle.lfi_model.specs.Outcomes.{Load, by_end, pages_of, end_of, Placed}
 use Rattle.lfi_model.proofs.Faults.{placed_whole}
 use Rattle.lfi_stage.specs.declared.verifier.Placing.{Placing}
@@ -52,18 +53,18 @@ module _ (m : ℕ) (b : Module) (words : ℕ) (e : Ended) (items : List ItemView
       let full : length (all_words (pages_of items)) ≡ words_at items = sym (ap length words_is) ∙ all ∙ count_is in
       ap (λ z. outcome_kind.Complete z) ended.words_are
       ∙ sym (ap (λ r. by_end (words_at items) items r) close
-      ∙ ap (λ t. if t then outcome_kind.Complete (words_at items) else outcome_kind.Incomplete (length (pages_of items)) (page_count (words_at items))) (eq-eqb (length (all_words (pages_of items))) (words_at items) full))
+      ∙ ap (λ t. if t then outcome_kind.Complete (words_at items) else outcome_kind.Incomplete (length (pages_of items)) (page_count page_words (words_at items))) (eq-eqb (length (all_words (pages_of items))) (words_at items) full))
 
-  pub incomplete : e.reason ≡ Close → length b.words < b.count → outcome_kind.Incomplete e.pages (page_count words) ≡ by_end (words_at items) items e.reason
+  pub incomplete : e.reason ≡ Close → length b.words < b.count → outcome_kind.Incomplete e.pages (page_count page_words words) ≡ by_end (words_at items) items e.reason
   incomplete close few =
       let l = ap length words_is in let c = count_is in
       let less : (length (all_words (pages_of items)) == words_at items) ≡ false = (elim (eqb_tells (length (all_words (pages_of items))) (words_at items)) [
         | inl full ↦ let f = full.1 in absurd (omega arith)
         | inr n ↦ n.0
       ]) in
-      (λ i. outcome_kind.Incomplete (ended.pages i) (page_count (ended.words_are i)))
+      (λ i. outcome_kind.Incomplete (ended.pages i) (page_count page_words (ended.words_are i)))
       ∙ sym (ap (λ r. by_end (words_at items) items r) close
-      ∙ ap (λ t. if t then outcome_kind.Complete (words_at items) else outcome_kind.Incomplete (length (pages_of items)) (page_count (words_at items))) less)
+      ∙ ap (λ t. if t then outcome_kind.Complete (words_at items) else outcome_kind.Incomplete (length (pages_of items)) (page_count page_words (words_at items))) less)
 
   pub whole_image : (i : Image) → i ≡ record { entry = b.entry; slot = b.slot; words = b.words } → outcome_kind.Complete words ≡ outcome_kind.Complete (words_at items) → IsImageOf m items (pages_of items) (outcome_kind.Complete words) (Whole i)
   whole_image i is same = (is ∙ (λ j. record { entry = (ap (λ z. z.entry) ended.builder) j; slot = (ap (λ z. z.slot) ended.builder) j; words = words_is j }), same)

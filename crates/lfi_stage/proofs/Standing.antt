@@ -13,13 +13,13 @@ use Rattle.lfi_frame.specs.declared.fault.FrameFault.TheVariants as frame_fault
 use Rattle.lfi_frame.specs.declared.feed.Feed.{Feed}
 use Rattle.lfi_frame.specs.declared.header.Header.{Header}
 use Rattle.lfi_stage.specs.declared.coming.Coming.{Coming}
-use Rattle.lfi_frame.specs.declared.feed.Place.{Place}
-use Rattle.lfi_frame.specs.declared.feed.Place.TheVariants as place
+use Rattle.lfi_frame.specs.declared.feed.Position.{Position}
+use Rattle.lfi_frame.specs.declared.feed.Position.TheVariants as position
 use Rattle.lfi_frame.specs.Streams.{Message, Rest, short, faulty, unfinished, whole, rest_of, rest_after, header_fault, header_at, spelling, Cut, page_message}
 use Rattle.lfi_frame.specs.Feeds.{FeedStands, IsAt, IsTold, feed_fault, fault_at}
 use Rattle.lfi_frame.specs.Streams.{IsMessage, header_of}
-use Rattle.lfi_frame.specs.declared.feed.Step.{Step}
-use Rattle.lfi_frame.specs.declared.feed.Got.TheVariants.{More, Payload}
+use Rattle.lfi_frame.specs.declared.answer.Step.{Step}
+use Rattle.lfi_frame.specs.declared.answer.Got.TheVariants.{More, Payload}
 use Rattle.lfi_frame.proofs.Headers.{sound, header_back}
 use Rattle.lfi_frame.proofs.Cuts.{header_stays}
 use Rattle.std.proofs.lemmas.List.Elements.{All-head, All-tail}
@@ -29,11 +29,11 @@ use Rattle.lfi_frame.proofs.Cuts.{rest_short, rest_long}
 use Rattle.lfi_frame.proofs.Feeding.{stands_cut, page_rest}
 use Rattle.lfi_queues.specs.Items.{ItemView}
 use Rattle.lfi_queues.specs.Passes.{PassView}
-use Rattle.lfi_queues.specs.declared.item.Kind.TheVariants.{End}
+use Rattle.lfi_queues.specs.declared.item.ItemKind.TheVariants.{End}
 use Rattle.lfi_model.specs.declared.connection.Cause.{Cause}
 use Rattle.lfi_model.specs.declared.connection.Cause.TheVariants as cause_kind
 use Rattle.lfi_model.specs.declared.connection.Progress.{Progress}
-use Rattle.lfi_model.specs.declared.connection.Progress.TheVariants.{Going, Over}
+use Rattle.lfi_model.specs.declared.connection.Progress.TheVariants.{Going, Ended}
 use Rattle.lfi_model.specs.Items.{connection_fault, ends_of, fault_by_cause, fault_of, is_going, is_inside, item_of, items_of, modules, reason_of, share_at, strays_of}
 use Rattle.lfi_model.specs.Modules.{of, Member}
 use Rattle.lfi_stage.specs.declared.receiver.Receiver.{Receiver}
@@ -115,14 +115,14 @@ stands_ended r bytes messages rest cause cut some ends = record { messages = mes
 
 -- a text without a fault so far
 no_fault : (feed : Feed) (messages : List Message) (rest : List ℕ) → FeedStands feed messages rest → feed_fault feed ≡ None → (fault : FrameFault) → rest_of rest ≡ faulty fault → ⊥
-no_fault feed messages rest stands none fault e = by feed.place stands.place none
+no_fault feed messages rest stands none fault e = by feed.position stands.position none
   where
-    by : (p : Place) → IsAt feed.held p rest → fault_at p ≡ None → ⊥
-    by (place.Header filled) at n =
+    by : (p : Position) → IsAt feed.held p rest → fault_at p ≡ None → ⊥
+    by (position.Header filled) at n =
         let less : length rest < 12 = (let l = ap length at.1 in let k = length-take filled feed.held in let f = at.0 in omega arith) in
         absurd (let s = rest_short rest less in cc)
-    by (place.Payload left) at n = absurd (let u = page_rest rest left at in cc)
-    by (place.Over f) at n = absurd (cc)
+    by (position.Payload left) at n = absurd (let u = page_rest rest left at in cc)
+    by (position.Faulty f) at n = absurd (cc)
 
 -- so its fault, where the input ends, is by what ended it
 fault_without : (rest : Rest) (cause : Cause) (inside : Bool) → ((fault : FrameFault) → rest ≡ faulty fault → ⊥) → fault_of rest cause inside ≡ fault_by_cause cause inside
@@ -182,7 +182,7 @@ end_stands r q bytes cause u g stands none same_modules same_strays same_pass sa
 
 -- An End that is due comes into the hand.
 pub end_due : (r : Receiver) (new : List Progress) (bytes : List ℕ) (fault : FrameFault) (k n p : ℕ) → r.hand ≡ None → IsSome r.cause → r.fault ≡ Some fault → progress_at r.modules k ≡ Going n p
-    → ((m : ℕ) → progress_at new m ≡ (if m == k then Over else progress_at r.modules m)) → StandsFor r bytes
+    → ((m : ℕ) → progress_at new m ≡ (if m == k then Ended else progress_at r.modules m)) → StandsFor r bytes
     → StandsFor (record r { modules = new; hand = Some (item_of k (p + 1) n (End (reason_of fault))) }) bytes
 end_due r new bytes fault k n p free some is was at stands = record {
   messages = stands.messages;
@@ -196,8 +196,8 @@ end_due r new bytes fault k n p free some is was at stands = record {
 
     claims : (m : ℕ) → claims_of new m ≡ claims_of r.modules m
     claims m = elim (eqb_tells m k) [
-      | inl e ↦ let same = e.1 in subst (λ z. claims_of new z ≡ claims_of r.modules z) (sym same) (ap is_claimed (changed_at r.modules new k Over at) ∙ sym (ap is_claimed was))
-      | inr n ↦ claims_other r.modules new k Over at m n.1
+      | inl e ↦ let same = e.1 in subst (λ z. claims_of new z ≡ claims_of r.modules z) (sym same) (ap is_claimed (changed_at r.modules new k Ended at) ∙ sym (ap is_claimed was))
+      | inr n ↦ claims_other r.modules new k Ended at m n.1
     ]
 
     made : r.pass.items ++ x ∷ [] ≡ made_by r ++ x ∷ []
@@ -209,7 +209,7 @@ end_due r new bytes fault k n p free some is was at stands = record {
           | inl e ↦
               let same = e.1 in
               subst (λ z. (of z (r.pass.items ++ x ∷ []) ++ ends_of z (progress_at new z) r.fault) ≡ of z (made_by r) ++ ends_of z (progress_at r.modules z) r.fault) (sym same)
-              (ap (λ q. of k (r.pass.items ++ x ∷ []) ++ ends_of k q r.fault) (changed_at r.modules new k Over at)
+              (ap (λ q. of k (r.pass.items ++ x ∷ []) ++ ends_of k q r.fault) (changed_at r.modules new k Ended at)
               ∙ append-nil (of k (r.pass.items ++ x ∷ []))
               ∙ ap (λ l. of k l) made ∙ of_this k (made_by r) x refl
               ∙ ap (λ f. of k (made_by r) ++ ends_of k (Going n p) f) (sym is)
@@ -217,7 +217,7 @@ end_due r new bytes fault k n p free some is was at stands = record {
           | inr apart ↦
               ap (λ l. of m l ++ ends_of m (progress_at new m) r.fault) made
               ∙ ap (λ l. l ++ ends_of m (progress_at new m) r.fault) (of_other m (made_by r) x (λ e. apart.1 (sym e)))
-              ∙ ap (λ q. of m (made_by r) ++ ends_of m q r.fault) (at m ∙ ap (λ b. if b then Over else progress_at r.modules m) apart.0)
+              ∙ ap (λ q. of m (made_by r) ++ ends_of m q r.fault) (at m ∙ ap (λ b. if b then Ended else progress_at r.modules m) apart.0)
         ]) in
         all ∙ ends.items m ∙ ap (λ c. items_of ms rest cause c m) {x = claims_of r.modules} {y = claims_of new} (λ i z. sym (claims z) i)
 
@@ -445,14 +445,14 @@ header_over r o feed bytes used m index len stands none some now twelve is goes 
     subst (λ l. IsOver o l) (grown_text bytes used stands.rest ms stands.cut) (goes ms (stands.rest ++ used) h' now twelve is)
 
 -- what is due, where an End comes into the hand
-pub due_next : (r : Receiver) (new : List Progress) (x : ItemView) (k n p : ℕ) → r.hand ≡ None → k < 16 → progress_at r.modules k ≡ Going n p → ((m : ℕ) → progress_at new m ≡ (if m == k then Over else progress_at r.modules m))
+pub due_next : (r : Receiver) (new : List Progress) (x : ItemView) (k n p : ℕ) → r.hand ≡ None → k < 16 → progress_at r.modules k ≡ Going n p → ((m : ℕ) → progress_at new m ≡ (if m == k then Ended else progress_at r.modules m))
     → due_of (record r { modules = new; hand = Some x }) ≡ due_of r
 due_next r new x k n p free in_range was at =
     let now : ℕ → ℕ = λ m. if is_going (progress_at new m) then 1 else 0 in
     let before : ℕ → ℕ = λ m. if is_going (progress_at r.modules m) then 1 else 0 in
-    let here : before k ≡ now k + 1 = ap (λ q. if is_going q then 1 else 0) was ∙ sym (ap (λ q. (if is_going q then 1 else 0) + 1) (changed_at r.modules new k Over at)) in
+    let here : before k ≡ now k + 1 = ap (λ q. if is_going q then 1 else 0) was ∙ sym (ap (λ q. (if is_going q then 1 else 0) + 1) (changed_at r.modules new k Ended at)) in
     let sum : sum_by before modules ≡ sum_by now modules + 1 =
-    sum_one_more now before modules k apart (numbered k in_range) here (λ m n. ap (λ q. if is_going q then 1 else 0) (sym (at m ∙ ap (λ b. if b then Over else progress_at r.modules m) (not_eqb m k n)))) in
+    sum_one_more now before modules k apart (numbered k in_range) here (λ m n. ap (λ q. if is_going q then 1 else 0) (sym (at m ∙ ap (λ b. if b then Ended else progress_at r.modules m) (not_eqb m k n)))) in
     let none : length (option_to_list r.hand) ≡ 0 = ap (λ h. length (option_to_list h)) free in
     omega arith
   where

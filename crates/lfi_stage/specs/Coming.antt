@@ -1,11 +1,12 @@
 -- What the type of a page that is coming keeps.
 use Rattle.std.specs.Prelude.{◌≡◌, ℕ, ◌+◌, ◌<◌, ◌≤◌, List, length}
-use Rattle.lfi_model.specs.Items.{page_count, page_len}
+use Rattle.lfi_module.specs.Numbers.{page_words}
+use Rattle.lfi_module.specs.Pages.{page_count, bytes_in_page}
 
 -- page `pages` of module m, of which these bytes have come and so many are still to come
 pub record IsComing (m words pages left : ℕ) (bytes : List ℕ) : Type 0 where
   pub in_range : m < 16
   pub few_words : words ≤ 4194304
-  pub due : pages < page_count words
-  pub length_due : length bytes + left ≡ page_len words pages
+  pub due : pages < page_count page_words words
+  pub length_due : length bytes + left ≡ bytes_in_page page_words words pages
   pub unended : 0 < left

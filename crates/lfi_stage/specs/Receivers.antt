@@ -9,7 +9,9 @@ use Rattle.lfi_model.specs.declared.connection.Cause.{Cause}
 use Rattle.lfi_model.specs.declared.connection.Cause.TheVariants.{End, Failed, Starved}
 use Rattle.lfi_model.specs.declared.connection.Progress.{Progress}
 use Rattle.lfi_model.specs.declared.connection.Progress.TheVariants.{Going}
-use Rattle.lfi_model.specs.Items.{is_going, share_of, modules, is_due, page_len, ends_of, items_of, connection_fault, strays_of}
+use Rattle.lfi_model.specs.Items.{is_going, share_of, modules, ends_of, items_of, connection_fault, strays_of}
+use Rattle.lfi_module.specs.Numbers.{page_words}
+use Rattle.lfi_module.specs.Pages.{is_due, bytes_in_page}
 use Rattle.lfi_model.specs.Modules.{of}
 use Rattle.lfi_stage.specs.Places.{progress_at, claims_of}
 use Rattle.lfi_stage.specs.Claims.{first_open, claims_in}
@@ -56,14 +58,14 @@ pub record Agrees (places : List Progress) (made : List ItemView) (count : ℕ) 
 
 -- the page's header told that it isn't the one due, or its module isn't open
 abbrev pub IsPassed : Progress → (index len : ℕ) → Type 0
-IsPassed (Going n p) index len = is_due n p index len ≡ false
+IsPassed (Going n p) index len = is_due page_words n p index len ≡ false
 IsPassed progress index len = Unit {0}
 
 -- What is known of the page whose payload is coming: it is the one due, and its bytes are kept; or it is passed over.
 abbrev pub Awaits : Option Coming → List Progress → List Message → List ℕ → Type 0
 Awaits (Some c) places messages rest =
     (progress_at places c.«module» ≡ Going c.words c.pages)
-    × (rest_of rest ≡ unfinished c.«module» c.pages (page_len c.words c.pages))
+    × (rest_of rest ≡ unfinished c.«module» c.pages (bytes_in_page page_words c.words c.pages))
     × (c.page ≡ drop 12 rest)
 Awaits None places messages rest =
     (m index len : ℕ) → rest_of rest ≡ unfinished m index len → IsPassed (share_of (claims_of places m) m messages short).progress index len
@@ -118,7 +120,7 @@ pub record IsFaulty (text : List ℕ) : Type 0 where
 
 -- the page is the one due of an open module
 abbrev pub IsDuePage : Progress → (index len : ℕ) → Type 0
-IsDuePage (Going n p) index len = is_due n p index len ≡ true
+IsDuePage (Going n p) index len = is_due page_words n p index len ≡ true
 IsDuePage progress index len = ⊥
 
 -- The text ends with the header of a page that is due, for which memory is to be taken.

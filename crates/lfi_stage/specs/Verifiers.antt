@@ -2,8 +2,8 @@
 use Rattle.std.specs.Prelude.{◌≡◌, ℕ, ◌*◌, min, List, [], ◌∷◌, length, Option, Some, None, get_or}
 use Rattle.std.specs.Option.{option_map}
 use Rattle.lfi_queues.specs.Items.{ItemView}
-use Rattle.lfi_queues.specs.declared.item.Kind.{Kind}
-use Rattle.lfi_queues.specs.declared.item.Kind.TheVariants.{Open}
+use Rattle.lfi_queues.specs.declared.item.ItemKind.{ItemKind}
+use Rattle.lfi_queues.specs.declared.item.ItemKind.TheVariants.{Open}
 use Rattle.lfi_rules.specs.Faults.{FirstFault}
 use Rattle.lfi_rules.specs.Verdicts.{all_words}
 use Rattle.lfi_image.specs.Image.{Module}
@@ -17,7 +17,7 @@ abbrev pub words_at : List ItemView → ℕ
 words_at [] = 0
 words_at (first ∷ items) = first.words
 
-abbrev pub entry_by : Kind → ℕ
+abbrev pub entry_by : ItemKind → ℕ
 entry_by (Open entry) = entry
 entry_by kind = 0
 

@@ -2,23 +2,25 @@
 
 ghost use Rattle.std.specs.Prelude.{◌≡◌, ◌≢◌, ℕ, ◌+◌, ◌-◌, ◌*◌, ◌<◌, ◌≤◌, ◌++◌, length, take, IfOk, IfErr, Some};
 ghost use Rattle.lfi_stage.specs.Coming.{IsComing};
-ghost use Rattle.lfi_queues.specs.declared.item.Kind.TheVariants.{Page};
-ghost use Rattle.lfi_model.specs.Items.{is_due, page_count, page_len, item_of};
+ghost use Rattle.lfi_queues.specs.declared.item.ItemKind.TheVariants.{Page};
+ghost use Rattle.lfi_model.specs.Items.{item_of};
+ghost use Rattle.lfi_module.specs.Numbers.{page_words};
+ghost use Rattle.lfi_module.specs.Pages.{is_due, page_count, bytes_in_page};
 
 use crate::modules::OpenModule;
-use lfi_queues::{Item, Kind};
+use lfi_queues::{Item, ItemKind};
 use page_buf::OpenPage;
 
 /// How many pages a module of so many words has.
 pub(crate) fn page_count(words: u32) -> u32
-    ensures { result ≡ page_count words }
+    ensures { result ≡ page_count page_words words }
 {
     words.div_ceil(1024)
 }
 
 /// Whether page `index` of `len` bytes is the next one due of a module.
 pub(crate) fn is_due(module: &OpenModule, index: u32, len: u32) -> bool
-    ensures { result ≡ is_due «module».now.words «module».now.pages index len }
+    ensures { result ≡ is_due page_words «module».now.words «module».now.pages index len }
 {
     let words = u64::from(module.words);
     let rest = (4 * words).saturating_sub(4096 * u64::from(index));
@@ -68,7 +70,7 @@ impl Coming {
                 module,
                 ordinal: pages + 1,
                 words,
-                kind: Kind::Page(page),
+                kind: ItemKind::Page(page),
             }),
             Err(_) => unreachable!(),
         }

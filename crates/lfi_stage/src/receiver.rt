@@ -6,9 +6,9 @@ ghost use Rattle.lfi_frame.specs.Feeds.{FeedStands, feed_fault};
 ghost use Rattle.lfi_stage.specs.Shares.{intake_of};
 ghost use Rattle.lfi_frame.specs.declared.fault.FrameFault.{FrameFault};
 ghost use Rattle.lfi_frame.specs.Streams.{Message, open_message, page_message, close_message, rest_of, short, unfinished, spelling, IsMessage};
-ghost use Rattle.lfi_queues.specs.declared.item.Kind.TheVariants.{End};
+ghost use Rattle.lfi_queues.specs.declared.item.ItemKind.TheVariants.{End};
 ghost use Rattle.lfi_model.specs.declared.connection.Progress.{Progress};
-ghost use Rattle.lfi_model.specs.declared.connection.Progress.TheVariants.{Going, Over};
+ghost use Rattle.lfi_model.specs.declared.connection.Progress.TheVariants.{Going, Ended};
 ghost use Rattle.lfi_model.specs.Items.{item_of, reason_of, fault_by_cause, share_of};
 ghost use Rattle.lfi_stage.specs.Places.{progress_at, IsPossible};
 
@@ -17,7 +17,7 @@ use crate::modules::{Modules, OpenModule};
 use crate::shared::Shared;
 use lfi_frame::{Feed, FrameFault, Got, Step};
 use lfi_model::{Cause, Progress};
-use lfi_queues::{Item, Kind, PutPass, Reason};
+use lfi_queues::{Item, ItemKind, PutPass, Reason};
 use page_buf::OpenPage;
 use std::alloc::Global;
 
@@ -141,15 +141,15 @@ impl Receiver {
         requires in_range { ended.number < 16 }
         requires possible { IsPossible (Going ended.words ended.pages) }
         ensures hand { self.new.hand ≡ Some (item_of ended.number (ended.pages + 1) ended.words (End reason)) }
-        ensures modules { (m : ℕ) → progress_at self.new.modules m ≡ (if m == ended.number then Over else progress_at self.old.modules m) }
+        ensures modules { (m : ℕ) → progress_at self.new.modules m ≡ (if m == ended.number then Ended else progress_at self.old.modules m) }
         ensures rest { self.new ≡ record self.old { modules = self.new.modules; hand = self.new.hand } }
     {
-        self.modules.set(ended.number, Progress::Over);
+        self.modules.set(ended.number, Progress::Ended);
         self.hand = Some(Item {
             module: ended.number,
             ordinal: ended.pages + 1,
             words: ended.words,
-            kind: Kind::End(reason),
+            kind: ItemKind::End(reason),
         });
     }
 
@@ -181,7 +181,7 @@ impl Receiver {
             module,
             ordinal: 0,
             words,
-            kind: Kind::Open { entry },
+            kind: ItemKind::Open { entry },
         });
         false
     }

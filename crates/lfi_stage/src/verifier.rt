@@ -5,7 +5,7 @@ ghost use Rattle.page_buf.specs.Spelled.{words_of};
 ghost use Rattle.lfi_rules.specs.Faults.{FirstFault};
 ghost use Rattle.lfi_image.specs.Built.{due, with_words};
 ghost use Rattle.lfi_queues.specs.Items.{ItemView, IsItem};
-ghost use Rattle.lfi_queues.specs.declared.item.Kind.TheVariants.{Open, Page, End};
+ghost use Rattle.lfi_queues.specs.declared.item.ItemKind.TheVariants.{Open, Page, End};
 ghost use Rattle.lfi_model.specs.Modules.{IsModule};
 ghost use Rattle.lfi_stage.specs.Shares.{intake_of};
 
@@ -13,7 +13,7 @@ use crate::modules::MODULES;
 use crate::report::{ModuleReport, report_of};
 use crate::shared::Shared;
 use lfi_image::{Builder, Places};
-use lfi_queues::{Item, Kind, Reason, TakePass};
+use lfi_queues::{Item, ItemKind, Reason, TakePass};
 use lfi_rules::{Fault, judge};
 use page_buf::SealedPage;
 use std::alloc::{AllocError, Global};
@@ -184,15 +184,15 @@ fn after(spare: &mut Option<Places>, before: Option<Placing>, item: Item) -> Opt
         kind,
     } = item;
     match (before, kind) {
-        (None, Kind::Open { entry }) => match spare.take() {
+        (None, ItemKind::Open { entry }) => match spare.take() {
             Some(places) => Some(Placing::new(places, module, words, entry)),
             None => unreachable!(),
         },
-        (Some(mut placing), Kind::Page(page)) => {
+        (Some(mut placing), ItemKind::Page(page)) => {
             placing.page(page);
             Some(placing)
         }
-        (Some(mut placing), Kind::End(reason)) => {
+        (Some(mut placing), ItemKind::End(reason)) => {
             placing.end(Ended {
                 reason,
                 pages: ordinal - 1,

@@ -1,6 +1,7 @@
 use Rattle.std.proofs.Common.{◌∙◌, ap, sym, subst}
 use Rattle.lfi_model.specs.declared.outcome.Outcome.TheVariants as outcome_kind
-use Rattle.lfi_model.specs.Items.{page_count}
+use Rattle.lfi_module.specs.Numbers.{page_words}
+use Rattle.lfi_module.specs.Pages.{page_count}
 use Rattle.lfi_stage.specs.declared.report.ImageState.TheVariants.{Part, Whole}
 use Rattle.lfi_stage.specs.Tells.{Tells}
 use Rattle.lfi_stage.proofs.Reporting.{told_by, complete, incomplete, whole_image}
@@ -15,7 +16,7 @@ returns-in-Ok c = λ m items ended.
 pub returns-in-Err : goal.returns-in-Err
 returns-in-Err c = λ m items ended.
     let outcome = c.page_count.ensures in
-    let told = told_by m c.args.builder c.args.words c.args.ended items (outcome_kind.Incomplete c.args.ended.pages (page_count c.args.words)) (Part c.in-Err.builder) ended
+    let told = told_by m c.args.builder c.args.words c.args.ended items (outcome_kind.Incomplete c.args.ended.pages (page_count page_words c.args.words)) (Part c.in-Err.builder) ended
     (incomplete m c.args.builder c.args.words c.args.ended items ended c.requires c.in-Err.ensures.0)
     (c.in-Err.ensures.1 ∙ ended.builder, λ n e. absurd (cc)) in
     subst (λ r. Tells m r items) (sym (c.part.ensures ∙ ap (λ z. record { outcome = outcome_kind.Incomplete c.args.ended.pages z; image = Part c.in-Err.builder }) outcome)) told

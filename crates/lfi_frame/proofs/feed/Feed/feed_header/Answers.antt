@@ -1,6 +1,6 @@
 use Rattle.std.proofs.Common.{rules, ◌≡◌, ℕ, List, ◌++◌, length, take, arith, ap, sym, subst, ◌∙◌}
 use Rattle.lfi_frame.specs.Streams.{AreBytes, header_at}
-use Rattle.lfi_frame.specs.Feeds.{IsAt, answer_to, place_after}
+use Rattle.lfi_frame.specs.Feeds.{IsAt, answer_to, position_after}
 use Rattle.std.proofs.lemmas.Grind.{common_steps}
 use Rattle.lfi_frame.specs.declared.feed.Feed.{Feed}
 use Rattle.lfi_frame.proofs.Feeding.{header_told, header_failed, joined_small}
@@ -10,7 +10,7 @@ pub returns-in-Ok-clause-told : goal.returns-in-Ok-clause-told
 returns-in-Ok-clause-told c = λ messages rest stands.
     let old : Feed = c.args.self.now in
     let new : Feed = c.begin.new.self in
-    let at_header = subst (λ p. IsAt old.held p rest) c.requires stands.place in
+    let at_header = subst (λ p. IsAt old.held p rest) c.requires stands.position in
     let a = c.copy_from_slice.ensures.after in
     let a2 = c.copy_from_slice.ensures.len in
     let b = c.begin.ensures.held in
@@ -21,13 +21,13 @@ returns-in-Ok-clause-told c = λ messages rest stands.
     let small : AreBytes (rest ++ used) = joined_small rest c.args.piece.now c.min-used.result at_header.2 bytes in
     header_told new messages rest used stands.each (ap length text ∙ twelve) small c.in-Ok.got
     (sym c.in-Ok.is ∙ c.begin.ensures.answer ∙ ap (λ l. answer_to (header_at l)) (sym b ∙ sym text))
-    (c.begin.ensures.place ∙ ap (λ l. place_after (header_at l)) (sym b ∙ sym text))
+    (c.begin.ensures.position ∙ ap (λ l. position_after (header_at l)) (sym b ∙ sym text))
 
 pub returns-in-Err-clause-told : goal.returns-in-Err-clause-told
 returns-in-Err-clause-told c = λ messages rest stands.
     let old : Feed = c.args.self.now in
     let new : Feed = c.begin.new.self in
-    let at_header = subst (λ p. IsAt old.held p rest) c.requires stands.place in
+    let at_header = subst (λ p. IsAt old.held p rest) c.requires stands.position in
     let a = c.copy_from_slice.ensures.after in
     let a2 = c.copy_from_slice.ensures.len in
     let b = c.begin.ensures.held in
@@ -38,4 +38,4 @@ returns-in-Err-clause-told c = λ messages rest stands.
     let small : AreBytes (rest ++ used) = joined_small rest c.args.piece.now c.min-used.result at_header.2 bytes in
     header_failed new messages rest used stands.each (ap length text ∙ twelve) small c.in-Err.fault
     (sym c.in-Err.is ∙ c.begin.ensures.answer ∙ ap (λ l. answer_to (header_at l)) (sym b ∙ sym text))
-    (c.begin.ensures.place ∙ ap (λ l. place_after (header_at l)) (sym b ∙ sym text))
+    (c.begin.ensures.position ∙ ap (λ l. position_after (header_at l)) (sym b ∙ sym text))

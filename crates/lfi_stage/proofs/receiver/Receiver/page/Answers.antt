@@ -1,7 +1,8 @@
 use Rattle.std.proofs.Common.{rules, ◌≡◌, ◌∙◌, sym, subst, true, false, ap, refl}
 use Rattle.lfi_frame.specs.Streams.{unfinished}
-use Rattle.lfi_model.specs.declared.connection.Progress.TheVariants.{Going, Over}
-use Rattle.lfi_model.specs.Items.{is_due}
+use Rattle.lfi_model.specs.declared.connection.Progress.TheVariants.{Going, Ended}
+use Rattle.lfi_module.specs.Numbers.{page_words}
+use Rattle.lfi_module.specs.Pages.{is_due}
 use Rattle.lfi_stage.specs.Places.{progress_at}
 use Rattle.lfi_stage.specs.Receivers.{Agrees, Holds, made_by, claimed_by}
 use Rattle.lfi_stage.proofs.Events.{IsShut, header_stray, claims_kept}
@@ -28,7 +29,7 @@ pub returns-then-not-is_due-clause-agrees : goal.returns-then-not-is_due-clause-
 returns-then-not-is_due-clause-agrees c = λ ms holds.
     let r = c.args.self.now in
     let was : progress_at r.modules c.args.«module» ≡ Going c.in-Going.words c.in-Going.pages = search rules in
-    let undue : is_due c.in-Going.words c.in-Going.pages c.args.index c.args.len ≡ false = sym c.is_due.ensures ∙ c.if-not-is_due.true in
+    let undue : is_due page_words c.in-Going.words c.in-Going.pages c.args.index c.args.len ≡ false = sym c.is_due.ensures ∙ c.if-not-is_due.true in
     subst (λ q. Agrees q.modules (made_by q) q.strays ms (unfinished c.args.«module» c.args.index c.args.len)) (sym (c.over.ensures.rest ∙ ap (λ h. record r { modules = c.over.new.self.modules; hand = h }) c.over.ensures.hand))
     (undue_agrees r c.over.new.self.modules ms c.args.«module» c.in-Going.words c.in-Going.pages c.args.index c.args.len c.requires.free was undue c.over.ensures.modules holds)
 
@@ -36,7 +37,7 @@ pub returns-then-not-is_due-clause-holds : goal.returns-then-not-is_due-clause-h
 returns-then-not-is_due-clause-holds c = λ _ ms rest holds is none.
     let r = c.args.self.now in
     let was : progress_at r.modules c.args.«module» ≡ Going c.in-Going.words c.in-Going.pages = search rules in
-    let undue : is_due c.in-Going.words c.in-Going.pages c.args.index c.args.len ≡ false = sym c.is_due.ensures ∙ c.if-not-is_due.true in
+    let undue : is_due page_words c.in-Going.words c.in-Going.pages c.args.index c.args.len ≡ false = sym c.is_due.ensures ∙ c.if-not-is_due.true in
     subst (λ q. Holds q ms rest) (sym (c.over.ensures.rest ∙ ap (λ h. record r { modules = c.over.new.self.modules; hand = h }) c.over.ensures.hand))
     (undue_page r c.over.new.self.modules ms rest c.args.«module» c.in-Going.words c.in-Going.pages c.args.index c.args.len c.requires.free was undue c.over.ensures.modules holds is)
 
@@ -44,32 +45,32 @@ pub returns-in-Ok-clause-holds : goal.returns-in-Ok-clause-holds
 returns-in-Ok-clause-holds c = λ _ ms rest holds is none.
     let r = c.args.self.now in
     let was : progress_at r.modules c.args.«module» ≡ Going c.in-Going.words c.in-Going.pages = search rules in
-    let due : is_due c.in-Going.words c.in-Going.pages c.args.index c.args.len ≡ true = sym c.is_due.ensures ∙ c.if-not-is_due.false in
+    let due : is_due page_words c.in-Going.words c.in-Going.pages c.args.index c.args.len ≡ true = sym c.is_due.ensures ∙ c.if-not-is_due.false in
     due_page r _ ms rest c.args.«module» c.in-Going.words c.in-Going.pages c.args.index c.args.len was due refl refl refl c.in-Ok.ensures holds is none
 
 pub returns-then-not-is_due-clause-claims : goal.returns-then-not-is_due-clause-claims
 returns-then-not-is_due-clause-claims c = λ ms holds m.
     let r = c.args.self.now in
     let was : progress_at r.modules c.args.«module» ≡ Going c.in-Going.words c.in-Going.pages = search rules in
-    claims_kept r.modules c.over.new.self.modules c.args.«module» (Going c.in-Going.words c.in-Going.pages) Over was c.over.ensures.modules refl m ∙ holds.opens.claims m
+    claims_kept r.modules c.over.new.self.modules c.args.«module» (Going c.in-Going.words c.in-Going.pages) Ended was c.over.ensures.modules refl m ∙ holds.opens.claims m
 
 pub returns-in-Ok-clause-agrees : goal.returns-in-Ok-clause-agrees
 returns-in-Ok-clause-agrees c = λ ms holds.
     let r = c.args.self.now in
     let was : progress_at r.modules c.args.«module» ≡ Going c.in-Going.words c.in-Going.pages = search rules in
-    let due : is_due c.in-Going.words c.in-Going.pages c.args.index c.args.len ≡ true = sym c.is_due.ensures ∙ c.if-not-is_due.false in
+    let due : is_due page_words c.in-Going.words c.in-Going.pages c.args.index c.args.len ≡ true = sym c.is_due.ensures ∙ c.if-not-is_due.false in
     due_agrees r ms c.args.«module» c.in-Going.words c.in-Going.pages c.args.index c.args.len was due holds
 
 pub returns-in-Err-clause-agrees : goal.returns-in-Err-clause-agrees
 returns-in-Err-clause-agrees c = λ ms holds.
     let r = c.args.self.now in
     let was : progress_at r.modules c.args.«module» ≡ Going c.in-Going.words c.in-Going.pages = search rules in
-    let due : is_due c.in-Going.words c.in-Going.pages c.args.index c.args.len ≡ true = sym c.is_due.ensures ∙ c.if-not-is_due.false in
+    let due : is_due page_words c.in-Going.words c.in-Going.pages c.args.index c.args.len ≡ true = sym c.is_due.ensures ∙ c.if-not-is_due.false in
     due_agrees r ms c.args.«module» c.in-Going.words c.in-Going.pages c.args.index c.args.len was due holds
 
 pub returns-in-Err-clause-starved : goal.returns-in-Err-clause-starved
 returns-in-Err-clause-starved c = λ _ ms holds.
     let r = c.args.self.now in
     let was : progress_at r.modules c.args.«module» ≡ Going c.in-Going.words c.in-Going.pages = search rules in
-    let due : is_due c.in-Going.words c.in-Going.pages c.args.index c.args.len ≡ true = sym c.is_due.ensures ∙ c.if-not-is_due.false in
+    let due : is_due page_words c.in-Going.words c.in-Going.pages c.args.index c.args.len ≡ true = sym c.is_due.ensures ∙ c.if-not-is_due.false in
     due_now r ms c.args.«module» c.in-Going.words c.in-Going.pages c.args.index c.args.len was due holds

@@ -1,0 +1,8 @@
+-- The kinds of messages by their numbers. (docs/DEFINITIONS.md, "Stream format")
+use Rattle.std.specs.Prelude.{ℕ, ◌==◌, if◌then◌else◌, Option, Some, None}
+use Rattle.lfi_frame.specs.declared.header.MessageKind.{MessageKind}
+use Rattle.lfi_frame.specs.declared.header.MessageKind.TheVariants.{Open, Page, Close}
+
+-- the kind with a number
+abbrev pub kind_of : ℕ → Option MessageKind
+kind_of n = if n == 1 then Some Open else if n == 2 then Some Page else if n == 3 then Some Close else None

@@ -1,0 +1,22 @@
+-- The numbers of this project's profile that speak of modules. (docs/DEFINITIONS.md, "Modules and their slots")
+use Rattle.std.specs.Prelude.{ℕ, ◌+◌, ◌*◌, ◌^◌}
+
+-- how many modules there are, and slots for them
+abbrev pub module_count : ℕ
+module_count = 16
+
+-- the most words of a module
+abbrev pub most_words : ℕ
+most_words = 4194304
+
+-- the words of a full page
+abbrev pub page_words : ℕ
+page_words = 1024
+
+-- the bytes of a full page
+abbrev pub page_bytes : ℕ
+page_bytes = 4096
+
+-- where a slot begins
+abbrev pub base_of : ℕ → ℕ
+base_of slot = (2 * slot + 1) * 2 ^ 32

@@ -1,0 +1,22 @@
+-- A module's words, cut into pages of `size` words, of which only the last may have fewer. (docs/DEFINITIONS.md, "Modules and their slots")
+use Rattle.std.specs.Prelude.{ℕ, ◌+◌, ◌-◌, ◌*◌, ◌/◌, ◌==◌, ◌&&◌, nat_lt, min, Bool}
+
+-- how many pages n words take
+abbrev pub page_count : (size n : ℕ) → ℕ
+page_count size n = (n + (size - 1)) / size
+
+-- how many words the next page of a module of n words has, when so many have come
+abbrev pub words_due : (size n come : ℕ) → ℕ
+words_due size n come = min size (n - come)
+
+-- how many words page `index` has
+abbrev pub words_in_page : (size n index : ℕ) → ℕ
+words_in_page size n index = words_due size n (size * index)
+
+-- how many bytes page `index` has
+abbrev pub bytes_in_page : (size n index : ℕ) → ℕ
+bytes_in_page size n index = 4 * words_in_page size n index
+
+-- page `index` of so many bytes is the one that has to come after the first `come` pages
+abbrev pub is_due : (size n come : ℕ) → (index bytes : ℕ) → Bool
+is_due size n come index bytes = index == come && nat_lt index (page_count size n) && bytes == bytes_in_page size n index
