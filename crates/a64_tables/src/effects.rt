@@ -1,6 +1,5 @@
-//! What instructions read and write, where they access memory and branch, and what they ask of the next word: by the
-//! operations of the Arm manual's C6.2, and this project's profile.
-use a64_effects::{Form, Need, RegSet, address, meets, opens, reads, target, writes};
+//! What instructions read and write, and where they access memory and branch: by the operations of the Arm manual's C6.2.
+use a64_effects::{Address, Form, RegisterSet, address_of, reads, target, writes};
 use a64_word::{IndexExtend, Register, Width, decode};
 use std::test::Fail;
 
@@ -80,7 +79,7 @@ const WORDS: [u32; 73] = [
     0xA90003E0, // STP X0, X0, [SP]
 ];
 
-/// What they write; place 31 is sp.
+/// What they write; number 31 is sp.
 const WRITES: [(u32, u8, Width); 51] = [
     (0x91000420, 0, Width::X),
     (0x910003FF, 31, Width::X),
@@ -135,7 +134,7 @@ const WRITES: [(u32, u8, Width); 51] = [
     (0xA9407C40, 0, Width::X),
 ];
 
-/// What they read; place 31 is sp.
+/// What they read; number 31 is sp.
 const READS: [(u32, u8, Width); 88] = [
     (0x91000420, 1, Width::X),
     (0x910003FF, 31, Width::X),
@@ -227,215 +226,241 @@ const READS: [(u32, u8, Width); 88] = [
     (0xA90003E0, 31, Width::X),
 ];
 
-fn expected(uses: &[(u32, u8, Width)], word: u32, place: u8) -> Option<Width> {
+fn expected(uses: &[(u32, u8, Width)], word: u32, number: u8) -> Option<Width> {
     for (user, used, width) in uses {
-        if *user == word && *used == place {
+        if *user == word && *used == number {
             return Some(*width);
         }
     }
     None
 }
 
-fn width_at(set: &RegSet, place: u8) -> Option<Width> {
-    if place < 31 {
-        set.register(place)
+fn width_at(set: &RegisterSet, number: u8) -> Option<Width> {
+    if number < 31 {
+        set.register(number)
     } else {
         set.sp()
     }
 }
 
-#[test]
-fn reads_and_writes(rt: HostRuntime) {
-    for word in WORDS {
-        let found = decode(word);
-        assert!(rt; found.is_some(), "{word:#x}");
-        if let Some(i) = found {
-            for place in 0u8..32 {
-                let written = width_at(&writes(&i), place);
-                assert_eq!(rt;
-                    written,
-                    expected(&WRITES, word, place),
-                    "{word:#x} at {place}"
-                );
-                let read = width_at(&reads(&i), place);
-                assert_eq!(rt; read, expected(&READS, word, place), "{word:#x} at {place}");
-            }
+/// The first register of a word's set that isn't used as these uses say.
+fn first_other(set: &RegisterSet, uses: &[(u32, u8, Width)], word: u32) -> Option<u8> {
+    for number in 0u8..32 {
+        if width_at(set, number) != expected(uses, word, number) {
+            return Some(number);
         }
+    }
+    None
+}
+
+#[test]
+fn writes_registers(rt: HostRuntime) {
+    for word in WORDS {
+        let found = match decode(word) {
+            Some(instruction) => first_other(&writes(&instruction), &WRITES, word),
+            None => Some(32),
+        };
+        assert!(rt; found == None, "{word:#x} at {found:?}");
+    }
+}
+
+#[test]
+fn reads_registers(rt: HostRuntime) {
+    for word in WORDS {
+        let found = match decode(word) {
+            Some(instruction) => first_other(&reads(&instruction), &READS, word),
+            None => Some(32),
+        };
+        assert!(rt; found == None, "{word:#x} at {found:?}");
+    }
+}
+
+/// A word, and the address that it accesses.
+struct Access {
+    word: u32,
+    base: u8,
+    form: Form,
+    offset: i64,
+    bytes: u32,
+}
+
+const ACCESSES: [Access; 16] = [
+    Access {
+        word: 0xF9400240,
+        base: 18,
+        form: Form::Offset,
+        offset: 0,
+        bytes: 8,
+    },
+    Access {
+        word: 0xF97FFE40,
+        base: 18,
+        form: Form::Offset,
+        offset: 32760,
+        bytes: 8,
+    },
+    Access {
+        word: 0x397FFE40,
+        base: 18,
+        form: Form::Offset,
+        offset: 4095,
+        bytes: 1,
+    },
+    Access {
+        word: 0x797FFE40,
+        base: 18,
+        form: Form::Offset,
+        offset: 8190,
+        bytes: 2,
+    },
+    Access {
+        word: 0xB97FFE40,
+        base: 18,
+        form: Form::Offset,
+        offset: 16380,
+        bytes: 4,
+    },
+    Access {
+        word: 0xF8500240,
+        base: 18,
+        form: Form::Offset,
+        offset: -256,
+        bytes: 8,
+    },
+    Access {
+        word: 0x384FF240,
+        base: 18,
+        form: Form::Offset,
+        offset: 255,
+        bytes: 1,
+    },
+    Access {
+        word: 0xF85007E0,
+        base: 31,
+        form: Form::PostIndex,
+        offset: -256,
+        bytes: 8,
+    },
+    Access {
+        word: 0xF81F0FFE,
+        base: 31,
+        form: Form::PreIndex,
+        offset: -16,
+        bytes: 8,
+    },
+    Access {
+        word: 0xA97FFFE0,
+        base: 31,
+        form: Form::Offset,
+        offset: -8,
+        bytes: 16,
+    },
+    Access {
+        word: 0xA95F83E1,
+        base: 31,
+        form: Form::Offset,
+        offset: 504,
+        bytes: 16,
+    },
+    Access {
+        word: 0xA96007E0,
+        base: 31,
+        form: Form::Offset,
+        offset: -512,
+        bytes: 16,
+    },
+    Access {
+        word: 0x296007E0,
+        base: 31,
+        form: Form::Offset,
+        offset: -256,
+        bytes: 8,
+    },
+    Access {
+        word: 0x295F87E0,
+        base: 31,
+        form: Form::Offset,
+        offset: 252,
+        bytes: 8,
+    },
+    Access {
+        word: 0xA8C17BFD,
+        base: 31,
+        form: Form::PostIndex,
+        offset: 16,
+        bytes: 16,
+    },
+    Access {
+        word: 0xA9BF7BFD,
+        base: 31,
+        form: Form::PreIndex,
+        offset: -16,
+        bytes: 16,
+    },
+];
+
+/// The address that the instruction of a word accesses.
+fn address_by(word: u32) -> Option<Address> {
+    address_of(&decode(word)?)
+}
+
+fn is_accessed(access: &Access) -> bool {
+    match address_by(access.word) {
+        Some(address) => {
+            address.base.number() == access.base
+                && address.form == access.form
+                && address.offset == access.offset
+                && address.bytes == access.bytes
+        }
+        None => false,
     }
 }
 
 #[test]
 fn addresses(rt: HostRuntime) {
-    let rows = [
-        (0xF9400240u32, 18u8, Form::Offset, 0i64, 8u32),
-        (0xF97FFE40u32, 18u8, Form::Offset, 32760i64, 8u32),
-        (0x397FFE40u32, 18u8, Form::Offset, 4095i64, 1u32),
-        (0x797FFE40u32, 18u8, Form::Offset, 8190i64, 2u32),
-        (0xB97FFE40u32, 18u8, Form::Offset, 16380i64, 4u32),
-        (0xF8500240u32, 18u8, Form::Offset, -256i64, 8u32),
-        (0x384FF240u32, 18u8, Form::Offset, 255i64, 1u32),
-        (0xF85007E0u32, 31u8, Form::PostIndex, -256i64, 8u32),
-        (0xF81F0FFEu32, 31u8, Form::PreIndex, -16i64, 8u32),
-        (0xA97FFFE0u32, 31u8, Form::Offset, -8i64, 16u32),
-        (0xA95F83E1u32, 31u8, Form::Offset, 504i64, 16u32),
-        (0xA96007E0u32, 31u8, Form::Offset, -512i64, 16u32),
-        (0x296007E0u32, 31u8, Form::Offset, -256i64, 8u32),
-        (0x295F87E0u32, 31u8, Form::Offset, 252i64, 8u32),
-        (0xA8C17BFDu32, 31u8, Form::PostIndex, 16i64, 16u32),
-        (0xA9BF7BFDu32, 31u8, Form::PreIndex, -16i64, 16u32),
-    ];
-    for (word, base, form, offset, bytes) in rows {
-        let found = decode(word);
-        let at = match &found {
-            Some(i) => address(i),
-            None => None,
-        };
-        assert!(rt; at.is_some(), "{word:#x}");
-        if let Some(at) = at {
-            assert_eq!(rt; at.base.number(), base, "{word:#x}");
-            assert_eq!(rt; at.form, form, "{word:#x}");
-            assert_eq!(rt; at.offset, offset, "{word:#x}");
-            assert_eq!(rt; at.bytes, bytes, "{word:#x}");
-        }
-    }
-    if let Some(i) = decode(0xF8615AA0) {
-        let form = match address(&i) {
-            Some(at) => at.form,
-            None => Form::Offset,
-        };
-        let index = Form::Index {
-            register: Register::new(1),
-            extend: IndexExtend::Uxtw,
-            scaled: true,
-        };
-        assert_eq!(rt; form, index);
-    }
-    if let Some(i) = decode(0xD503201F) {
-        assert!(rt; address(&i).is_none());
+    for access in &ACCESSES {
+        assert!(rt; is_accessed(access), "{:#x}", access.word);
     }
 }
+
+/// LDR X0, [X21, W1, UXTW #3] has an index; NOP has no address.
+#[test]
+fn addresses_of_an_index(rt: HostRuntime) {
+    let index = Form::Index {
+        register: Register::new(1),
+        extend: IndexExtend::Uxtw,
+        scaled: true,
+    };
+    let form = match address_by(0xF8615AA0) {
+        Some(address) => address.form,
+        None => Form::Offset,
+    };
+    assert!(rt; form == index);
+    assert!(rt; address_by(0xD503201F).is_none());
+}
+
+/// A word, its place, and the place where it branches.
+const TARGETS: [(u32, u32, Option<i64>); 11] = [
+    (0x14000001, 5, Some(6)),
+    (0x17FFFFFF, 0, Some(-1)),
+    (0x95FFFFFF, 1, Some(33554432)),
+    (0x16000000, 0, Some(-33554432)),
+    (0x547FFFEE, 0, Some(262143)),
+    (0x54800000, 0, Some(-262144)),
+    (0xB4FFFFE0, 7, Some(6)),
+    (0x3603FFE0, 0, Some(8191)),
+    (0x37040000, 8192, Some(0)),
+    (0xD65F03C0, 3, None),
+    (0xD503201F, 3, None),
+];
 
 #[test]
 fn targets(rt: HostRuntime) {
-    let rows = [
-        (0x14000001u32, 5u32, Some(6i64)),
-        (0x17FFFFFF, 0, Some(-1)),
-        (0x95FFFFFF, 1, Some(33554432)),
-        (0x16000000, 0, Some(-33554432)),
-        (0x547FFFEE, 0, Some(262143)),
-        (0x54800000, 0, Some(-262144)),
-        (0xB4FFFFE0, 7, Some(6)),
-        (0x3603FFE0, 0, Some(8191)),
-        (0x37040000, 8192, Some(0)),
-        (0xD65F03C0, 3, None),
-        (0xD503201F, 3, None),
-    ];
-    for (word, at, place) in rows {
-        let found = decode(word);
-        assert!(rt; found.is_some(), "{word:#x}");
-        if let Some(i) = found {
-            assert_eq!(rt; target(&i, at), place, "{word:#x}");
-        }
-    }
-}
-
-/// A word, and what it opens.
-const OPENINGS: [(u32, Need); 32] = [
-    (0xF94002BE, Need::Call), // LDR X30, [X21]
-    (0xF947FEBE, Need::Call), // LDR X30, [X21, #4088]
-    (0xF94802BE, Need::Guard), // LDR X30, [X21, #4096]
-    (0xF940029E, Need::Guard), // LDR X30, [X20]
-    (0xF94002DE, Need::Guard), // LDR X30, [X22]
-    (0xF94002BD, Need::Nothing), // LDR X29, [X21]
-    (0xF94002BF, Need::Nothing), // LDR XZR, [X21]
-    (0xB94002BE, Need::Nothing), // LDR W30, [X21]
-    (0xB98002BE, Need::Nothing), // LDRSW X30, [X21]
-    (0xF90002BE, Need::Nothing), // STR X30, [X21]
-    (0xF84002BE, Need::Guard), // LDUR X30, [X21]
-    (0xF8408FFE, Need::Guard), // LDR X30, [SP, #8]!
-    (0xF84087FE, Need::Guard), // LDR X30, [SP], #8
-    (0xF8614ABE, Need::Guard), // LDR X30, [X21, W1, UXTW]
-    (0xB8614ABE, Need::Nothing), // LDR W30, [X21, W1, UXTW]
-    (0xA94003FE, Need::Guard), // LDP X30, X0, [SP]
-    (0xA8C17BFD, Need::Guard), // LDP X29, X30, [SP], #16
-    (0x294003FE, Need::Nothing), // LDP W30, W0, [SP]
-    (0xA90003FE, Need::Nothing), // STP X30, X0, [SP]
-    (0xA94077FC, Need::Nothing), // LDP X28, X29, [SP]
-    (0xD10043FF, Need::Probe), // SUB SP, SP, #16
-    (0x910043FF, Need::Probe), // ADD SP, SP, #16
-    (0x910003FF, Need::Probe), // ADD SP, SP, #0
-    (0x510043FF, Need::Nothing), // SUB WSP, WSP, #16
-    (0xD14043FF, Need::Nothing), // SUB SP, SP, #16, LSL #12
-    (0xF10043FF, Need::Nothing), // SUBS XZR, SP, #16
-    (0xD10043FE, Need::Nothing), // SUB X30, SP, #16
-    (0xD10043DF, Need::Nothing), // SUB SP, X30, #16
-    (0xD503201F, Need::Nothing), // NOP
-    (0xD63F03C0, Need::Nothing), // BLR X30
-    (0x8B3E42BE, Need::Nothing), // the guard of X30
-    (0x8B3662BF, Need::Nothing), // ADD SP, X21, X22, UXTX
-];
-
-/// A word, and whether it meets Call, Guard and Probe.
-const MEETINGS: [(u32, bool, bool, bool); 40] = [
-    (0xD63F03C0, true, false, false), // BLR X30
-    (0xD61F03C0, false, false, false), // BR X30
-    (0xD65F03C0, false, false, false), // RET
-    (0xD63F03A0, false, false, false), // BLR X29
-    (0xD63F03E0, false, false, false), // BLR XZR
-    (0xD63F0240, false, false, false), // BLR X18
-    (0x8B3E42BE, false, true, false), // ADD X30, X21, W30, UXTW
-    (0x8B3D42BE, false, false, false), // from W29
-    (0x8B3F42BE, false, false, false), // from WZR
-    (0x8B3E42BD, false, false, false), // into X29
-    (0x8B3E42BF, false, false, false), // into SP
-    (0x8B3E42B2, false, false, false), // into X18
-    (0x8B3E429E, false, false, false), // from X20
-    (0x8B3E42DE, false, false, false), // from X22
-    (0x8B3E46BE, false, false, false), // by 1
-    (0x8B3E62BE, false, false, false), // UXTX
-    (0x8B3E22BE, false, false, false), // UXTH
-    (0x8B3EC2BE, false, false, false), // SXTW
-    (0xCB3E42BE, false, false, false), // SUB
-    (0xAB3E42BE, false, false, false), // ADDS
-    (0x0B3E42BE, false, false, false), // W
-    (0xF90003E0, false, false, true), // STR X0, [SP]
-    (0xF94003E0, false, false, true), // LDR X0, [SP]
-    (0x390003E0, false, false, true), // STRB W0, [SP]
-    (0x79C003E0, false, false, true), // LDRSH W0, [SP]
-    (0xF90007E0, false, false, false), // STR X0, [SP, #8]
-    (0xF90003C0, false, false, false), // STR X0, [X30]
-    (0xF9000240, false, false, false), // STR X0, [X18]
-    (0xF80003E0, false, false, false), // STUR X0, [SP]
-    (0xF80007E0, false, false, false), // STR X0, [SP], #0
-    (0xF8000FE0, false, false, false), // STR X0, [SP, #0]!
-    (0xA90007E0, false, false, true), // STP X0, X1, [SP]
-    (0x294007E0, false, false, true), // LDP W0, W1, [SP]
-    (0xA90087E0, false, false, false), // STP X0, X1, [SP, #8]
-    (0xA93F87E0, false, false, false), // STP X0, X1, [SP, #-8]
-    (0xA88007E0, false, false, false), // STP X0, X1, [SP], #0
-    (0xA98007E0, false, false, false), // STP X0, X1, [SP, #0]!
-    (0xA9000640, false, false, false), // STP X0, X1, [X18]
-    (0xD503201F, false, false, false), // NOP
-    (0xF8614BE0, false, false, false), // LDR X0, [SP, W1, UXTW]
-];
-
-#[test]
-fn needs(rt: HostRuntime) {
-    for (word, need) in OPENINGS {
-        let found = decode(word);
-        assert!(rt; found.is_some(), "{word:#x}");
-        if let Some(i) = found {
-            assert_eq!(rt; opens(&i), need, "{word:#x}");
-        }
-    }
-    for (word, call, guard, probe) in MEETINGS {
-        let found = decode(word);
-        assert!(rt; found.is_some(), "{word:#x}");
-        if let Some(i) = found {
-            assert!(rt; meets(&i, Need::Nothing), "{word:#x}");
-            assert_eq!(rt; meets(&i, Need::Call), call, "{word:#x}");
-            assert_eq!(rt; meets(&i, Need::Guard), guard, "{word:#x}");
-            assert_eq!(rt; meets(&i, Need::Probe), probe, "{word:#x}");
-        }
+    for (word, place, to) in TARGETS {
+        let found = match decode(word) {
+            Some(instruction) => target(&instruction, place) == to,
+            None => false,
+        };
+        assert!(rt; found, "{word:#x}");
     }
 }

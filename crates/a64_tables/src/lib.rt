@@ -10,4 +10,6 @@ mod names;
 #[cfg(test)]
 mod ranges;
 #[cfg(test)]
+mod spelling;
+#[cfg(test)]
 mod words;

@@ -1,8 +1,12 @@
+//! The verdict on a page, and what it and the page before say together.
+
 ghost use Rattle.std.specs.Prelude.{◌≡◌, ◌+◌, ◌≤◌, ℕ, List, [], ◌∷◌, ◌++◌, length, Some, None};
+ghost use Rattle.lfi_module.specs.Numbers.{most_words};
 
 use crate::fault::Fault;
 use crate::inspect::inspect;
-use a64_effects::{Need, meets, opens};
+use crate::needs::{Need, meets, opens};
+use crate::rule::Rule;
 use a64_word::{Words, decode};
 
 /// Which needs the first word of a page meets.
@@ -30,16 +34,17 @@ pub struct PageVerdict {
 }
 
 ghost use Rattle.lfi_rules.specs.Faults.{Opens, IsFirstInside, FirstFault};
-ghost use Rattle.lfi_rules.specs.Verdicts.{meets_in, IsHead, LeavesOpen, Judges, seam_of, earlier, closing};
+ghost use Rattle.lfi_rules.specs.Verdicts.{meets_in, IsHead, LeavesOpen, Judges, seam_of, earlier, closing, fault_after};
 
+/// Which needs a word meets.
 fn head_of(word: u32) -> HeadMeets
     ensures { IsHead word result }
 {
     match decode(word) {
-        Some(i) => HeadMeets {
-            call: meets(&i, Need::Call),
-            guard: meets(&i, Need::Guard),
-            probe: meets(&i, Need::Probe),
+        Some(instruction) => HeadMeets {
+            call: meets(&instruction, Need::Call),
+            guard: meets(&instruction, Need::Guard),
+            probe: meets(&instruction, Need::Probe),
         },
         None => HeadMeets {
             call: false,
@@ -49,11 +54,12 @@ fn head_of(word: u32) -> HeadMeets
     }
 }
 
+/// What a word opens.
 fn tail_of(word: u32) -> Need
     ensures { Opens word result }
 {
     match decode(word) {
-        Some(i) => opens(&i),
+        Some(instruction) => opens(&instruction),
         None => Need::Nothing,
     }
 }
@@ -61,7 +67,7 @@ fn tail_of(word: u32) -> Need
 /// The first fault of words that stand in a module of n words from `first` on, and what they leave open.
 fn first_inside<W: Words>(words: &W, first: u32, n: u32) -> (Option<Fault>, Need)
     requires room { first + length (W.words words.now) ≤ n }
-    requires most { n ≤ 4194304 }
+    requires most { n ≤ most_words }
     ensures fault { IsFirstInside (W.words words.now) first n result.0 }
     ensures left { result.0 ≡ None → LeavesOpen (W.words words.now) result.1 }
 {
@@ -81,7 +87,7 @@ fn first_inside<W: Words>(words: &W, first: u32, n: u32) -> (Option<Fault>, Need
 pub fn judge<W: Words>(words: &W, first: u32, n: u32) -> PageVerdict
     requires some { 1 ≤ length (W.words words.now) }
     requires room { first + length (W.words words.now) ≤ n }
-    requires most { n ≤ 4194304 }
+    requires most { n ≤ most_words }
     ensures { Judges (W.words words.now) first n result }
 {
     let (inner, _) = first_inside(words, first, n);
@@ -93,6 +99,7 @@ pub fn judge<W: Words>(words: &W, first: u32, n: u32) -> PageVerdict
     }
 }
 
+/// Whether a page's first word meets a need.
 fn meets_head(head: HeadMeets, need: Need) -> bool
     ensures { result ≡ meets_in head need }
 {
@@ -113,47 +120,68 @@ fn closing(n: u32, need: Need) -> Option<Fault>
         Need::Nothing => None,
         _ => Some(Fault {
             word: n - 1,
-            rule: 10,
+            rule: Rule::NeedMet,
         }),
     }
 }
 
+/// The fault of the two that comes first.
 fn earlier(fault: Fault, other: Option<Fault>) -> Option<Fault>
     ensures { result ≡ earlier fault other }
 {
     match other {
         Some(other)
-            if other.word < fault.word || (other.word == fault.word && other.rule < fault.rule) =>
+            if other.word < fault.word || (other.word == fault.word && other.rule.number() < fault.rule.number()) =>
             Some(other),
         _ => Some(fault),
     }
 }
 
-/// The first fault of a page after words that have none and leave `tail` open: rule 10 at its first word comes after
-/// rules 1 to 9 there, and before any later word.
-pub fn seam(tail: Need, v: &PageVerdict) -> Option<Fault>
-    ensures value { result ≡ seam_of tail v.now }
+/// The first fault of a page after words that have none and leave `tail` open: that its first word doesn't meet `tail`
+/// comes after what that word breaks by itself, and before any later word.
+pub fn seam(tail: Need, verdict: &PageVerdict) -> Option<Fault>
+    ensures value { result ≡ seam_of tail verdict.now }
     ensures first { (ws page : List ℕ) (n : ℕ) → IsFirstInside ws 0 n None → LeavesOpen ws tail
-        → Judges page (length ws) n v.now → IsFirstInside (ws ++ page) 0 n result }
+        → Judges page (length ws) n verdict.now → IsFirstInside (ws ++ page) 0 n result }
 {
-    let found = if meets_head(v.head, tail) {
-        v.inner
+    if meets_head(verdict.head, tail) {
+        return verdict.inner;
+    }
+    earlier(
+        Fault {
+            word: verdict.first,
+            rule: Rule::NeedMet,
+        },
+        verdict.inner,
+    )
+}
+
+/// The first fault of a module of n words, once a page of `count` words comes after words that have none and leave `tail`
+/// open: the fault at its seam; else, where the page completes the module, that of an open end.
+pub fn fault_after(n: u32, tail: Need, verdict: &PageVerdict, count: usize) -> Option<Fault>
+    requires some { 1 ≤ n }
+    requires room { verdict.now.first + count ≤ n }
+    ensures value { result ≡ fault_after n tail verdict.now count }
+    ensures first { (placed page : List ℕ) → FirstFault placed n None → LeavesOpen placed tail
+        → Judges page (length placed) n verdict.now → count ≡ length page → FirstFault (placed ++ page) n result }
+    ensures left { (placed page : List ℕ) → Judges page (length placed) n verdict.now
+        → LeavesOpen (placed ++ page) verdict.now.tail }
+{
+    let found = seam(tail, verdict);
+    if found.is_some() {
+        return found;
+    }
+    if verdict.first as usize + count == n as usize {
+        closing(n, verdict.tail)
     } else {
-        earlier(
-            Fault {
-                word: v.first,
-                rule: 10,
-            },
-            v.inner,
-        )
-    };
-    found
+        None
+    }
 }
 
 /// The first fault of a module; None where it is lawful.
 pub fn check_all<W: Words>(words: &W) -> Option<Fault>
     requires some { 1 ≤ length (W.words words.now) }
-    requires most { length (W.words words.now) ≤ 4194304 }
+    requires most { length (W.words words.now) ≤ most_words }
     ensures { FirstFault (W.words words.now) (length (W.words words.now)) result }
 {
     let n = words.count() as u32;

@@ -2,6 +2,10 @@
 #![tactic(auto)]
 
 #[cfg(test)]
+mod modules;
+#[cfg(test)]
+mod needs;
+#[cfg(test)]
 mod pages;
 #[cfg(test)]
-mod rows;
+mod words;

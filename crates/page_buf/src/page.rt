@@ -1,18 +1,15 @@
 //! Pages: open, while bytes are appended, and sealed, once no byte is written any more.
 ghost use Rattle.std.specs.Prelude.{◌≡◌, ℕ, ◌+◌, ◌-◌, ◌*◌, ◌<◌, ◌≤◌, ◌==◌, List, [], ◌∷◌, ◌++◌, length, take, min, slice_index, MatchResult, IfOk};
 ghost use Rattle.page_buf.specs.Page.{IsWhole};
-ghost use Rattle.page_buf.specs.Spelled.{words_of};
+ghost use Rattle.a64_word.specs.Words.{words_of};
 
 use crate::raw_bytes::{Deed, RawBytes};
-use a64_word::Words;
+use a64_word::{WORD_BYTES, Words, word_count, word_at};
 use std::alloc::{AllocError, Global};
 use std::marker::Model;
 
 /// The bytes of a page's memory.
 pub const PAGE_BYTES: usize = 4096;
-
-/// The bytes of a word.
-const WORD_BYTES: usize = 4;
 
 // A page's memory, which is given back at its end.
 struct Block {
@@ -157,23 +154,20 @@ impl SealedPage {
     }
 
     /// How many words the page holds: 1 to 1,024.
-    #[tactic(auto, using(crate::proofs::Spelled::words_count))]
+    #[tactic(auto, using(a64_word::proofs::WordLaws::words_count))]
     pub fn len_words(&self) -> usize
         ensures count { result ≡ length (words_of self.now) }
         ensures range { (1 ≤ result) × (result ≤ 1024) }
     {
-        self.block.len / WORD_BYTES
+        word_count(self.bytes())
     }
 
     /// The word at `i`, its lowest byte first.
-    #[tactic(auto, using(crate::proofs::Spelled::words_fit))]
     pub fn word(&self, i: usize) -> u32
         requires { i < length (words_of self.now) }
         ensures { result ≡ slice_index (words_of self.now) i }
     {
-        let bytes = self.bytes();
-        let at = WORD_BYTES * i;
-        u32::from_le_bytes([bytes[at], bytes[at + 1], bytes[at + 2], bytes[at + 3]])
+        word_at(self.bytes(), i)
     }
 }
 
