@@ -59,7 +59,7 @@ module _ (count first slot placed : ℕ) (tail : Need) (pages : List (List ℕ))
             most = omega (arith, len, built.most);
             faultless = subst (λ k. FirstFault ws k None) (sym (len ∙ same)) none_yet;
           };
-          entry = omega (arith, len, built.first_in, same_entry);
+          entry = omega (arith, len, built.entry_in, same_entry);
           slot = omega (arith, built.slot_in, same_slot);
         },
         len ∙ same,
@@ -76,7 +76,7 @@ built_more count first slot placed tail pages page verdict built some leaves non
     record {
       some = built.some;
       most = built.most;
-      first_in = built.first_in;
+      entry_in = built.entry_in;
       slot_in = built.slot_in;
       all = sym size;
       within = omega (arith, due, room);
@@ -112,6 +112,12 @@ word_in_page (p ∷ q ∷ ps) full i (suc k) r d e low within =
     let more = word_in_page (q ∷ ps) full.1 (1024 * k + r) k r d refl low (omega (arith, within, place, length-append (words_of p) rest)) in
     (omega (arith, more.0), more.1, more.2 ∙ sym (get_or-append-add (words_of p) rest (1024 * k + r) 0) ∙ ap (λ j. get_or (words_of p ++ rest) j 0) (sym place))
 
-pub word_of_page : (ps : List (List ℕ)) → AreFull ps → (i : ℕ) (d : List ℕ) → i < length (words_in ps)
-    → (i / 1024 < length ps) × (i % 1024 < length (words_of (get_or ps (i / 1024) d))) × (get_or (words_of (get_or ps (i / 1024) d)) (i % 1024) 0 ≡ get_or (words_in ps) i 0)
-word_of_page ps full i d within = word_in_page ps full i (i / 1024) (i % 1024) d (omega arith) (omega arith) within
+pub word_of_page : (ps : List (List ℕ)) → AreFull ps → (size i : ℕ) (d : List ℕ) → size ≡ 1024 → i < length (words_in ps)
+    → (i / size < length ps) × (i % size < length (words_of (get_or ps (i / size) d))) × (get_or (words_of (get_or ps (i / size) d)) (i % size) 0 ≡ get_or (words_in ps) i 0)
+word_of_page ps full size i d is within =
+    subst (λ s. (i / s < length ps) × (i % s < length (words_of (get_or ps (i / s) d))) × (get_or (words_of (get_or ps (i / s) d)) (i % s) 0 ≡ get_or (words_in ps) i 0)) (sym is)
+    (word_in_page ps full i (i / 1024) (i % 1024) d (omega arith) (omega arith) within)
+
+-- A page that was judged at the place and in the module of a builder.
+pub judged_there : (page : List ℕ) (first place words n : ℕ) (verdict : PageVerdict) → first ≡ place → words ≡ n → Judges page first words verdict → Judges page place n verdict
+judged_there page first place words n verdict at same judged = subst (λ k. Judges page k n verdict) at (subst (λ k. Judges page first k verdict) same judged)

@@ -6,7 +6,8 @@ use Rattle.std.proofs.lemmas.Nat.{le_bytes_4, le_bytes_8}
 use Rattle.std.specs.Int.{w32, w64, to_le_bytes, from_le_bytes}
 use Rattle.std.specs.Prelude.{nat_lt, ◌==◌}
 use Rattle.byteorder.specs.Endian.{little_bytes, little_number}
-use Rattle.lfi_image.specs.Image.{base_of, magic, profile, header_of}
+use Rattle.lfi_module.specs.Numbers.{base_of}
+use Rattle.lfi_image.specs.Image.{magic, profile, header_of}
 use Rattle.lfi_image.specs.Reading.{count_in, entry_in, profile_in, base_in, slot_at, is_base}
 use Rattle.lfi_image.proofs.Pieces.{IsBytes}
 

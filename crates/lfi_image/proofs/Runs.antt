@@ -1,10 +1,11 @@
 -- The code that has been read, page by page.
-use Rattle.std.proofs.Common.{◌≡◌, ℕ, zero, suc, ◌+◌, ◌-◌, ◌*◌, ◌/◌, ◌<◌, ◌≤◌, min, Bool, true, false, if◌then◌else◌, List, [], ◌∷◌, ◌++◌, length, take, Option, Some, None, refl, sym, ◌∙◌, ap, subst, arith, inl, inr, ◌⊎◌, length-append, append_assoc, append-nil}
+use Rattle.std.proofs.Common.{◌≡◌, ℕ, zero, suc, ◌+◌, ◌-◌, ◌*◌, ◌/◌, ◌<◌, ◌≤◌, min, Bool, true, false, if◌then◌else◌, List, [], ◌∷◌, ◌++◌, length, take, Option, Some, None, refl, sym, ◌∙◌, ap, subst, arith, inl, inr, ◌⊎◌, length-append, append_assoc, append-nil, drop, get_or, drop_at}
 use Rattle.std.specs.Option.{IfSome}
-use Rattle.std.specs.Prelude.{nat_le}
+use Rattle.std.specs.Prelude.{nat_le, not}
 use Rattle.std.specs.Io.KnownBytes.{Consumes}
 use Rattle.std.proofs.KnownBytes.{Consumes-trans, Consumes-nil}
 use Rattle.std.proofs.lemmas.Bool.{cases_lt, leb-true, leb-false}
+use Rattle.std.proofs.lemmas.List.{get_or_append_left, get_or-drop, drop-drop}
 use Rattle.page_buf.specs.Spelled.{words_of}
 use Rattle.page_buf.proofs.Spelled.{words_fit}
 use Rattle.lfi_rules.specs.declared.fault.Fault.{Fault}
@@ -13,33 +14,33 @@ use Rattle.lfi_image.specs.declared.fault.ImageFault.{ImageFault}
 use Rattle.lfi_image.specs.declared.fault.ImageFault.TheVariants.{Magic, Profile, Counts, Base, Truncated, More, Unlawful, NoMemory, Device}
 use Rattle.lfi_image.specs.Image.{Module, Image, header_of, code_of, FileOf}
 use Rattle.lfi_image.specs.Built.{due}
-use Rattle.lfi_image.specs.Reading.{count_in, header_fault, whole_pages, IsCodeFault, IsFault, of_header, of_code}
+use Rattle.lfi_image.specs.Reading.{count_in, header_fault, whole_pages, page_end, IsCodeFault, IsFault, IsUnread, IsRestUnread, of_header, of_code}
 use Rattle.lfi_image.specs.Steps.{ReadsPage, IsPageFault, IsRead}
 use Rattle.lfi_image.proofs.Pieces.{words_of-append, code_of-append, word_count}
-use Rattle.lfi_image.proofs.Stays.{fault_stays}
+use Rattle.lfi_image.proofs.Stays.{fault_stays, fault_in_page}
 
-pub read_more : (old mid new : Option (List ℕ)) (count : ℕ) (m after : Module) → IsRead old mid count m.words → ReadsPage mid new m after → m.count ≡ count → length m.words < count → IsRead old new count after.words
+pub read_more : (old mid new : Option (List ℕ)) (count : ℕ) (m after : Module) → IsRead old mid count m.placed → ReadsPage mid new m after → m.words ≡ count → length m.placed < count → IsRead old new count after.placed
 read_more old mid new count m after read step same less =
     let more = words_of step.page in
     let size : length more ≡ due m = word_count step.page (due m) step.size in
-    let words : after.words ≡ m.words ++ more = ap words_at step.placed in
-    let grown = length-append m.words more in
-    let longer : length after.words ≡ length m.words + length more = ap length words ∙ grown in
-    let is_due : due m ≡ min 1024 (m.count - length m.words) = refl in
+    let words : after.placed ≡ m.placed ++ more = ap words_at step.placed in
+    let grown = length-append m.placed more in
+    let longer : length after.placed ≡ length m.placed + length more = ap length words ∙ grown in
+    let is_due : due m ≡ min 1024 (m.words - length m.placed) = refl in
     record {
       code = read.code ++ step.page;
       consumed = Consumes-trans old mid new read.code step.page read.consumed step.consumed;
       spelled = words_of-append read.code step.page (omega (arith, read.size)) ∙ ap (λ l. l ++ more) read.spelled ∙ sym words;
-      back = ap code_of words ∙ code_of-append m.words more ∙ ap (λ l. l ++ code_of more) read.back ∙ ap (λ l. read.code ++ l) step.back;
+      back = ap code_of words ∙ code_of-append m.placed more ∙ ap (λ l. l ++ code_of more) read.back ∙ ap (λ l. read.code ++ l) step.back;
       size = omega (arith, length-append read.code step.page, read.size, step.size, size, longer);
       within = omega (arith, longer, size, is_due, same, less);
       pages = read.pages + 1;
       whole = λ still. omega (arith, longer, size, is_due, same, still, read.whole less);
-      faultless = subst (λ l. FirstFault l count None) (sym words) (subst (λ n. FirstFault (m.words ++ more) n None) same step.faultless);
+      faultless = subst (λ l. FirstFault l count None) (sym words) (subst (λ n. FirstFault (m.placed ++ more) n None) same step.faultless);
     }
   where
     words_at : Module → List ℕ
-    words_at w = w.words
+    words_at w = w.placed
 
 pub read_nothing : (a : Option (List ℕ)) (count : ℕ) (ws : List ℕ) → ws ≡ [] → FirstFault [] count None → IsRead a a count ws
 read_nothing a count ws e none = subst (λ l. IsRead a a count l) (sym e) (record {
@@ -53,12 +54,6 @@ read_nothing a count ws e none = subst (λ l. IsRead a a count l) (sym e) (recor
   whole = λ _. refl;
   faultless = none;
 })
-
-pub page_told : (old new : Option (List ℕ)) (page : List ℕ) (m : Module) (fault : Fault) → Consumes old new page → length page ≡ 4 * due m
-    → FirstFault (m.words ++ words_of page) m.count (Some fault) → IsPageFault old m (Unlawful fault)
-page_told None new page m fault consumed size first = tt
-page_told (Some xs) None page m fault consumed size first = absurd consumed
-page_told (Some xs) (Some ys) page m fault consumed size first = (page, ys, consumed, size, first)
 
 low_test : (n m : ℕ) → m < n → nat_le n m ≡ false
 low_test n m less = go (nat_le n m) refl
@@ -116,44 +111,73 @@ whole_begins n pages front rest fits even = by_test (nat_le (4 * n) (length text
         cut (4096 * (length (front ++ rest) / 4096)) low (omega (arith, short)) (ap (λ b. if b then take (4 * n) (front ++ rest) else take (4096 * (length (front ++ rest) / 4096)) (front ++ rest)) test)
 
 -- what is wrong with a page is wrong with the code
-pub page_fault : (old mid : Option (List ℕ)) (count : ℕ) (m : Module) (fault : ImageFault) → IsRead old mid count m.words → m.count ≡ count → length m.words < count
-    → IsPageFault mid m fault → IfSome old (λ code. IsCodeFault count code fault)
-page_fault None mid count m fault read same less told = tt
-page_fault (Some xs) None count m fault read same less told = absurd read.consumed
-page_fault (Some xs) (Some ys) count m NoMemory read same less told = tt
-page_fault (Some xs) (Some ys) count m Device read same less told = tt
-page_fault (Some xs) (Some ys) count m Magic read same less told = absurd told
-page_fault (Some xs) (Some ys) count m Profile read same less told = absurd told
-page_fault (Some xs) (Some ys) count m Counts read same less told = absurd told
-page_fault (Some xs) (Some ys) count m Base read same less told = absurd told
-page_fault (Some xs) (Some ys) count m More read same less told = absurd told
-page_fault (Some xs) (Some ys) count m Truncated read same less told =
-    let is_due : due m ≡ min 1024 (m.count - length m.words) = refl in
+pub page_fault : (old mid new : Option (List ℕ)) (count : ℕ) (m : Module) (fault : ImageFault) → IsRead old mid count m.placed → m.words ≡ count → length m.placed < count
+    → IsPageFault mid new m fault → IfSome old (λ code. IsCodeFault count code fault)
+page_fault None mid new count m fault read same less told = tt
+page_fault (Some xs) None new count m fault read same less told = absurd read.consumed
+page_fault (Some xs) (Some ys) new count m NoMemory read same less told = tt
+page_fault (Some xs) (Some ys) new count m Device read same less told = tt
+page_fault (Some xs) (Some ys) new count m Magic read same less told = absurd told
+page_fault (Some xs) (Some ys) new count m Profile read same less told = absurd told
+page_fault (Some xs) (Some ys) new count m Counts read same less told = absurd told
+page_fault (Some xs) (Some ys) new count m Base read same less told = absurd told
+page_fault (Some xs) (Some ys) new count m More read same less told = absurd told
+page_fault (Some xs) (Some ys) new count m Truncated read same less told =
+    let is_due : due m ≡ min 1024 (m.words - length m.placed) = refl in
     let all : length xs ≡ length read.code + length ys = ap length read.consumed ∙ length-append read.code ys in
     let short : length ys < 4 * due m = told in
     let even : length read.code ≡ 4096 * read.pages = omega (arith, read.size, read.whole less) in
     let whole : whole_pages count xs ≡ read.code = ap (whole_pages count) read.consumed ∙ whole_is count read.pages read.code ys even (omega (arith, short, is_due)) (omega (arith, short, is_due, same, less, read.size)) in
     (subst (λ ws. FirstFault ws count None) (sym (ap words_of whole ∙ read.spelled)) read.faultless, omega (arith, all, short, is_due, same, less, read.size))
-page_fault (Some xs) (Some ys) count m (Unlawful fault) read same less told =
-    let page : List ℕ = told.0 in
-    let rest : List ℕ = told.1 in
-    let size : length page ≡ 4 * due m = told.3 in
-    let first : FirstFault (m.words ++ words_of page) m.count (Some fault) = told.4 in
-    let is_due : due m ≡ min 1024 (m.count - length m.words) = refl in
+page_fault (Some xs) (Some ys) None count m (Unlawful fault) read same less told = absurd told.consumed
+page_fault (Some xs) (Some ys) (Some rest) count m (Unlawful fault) read same less told =
+    let page : List ℕ = told.page in
+    let size : length page ≡ 4 * due m = told.size in
+    let is_due : due m ≡ min 1024 (m.words - length m.placed) = refl in
     let front : List ℕ = read.code ++ page in
     let long : length front ≡ length read.code + length page = length-append read.code page in
-    let text : xs ≡ front ++ rest = read.consumed ∙ ap (λ l. read.code ++ l) told.2 ∙ sym (append_assoc read.code page rest) in
-    let even : (length front ≡ 4096 * (read.pages + 1)) ⊎ (length front ≡ 4 * count) = elim (cases_lt (m.count - length m.words) 1024) [
+    let text : xs ≡ front ++ rest = read.consumed ∙ ap (λ l. read.code ++ l) told.consumed ∙ sym (append_assoc read.code page rest) in
+    let even : (length front ≡ 4096 * (read.pages + 1)) ⊎ (length front ≡ 4 * count) = elim (cases_lt (m.words - length m.placed) 1024) [
       | inl small ↦ inr (omega (arith, long, size, is_due, same, less, read.size, small))
       | inr large ↦ inl (omega (arith, long, size, is_due, read.size, read.whole less, large))
     ] in
     let begins = whole_begins count (read.pages + 1) front rest (omega (arith, long, size, is_due, same, less, read.size)) even in
     let more : List ℕ = begins.0 in
-    let words_front : words_of front ≡ m.words ++ words_of page = words_of-append read.code page (omega (arith, read.size)) ∙ ap (λ l. l ++ words_of page) read.spelled in
-    let words : words_of (whole_pages count xs) ≡ (m.words ++ words_of page) ++ words_of more =
+    let words_front : words_of front ≡ m.placed ++ words_of page = words_of-append read.code page (omega (arith, read.size)) ∙ ap (λ l. l ++ words_of page) read.spelled in
+    let words : words_of (whole_pages count xs) ≡ (m.placed ++ words_of page) ++ words_of more =
     ap (λ l. words_of (whole_pages count l)) text ∙ ap words_of begins.1 ∙ words_of-append front more (omega (arith, long, size, read.size)) ∙ ap (λ l. l ++ words_of more) words_front in
-    let fits : length ((m.words ++ words_of page) ++ words_of more) ≤ count = omega (arith, ap length words, words_fit (whole_pages count xs), ap (λ l. length (whole_pages count l)) text, begins.2) in
-    subst (λ ws. FirstFault ws count (Some fault)) (sym words) (fault_stays (m.words ++ words_of page) (words_of more) count fault fits (subst (λ n. FirstFault (m.words ++ words_of page) n (Some fault)) same first))
+    let fits : length ((m.placed ++ words_of page) ++ words_of more) ≤ count = omega (arith, ap length words, words_fit (whole_pages count xs), ap (λ l. length (whole_pages count l)) text, begins.2) in
+    subst (λ ws. FirstFault ws count (Some fault)) (sym words) (fault_stays (m.placed ++ words_of page) (words_of more) count fault fits (subst (λ n. FirstFault (m.placed ++ words_of page) n (Some fault)) same told.first))
+
+-- what follows a page with a fault is left
+pub page_unread : (old mid new : Option (List ℕ)) (count : ℕ) (m : Module) (fault : ImageFault) → IsRead old mid count m.placed → m.words ≡ count → length m.placed < count
+    → IsPageFault mid new m fault → IfSome old (λ code. IsUnread count code new fault)
+page_unread None mid new count m fault read same less told = tt
+page_unread (Some xs) None new count m fault read same less told = absurd read.consumed
+page_unread (Some xs) (Some ys) new count m NoMemory read same less told = tt
+page_unread (Some xs) (Some ys) new count m Device read same less told = tt
+page_unread (Some xs) (Some ys) new count m Magic read same less told = tt
+page_unread (Some xs) (Some ys) new count m Profile read same less told = tt
+page_unread (Some xs) (Some ys) new count m Counts read same less told = tt
+page_unread (Some xs) (Some ys) new count m Base read same less told = tt
+page_unread (Some xs) (Some ys) new count m More read same less told = tt
+page_unread (Some xs) (Some ys) new count m Truncated read same less told = tt
+page_unread (Some xs) (Some ys) None count m (Unlawful fault) read same less told = absurd told.consumed
+page_unread (Some xs) (Some ys) (Some rest) count m (Unlawful fault) read same less told =
+    let page : List ℕ = told.page in
+    let size : length page ≡ 4 * due m = told.size in
+    let is_due : due m ≡ min 1024 (m.words - length m.placed) = refl in
+    let front : List ℕ = read.code ++ page in
+    let long : length front ≡ length read.code + length page = length-append read.code page in
+    let text : xs ≡ front ++ rest = read.consumed ∙ ap (λ l. read.code ++ l) told.consumed ∙ sym (append_assoc read.code page rest) in
+    let words : length (words_of page) ≡ due m = word_count page (due m) size in
+    let at = fault_in_page m.placed (words_of page) m.words fault (omega (arith, same, less)) (subst (λ n. FirstFault m.placed n None) (sym same) read.faultless) told.first in
+    let before : length m.placed ≡ 1024 * read.pages = read.whole less in
+    let low : 1024 * read.pages ≤ fault.word = omega (arith, before, at.0) in
+    let high : fault.word < 1024 * read.pages + 1024 = omega (arith, before, at.1, words, is_due) in
+    let place : fault.word / 1024 ≡ read.pages = omega (arith, low, high) in
+    let end : length front ≡ page_end count fault.word = omega (arith, long, size, is_due, same, less, read.size, before, place) in
+    ap Some (sym (ap (drop (page_end count fault.word)) text ∙ drop_at front rest (page_end count fault.word) end))
 
 -- what is wrong with the header, the code or the end is wrong with the file
 pub header_told : (old new : Option (List ℕ)) (header : List ℕ) (fault : ImageFault) → Consumes old new header → length header ≡ 24 → header_fault header ≡ Some fault
@@ -192,3 +216,57 @@ file_told (Some xs) (Some ys) None header n words image consumed read ended firs
 file_told (Some xs) (Some ys) (Some zs) header n words image consumed read ended first same =
     let rest : ys ≡ code_of image.words = read.consumed ∙ ap (λ l. read.code ++ l) ended ∙ append-nil read.code ∙ sym read.back ∙ ap code_of same in
     consumed ∙ (λ i. first i ++ rest i)
+
+-- what is left of a file, by what is left of its code
+count_front : (header code : List ℕ) → length header ≡ 24 → count_in (header ++ code) ≡ count_in header
+count_front header code long = λ j. byte 0 (omega (arith, long)) j + 256 * (byte 1 (omega (arith, long)) j + 256 * (byte 2 (omega (arith, long)) j + 256 * (byte 3 (omega (arith, long)) j + 256 * 0)))
+  where
+    byte : (i : ℕ) → 4 + i < length header → get_or (drop 4 (header ++ code)) i 0 ≡ get_or (drop 4 header) i 0
+    byte i within = get_or-drop 4 (header ++ code) i 0 ∙ get_or_append_left header code 0 (4 + i) within ∙ sym (get_or-drop 4 header i 0)
+
+pub file_unread : (old mid new : Option (List ℕ)) (header : List ℕ) (n : ℕ) (fault : ImageFault) → Consumes old mid header → length header ≡ 24 → n ≡ count_in header
+    → IfSome mid (λ code. IsUnread n code new fault) → IfSome old (λ bytes. IsRestUnread bytes new fault)
+file_unread None mid new header n fault consumed long count told = tt
+file_unread (Some xs) None new header n fault consumed long count told = absurd consumed
+file_unread (Some xs) (Some ys) new header n NoMemory consumed long count told = tt
+file_unread (Some xs) (Some ys) new header n Device consumed long count told = tt
+file_unread (Some xs) (Some ys) new header n Magic consumed long count told = tt
+file_unread (Some xs) (Some ys) new header n Profile consumed long count told = tt
+file_unread (Some xs) (Some ys) new header n Counts consumed long count told = tt
+file_unread (Some xs) (Some ys) new header n Base consumed long count told = tt
+file_unread (Some xs) (Some ys) new header n More consumed long count told = tt
+file_unread (Some xs) (Some ys) new header n Truncated consumed long count told = tt
+file_unread (Some xs) (Some ys) new header n (Unlawful fault) consumed long count told =
+    let words : n ≡ count_in xs = count ∙ sym (ap count_in consumed ∙ count_front header ys long) in
+    let code : drop 24 xs ≡ ys = ap (drop 24) consumed ∙ drop_at header ys 24 long in
+    told ∙ ap Some (ap (drop (page_end n fault.word)) (sym code) ∙ drop-drop (page_end n fault.word) 24 xs ∙ ap (λ k. drop (24 + page_end k fault.word) xs) words)
+
+-- A fault of a header isn't one of a page.
+by_tests : (x y z w : Bool) (fault : Fault) → (if not x then Some Magic else if not y then Some Profile else if z then Some Counts else if not w then Some Base else None) ≡ Some (Unlawful fault) → ⊥
+by_tests false y z w fault e = cc
+by_tests true false z w fault e = cc
+by_tests true true true w fault e = cc
+by_tests true true false false fault e = cc
+by_tests true true false true fault e = cc
+
+not_of_header : (header : List ℕ) (fault : Fault) → header_fault header ≡ Some (Unlawful fault) → ⊥
+unfolding header_fault
+not_of_header header fault told = by_tests _ _ _ _ fault told
+
+pub header_unread : (old new : Option (List ℕ)) (header : List ℕ) (fault : ImageFault) → header_fault header ≡ Some fault → IfSome old (λ bytes. IsRestUnread bytes new fault)
+header_unread None new header fault told = tt
+header_unread (Some xs) new header NoMemory told = tt
+header_unread (Some xs) new header Device told = tt
+header_unread (Some xs) new header Magic told = tt
+header_unread (Some xs) new header Profile told = tt
+header_unread (Some xs) new header Counts told = tt
+header_unread (Some xs) new header Base told = tt
+header_unread (Some xs) new header More told = tt
+header_unread (Some xs) new header Truncated told = tt
+header_unread (Some xs) new header (Unlawful fault) told = absurd (not_of_header header fault told)
+
+-- Memory is asked for after a header without a fault.
+pub memory_told : (old new : Option (List ℕ)) (header : List ℕ) → Consumes old new header → length header ≡ 24 → header_fault header ≡ None → IfSome old (λ bytes. IsFault bytes NoMemory)
+memory_told None new header consumed long none = tt
+memory_told (Some xs) None header consumed long none = absurd consumed
+memory_told (Some xs) (Some ys) header consumed long none = of_code header ys consumed long none tt

@@ -1,5 +1,5 @@
 -- A first fault stays when words follow.
-use Rattle.std.proofs.Common.{◌≡◌, ℕ, ◌+◌, ◌<◌, ◌≤◌, List, [], ◌∷◌, ◌++◌, length, Some, sym, ◌∙◌, ap, subst, arith, inl, inr, length-append, append-nil}
+use Rattle.std.proofs.Common.{◌≡◌, ℕ, ◌+◌, ◌<◌, ◌≤◌, List, [], ◌∷◌, ◌++◌, length, Some, None, sym, ◌∙◌, ap, subst, arith, inl, inr, length-append, append-nil}
 use Rattle.std.specs.List.{slice_get}
 use Rattle.std.proofs.lemmas.Bool.{cases_lt}
 use Rattle.std.proofs.lemmas.List.{get_or_append_left}
@@ -43,3 +43,21 @@ fault_stays ws more n fault fits first = by_break first.breaks
         none : (ms : List ℕ) → length ms ≡ 0 → ws ≡ ws ++ ms
         none [] e = sym (append-nil ws)
         none (m ∷ ms) e = absurd (omega (arith, e))
+
+-- The first fault that a page brings to words without one is at a word of the page.
+pub fault_in_page : (ws more : List ℕ) (n : ℕ) (fault : Fault) → length ws < n → FirstFault ws n None → FirstFault (ws ++ more) n (Some fault)
+    → (length ws ≤ fault.word) × (fault.word < length ws + length more)
+fault_in_page ws more n fault room none first = by_break first.breaks
+  where
+    size : length (ws ++ more) ≡ length ws + length more
+    size = length-append ws more
+
+    by_break : Breaks (ws ++ more) n fault.word fault.rule → (length ws ≤ fault.word) × (fault.word < length ws + length more)
+    by_break (inside h) = (
+      elim (cases_lt fault.word (length ws)) [
+        | inl early ↦ absurd (none fault.word fault.rule (inside (breaks_before ws more n fault.word fault.rule early h)))
+        | inr late ↦ late
+      ],
+      omega (arith, size, inside_within (ws ++ more) 0 n fault.word fault.rule h),
+    )
+    by_break (left_open word need got last ten opens open_need) = (omega (arith, last, room), omega (arith, size, slice_get_within (ws ++ more) fault.word word got))

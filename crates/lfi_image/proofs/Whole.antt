@@ -11,8 +11,9 @@ use Rattle.lfi_image.proofs.Small.{AreWords, lawful_small}
 use Rattle.lfi_rules.specs.Faults.{FirstFault}
 use Rattle.lfi_image.specs.declared.fault.ImageFault.{ImageFault}
 use Rattle.lfi_image.specs.declared.fault.ImageFault.TheVariants.{Magic, Profile, Counts, Base, Truncated, More, Unlawful, NoMemory, Device}
-use Rattle.lfi_image.specs.Image.{Image, IsImage, magic, profile, base_of, header_of, code_of, file_of}
-use Rattle.lfi_image.specs.Reading.{count_in, entry_in, profile_in, base_in, is_base, slot_at, header_fault, whole_pages, IsCodeFault, IsFault, no_memory, device, short, of_header, of_code}
+use Rattle.lfi_module.specs.Numbers.{base_of}
+use Rattle.lfi_image.specs.Image.{Image, IsImage, magic, profile, header_of, code_of, file_of}
+use Rattle.lfi_image.specs.Reading.{count_in, entry_in, profile_in, base_in, is_base, slot_at, header_fault, whole_pages, IsCodeFault, IsFault, device, short, of_header, of_code}
 
 code_length : (words : List ℕ) → length (code_of words) ≡ 4 * length words
 code_length [] = refl
@@ -98,7 +99,6 @@ code_good words (Unlawful fault) small none told =
     take_all (x ∷ xs) = ap (λ l. x ∷ l) (take_all xs)
 
 pub file_good : (image : Image) (fault : ImageFault) → IsImage image → IsFault (file_of image) fault → (fault ≡ NoMemory) ⊎ (fault ≡ Device)
-file_good image fault is (no_memory e) = inl e
 file_good image fault is (device e) = inr e
 file_good image fault is (short e less) = absurd (omega (arith, less))
 file_good image fault is (of_header header rest text long told) =

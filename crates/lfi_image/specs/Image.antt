@@ -1,14 +1,15 @@
 -- Modules that are put together, images, and the files of images. Their format is this project's own (docs/DEFINITIONS.md, "Image files").
-use Rattle.std.specs.Prelude.{◌≡◌, ℕ, ◌+◌, ◌*◌, ◌^◌, ◌<◌, List, [], ◌∷◌, ◌++◌, length, flat_map}
+use Rattle.std.specs.Prelude.{◌≡◌, ℕ, ◌<◌, List, [], ◌∷◌, ◌++◌, length, flat_map}
 use Rattle.byteorder.specs.Endian.{little_bytes}
+use Rattle.lfi_module.specs.Numbers.{module_count, base_of}
 use Rattle.lfi_rules.specs.Faults.{Lawful}
 
--- a module of `count` words, of which the first have been placed
+-- a module of so many words, of which the first have been placed
 pub record Module : Type 0 where
-  pub count : ℕ
+  pub words : ℕ
   pub entry : ℕ
   pub slot : ℕ
-  pub words : List ℕ
+  pub placed : List ℕ
 
 -- a whole module
 pub record Image : Type 0 where
@@ -20,11 +21,7 @@ pub record Image : Type 0 where
 pub record IsImage (image : Image) : Type 0 where
   pub lawful : Lawful image.words
   pub entry : image.entry < length image.words
-  pub slot : image.slot < 16
-
--- where a slot begins
-abbrev pub base_of : ℕ → ℕ
-base_of slot = (2 * slot + 1) * 2 ^ 32
+  pub slot : image.slot < module_count
 
 -- `LFI1`
 abbrev pub magic : List ℕ

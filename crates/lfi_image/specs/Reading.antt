@@ -1,11 +1,12 @@
 -- Which fault a file has. What is asked, and in which order, is this project's own (docs/DEFINITIONS.md, "Image files").
-use Rattle.std.specs.Prelude.{◌≡◌, ℕ, ◌*◌, ◌/◌, ◌^◌, ◌<◌, ◌==◌, nat_lt, nat_le, not, ◌||◌, ◌&&◌, Bool, if◌then◌else◌, List, ◌++◌, length, take, drop, Option, Some, None, ⊤}
+use Rattle.std.specs.Prelude.{◌≡◌, ℕ, ◌+◌, ◌*◌, ◌/◌, ◌^◌, ◌<◌, ◌==◌, nat_lt, nat_le, not, ◌||◌, ◌&&◌, Bool, if◌then◌else◌, List, ◌++◌, length, take, drop, min, Option, Some, None, ⊤}
 use Rattle.byteorder.specs.Endian.{little_number}
+use Rattle.lfi_module.specs.Numbers.{module_count, most_words, page_words, page_bytes, base_of}
 use Rattle.page_buf.specs.Spelled.{words_of}
 use Rattle.lfi_rules.specs.Faults.{FirstFault}
 use Rattle.lfi_image.specs.declared.fault.ImageFault.{ImageFault}
 use Rattle.lfi_image.specs.declared.fault.ImageFault.TheVariants.{Magic, Profile, Counts, Base, Truncated, More, Unlawful, NoMemory, Device}
-use Rattle.lfi_image.specs.Image.{base_of, magic, profile}
+use Rattle.lfi_image.specs.Image.{magic, profile}
 
 -- the fields of a header
 abbrev pub count_in : List ℕ → ℕ
@@ -25,20 +26,20 @@ abbrev pub slot_at : ℕ → ℕ
 slot_at base = base / 2 ^ 33
 
 abbrev pub is_base : ℕ → Bool
-is_base base = nat_lt (slot_at base) 16 && base == base_of (slot_at base)
+is_base base = nat_lt (slot_at base) module_count && base == base_of (slot_at base)
 
 -- the first fault of a file's header
 unfoldable pub header_fault : List ℕ → Option ImageFault
 header_fault header =
     if not (little_number 4 header == little_number 4 magic) then Some Magic
     else if not (profile_in header == profile) then Some Profile
-    else if count_in header == 0 || nat_lt 4194304 (count_in header) || nat_le (count_in header) (entry_in header) then Some Counts
+    else if count_in header == 0 || nat_lt most_words (count_in header) || nat_le (count_in header) (entry_in header) then Some Counts
     else if not (is_base (base_in header)) then Some Base
     else None
 
--- The code of n words is read by pages of 4,096 bytes. These are the bytes of the pages that are there whole.
+-- The code of n words is read by full pages, of which the last may be shorter. These are the bytes of the pages that are there whole.
 abbrev pub whole_pages : ℕ → List ℕ → List ℕ
-whole_pages n code = if nat_le (4 * n) (length code) then take (4 * n) code else take (4096 * (length code / 4096)) code
+whole_pages n code = if nat_le (4 * n) (length code) then take (4 * n) code else take (page_bytes * (length code / page_bytes)) code
 
 -- the fault of what follows a header for n words; memory can run out and the device can fail at any time
 abbrev pub IsCodeFault : ℕ → List ℕ → ImageFault → Type 0
@@ -49,11 +50,25 @@ IsCodeFault n code NoMemory = ⊤
 IsCodeFault n code Device = ⊤
 IsCodeFault n code _ = ⊥
 
--- The fault of a file, in the order of reading: the header, then page by page, then the end.
+-- The fault of a file, in the order of reading: the header, then page by page, then the end. Memory is asked for once
+-- the header is there and has no fault.
 pub data IsFault (bytes : List ℕ) (fault : ImageFault) : Type 0 where
-  no_memory : fault ≡ NoMemory → IsFault bytes fault
   device : fault ≡ Device → IsFault bytes fault
   short : fault ≡ Truncated → length bytes < 24 → IsFault bytes fault
   of_header : (header rest : List ℕ) → bytes ≡ header ++ rest → length header ≡ 24 → header_fault header ≡ Some fault → IsFault bytes fault
   of_code : (header code : List ℕ) → bytes ≡ header ++ code → length header ≡ 24 → header_fault header ≡ None
       → IsCodeFault (count_in header) code fault → IsFault bytes fault
+
+-- where in the code of n words the page of this word ends, in bytes
+abbrev pub page_end : (n word : ℕ) → ℕ
+page_end n word = 4 * min n (page_words * (word / page_words + 1))
+
+-- Where a page of the code of n words has a fault, all that follows this page is left.
+abbrev pub IsUnread : (n : ℕ) (code : List ℕ) (left : Option (List ℕ)) → ImageFault → Type 0
+IsUnread n code left (Unlawful fault) = left ≡ Some (drop (page_end n fault.word) code)
+IsUnread n code left _ = ⊤
+
+-- Where a page of a file has a fault, all that follows this page is left.
+abbrev pub IsRestUnread : (bytes : List ℕ) (left : Option (List ℕ)) → ImageFault → Type 0
+IsRestUnread bytes left (Unlawful fault) = left ≡ Some (drop (24 + page_end (count_in bytes) fault.word) bytes)
+IsRestUnread bytes left _ = ⊤

@@ -1,13 +1,17 @@
 //! Modules page by page, until they are whole.
-ghost use Rattle.std.specs.Prelude.{◌≡◌, ℕ, ◌+◌, ◌<◌, ◌≤◌, [], ◌++◌, length, slice_index, Some, None, IfOk, MatchResult, vec_capacity};
+ghost use Rattle.std.specs.Prelude.{◌≡◌, ℕ, ◌+◌, ◌<◌, ◌≤◌, [], ◌++◌, length, slice_index, Some, None, IfOk, IfErr, OnErr, MatchResult, vec_capacity};
+ghost use Rattle.lfi_module.specs.Numbers.{page_words};
+ghost use Rattle.lfi_module.specs.Pages.{page_count};
 ghost use Rattle.page_buf.specs.Spelled.{words_of};
 ghost use Rattle.lfi_rules.specs.Faults.{FirstFault};
-ghost use Rattle.lfi_rules.specs.Verdicts.{Judges, fault_after};
+ghost use Rattle.lfi_rules.specs.Verdicts.{fault_after};
 ghost use Rattle.lfi_image.specs.Image.{Module, Image, IsImage};
-ghost use Rattle.lfi_image.specs.Built.{IsBuilt, words_in, page_count, due, with_words};
+ghost use Rattle.lfi_image.specs.Built.{IsBuilt, words_in, due, with_placed};
 
-use crate::places::{PAGE_WORDS, Places};
+use crate::places::Places;
 use a64_effects::Need;
+use judged_page::JudgedPage;
+use lfi_module::{Extent, ModuleNumber, PageSize, WordCount};
 use lfi_rules::{Fault, PageVerdict, seam};
 use page_buf::SealedPage;
 use std::alloc::{AllocError, Global};
@@ -22,7 +26,7 @@ const OPEN_NEED: u8 = 10;
 #[derive(Drop)]
 pub struct Builder {
     pages: Vec<SealedPage>,
-    count: u32,
+    words: u32,
     entry: u32,
     slot: u16,
     placed: u32,
@@ -32,9 +36,9 @@ pub struct Builder {
 impl Model for Builder {
     ghost Value = { Module };
 
-    ghost view = { λ b. record { count = b.count; entry = b.entry; slot = b.slot; words = words_in b.pages.items } };
+    ghost view = { λ b. record { words = b.words; entry = b.entry; slot = b.slot; placed = words_in b.pages.items } };
 
-    ghost invariant = { λ b. IsBuilt b.count b.entry b.slot b.placed b.tail b.pages.items × (page_count b.count ≤ vec_capacity b.pages) };
+    ghost invariant = { λ b. IsBuilt b.words b.entry b.slot b.placed b.tail b.pages.items × (page_count page_words b.words ≤ vec_capacity b.pages) };
 }
 
 /// The first fault that a page of `count` words brings after words that have none and leave `tail` open.
@@ -59,55 +63,47 @@ fn fault_with(tail: Need, n: u32, verdict: &PageVerdict, count: usize) -> Option
 }
 
 impl Builder {
-    /// A module of `count` words, 1 to 4,194,304, that is entered at the word `entry`, in the slot `slot`. No word is
-    /// placed, and the places for its pages are reserved. `Err` only where their memory is refused.
-    pub fn new(alloc: Global, count: u32, entry: u32, slot: u16) -> Result<Builder, AllocError>
-        requires count { (1 ≤ count) × (count ≤ 4194304) }
-        requires entry { entry < count }
-        requires slot { slot < 16 }
-        ensures { IfOk result (λ b. b ≡ record { count = count; entry = entry; slot = slot; words = [] }) }
+    /// A module of so many words with this entry, in this slot. No word is placed, and the places for its pages are
+    /// reserved. `Err` only where their memory is refused.
+    pub fn new(alloc: Global, extent: Extent, slot: ModuleNumber) -> Result<Builder, AllocError>
+        ensures { IfOk result (λ b. b ≡ record { words = extent.words; entry = extent.entry; slot = slot; placed = [] }) }
     {
-        let places = Places::new(alloc, count)?;
-        Ok(Builder::over(places, count, entry, slot))
+        let places = Places::new(alloc, extent.words())?;
+        Ok(Builder::over(places, extent, slot))
     }
 
-    /// The same module in places that were reserved before; `count` is at most [`Places::words`] of these. It takes no
-    /// memory.
-    pub fn over(places: Places, count: u32, entry: u32, slot: u16) -> Builder
-        requires count { (1 ≤ count) × (count ≤ 4194304) }
-        requires places { count ≤ places }
-        requires entry { entry < count }
-        requires slot { slot < 16 }
-        ensures { result ≡ record { count = count; entry = entry; slot = slot; words = [] } }
+    /// The same module in places that were reserved before, which are enough: see [`Places::words`]. It takes no memory.
+    pub fn over(places: Places, extent: Extent, slot: ModuleNumber) -> Builder
+        requires { extent.words ≤ places }
+        ensures { result ≡ record { words = extent.words; entry = extent.entry; slot = slot; placed = [] } }
     {
         let Places { pages, words: _ } = places;
         Builder {
             pages,
-            count,
-            entry,
-            slot,
+            words: extent.words().number(),
+            entry: extent.entry(),
+            slot: slot.number(),
             placed: 0,
             tail: Need::Nothing,
         }
     }
 
-    /// Places a page, unless it brings a fault: then it comes back with the first fault of the words placed and its
-    /// own, which for the last page can be that its last word opens a need. It takes no memory.
-    pub fn append(
-        &mut self,
-        page: SealedPage,
-        verdict: PageVerdict,
-    ) -> Result<(), (Fault, SealedPage)>
-        requires due { length (words_of page) ≡ due self.old }
-        requires judged { Judges (words_of page) (length self.old.words) self.old.count verdict }
-        ensures { MatchResult result
-            (λ _. (self.new ≡ with_words self.old (words_of page))
-            × FirstFault (self.old.words ++ words_of page) self.old.count None)
-            (λ back. (self.new ≡ self.old) × (back.1 ≡ page)
-            × FirstFault (self.old.words ++ words_of page) self.old.count (Some back.0)) }
+    /// Places the next page of this module, one that was judged there. It takes no memory.
+    ///
+    /// `Err` where the page brings a fault: then it comes back with the first fault of the words placed and its own,
+    /// which for the last page can be that its last word opens a need.
+    pub fn append(&mut self, page: JudgedPage) -> Result<(), (Fault, SealedPage)>
+        requires module { page.words ≡ self.old.words }
+        requires place { page.first ≡ length self.old.placed }
+        ensures placed { IfOk result (λ _. self.new ≡ with_placed self.old (words_of page.page)) }
+        ensures faultless { IfOk result (λ _. FirstFault (self.old.placed ++ words_of page.page) self.old.words None) }
+        ensures fault { IfErr result (λ back. FirstFault (self.old.placed ++ words_of page.page) self.old.words (Some back.0)) }
+        ensures back { IfErr result (λ back. back.1 ≡ page.page) }
+        ensures stays { OnErr result (self.new ≡ self.old) }
     {
+        let (page, verdict) = page.into_parts();
         let count = page.len_words();
-        if let Some(fault) = fault_with(self.tail, self.count, &verdict, count) {
+        if let Some(fault) = fault_with(self.tail, self.words, &verdict, count) {
             return Err((fault, page));
         }
         match self.pages.push(page) {
@@ -123,63 +119,60 @@ impl Builder {
     /// The image, once all its words are placed; until then the builder comes back.
     pub fn finish(self) -> Result<CompleteImage, Builder>
         ensures { MatchResult result
-            (λ image. (length self.words ≡ self.count) × (image ≡ record { entry = self.entry; slot = self.slot; words = self.words }))
-            (λ b. (length self.words < self.count) × (b ≡ self)) }
+            (λ image. (length self.placed ≡ self.words) × (image ≡ record { entry = self.entry; slot = self.slot; words = self.placed }))
+            (λ b. (length self.placed < self.words) × (b ≡ self)) }
     {
-        if self.placed < self.count {
+        if self.placed < self.words {
             return Err(self);
         }
         Ok(CompleteImage { builder: self })
     }
 
-    /// How many words the module has in all: 1 to 4,194,304.
-    pub fn words(&self) -> u32
-        ensures count { result ≡ self.now.count }
-        ensures range { (1 ≤ self.now.count) × (self.now.count ≤ 4194304) }
+    /// How many words the module has in all.
+    pub fn words(&self) -> WordCount
+        ensures { result ≡ self.now.words }
     {
-        self.count
+        WordCount::of(self.words)
     }
 
     /// The word that is entered, below `words`.
     pub fn entry(&self) -> u32
         ensures value { result ≡ self.now.entry }
-        ensures range { self.now.entry < self.now.count }
+        ensures range { self.now.entry < self.now.words }
     {
         self.entry
     }
 
-    /// The slot, 0 to 15.
-    pub fn slot(&self) -> u16
-        ensures value { result ≡ self.now.slot }
-        ensures range { self.now.slot < 16 }
+    /// The slot.
+    pub fn slot(&self) -> ModuleNumber
+        ensures { result ≡ self.now.slot }
     {
-        self.slot
+        ModuleNumber::at(self.slot as usize)
     }
 
     /// How many words are placed. They have no fault.
     pub fn placed(&self) -> u32
-        ensures count { result ≡ length self.now.words }
-        ensures within { result ≤ self.now.count }
-        ensures faultless { FirstFault self.now.words self.now.count None }
+        ensures count { result ≡ length self.now.placed }
+        ensures within { result ≤ self.now.words }
+        ensures faultless { FirstFault self.now.placed self.now.words None }
     {
         self.placed
     }
 
     /// How many words the next page has: 1,024, or all that are left.
-    pub fn due(&self) -> usize
-        ensures value { result ≡ due self.now }
-        ensures range { result ≤ 1024 }
+    pub fn due(&self) -> u32
+        ensures { result ≡ due self.now }
     {
-        (self.count - self.placed).min(PAGE_WORDS as u32) as usize
+        self.words().due(PageSize::profile(), self.placed)
     }
 
     /// The word at `i`, one that is placed.
     pub fn word(&self, i: u32) -> u32
-        requires { i < length self.now.words }
-        ensures { result ≡ slice_index self.now.words i }
+        requires { i < length self.now.placed }
+        ensures { result ≡ slice_index self.now.placed i }
     {
-        let i = i as usize;
-        self.pages[i / PAGE_WORDS].word(i % PAGE_WORDS)
+        let size = PageSize::profile().words();
+        self.pages[(i / size) as usize].word((i % size) as usize)
     }
 }
 
@@ -194,9 +187,9 @@ pub struct CompleteImage {
 impl Model for CompleteImage {
     ghost Value = { Image };
 
-    ghost view = { λ c. record { entry = c.builder.entry; slot = c.builder.slot; words = c.builder.words } };
+    ghost view = { λ c. record { entry = c.builder.entry; slot = c.builder.slot; words = c.builder.placed } };
 
-    ghost invariant = { λ c. IsImage (record { entry = c.builder.entry; slot = c.builder.slot; words = c.builder.words }) × (length c.builder.words ≡ c.builder.count) };
+    ghost invariant = { λ c. IsImage (record { entry = c.builder.entry; slot = c.builder.slot; words = c.builder.placed }) × (length c.builder.placed ≡ c.builder.words) };
 }
 
 impl CompleteImage {
@@ -207,8 +200,8 @@ impl CompleteImage {
         &self.builder.pages
     }
 
-    /// How many words the module has: 1 to 4,194,304. They are lawful.
-    pub fn words(&self) -> u32
+    /// How many words the module has. They are lawful.
+    pub fn words(&self) -> WordCount
         ensures count { result ≡ length self.now.words }
         ensures lawful { IsImage self.now }
     {
@@ -217,13 +210,14 @@ impl CompleteImage {
 
     /// The word that is entered, below `words`.
     pub fn entry(&self) -> u32
-        ensures { result ≡ self.now.entry }
+        ensures value { result ≡ self.now.entry }
+        ensures range { self.now.entry < length self.now.words }
     {
         self.builder.entry()
     }
 
-    /// The slot, 0 to 15.
-    pub fn slot(&self) -> u16
+    /// The slot.
+    pub fn slot(&self) -> ModuleNumber
         ensures { result ≡ self.now.slot }
     {
         self.builder.slot()

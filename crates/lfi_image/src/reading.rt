@@ -1,18 +1,18 @@
 //! Image files, read.
-ghost use Rattle.std.specs.Prelude.{◌≡◌, ◌*◌, ◌%◌, ◌<◌, ◌≤◌, [], length, take, true, false, IsTrue, IfOk, IfErr, IfSome, MatchResult};
+ghost use Rattle.std.specs.Prelude.{◌≡◌, ◌*◌, ◌%◌, ◌<◌, ◌≤◌, [], length, take, true, false, IsTrue, IfOk, IfErr, IfSome, OnOk};
 ghost use Rattle.std.specs.Io.KnownBytes.{Consumes, IsAtEnd};
 ghost use Rattle.page_buf.specs.Page.{IsWhole};
 ghost use Rattle.page_buf.specs.Spelled.{words_of};
 ghost use Rattle.lfi_image.specs.declared.fault.ImageFault.TheVariants.{NoMemory, Device};
 ghost use Rattle.lfi_image.specs.Image.{IsImage, FileOf, code_of};
-ghost use Rattle.lfi_image.specs.Reading.{IsCodeFault, IsFault};
-ghost use Rattle.lfi_image.specs.Steps.{IsShort, ReadsPage, IsPageFault, IsRead};
+ghost use Rattle.lfi_image.specs.Reading.{IsCodeFault, IsFault, IsUnread, IsRestUnread};
+ghost use Rattle.lfi_image.specs.Steps.{IsShort, IsNoPage, ReadsPage, IsPageFault, IsRead, IsSameModule};
 
 use crate::builder::{Builder, CompleteImage};
 use crate::fault::ImageFault;
 use crate::header::{HEADER_BYTES, Header};
-use lfi_rules::judge;
-use page_buf::{OpenPage, PAGE_BYTES, SealedPage};
+use judged_page::JudgedPage;
+use page_buf::{PAGE_BYTES, SealedPage};
 use std::alloc::Global;
 use std::io::{self, Read};
 
@@ -35,9 +35,8 @@ fn fill<R: Read>(reader: &mut R, bytes: &mut [u8]) -> io::Result<usize>
 
 /// Fills the buffer.
 fn read_bytes<R: Read>(reader: &mut R, bytes: &mut [u8]) -> Result<(), ImageFault>
-    ensures { MatchResult result
-        (λ _. Consumes (R.remaining reader.old) (R.remaining reader.new) bytes.new)
-        (λ fault. IsShort (R.remaining reader.old) (length bytes.old) fault) }
+    ensures full { OnOk result (Consumes (R.remaining reader.old) (R.remaining reader.new) bytes.new) }
+    ensures short { IfErr result (λ fault. IsShort (R.remaining reader.old) (length bytes.old) fault) }
 {
     match fill(reader, bytes) {
         Ok(count) if count < bytes.len() => Err(ImageFault::Truncated),
@@ -49,6 +48,7 @@ fn read_bytes<R: Read>(reader: &mut R, bytes: &mut [u8]) -> Result<(), ImageFaul
 /// Whether no byte is left.
 fn is_at_end<R: Read>(reader: &mut R) -> Result<bool, ImageFault>
     ensures end { IfOk result (λ end. IsTrue end → IfSome (R.remaining reader.old) (λ xs. xs ≡ [])) }
+    ensures ended { IfOk result (λ end. IsTrue end → IsAtEnd (R.remaining reader.new)) }
     ensures more { IfOk result (λ end. end ≡ false → IfSome (R.remaining reader.old) (λ xs. 0 < length xs)) }
     ensures failed { IfErr result (λ fault. fault ≡ Device) }
 {
@@ -59,34 +59,31 @@ fn is_at_end<R: Read>(reader: &mut R) -> Result<bool, ImageFault>
     }
 }
 
-/// A sealed page of these bytes.
-fn page_of(alloc: Global, bytes: &[u8]) -> Result<SealedPage, ImageFault>
+/// A sealed page of these bytes. Its words give them back.
+fn sealed(alloc: Global, bytes: &[u8]) -> Result<SealedPage, ImageFault>
     requires { IsWhole bytes.now × (length bytes.now ≤ 4096) }
-    ensures page { MatchResult result (λ page. page ≡ bytes.now) (λ fault. fault ≡ NoMemory) }
+    ensures page { IfOk result (λ page. page ≡ bytes.now) }
     ensures back { code_of (words_of bytes.now) ≡ bytes.now }
+    ensures fault { IfErr result (λ fault. fault ≡ NoMemory) }
 {
-    let Ok(mut page) = OpenPage::new(alloc) else {
-        return Err(ImageFault::NoMemory);
-    };
-    page.write(bytes);
-    match page.seal() {
+    match SealedPage::of(alloc, bytes) {
         Ok(page) => Ok(page),
-        Err(_) => unreachable!(),
+        Err(_) => Err(ImageFault::NoMemory),
     }
 }
 
 /// Reads a page of so many bytes.
 fn read_sealed<R: Read>(alloc: Global, reader: &mut R, len: usize) -> Result<SealedPage, ImageFault>
     requires { (0 < len) × (len ≤ 4096) × (len % 4 ≡ 0) }
-    ensures { MatchResult result
-        (λ page. Consumes (R.remaining reader.old) (R.remaining reader.new) page × (length page ≡ len) × (code_of (words_of page) ≡ page))
-        (λ fault. IsShort (R.remaining reader.old) len fault) }
+    ensures read { IfOk result (λ page. Consumes (R.remaining reader.old) (R.remaining reader.new) page) }
+    ensures size { IfOk result (λ page. length page ≡ len) }
+    ensures back { IfOk result (λ page. code_of (words_of page) ≡ page) }
+    ensures fault { IfErr result (λ fault. IsNoPage (R.remaining reader.old) len fault) }
 {
     let mut bytes = [0; PAGE_BYTES];
     let bytes = &mut bytes[..len];
     read_bytes(reader, bytes)?;
-    let page = page_of(alloc, bytes)?;
-    Ok(page)
+    sealed(alloc, bytes)
 }
 
 /// Reads the next page of a module, and judges it.
@@ -95,17 +92,16 @@ fn read_page<R: Read>(
     reader: &mut R,
     builder: &mut Builder,
 ) -> Result<(), ImageFault>
-    requires { length builder.old.words < builder.old.count }
-    ensures { MatchResult result
-        (λ _. ReadsPage (R.remaining reader.old) (R.remaining reader.new) builder.old builder.new)
-        (λ fault. IsPageFault (R.remaining reader.old) builder.old fault) }
+    requires { length builder.old.placed < builder.old.words }
+    ensures page { OnOk result (ReadsPage (R.remaining reader.old) (R.remaining reader.new) builder.old builder.new) }
+    ensures fault { IfErr result (λ fault. IsPageFault (R.remaining reader.old) (R.remaining reader.new) builder.old fault) }
 {
-    let page = read_sealed(alloc, reader, 4 * builder.due())?;
-    let verdict = judge(&page, builder.placed(), builder.words());
-    if let Err((fault, _)) = builder.append(page, verdict) {
-        return Err(ImageFault::Unlawful(fault));
+    let page = read_sealed(alloc, reader, 4 * builder.due() as usize)?;
+    let page = JudgedPage::judge(page, builder.placed(), builder.words());
+    match builder.append(page) {
+        Ok(()) => Ok(()),
+        Err((fault, _)) => Err(ImageFault::Unlawful(fault)),
     }
-    Ok(())
 }
 
 /// Reads the code of a module, page by page.
@@ -114,14 +110,14 @@ fn read_code<R: Read>(
     reader: &mut R,
     builder: &mut Builder,
 ) -> Result<(), ImageFault>
-    requires { builder.old.words ≡ [] }
-    ensures { MatchResult result
-        (λ _. IsRead (R.remaining reader.old) (R.remaining reader.new) builder.old.count builder.new.words
-        × (length builder.new.words ≡ builder.old.count)
-        × (builder.new.count ≡ builder.old.count) × (builder.new.entry ≡ builder.old.entry) × (builder.new.slot ≡ builder.old.slot))
-        (λ fault. IfSome (R.remaining reader.old) (λ code. IsCodeFault builder.old.count code fault)) }
+    requires { builder.old.placed ≡ [] }
+    ensures code { OnOk result (IsRead (R.remaining reader.old) (R.remaining reader.new) builder.old.words builder.new.placed) }
+    ensures whole { OnOk result (length builder.new.placed ≡ builder.old.words) }
+    ensures same { OnOk result (IsSameModule builder.old builder.new) }
+    ensures fault { IfErr result (λ fault. IfSome (R.remaining reader.old) (λ code. IsCodeFault builder.old.words code fault)) }
+    ensures unread { IfErr result (λ fault. IfSome (R.remaining reader.old) (λ code. IsUnread builder.old.words code (R.remaining reader.new) fault)) }
 {
-    while builder.placed() < builder.words() {
+    while builder.placed() < builder.words().number() {
         read_page(alloc, reader, builder)?;
     }
     Ok(())
@@ -132,16 +128,20 @@ fn read_code<R: Read>(
 /// What is wrong is answered in the order of reading: the header's 24 bytes (else [`ImageFault::Truncated`]) with
 /// [`ImageFault::Magic`], [`ImageFault::Profile`], [`ImageFault::Counts`] and [`ImageFault::Base`]; page by page
 /// [`ImageFault::Truncated`], or [`ImageFault::Unlawful`] as soon as a page shows it; then [`ImageFault::More`].
-/// [`ImageFault::NoMemory`] and [`ImageFault::Device`] come where they happen.
+/// [`ImageFault::NoMemory`] and [`ImageFault::Device`] come where they happen, the first only after a header without a
+/// fault. After `Unlawful` the reader stands behind the page with the fault; after any other `Err` it may be left
+/// anywhere.
 pub fn read_image<R: Read>(alloc: Global, reader: &mut R) -> Result<CompleteImage, ImageFault>
     ensures image { IfOk result (λ image. IsImage image) }
     ensures file { IfOk result (λ image. IfSome (R.remaining reader.old) (λ bytes. FileOf image bytes)) }
+    ensures end { OnOk result (IsAtEnd (R.remaining reader.new)) }
     ensures fault { IfErr result (λ fault. IfSome (R.remaining reader.old) (λ bytes. IsFault bytes fault)) }
+    ensures unread { IfErr result (λ fault. IfSome (R.remaining reader.old) (λ bytes. IsRestUnread bytes (R.remaining reader.new) fault)) }
 {
     let mut bytes = [0; HEADER_BYTES];
     read_bytes(reader, &mut bytes)?;
     let header = Header::decode(&bytes)?;
-    let Ok(mut builder) = Builder::new(alloc, header.count, header.entry, header.slot) else {
+    let Ok(mut builder) = Builder::new(alloc, header.extent, header.slot) else {
         return Err(ImageFault::NoMemory);
     };
     read_code(alloc, reader, &mut builder)?;

@@ -8,7 +8,7 @@ ghost use Rattle.lfi_image.specs.Writing.{Writes};
 
 use crate::builder::CompleteImage;
 use crate::fault::ImageFault;
-use crate::header::Header;
+use crate::header::encode;
 use page_buf::SealedPage;
 use std::io::Write;
 
@@ -52,11 +52,7 @@ fn write_pages<W: Write>(writer: &mut W, pages: &[SealedPage]) -> Result<(), Ima
 pub fn write_image<W: Write>(image: &CompleteImage, writer: &mut W) -> Result<(), ImageFault>
     ensures { Writes (W.contents writer.old) (W.contents writer.new) (file_of image.now) result }
 {
-    let header = Header {
-        count: image.words(),
-        entry: image.entry(),
-        slot: image.slot(),
-    };
-    write_bytes(writer, &header.encode())?;
+    let header = encode(image.words().number(), image.entry(), image.slot());
+    write_bytes(writer, &header)?;
     write_pages(writer, image.pages())
 }

@@ -131,6 +131,20 @@ impl OpenPage {
 }
 
 impl SealedPage {
+    /// A page of these bytes, which make 1 to 1,024 whole words. `Err` only where the allocator refuses its 4,096 bytes.
+    pub fn of(alloc: Global, bytes: &[u8]) -> Result<SealedPage, AllocError>
+        requires whole { IsWhole bytes.now }
+        requires fits { length bytes.now ≤ 4096 }
+        ensures { IfOk result (λ page. page ≡ bytes.now) }
+    {
+        let mut page = OpenPage::new(alloc)?;
+        page.write(bytes);
+        match page.seal() {
+            Ok(page) => Ok(page),
+            Err(_) => unreachable!(),
+        }
+    }
+
     /// The bytes, without a copy: 4 to 4,096, and a multiple of 4.
     pub fn bytes(&self) -> &[u8]
         ensures same { result.now ≡ self.now }

@@ -4,24 +4,37 @@ use Rattle.lfi_image.specs.Steps.{ReadsPage}
 use Rattle.std.specs.Option.{IfSome}
 use Rattle.std.proofs.lemmas.Result.{err_from_is_err_and}
 use Rattle.lfi_image.specs.declared.fault.ImageFault.{ImageFault}
-use Rattle.lfi_image.specs.Reading.{IsCodeFault}
-use Rattle.lfi_image.proofs.Runs.{read_more, page_fault}
+use Rattle.lfi_image.specs.Reading.{IsCodeFault, IsUnread}
+use Rattle.lfi_image.proofs.Runs.{read_more, page_fault, page_unread}
 use Rattle.lfi_image.proofs.reading.read_code.Goals as goal
 
 pub loop-alloc-preserved : goal.loop-alloc-preserved
 loop-alloc-preserved g c =
-    let step : ReadsPage (g.R.Read.remaining c.loop-alloc.reader) (g.R.Read.remaining c.read_page.new.reader) c.loop-alloc.builder c.read_page.new.builder = c.in_ok-read_page.ensures in
-    let less : length c.loop-alloc.builder.words < c.args.builder.now.count = search rules in
-    let count : c.read_page.new.builder.count ≡ c.loop-alloc.builder.count = ap (λ (m : Module). m.count) step.placed in
+    let step : ReadsPage (g.R.Read.remaining c.loop-alloc.reader) (g.R.Read.remaining c.read_page.new.reader) c.loop-alloc.builder c.read_page.new.builder = c.in_ok-read_page.ensures.page in
+    let less : length c.loop-alloc.builder.placed < c.args.builder.now.words = search rules in
+    let words : c.read_page.new.builder.words ≡ c.loop-alloc.builder.words = ap (λ (m : Module). m.words) step.placed in
     let entry : c.read_page.new.builder.entry ≡ c.loop-alloc.builder.entry = ap (λ (m : Module). m.entry) step.placed in
     let slot : c.read_page.new.builder.slot ≡ c.loop-alloc.builder.slot = ap (λ (m : Module). m.slot) step.placed in
-    (read_more _ _ _ _ _ _ c.loop-alloc.invariant.0 step c.loop-alloc.invariant.1 less, count ∙ c.loop-alloc.invariant.1, entry ∙ c.loop-alloc.invariant.2, slot ∙ c.loop-alloc.invariant.3)
+    let same = c.loop-alloc.invariant.same in
+    record {
+      read = read_more _ _ _ _ _ _ c.loop-alloc.invariant.read step same.words less;
+      same = record { words = words ∙ same.words; entry = entry ∙ same.entry; slot = slot ∙ same.slot };
+    }
 
-pub returns-in_err-read_page : goal.returns-in_err-read_page
-returns-in_err-read_page g c =
+pub returns-in_err-read_page-clause-fault : goal.returns-in_err-read_page-clause-fault
+returns-in_err-read_page-clause-fault g c =
     let p = err_from_is_err_and c.from_residual.result c.from_residual.ensures.1 in
     let fault : ImageFault = c.in_err-read_page.field-0.0 in
-    let less : length c.loop-alloc.builder.words < c.args.builder.now.count = search rules in
-    let told : IfSome (g.R.Read.remaining c.args.reader.now) (λ code. IsCodeFault c.args.builder.now.count code fault) =
-    page_fault (g.R.Read.remaining c.args.reader.now) (g.R.Read.remaining c.loop-alloc.reader) c.args.builder.now.count c.loop-alloc.builder fault c.loop-alloc.invariant.0 c.loop-alloc.invariant.1 less c.in_err-read_page.ensures in
-    rw p.1 (subst (λ f. IfSome (g.R.Read.remaining c.args.reader.now) (λ code. IsCodeFault c.args.builder.now.count code f)) (sym p.2) told)
+    let less : length c.loop-alloc.builder.placed < c.args.builder.now.words = search rules in
+    let told : IfSome (g.R.Read.remaining c.args.reader.now) (λ code. IsCodeFault c.args.builder.now.words code fault) =
+    page_fault (g.R.Read.remaining c.args.reader.now) (g.R.Read.remaining c.loop-alloc.reader) (g.R.Read.remaining c.read_page.new.reader) c.args.builder.now.words c.loop-alloc.builder fault c.loop-alloc.invariant.read c.loop-alloc.invariant.same.words less c.in_err-read_page.ensures.fault in
+    rw p.1 (subst (λ f. IfSome (g.R.Read.remaining c.args.reader.now) (λ code. IsCodeFault c.args.builder.now.words code f)) (sym p.2) told)
+
+pub returns-in_err-read_page-clause-unread : goal.returns-in_err-read_page-clause-unread
+returns-in_err-read_page-clause-unread g c =
+    let p = err_from_is_err_and c.from_residual.result c.from_residual.ensures.1 in
+    let fault : ImageFault = c.in_err-read_page.field-0.0 in
+    let less : length c.loop-alloc.builder.placed < c.args.builder.now.words = search rules in
+    let told : IfSome (g.R.Read.remaining c.args.reader.now) (λ code. IsUnread c.args.builder.now.words code (g.R.Read.remaining c.read_page.new.reader) fault) =
+    page_unread (g.R.Read.remaining c.args.reader.now) (g.R.Read.remaining c.loop-alloc.reader) (g.R.Read.remaining c.read_page.new.reader) c.args.builder.now.words c.loop-alloc.builder fault c.loop-alloc.invariant.read c.loop-alloc.invariant.same.words less c.in_err-read_page.ensures.fault in
+    rw p.1 (subst (λ f. IfSome (g.R.Read.remaining c.args.reader.now) (λ code. IsUnread c.args.builder.now.words code (g.R.Read.remaining c.read_page.new.reader) f)) (sym p.2) told)

@@ -3,8 +3,8 @@ use Rattle.std.specs.Option.{IfSome}
 use Rattle.std.proofs.lemmas.Result.{err_from_is_err_and}
 use Rattle.lfi_image.specs.declared.fault.ImageFault.{ImageFault}
 use Rattle.lfi_image.specs.declared.fault.ImageFault.TheVariants.{More}
-use Rattle.lfi_image.specs.Reading.{count_in, header_fault, IsFault}
-use Rattle.lfi_image.proofs.Runs.{header_told, code_told, more_told}
+use Rattle.lfi_image.specs.Reading.{count_in, header_fault, IsFault, IsUnread, IsRestUnread}
+use Rattle.lfi_image.proofs.Runs.{header_told, code_told, more_told, header_unread, file_unread, memory_told}
 use Rattle.lfi_image.proofs.reading.read_image.Goals as goal
 
 pub returns-in_err-header-clause-fault : goal.returns-in_err-header-clause-fault
@@ -15,7 +15,7 @@ returns-in_err-header-clause-fault g c =
     let long : length header ≡ 24 = search rules in
     let told : header_fault header ≡ Some fault = c.in_err-header.ensures.fault in
     rw p.1 (subst (λ f. IfSome (g.R.Read.remaining c.args.reader.now) (λ bytes. IsFault bytes f)) (sym p.2)
-    (header_told (g.R.Read.remaining c.args.reader.now) (g.R.Read.remaining c.read_bytes.new.reader) header fault c.in_ok-read_bytes.ensures long told))
+    (header_told (g.R.Read.remaining c.args.reader.now) (g.R.Read.remaining c.read_bytes.new.reader) header fault c.in_ok-read_bytes.ensures.full long told))
 
 pub returns-in_err-read_code-clause-fault : goal.returns-in_err-read_code-clause-fault
 returns-in_err-read_code-clause-fault g c =
@@ -24,16 +24,40 @@ returns-in_err-read_code-clause-fault g c =
     let header : List ℕ = c.read_bytes.new.bytes in
     let long : length header ≡ 24 = search rules in
     let none : header_fault header ≡ None = c.in_ok-header.ensures.fault in
-    let count : c.in-Ok.builder.count ≡ count_in header = search rules in
+    let count : c.in-Ok.builder.words ≡ count_in header = search rules in
     rw p.1 (subst (λ f. IfSome (g.R.Read.remaining c.args.reader.now) (λ bytes. IsFault bytes f)) (sym p.2)
-    (code_told (g.R.Read.remaining c.args.reader.now) (g.R.Read.remaining c.read_bytes.new.reader) header c.in-Ok.builder.count fault c.in_ok-read_bytes.ensures long none count c.in_err-read_code.ensures))
+    (code_told (g.R.Read.remaining c.args.reader.now) (g.R.Read.remaining c.read_bytes.new.reader) header c.in-Ok.builder.words fault c.in_ok-read_bytes.ensures.full long none count c.in_err-read_code.ensures.fault))
 
 pub returns-then-not-branch-clause-fault : goal.returns-then-not-branch-clause-fault
 returns-then-not-branch-clause-fault g c =
     let header : List ℕ = c.read_bytes.new.bytes in
     let long : length header ≡ 24 = search rules in
     let none : header_fault header ≡ None = c.in_ok-header.ensures.fault in
-    let count : c.in-Ok.builder.count ≡ count_in header = search rules in
+    let count : c.in-Ok.builder.words ≡ count_in header = search rules in
     let more : IfSome (g.R.Read.remaining c.read_code.new.reader) (λ rest. 0 < length rest) = search rules in
-    code_told (g.R.Read.remaining c.args.reader.now) (g.R.Read.remaining c.read_bytes.new.reader) header c.in-Ok.builder.count More c.in_ok-read_bytes.ensures long none count
-    (more_told (g.R.Read.remaining c.read_bytes.new.reader) (g.R.Read.remaining c.read_code.new.reader) c.in-Ok.builder.count c.read_code.new.builder.words c.in_ok-read_code.ensures.0 c.in_ok-read_code.ensures.1 more)
+    code_told (g.R.Read.remaining c.args.reader.now) (g.R.Read.remaining c.read_bytes.new.reader) header c.in-Ok.builder.words More c.in_ok-read_bytes.ensures.full long none count
+    (more_told (g.R.Read.remaining c.read_bytes.new.reader) (g.R.Read.remaining c.read_code.new.reader) c.in-Ok.builder.words c.read_code.new.builder.placed c.in_ok-read_code.ensures.code c.in_ok-read_code.ensures.whole more)
+
+pub returns-in_err-header-clause-unread : goal.returns-in_err-header-clause-unread
+returns-in_err-header-clause-unread g c =
+    let p = err_from_is_err_and c.from_residual-in_err-header.result c.from_residual-in_err-header.ensures.1 in
+    let fault : ImageFault = c.in_err-header.field-0.0 in
+    let told : header_fault c.read_bytes.new.bytes ≡ Some fault = c.in_err-header.ensures.fault in
+    rw p.1 (subst (λ f. IfSome (g.R.Read.remaining c.args.reader.now) (λ bytes. IsRestUnread bytes (g.R.Read.remaining c.read_bytes.new.reader) f)) (sym p.2)
+    (header_unread (g.R.Read.remaining c.args.reader.now) (g.R.Read.remaining c.read_bytes.new.reader) c.read_bytes.new.bytes fault told))
+
+pub returns-in_err-read_code-clause-unread : goal.returns-in_err-read_code-clause-unread
+returns-in_err-read_code-clause-unread g c =
+    let p = err_from_is_err_and c.from_residual-in_err-read_code.result c.from_residual-in_err-read_code.ensures.1 in
+    let fault : ImageFault = c.in_err-read_code.field-0.0 in
+    let header : List ℕ = c.read_bytes.new.bytes in
+    let long : length header ≡ 24 = search rules in
+    let count : c.in-Ok.builder.words ≡ count_in header = search rules in
+    rw p.1 (subst (λ f. IfSome (g.R.Read.remaining c.args.reader.now) (λ bytes. IsRestUnread bytes (g.R.Read.remaining c.read_code.new.reader) f)) (sym p.2)
+    (file_unread (g.R.Read.remaining c.args.reader.now) (g.R.Read.remaining c.read_bytes.new.reader) (g.R.Read.remaining c.read_code.new.reader) header c.in-Ok.builder.words fault c.in_ok-read_bytes.ensures.full long count c.in_err-read_code.ensures.unread))
+
+pub returns-in_default-clause-fault : goal.returns-in_default-clause-fault
+returns-in_default-clause-fault g c =
+    let header : List ℕ = c.read_bytes.new.bytes in
+    let long : length header ≡ 24 = search rules in
+    memory_told (g.R.Read.remaining c.args.reader.now) (g.R.Read.remaining c.read_bytes.new.reader) header c.in_ok-read_bytes.ensures.full long c.in_ok-header.ensures.fault

@@ -10,7 +10,7 @@ use Rattle.lfi_image.proofs.writing.write_image.Goals as goal
 pub returns-in_err-write_bytes : goal.returns-in_err-write_bytes
 returns-in_err-write_bytes g c =
     let image = c.args.image.now in
-    let head : c.encode.result ≡ header_of (length image.words) image.entry image.slot = search rules in
+    let head : c.encode-header.result ≡ header_of (length image.words) image.entry image.slot = search rules in
     let p = err_from_is_err_and c.from_residual.result c.from_residual.ensures.1 in
     let same : p.0 ≡ c.in_err-write_bytes.field-0.0 = p.2 in
     writes_before (g.W.Write.contents c.args.writer.now) (g.W.Write.contents c.write_bytes.new.writer) (header_of (length image.words) image.entry image.slot) (code_of image.words)
@@ -21,8 +21,8 @@ pub returns : goal.returns
 returns g c =
     let image = c.args.image.now in
     let words : words_in c.pages.result.now ≡ image.words = c.pages.ensures in
-    let head : c.encode.result ≡ header_of (length image.words) image.entry image.slot = search rules in
-    let first : Appends (g.W.Write.contents c.args.writer.now) (g.W.Write.contents c.write_bytes.new.writer) c.encode.result = c.in_ok-write_bytes.ensures in
+    let head : c.encode-header.result ≡ header_of (length image.words) image.entry image.slot = search rules in
+    let first : Appends (g.W.Write.contents c.args.writer.now) (g.W.Write.contents c.write_bytes.new.writer) c.encode-header.result = c.in_ok-write_bytes.ensures in
     subst (λ l. Writes (g.W.Write.contents c.args.writer.now) (g.W.Write.contents c.write_pages.new.writer) (header_of (length image.words) image.entry image.slot ++ code_of l) c.write_pages.result) words
     (writes_after (g.W.Write.contents c.args.writer.now) (g.W.Write.contents c.write_bytes.new.writer) (g.W.Write.contents c.write_pages.new.writer) (header_of (length image.words) image.entry image.slot) (code_of (words_in c.pages.result.now)) c.write_pages.result
     (subst (λ l. Appends (g.W.Write.contents c.args.writer.now) (g.W.Write.contents c.write_bytes.new.writer) l) head first) c.write_pages.ensures)

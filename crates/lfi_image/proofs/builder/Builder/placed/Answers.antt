@@ -5,6 +5,6 @@ use Rattle.lfi_image.proofs.builder.Builder.placed.Goals as goal
 
 pub returns-clause-faultless : goal.returns-clause-faultless
 returns-clause-faultless c =
-    let w : words_in c.self.inside.pages.items ≡ c.args.self.now.words = search rules in
-    let n : c.self.inside.count ≡ c.args.self.now.count = search rules in
+    let w : words_in c.self.inside.pages.items ≡ c.args.self.now.placed = search rules in
+    let n : c.self.inside.words ≡ c.args.self.now.words = search rules in
     none_yet _ _ _ _ _ _ _ _ c.self.invariant.0 w n

@@ -6,15 +6,15 @@ use Rattle.lfi_image.specs.Reading.{count_in, entry_in, profile_in, base_in, is_
 use Rattle.lfi_image.proofs.Headers.{header_back}
 use Rattle.lfi_image.proofs.header.Header.decode.Goals as goal
 
-pub returns-in-Some-clause-bytes : goal.returns-in-Some-clause-bytes
-returns-in-Some-clause-bytes c =
+pub returns-in-Some-slot_of-clause-bytes : goal.returns-in-Some-slot_of-clause-bytes
+returns-in-Some-slot_of-clause-bytes c =
     let bytes = c.args.bytes.now in
     let first : little_number 4 bytes ≡ little_number 4 magic = search rules in
     let third : profile_in bytes ≡ profile = search rules in
-    let count : c.read_u32-count.result ≡ count_in bytes = search rules in
-    let entry : c.read_u32-entry.result ≡ entry_in bytes = search rules in
+    let count : c.in-Some-new.extent.words ≡ count_in bytes = search rules in
+    let entry : c.in-Some-new.extent.entry ≡ entry_in bytes = search rules in
     let base : c.read_u64.result ≡ base_in bytes = c.read_u64.ensures ∙ ap (little_number 8) (take_rest bytes 16) in
-    let test : is_base (base_in bytes) ≡ true = subst (λ b. is_base b ≡ true) base c.in-Some.ensures.0 in
-    let at : c.in-Some.slot ≡ slot_at (base_in bytes) = c.in-Some.ensures.1 ∙ ap slot_at base in
-    header_back bytes c.in-Some.slot c.requires (λ i. (c.type_inv.bytes i).fits) first third test at
-    ∙ (λ i. header_of (sym count i) (sym entry i) c.in-Some.slot)
+    let test : is_base (base_in bytes) ≡ true = subst (λ b. is_base b ≡ true) base c.in-Some-slot_of.ensures.0 in
+    let at : c.in-Some-slot_of.slot ≡ slot_at (base_in bytes) = c.in-Some-slot_of.ensures.1 ∙ ap slot_at base in
+    header_back bytes c.in-Some-slot_of.slot c.requires (λ i. (c.type_inv.bytes i).fits) first third test at
+    ∙ (λ i. header_of (sym count i) (sym entry i) c.in-Some-slot_of.slot)
