@@ -1,4 +1,5 @@
 -- A fault stays where more words follow, and what has been placed up to it is the longest beginning.
+use Rattle.lfi_rules.specs.declared.rule.Rule.{Rule}
 use Rattle.std.proofs.Common.{◌≡◌, ℕ, ◌+◌, ◌<◌, ◌≤◌, List, [], ◌∷◌, ◌++◌, length, Some, None, refl, sym, ◌∙◌, ap, subst, inl, inr, arith, length-append, append_assoc}
 use Rattle.std.specs.List.{slice_get}
 use Rattle.std.proofs.lemmas.Option.{slice_get_within, get_or_from_slice_get, slice_get-get_or}
@@ -19,19 +20,19 @@ get_less : (ws more : List ℕ) (k w : ℕ) → k < length ws → slice_get (ws 
 get_less ws more k w within e =
     slice_get-get_or ws k w within ∙ ap Some (sym (get_or_append_left ws more w k within) ∙ get_or_from_slice_get (ws ++ more) k w w e)
 
-pub breaks_within : (ws : List ℕ) (n k r : ℕ) → Breaks ws n k r → k < length ws
-breaks_within ws n k r (inside (by_itself i word p at low high broken)) = let within = slice_get_within ws i word at in omega arith
+pub breaks_within : (ws : List ℕ) (n k : ℕ) (r : Rule) → Breaks ws n k r → k < length ws
+breaks_within ws n k r (inside (by_itself i word p at broken)) = let within = slice_get_within ws i word at in omega arith
 breaks_within ws n k r (inside (unmet i before word need p at_before at ten opens misses)) = let within = slice_get_within ws (i + 1) word at in omega arith
 breaks_within ws n k r (left_open word need at last ten opens some) = slice_get_within ws k word at
 
-pub breaks_more : (ws more : List ℕ) (n k r : ℕ) → Breaks ws n k r → Breaks (ws ++ more) n k r
-breaks_more ws more n k r (inside (by_itself i word p at low high broken)) = inside (by_itself i word p (get_more ws more i word at) low high broken)
+pub breaks_more : (ws more : List ℕ) (n k : ℕ) (r : Rule) → Breaks ws n k r → Breaks (ws ++ more) n k r
+breaks_more ws more n k r (inside (by_itself i word p at broken)) = inside (by_itself i word p (get_more ws more i word at) broken)
 breaks_more ws more n k r (inside (unmet i before word need p at_before at ten opens misses)) =
     inside (unmet i before word need p (get_more ws more i before at_before) (get_more ws more (i + 1) word at) ten opens misses)
 breaks_more ws more n k r (left_open word need at last ten opens some) = left_open word need (get_more ws more k word at) last ten opens some
 
-pub breaks_less : (ws more : List ℕ) (n k r : ℕ) → k < length ws → Breaks (ws ++ more) n k r → Breaks ws n k r
-breaks_less ws more n k r within (inside (by_itself i word p at low high broken)) = inside (by_itself i word p (get_less ws more i word (omega arith) at) low high broken)
+pub breaks_less : (ws more : List ℕ) (n k : ℕ) (r : Rule) → k < length ws → Breaks (ws ++ more) n k r → Breaks ws n k r
+breaks_less ws more n k r within (inside (by_itself i word p at broken)) = inside (by_itself i word p (get_less ws more i word (omega arith) at) broken)
 breaks_less ws more n k r within (inside (unmet i before word need p at_before at ten opens misses)) =
     inside (unmet i before word need p (get_less ws more i before (omega arith) at_before) (get_less ws more (i + 1) word (omega arith) at) ten opens misses)
 breaks_less ws more n k r within (left_open word need at last ten opens some) = left_open word need (get_less ws more k word within at) last ten opens some

@@ -1,5 +1,5 @@
 -- What becomes of a module, by one plain pass over its items. (docs/DEFINITIONS.md, "Outcomes")
-use Rattle.std.specs.Prelude.{◌≡◌, ℕ, ◌≤◌, ◌==◌, if◌then◌else◌, List, [], ◌∷◌, ◌++◌, length, Option, Some, None, flat_map}
+use Rattle.std.specs.Prelude.{◌≡◌, ℕ, ◌≤◌, ◌==◌, if◌then◌else◌, List, [], ◌∷◌, ◌++◌, length, Bool, true, false, Option, Some, None, flat_map}
 use Rattle.lfi_queues.specs.Items.{ItemView}
 use Rattle.lfi_queues.specs.declared.item.ItemKind.{ItemKind}
 use Rattle.lfi_queues.specs.declared.item.ItemKind.TheVariants.{Page, End}
@@ -8,7 +8,7 @@ use Rattle.lfi_queues.specs.declared.item.Reason.TheVariants.{Close, Lost, PageF
 use Rattle.lfi_rules.specs.declared.fault.Fault.{Fault}
 use Rattle.lfi_rules.specs.Faults.{FirstFault}
 use Rattle.lfi_rules.specs.Verdicts.{all_words}
-use Rattle.page_buf.specs.Spelled.{words_of}
+use Rattle.a64_word.specs.Words.{words_of}
 use Rattle.lfi_model.specs.declared.outcome.Outcome.{Outcome}
 use Rattle.lfi_model.specs.declared.outcome.Outcome.TheVariants as outcome
 use Rattle.lfi_module.specs.Numbers.{page_words}
@@ -57,3 +57,9 @@ pub record Placed (n : ℕ) (pages us : List (List ℕ)) : Type 0 where
   pub beginning : Begins us pages
   pub lawful : FirstFault (all_words us) n None
   pub longest : (vs : List (List ℕ)) → Begins vs pages → FirstFault (all_words vs) n None → length vs ≤ length us
+
+-- the module is complete, or was not claimed
+abbrev pub is_well : Outcome → Bool
+is_well outcome.Unused = true
+is_well (outcome.Complete n) = true
+is_well result = false

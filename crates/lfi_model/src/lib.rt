@@ -5,6 +5,8 @@
 pub mod connection;
 pub mod laws;
 pub mod outcome;
+pub mod summary;
 
 pub use connection::{Cause, Progress};
 pub use outcome::Outcome;
+pub use summary::{CONNECTIONS, Summary};

@@ -26,6 +26,18 @@ pub enum Outcome {
     NoMemory,
 }
 
+impl Outcome {
+    ghost use Rattle.std.specs.Prelude.{◌≡◌};
+    ghost use Rattle.lfi_model.specs.Outcomes.{is_well};
+
+    /// Whether the module is complete, or was not claimed.
+    pub fn is_well(&self) -> bool
+        ensures { result ≡ is_well self.now }
+    {
+        matches!(self, Outcome::Unused | Outcome::Complete { .. })
+    }
+}
+
 impl fmt::Display for Outcome {
     ghost output = { λ outcome. Some (outcome_text outcome) };
 
@@ -33,7 +45,7 @@ impl fmt::Display for Outcome {
         match self {
             Outcome::Unused => write!(f, "unused"),
             Outcome::Complete { words } => write!(f, "complete, {words} words"),
-            Outcome::Refused(Fault { word, rule }) => write!(f, "refused, word {word} rule {rule}"),
+            Outcome::Refused(fault) => write!(f, "refused, {fault}"),
             Outcome::Incomplete { pages, of } => write!(f, "incomplete, {pages} of {of} pages"),
             Outcome::Lost(fault) => {
                 let number = fault.number();

@@ -4,8 +4,8 @@ use Rattle.std.specs.Prelude.{◌==◌, is_some, if◌then◌else◌}
 use Rattle.std.specs.Global.{Vec}
 use Rattle.std.proofs.lemmas.List.{map-append, take_more, take-append-drop, drop_more, append-nil}
 use Rattle.std.proofs.lemmas.Bool.{eq-eqb, ne_eqb}
-use Rattle.a64_effects.specs.declared.needs.Need.{Need}
-use Rattle.a64_effects.specs.declared.needs.Need.TheVariants.{Nothing, Call, Guard, Probe}
+use Rattle.lfi_rules.specs.declared.needs.Need.{Need}
+use Rattle.lfi_rules.specs.declared.needs.Need.TheVariants.{Nothing, Call, Guard, Probe}
 use Rattle.lfi_rules.specs.declared.fault.Fault.{Fault}
 use Rattle.lfi_rules.specs.declared.verdict.PageVerdict.{PageVerdict}
 use Rattle.lfi_rules.specs.Faults.{FirstFault}

@@ -22,8 +22,8 @@ use Rattle.lfi_module.specs.Numbers.{page_words}
 use Rattle.lfi_module.specs.Pages.{page_count, bytes_in_page, is_due}
 use Rattle.lfi_model.specs.Outcomes.{page_of, pages_of}
 use Rattle.lfi_model.proofs.Faults.{all_words-append}
-use Rattle.page_buf.specs.Spelled.{words_of}
-use Rattle.page_buf.proofs.Spelled.{words_fit}
+use Rattle.a64_word.specs.Words.{words_of}
+use Rattle.a64_word.proofs.WordLaws.{words_fit}
 use Rattle.lfi_plain.specs.Reports.{count_of, IsSized}
 
 abbrev words_in : List ItemView → ℕ

@@ -4,14 +4,13 @@ ghost use Rattle.std.specs.Prelude.{◌≡◌, ◌≤◌, ◌<◌, map, take, le
 ghost use Rattle.lfi_module.specs.Numbers.{most_words};
 ghost use Rattle.lfi_rules.specs.Faults.{FirstFault};
 ghost use Rattle.lfi_rules.specs.Verdicts.{all_words};
-ghost use Rattle.page_buf.specs.Spelled.{words_of};
+ghost use Rattle.a64_word.specs.Words.{words_of};
 ghost use Rattle.lfi_model.specs.Outcomes.{Placed, pages_of};
 ghost use Rattle.lfi_plain.specs.Shares.{items_by};
 ghost use Rattle.lfi_plain.specs.Pages.{pages_by};
 
 use crate::share::{PlainItem, PlainKind};
-use a64_effects::Need;
-use lfi_rules::{Fault, judge, seam};
+use lfi_rules::{Fault, Need, Rule, judge, seam};
 use std::alloc::{AllocError, Global};
 
 /// The words that bytes spell, four bytes a word, the lowest first.
@@ -68,7 +67,7 @@ pub fn first_fault(words: &Vec<u32>, n: u32) -> Option<Fault>
         Need::Nothing => None,
         _ => Some(Fault {
             word: n - 1,
-            rule: 10,
+            rule: Rule::NeedMet,
         }),
     }
 }

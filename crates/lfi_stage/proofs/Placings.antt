@@ -1,12 +1,13 @@
 -- What the verifier has placed of a module, after one more item.
+use Rattle.lfi_rules.specs.declared.rule.Rule.{Rule}
 use Rattle.lfi_module.specs.Numbers.{page_words}
 use Rattle.std.proofs.Common.{◌≡◌, ℕ, ◌+◌, ◌-◌, ◌*◌, ◌/◌, ◌<◌, ◌≤◌, List, [], ◌∷◌, ◌++◌, length, Option, Some, None, refl, sym, ◌∙◌, ap, subst, arith, true, min, length-append, append_assoc}
 use Rattle.std.specs.Prelude.{is_some, IfSome, IfNone}
 use Rattle.std.specs.Option.{option_map}
 use Rattle.std.proofs.lemmas.List.{append-nil}
 use Rattle.std.proofs.lemmas.List.Concat.{flat_map-append}
-use Rattle.page_buf.specs.Spelled.{words_of}
-use Rattle.page_buf.proofs.Spelled.{words_count}
+use Rattle.a64_word.specs.Words.{words_of}
+use Rattle.a64_word.proofs.WordLaws.{words_count}
 use Rattle.lfi_module.specs.Pages.{words_in_page}
 use Rattle.lfi_queues.specs.Items.{ItemView, IsItem, KindFits}
 use Rattle.lfi_queues.specs.declared.item.ItemKind.{ItemKind}
@@ -280,7 +281,7 @@ module _ (m : ℕ) (p : Placing) (taken : List ItemView) (item : ItemView) (was 
         whole = λ none. ap (λ z. length z.words) same_b ∙ h.whole (sym same ∙ none) ∙ (λ i. min (sym same_words i) (1024 * length (sym pages i)));
       }
 
-pub no_break : (n k r : ℕ) → Breaks [] n k r → ⊥
+pub no_break : (n k : ℕ) (r : Rule) → Breaks [] n k r → ⊥
 no_break n k r h = let within : k < 0 = breaks_within [] n k r h in omega arith
 
 -- nothing but the Open has come

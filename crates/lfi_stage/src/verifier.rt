@@ -1,7 +1,7 @@
 //! The verifier, which judges the pages of modules and places them.
 
 ghost use Rattle.std.specs.Prelude.{◌≡◌, ◌≢◌, ℕ, ◌+◌, ◌<◌, ◌≤◌, ◌==◌, ◌↔◌, List, [], ◌∷◌, ◌++◌, Option, Some, None, IfSome, IfNone, IfOk, get_or, length, if◌then◌else◌};
-ghost use Rattle.page_buf.specs.Spelled.{words_of};
+ghost use Rattle.a64_word.specs.Words.{words_of};
 ghost use Rattle.lfi_rules.specs.Faults.{FirstFault};
 ghost use Rattle.lfi_module.specs.Numbers.{module_count, most_words};
 ghost use Rattle.lfi_image.specs.Built.{due, with_words};

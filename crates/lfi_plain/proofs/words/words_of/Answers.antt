@@ -1,7 +1,7 @@
 use Rattle.std.proofs.Common.{◌*◌, ◌<◌, ◌≤◌, ◌++◌, ◌∷◌, [], ap, sym, ◌∙◌, take, length, arith, refl}
 use Rattle.std.proofs.lemmas.List.{take_more, take_all}
-use Rattle.page_buf.specs.Spelled.{words_of}
-use Rattle.page_buf.proofs.Spelled.{words_at, words_count}
+use Rattle.a64_word.specs.Words.{words_of}
+use Rattle.a64_word.proofs.WordLaws.{words_at, words_count}
 use Rattle.lfi_plain.proofs.words.words_of.Goals as goal
 
 pub loop-i-preserved : goal.loop-i-preserved

@@ -1,5 +1,5 @@
 use Rattle.std.proofs.Common.{◌≡◌, take}
-use Rattle.page_buf.specs.Spelled.{words_of}
+use Rattle.a64_word.specs.Words.{words_of}
 use Rattle.lfi_plain.proofs.words.words_of.Given as goal
 
 abbrev pub invariant-loop-i : goal.invariant-loop-i

@@ -1,6 +1,6 @@
 use Rattle.std.proofs.Common.{◌≡◌, rules, sym, ◌∙◌, None, true, length}
 use Rattle.std.specs.Prelude.{is_some}
-use Rattle.page_buf.specs.Spelled.{words_of}
+use Rattle.a64_word.specs.Words.{words_of}
 use Rattle.lfi_image.specs.Built.{due}
 use Rattle.lfi_stage.proofs.Placings.{page_over, page_length, page_tried}
 use Rattle.lfi_stage.proofs.verifier.Placing.page.Goals as goal

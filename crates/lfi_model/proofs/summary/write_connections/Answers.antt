@@ -1,0 +1,10 @@
+use Rattle.std.proofs.Common.{rules, None, take, get_or, ◌++◌}
+use Rattle.std.proofs.Output.{has_written_append, has_written_of_eq}
+use Rattle.lfi_model.specs.Texts.{connection_line, lines_from}
+use Rattle.lfi_model.proofs.Lines.{lines_more}
+use Rattle.lfi_model.proofs.summary.write_connections.Goals as goal
+
+pub loop-number-preserved : goal.loop-number-preserved
+loop-number-preserved g c = λ plain.
+    has_written_of_eq _ _ _ _ _ (lines_more connection_line c.args.faults.now c.loop-number.number None (search rules))
+    (has_written_append _ _ _ _ _ _ (c.loop-number.invariant plain) (search rules))
