@@ -1,6 +1,6 @@
 use Rattle.std.proofs.Common.{rules, ◌≡◌, ◌/◌, ◌%◌, ◌<◌, [], length, get_or, ap, sym, subst, ◌∙◌}
 use Rattle.std.specs.Vec.{vec_len}
-use Rattle.page_buf.specs.Spelled.{words_of}
+use Rattle.a64_word.specs.Words.{words_of}
 use Rattle.lfi_image.specs.Built.{words_in}
 use Rattle.lfi_image.proofs.Building.{word_of_page}
 use Rattle.lfi_image.proofs.builder.Builder.word.Goals as goal
