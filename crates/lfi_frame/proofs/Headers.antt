@@ -116,7 +116,7 @@ sound h none =
     let four = passed (h.kind == 2 && not (is_page_length h.b)) PageLength _ three.1 in
     let five = passed (h.kind == 3 && not (h.a == 0 && h.b == 0)) CloseNumbers _ four.1 in
     let in_range = λ (k : h.kind ≡ 2).
-        both (nat_lt 0 h.b && nat_le h.b page_bytes) (h.b % 4 == 0) (not_false (is_page_length h.b) (second_false (h.kind == 2) (not (is_page_length h.b)) four.0 (eq-eqb h.kind 2 k))) in
+    both (nat_lt 0 h.b && nat_le h.b page_bytes) (h.b % 4 == 0) (not_false (is_page_length h.b) (second_false (h.kind == 2) (not (is_page_length h.b)) four.0 (eq-eqb h.kind 2 k))) in
     record {
       kind = kind_among h.kind one.0;
       second = eqb-true h.second 0 (not_false (h.second == 0) two.0);

@@ -8,15 +8,26 @@ pub enum Got {
     /// The whole piece was used, or it was empty, and nothing came to its end.
     More,
     /// A whole Open of this module, with its words and its entry.
-    Open { module: ModuleNumber, extent: Extent },
+    Open {
+        module: ModuleNumber,
+        extent: Extent,
+    },
     /// The header of a page: of this module, with this index in it, and a payload of `len` bytes, 4
     /// to 4,096 and a multiple of 4, which follows.
-    Page { module: ModuleNumber, index: u32, len: u32 },
+    Page {
+        module: ModuleNumber,
+        index: u32,
+        len: u32,
+    },
     /// The used bytes are payload of the page whose header came last. Where it ended, the last of
     /// them is the page's last byte.
-    Payload { ended: bool },
+    Payload {
+        ended: bool,
+    },
     /// A whole Close of this module.
-    Close { module: ModuleNumber },
+    Close {
+        module: ModuleNumber,
+    },
 }
 
 /// One call's answer: how many bytes of the piece it used, and what they brought.

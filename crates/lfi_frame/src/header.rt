@@ -85,7 +85,7 @@ impl Header {
     }
 
     /// What a header without a fault brings, or the first fault that it shows.
-    pub(crate) fn judge(&self) -> Result<Got, FrameFault>
+    pub fn judge(&self) -> Result<Got, FrameFault>
         ensures answer { result ≡ answer_to self.now }
         ensures fault { result_err result ≡ header_fault self.now }
         ensures range { IfOk result IsInRange }
@@ -121,6 +121,6 @@ impl Header {
     fn is_page_length(&self) -> bool
         ensures { result ≡ is_page_length self.now.b }
     {
-        self.b != 0 && self.b <= PageSize::profile().bytes() && self.b % WORD_BYTES == 0
+        self.b != 0 && self.b <= PageSize::PROFILE.bytes() && self.b % WORD_BYTES == 0
     }
 }

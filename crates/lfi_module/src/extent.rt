@@ -27,15 +27,15 @@ impl Model for WordCount {
 }
 
 impl WordCount {
-    /// The most words that a module has.
-    pub const MOST: u32 = 4_194_304;
+    /// As many words as a module can have: 4,194,304.
+    pub const MOST: WordCount = WordCount { words: 4_194_304 };
 
     /// So many words; `None` where they are none, or more than a module has.
     pub fn new(words: u32) -> Option<WordCount>
         ensures some { IfSome result (λ n. n ≡ words) }
         ensures none { IfNone result ((words ≡ 0) ⊎ (most_words < words)) }
     {
-        if words == 0 || words > Self::MOST {
+        if words == 0 || words > Self::MOST.words {
             None
         } else {
             Some(WordCount { words })
@@ -48,13 +48,6 @@ impl WordCount {
         ensures { result ≡ words }
     {
         WordCount { words }
-    }
-
-    /// As many words as a module can have.
-    pub fn most() -> WordCount
-        ensures { result ≡ most_words }
-    {
-        WordCount { words: Self::MOST }
     }
 
     /// The number, 1 to 4,194,304.
@@ -89,10 +82,10 @@ impl WordCount {
     }
 
     /// Whether page `index`, of so many bytes, is the one that has to come after the first `come` pages.
-    pub fn is_due(self, size: PageSize, come: u32, index: u32, bytes: u32) -> bool
+    pub fn is_due(self, size: PageSize, come: u32, index: u32, bytes: usize) -> bool
         ensures { result ≡ is_due size self come index bytes }
     {
-        index == come && index < self.pages(size) && bytes == self.bytes_in_page(size, index)
+        index == come && index < self.pages(size) && bytes == self.bytes_in_page(size, index) as usize
     }
 }
 

@@ -1,7 +1,6 @@
 //! How many words a full page has.
 
 ghost use Rattle.std.specs.Prelude.{◌≡◌, ◌*◌, ◌≤◌};
-ghost use Rattle.lfi_module.specs.Numbers.{page_words};
 
 use std::marker::Model;
 
@@ -25,11 +24,7 @@ impl Model for PageSize {
 
 impl PageSize {
     /// The size of this profile's pages: 1,024 words.
-    pub fn profile() -> PageSize
-        ensures { result ≡ page_words }
-    {
-        PageSize { words: 1024 }
-    }
+    pub const PROFILE: PageSize = PageSize { words: 1024 };
 
     /// How many words a full page has, 1 to 4,096.
     pub fn words(self) -> u32

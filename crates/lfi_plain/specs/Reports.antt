@@ -1,5 +1,6 @@
 -- What the plain program reports of several streams. (docs/DEFINITIONS.md, "Reports")
 use Rattle.std.specs.Prelude.{◌≡◌, ℕ, ◌+◌, ◌≤◌, List, [], ◌∷◌, length, Option, Some, None, position, slice_get}
+use Rattle.lfi_module.specs.Numbers.{module_count, most_words}
 use Rattle.lfi_queues.specs.Items.{ItemView}
 use Rattle.lfi_rules.specs.Verdicts.{all_words}
 use Rattle.lfi_model.specs.declared.outcome.Outcome.TheVariants as outcome
@@ -19,13 +20,13 @@ count_of (item ∷ items) = item.words
 
 -- no more words than the module has, and no more than a module may have
 pub record IsSized (items : List ItemView) : Type 0 where
-  pub most : count_of items ≤ 4194304
+  pub most : count_of items ≤ most_words
   pub room : length (all_words (pages_of items)) ≤ count_of items
-  pub pages : length (pages_of items) ≤ 4194304
+  pub pages : length (pages_of items) ≤ most_words
 
 -- a connection is what a stream makes
 pub record IsMade (stream : PlainStream) (made : Connection) : Type 0 where
-  pub all : length made.items.items ≡ 16
+  pub all : length made.items.items ≡ module_count
   pub items : ItemsOf stream.bytes.items stream.cause (claims stream.claimed) (items_at made.items.items) made.fault made.strays
 
 -- each connection is what its stream makes

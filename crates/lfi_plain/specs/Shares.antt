@@ -7,6 +7,10 @@ use Rattle.lfi_queues.specs.declared.item.ItemKind.TheVariants as kind
 use Rattle.lfi_model.specs.Items.{Share}
 use Rattle.lfi_plain.specs.declared.share.PlainKind.{PlainKind}
 use Rattle.lfi_plain.specs.declared.share.PlainKind.TheVariants.{Open, Page, End}
+use Rattle.lfi_model.specs.declared.connection.Progress.{Progress}
+use Rattle.lfi_model.specs.declared.connection.Progress.TheVariants as progress
+use Rattle.lfi_plain.specs.declared.share.PlainProgress.{PlainProgress}
+use Rattle.lfi_plain.specs.declared.share.PlainProgress.TheVariants.{Unclaimed, Going, Ended}
 use Rattle.lfi_plain.specs.declared.share.PlainItem.{PlainItem}
 use Rattle.lfi_plain.specs.declared.share.PlainShare.{PlainShare}
 
@@ -21,8 +25,13 @@ item_by item = record { «module» = item.«module»; ordinal = item.ordinal; wo
 abbrev pub items_by : List PlainItem → List ItemView
 items_by items = map item_by items
 
+abbrev pub progress_by : PlainProgress → Progress
+progress_by Unclaimed = progress.Unclaimed
+progress_by (Going words pages) = progress.Going words pages
+progress_by Ended = progress.Ended
+
 abbrev pub share_by : PlainShare → Share
-share_by share = record { items = items_by share.items.items; strays = share.strays; progress = share.progress }
+share_by share = record { items = items_by share.items.items; strays = share.strays; progress = progress_by share.progress }
 
 -- the items of all modules
 abbrev pub lists_by : List (Vec PlainItem) → List (List ItemView)

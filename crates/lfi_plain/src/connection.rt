@@ -1,6 +1,7 @@
 //! What a connection's whole text makes.
 
 ghost use Rattle.std.specs.Prelude.{◌≡◌, map, IfOk, sum_by, length};
+ghost use Rattle.lfi_module.specs.Numbers.{module_count};
 ghost use Rattle.std.specs.List.{list_any};
 ghost use Rattle.lfi_model.specs.Items.{is_going, modules, fault_of, ItemsOf};
 ghost use Rattle.lfi_plain.specs.Messages.{message_of, rest_by};
@@ -12,6 +13,7 @@ use crate::rest::{PlainRest, rest_at};
 use crate::share::{PlainItem, share};
 use lfi_frame::FrameFault;
 use lfi_model::Cause;
+use lfi_module::ModuleNumber;
 use std::alloc::{AllocError, Global};
 
 /// The items of one connection by module, its fault and its strays.
@@ -42,7 +44,7 @@ pub fn fault_of(rest: PlainRest, cause: Cause, inside: bool) -> Option<FrameFaul
 /// Whether any of the 16 modules is left open, and the strays of all.
 pub fn summary(
     alloc: Global,
-    claimed: &[bool; 16],
+    claimed: &[bool; ModuleNumber::COUNT],
     messages: &[PlainMessage],
     rest: PlainRest,
 ) -> Result<(bool, u128), AllocError>
@@ -64,7 +66,7 @@ pub fn summary(
 /// The items of each of the 16 modules, where the connection has this fault.
 pub fn all_items(
     alloc: Global,
-    claimed: &[bool; 16],
+    claimed: &[bool; ModuleNumber::COUNT],
     messages: &[PlainMessage],
     rest: PlainRest,
     fault: Option<FrameFault>,
@@ -86,11 +88,11 @@ pub fn connection_of(
     alloc: Global,
     bytes: &[u8],
     cause: Cause,
-    claimed: &[bool; 16],
+    claimed: &[bool; ModuleNumber::COUNT],
 ) -> Result<Connection, AllocError>
     ensures items { IfOk result (λ made. ItemsOf bytes.now cause (claims claimed.now)
         (items_at made.items.items) made.fault made.strays) }
-    ensures all { IfOk result (λ made. length made.items.items ≡ 16) }
+    ensures all { IfOk result (λ made. length made.items.items ≡ module_count) }
 {
     let (messages, rest) = cut(alloc, bytes)?;
     let how = rest_at(rest);

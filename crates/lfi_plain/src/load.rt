@@ -1,6 +1,7 @@
 //! What becomes of a module.
 
 ghost use Rattle.std.specs.Prelude.{◌≡◌, ◌≤◌, ◌⊎◌, [], map, take, length, IfOk, IsSome};
+ghost use Rattle.lfi_module.specs.Numbers.{most_words};
 ghost use Rattle.lfi_rules.specs.Verdicts.{all_words};
 ghost use Rattle.lfi_model.specs.Outcomes.{Load, Placed, pages_of, end_of, by_end};
 ghost use Rattle.lfi_plain.specs.Shares.{items_by};
@@ -36,7 +37,7 @@ pub fn end_of(items: &[PlainItem]) -> Option<Reason>
 
 /// The outcome of a module of n words by its End, where there is no fault in the words that came.
 fn by_end(n: u32, words: usize, pages: usize, reason: Reason) -> Outcome
-    requires { pages ≤ 4194304 }
+    requires { pages ≤ most_words }
     ensures { result ≡ outcome_by n words pages reason }
 {
     match reason {
@@ -54,7 +55,7 @@ fn by_end(n: u32, words: usize, pages: usize, reason: Reason) -> Outcome
 /// The outcome of a module of n words, of which so many words and pages came, by their first fault
 /// and why it ended.
 fn outcome(n: u32, fault: Option<Fault>, end: Option<Reason>, words: usize, pages: usize) -> Outcome
-    requires { pages ≤ 4194304 }
+    requires { pages ≤ most_words }
     ensures { result ≡ told_by n fault end words pages }
 {
     match (fault, end) {
@@ -66,9 +67,9 @@ fn outcome(n: u32, fault: Option<Fault>, end: Option<Reason>, words: usize, page
 
 /// What becomes of a module of n words with these items.
 pub fn load_module(alloc: Global, n: u32, items: &[PlainItem]) -> Result<Loaded, AllocError>
-    requires most { n ≤ 4194304 }
+    requires most { n ≤ most_words }
     requires room { length (all_words (pages_of (items_by items.now))) ≤ n }
-    requires pages { length (pages_of (items_by items.now)) ≤ 4194304 }
+    requires pages { length (pages_of (items_by items.now)) ≤ most_words }
     requires ended { IsEnded (items_by items.now) }
     ensures outcome { IfOk result (λ loaded. Load n (items_by items.now) loaded.outcome) }
     ensures placed { IfOk result (λ loaded. Placed n (pages_of (items_by items.now)) (pages_by loaded.placed.items)) }

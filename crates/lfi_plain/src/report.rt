@@ -1,6 +1,7 @@
 //! The report on several streams.
 
 ghost use Rattle.std.specs.Prelude.{◌≡◌, ◌<◌, ◌^◌, ◌-◌, IfOk, length, min, sum_by};
+ghost use Rattle.lfi_module.specs.Numbers.{module_count};
 ghost use Rattle.lfi_plain.specs.Shares.{items_by};
 ghost use Rattle.lfi_plain.specs.Reports.{count_of, owner_of, AreMade, IsReported, AreReported};
 
@@ -8,6 +9,7 @@ use crate::connection::{Connection, connection_of};
 use crate::load::{Loaded, load_module};
 use crate::share::PlainItem;
 use lfi_model::{Cause, Outcome};
+use lfi_module::ModuleNumber;
 use std::alloc::{AllocError, Global};
 use std::fmt;
 
@@ -16,7 +18,7 @@ use std::fmt;
 pub struct PlainStream {
     pub bytes: Vec<u8>,
     pub cause: Cause,
-    pub claimed: [bool; 16],
+    pub claimed: [bool; ModuleNumber::COUNT],
 }
 
 /// What was made of several streams.
@@ -63,7 +65,7 @@ pub fn words_of_module(items: &[PlainItem]) -> u32
 
 /// The first stream for which a module is claimed.
 pub fn owner(streams: &[PlainStream], m: u16) -> Option<usize>
-    requires { m < 16 }
+    requires { m < module_count }
     ensures { result ≡ owner_of streams.now m }
 {
     streams.iter().position(|stream| stream.claimed[m as usize])
@@ -93,7 +95,7 @@ fn report_module(
     made: &[Connection],
     m: u16,
 ) -> Result<Loaded, AllocError>
-    requires below { m < 16 }
+    requires below { m < module_count }
     requires made { AreMade streams.now made.now }
     ensures { IfOk result (λ loaded. IsReported streams.now made.now m loaded) }
 {
@@ -126,7 +128,7 @@ pub fn strays_of(made: &[Connection]) -> u64
 pub fn report_on(alloc: Global, streams: &[PlainStream]) -> Result<PlainReport, AllocError>
     ensures connections { IfOk result (λ report. AreMade streams.now report.connections.items) }
     ensures modules { IfOk result (λ report. AreReported streams.now report.connections.items 0 report.modules.items) }
-    ensures all { IfOk result (λ report. length report.modules.items ≡ 16) }
+    ensures all { IfOk result (λ report. length report.modules.items ≡ module_count) }
     ensures strays { IfOk result (λ report.
         report.strays ≡ min (sum_by (λ connection. connection.strays) report.connections.items) (2 ^ 64 - 1)) }
 {

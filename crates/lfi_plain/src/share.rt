@@ -6,13 +6,12 @@ ghost use Rattle.lfi_module.specs.Numbers.{page_words};
 ghost use Rattle.lfi_module.specs.Pages.{page_count, is_due};
 ghost use Rattle.lfi_queues.specs.declared.item.ItemKind.TheVariants as kind;
 ghost use Rattle.lfi_model.specs.declared.connection.Progress.TheVariants.{Unclaimed, Going, Ended};
-ghost use Rattle.lfi_plain.specs.Shares.{share_by, item_by, items_by};
+ghost use Rattle.lfi_plain.specs.Shares.{progress_by, share_by, item_by, items_by};
 ghost use Rattle.lfi_plain.specs.Messages.{message_of, rest_by};
 
 use crate::message::PlainMessage;
 use crate::rest::PlainRest;
 use lfi_frame::FrameFault;
-use lfi_model::Progress;
 use lfi_queues::Reason;
 use std::alloc::{AllocError, Global};
 
@@ -40,6 +39,17 @@ pub struct PlainItem {
     pub kind: PlainKind,
 }
 
+/// How far a connection has come with a module.
+#[derive(Clone, Copy, Debug, PartialEq, Eq)]
+pub enum PlainProgress {
+    /// The connection hasn't claimed it.
+    Unclaimed,
+    /// It is open: so many words in all, and so many pages of it have come.
+    Going { words: u32, pages: u32 },
+    /// It has ended.
+    Ended,
+}
+
 /// What one module got of a connection.
 #[derive(Drop)]
 pub struct PlainShare {
@@ -48,7 +58,7 @@ pub struct PlainShare {
     /// Its messages that made none.
     pub strays: u128,
     /// How far it is.
-    pub progress: Progress,
+    pub progress: PlainProgress,
 }
 
 /// How many pages a module of so many words has.
@@ -75,7 +85,7 @@ impl PlainShare {
         PlainShare {
             items: Vec::new(alloc),
             strays: 0,
-            progress: Progress::Unclaimed,
+            progress: PlainProgress::Unclaimed,
         }
     }
 
@@ -92,8 +102,8 @@ impl PlainShare {
     }
 
     /// One more item, after which the module is so far.
-    fn with(self, item: PlainItem, progress: Progress) -> Result<PlainShare, AllocError>
-        ensures { IfOk result (λ share. share_by share ≡ with_item (share_by self) (item_by item) progress) }
+    fn with(self, item: PlainItem, progress: PlainProgress) -> Result<PlainShare, AllocError>
+        ensures { IfOk result (λ share. share_by share ≡ with_item (share_by self) (item_by item) (progress_by progress)) }
     {
         let mut items = self.items;
         items.push(item)?;
@@ -120,7 +130,7 @@ impl PlainShare {
             words,
             kind: PlainKind::End(reason),
         };
-        self.with(item, Progress::Ended)
+        self.with(item, PlainProgress::Ended)
     }
 
     /// One more message of a module that isn't open.
@@ -142,7 +152,7 @@ impl PlainShare {
                     words,
                     kind: PlainKind::Open { entry },
                 };
-                self.with(item, Progress::Going { words, pages: 0 })
+                self.with(item, PlainProgress::Going { words, pages: 0 })
             }
             _ => Ok(self.stray()),
         }
@@ -176,7 +186,7 @@ impl PlainShare {
                     kind: PlainKind::Page(page),
                 };
                 let pages = pages + 1;
-                self.with(item, Progress::Going { words, pages })
+                self.with(item, PlainProgress::Going { words, pages })
             }
             PlainMessage::Close { .. } => self.with_end(module, words, pages, Reason::Close),
         }
@@ -192,12 +202,14 @@ impl PlainShare {
     ) -> Result<PlainShare, AllocError>
         requires { self.strays < 2 ^ 64 }
         ensures { IfOk result (λ share. share_by share
-            ≡ after_message claimed «module» (share_by self) self.progress (message_of message.now)) }
+            ≡ after_message claimed «module» (share_by self) (progress_by self.progress) (message_of message.now)) }
     {
         match self.progress {
-            Progress::Unclaimed => self.opened(claimed, module, message),
-            Progress::Going { words, pages } => self.going(alloc, module, words, pages, message),
-            Progress::Ended => Ok(self.stray()),
+            PlainProgress::Unclaimed => self.opened(claimed, module, message),
+            PlainProgress::Going { words, pages } => self.going(
+                alloc, module, words, pages, message,
+            ),
+            PlainProgress::Ended => Ok(self.stray()),
         }
     }
 
@@ -218,7 +230,7 @@ impl PlainShare {
             return Ok(self);
         }
         match self.progress {
-            Progress::Going { words, pages } => {
+            PlainProgress::Going { words, pages } => {
                 if is_due(words, pages, index, len as usize) {
                     Ok(self)
                 } else {
@@ -231,10 +243,10 @@ impl PlainShare {
 
     /// Whether the module is open.
     pub(crate) fn is_going(&self) -> bool
-        ensures { result ≡ is_going self.now.progress }
+        ensures { result ≡ is_going (progress_by self.now.progress) }
     {
         match self.progress {
-            Progress::Going { .. } => true,
+            PlainProgress::Going { .. } => true,
             _ => false,
         }
     }
@@ -246,10 +258,10 @@ impl PlainShare {
         fault: Option<FrameFault>,
     ) -> Result<Vec<PlainItem>, AllocError>
         ensures { IfOk result (λ items. items_by items.items
-            ≡ (share_by self).items ++ ends_of «module» self.progress fault) }
+            ≡ (share_by self).items ++ ends_of «module» (progress_by self.progress) fault) }
     {
         match (self.progress, fault) {
-            (Progress::Going { words, pages }, Some(fault)) => {
+            (PlainProgress::Going { words, pages }, Some(fault)) => {
                 let share = self.with_end(module, words, pages, reason_of(fault))?;
                 Ok(share.items)
             }

@@ -1,6 +1,7 @@
 //! The words of a module, and their first fault.
 
 ghost use Rattle.std.specs.Prelude.{◌≡◌, ◌≤◌, ◌<◌, map, take, length, IfOk};
+ghost use Rattle.lfi_module.specs.Numbers.{most_words};
 ghost use Rattle.lfi_rules.specs.Faults.{FirstFault};
 ghost use Rattle.lfi_rules.specs.Verdicts.{all_words};
 ghost use Rattle.page_buf.specs.Spelled.{words_of};
@@ -52,7 +53,7 @@ pub fn all_words(alloc: Global, pages: &[Vec<u32>]) -> Result<Vec<u32>, AllocErr
 /// The first fault of words, the beginning of a module of n words.
 pub fn first_fault(words: &Vec<u32>, n: u32) -> Option<Fault>
     requires room { length words.now.items ≤ n }
-    requires most { n ≤ 4194304 }
+    requires most { n ≤ most_words }
     ensures { FirstFault words.now.items n result }
 {
     if words.is_empty() {
@@ -75,7 +76,7 @@ pub fn first_fault(words: &Vec<u32>, n: u32) -> Option<Fault>
 /// How many of the pages of a module of n words make their longest beginning without a fault.
 pub fn placed(alloc: Global, n: u32, pages: &[Vec<u32>]) -> Result<usize, AllocError>
     requires room { length (all_words (pages_by pages.now)) ≤ n }
-    requires most { n ≤ 4194304 }
+    requires most { n ≤ most_words }
     ensures within { IfOk result (λ count. count ≤ length pages.now) }
     ensures longest { IfOk result (λ count. Placed n (pages_by pages.now) (take count (pages_by pages.now))) }
 {

@@ -7,7 +7,8 @@ use Rattle.std.proofs.lemmas.List.{append-nil}
 use Rattle.std.proofs.lemmas.List.Concat.{flat_map-append}
 use Rattle.page_buf.specs.Spelled.{words_of}
 use Rattle.page_buf.proofs.Spelled.{words_count}
-use Rattle.lfi_queues.specs.Items.{ItemView, IsItem, KindFits, page_words}
+use Rattle.lfi_module.specs.Pages.{words_in_page}
+use Rattle.lfi_queues.specs.Items.{ItemView, IsItem, KindFits}
 use Rattle.lfi_queues.specs.declared.item.ItemKind.{ItemKind}
 use Rattle.lfi_queues.specs.declared.item.ItemKind.TheVariants.{Open, Page, End}
 use Rattle.lfi_queues.specs.declared.item.Reason.{Reason}
@@ -179,8 +180,8 @@ module _ (m : ℕ) (p : Placing) (taken : List ItemView) (item : ItemView) (was 
         let b : Module = p.builder in
         let f = fits typed in
         let n : ℕ = words_at taken in
-        let same : page_words item.words item.ordinal ≡ min 1024 (n - 1024 * length (pages_of taken)) =
-        (λ i. page_words (words i) (ordinal i)) ∙ ap (λ k. min 1024 (n - 1024 * k)) (omega arith) in
+        let same : words_in_page page_words item.words (item.ordinal - 1) ≡ words_in_page page_words n (length (pages_of taken)) =
+        (λ i. words_in_page page_words (words i) (ordinal i - 1)) ∙ ap (λ k. words_in_page page_words n k) (omega arith) in
         let count : length bytes / 4 ≡ length (words_of bytes) = words_count bytes in
         let long = f.1 in
         let b_count : b.count ≡ n = ap (λ z. z.count) h.builder in

@@ -23,12 +23,12 @@ use Rattle.lfi_stage.proofs.Holding.{idle_items}
 use Rattle.std.proofs.lemmas.List.{append-nil}
 use Rattle.lfi_queues.specs.Items.{ItemView}
 use Rattle.lfi_queues.specs.Passes.{PassView, QueueView, IsSamePass}
-use Rattle.lfi_stage.specs.declared.receiver.Turn.{Turn}
-use Rattle.lfi_stage.specs.declared.receiver.Turn.TheVariants as turn
+use Rattle.lfi_stage.specs.declared.receiver.ReceiverTurn.{ReceiverTurn}
+use Rattle.lfi_stage.specs.declared.receiver.ReceiverTurn.TheVariants as turn
 use Rattle.lfi_model.specs.declared.connection.Cause.{Cause}
 use Rattle.lfi_stage.specs.declared.receiver.Receiver.{Receiver}
-use Rattle.lfi_stage.specs.declared.verifier.Turn.{Turn as VerifierTurn}
-use Rattle.lfi_stage.specs.declared.verifier.Turn.TheVariants.{Worked, Idle}
+use Rattle.lfi_stage.specs.declared.verifier.VerifierTurn.{VerifierTurn}
+use Rattle.lfi_stage.specs.declared.verifier.VerifierTurn.TheVariants.{Worked, Idle}
 use Rattle.lfi_stage.specs.Receivers.{StandsFor, StandsBy, Ends, IsFinished, claimed_by, cause_after}
 use Rattle.lfi_stage.specs.Turns.{PutsAsTold, TakesAsTold}
 
@@ -188,7 +188,7 @@ settled rs rs' vs vs' r r' v v' intake report last_r last_v one_r one_v parts ke
     subst (λ l. Reports l texts report) (sym rs_is) (settled_one r r' v v' intake texts report parts' kept' (stands (texts 0) mine) finished ended claims handled all told fault no_fault strays)
 
 -- A receiver's turn on an empty intake.
-pub record AfterTurn (t : Turn) (r q : PassView) (v : List ItemView) (before after : QueueView) : Type 0 where
+pub record AfterTurn (t : ReceiverTurn) (r q : PassView) (v : List ItemView) (before after : QueueView) : Type 0 where
   pub items : q.items ≡ v ++ after.held
   pub free : t ≢ turn.Blocked
   pub pass : IsSamePass r q
@@ -201,7 +201,7 @@ same_items r q v before after told none same = (
   ap (λ z. z.queue) told.1,
 )
 
-pub after_turn : (t : Turn) (r q : PassView) (v : List ItemView) (before after : QueueView) → PutsAsTold t r q before after → before.held ≡ [] → r.items ≡ v → AfterTurn t r q v before after
+pub after_turn : (t : ReceiverTurn) (r q : PassView) (v : List ItemView) (before after : QueueView) → PutsAsTold t r q before after → before.held ≡ [] → r.items ≡ v → AfterTurn t r q v before after
 after_turn turn.Put r q v before after told none same = record {
   items = ap (λ p. p.items) told.1 ∙ (λ i. same i ++ told.0 ∷ []) ∙ ap (λ l. v ++ l) (sym (ap (λ z. z.held) told.2 ∙ ap (λ l. l ++ told.0 ∷ []) none));
   free = λ e. absurd (cc);

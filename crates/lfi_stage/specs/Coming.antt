@@ -5,8 +5,6 @@ use Rattle.lfi_module.specs.Pages.{page_count, bytes_in_page}
 
 -- page `pages` of module m, of which these bytes have come and so many are still to come
 pub record IsComing (m words pages left : ℕ) (bytes : List ℕ) : Type 0 where
-  pub in_range : m < 16
-  pub few_words : words ≤ 4194304
   pub due : pages < page_count page_words words
   pub length_due : length bytes + left ≡ bytes_in_page page_words words pages
   pub unended : 0 < left

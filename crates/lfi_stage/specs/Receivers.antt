@@ -17,8 +17,8 @@ use Rattle.lfi_stage.specs.Places.{progress_at, claims_of}
 use Rattle.lfi_stage.specs.Claims.{first_open, claims_in}
 use Rattle.lfi_stage.specs.declared.coming.Coming.{Coming}
 use Rattle.lfi_stage.specs.declared.receiver.Receiver.{Receiver}
-use Rattle.lfi_stage.specs.declared.receiver.Turn.{Turn}
-use Rattle.lfi_stage.specs.declared.receiver.Turn.TheVariants as turn
+use Rattle.lfi_stage.specs.declared.receiver.ReceiverTurn.{ReceiverTurn}
+use Rattle.lfi_stage.specs.declared.receiver.ReceiverTurn.TheVariants as turn
 
 -- its pass of the intake
 abbrev pub pass_of : Receiver → PassView
@@ -147,7 +147,7 @@ abbrev pub due_of : Receiver → ℕ
 due_of r = length (option_to_list r.hand) + sum_by (λ m. if is_going (progress_at r.modules m) then 1 else 0) modules
 
 -- A turn after the end puts what is due, as long as the intake takes it, and changes nothing else.
-pub record AfterEnd (old new : Receiver) (used : ℕ) (did : Turn) : Type 0 where
+pub record AfterEnd (old new : Receiver) (used : ℕ) (did : ReceiverTurn) : Type 0 where
   pub none_used : used ≡ 0
   pub cause : new.cause ≡ old.cause
   pub claimed : (m : ℕ) → claimed_by new m ≡ claimed_by old m

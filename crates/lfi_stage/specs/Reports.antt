@@ -1,6 +1,7 @@
 -- What a report says of the texts of a stage's receivers. (docs/DEFINITIONS.md, "Reports")
 use Rattle.std.specs.Prelude.{◌≡◌, ◌-◌, ◌<◌, ◌^◌, ℕ, List, [], length, sum, min, Some, None, true, false, slice_get, get_or, slice_index}
 use Rattle.std.specs.Option.{option_map_or}
+use Rattle.lfi_module.specs.Numbers.{module_count}
 use Rattle.lfi_frame.specs.Streams.{Message, Cut}
 use Rattle.lfi_queues.specs.Items.{ItemView}
 use Rattle.lfi_queues.specs.Passes.{QueueView}
@@ -39,9 +40,9 @@ pub record Reports (receivers : List Receiver) (texts : ℕ → List ℕ) (repor
   pub claims : (c : ℕ) (r : Receiver) (messages : List Message) (rest : List ℕ) → slice_get receivers c ≡ Some r → Cut (texts c) messages rest →
       (m : ℕ) → claimed_by r m ≡ claims_in messages m
   -- each module is told of by the items of the connection that claimed it
-  pub claimed : (m : ℕ) → m < 16 → (c : ℕ) (r : Receiver) → slice_get receivers c ≡ Some r → claimed_by r m ≡ true →
+  pub claimed : (m : ℕ) → m < module_count → (c : ℕ) (r : Receiver) → slice_get receivers c ≡ Some r → claimed_by r m ≡ true →
       (told : ModuleReport) × (slice_get report.modules m ≡ Some told) × Tells m told (items c m)
-  pub unclaimed : (m : ℕ) → m < 16 → ((c : ℕ) (r : Receiver) → slice_get receivers c ≡ Some r → claimed_by r m ≡ false) →
+  pub unclaimed : (m : ℕ) → m < module_count → ((c : ℕ) (r : Receiver) → slice_get receivers c ≡ Some r → claimed_by r m ≡ false) →
       (told : ModuleReport) × (slice_get report.modules m ≡ Some told) × Tells m told []
   -- no fault is told of a connection without a receiver
   pub no_fault : (c : ℕ) → slice_get receivers c ≡ None → get_or report.faults c None ≡ None

@@ -2,10 +2,10 @@
 use Rattle.std.specs.Prelude.{◌≡◌, ◌+◌, [], ◌∷◌, ◌++◌, length}
 use Rattle.lfi_queues.specs.Items.{ItemView}
 use Rattle.lfi_queues.specs.Passes.{PassView, QueueView}
-use Rattle.lfi_stage.specs.declared.receiver.Turn.{Turn}
-use Rattle.lfi_stage.specs.declared.verifier.Turn.{Turn as VerifierTurn}
-use Rattle.lfi_stage.specs.declared.verifier.Turn.TheVariants.{Worked, Idle}
-use Rattle.lfi_stage.specs.declared.receiver.Turn.TheVariants.{Put, Blocked}
+use Rattle.lfi_stage.specs.declared.receiver.ReceiverTurn.{ReceiverTurn}
+use Rattle.lfi_stage.specs.declared.verifier.VerifierTurn.{VerifierTurn}
+use Rattle.lfi_stage.specs.declared.verifier.VerifierTurn.TheVariants.{Worked, Idle}
+use Rattle.lfi_stage.specs.declared.receiver.ReceiverTurn.TheVariants.{Put, Blocked}
 
 -- one put that was taken: its item is the pass's last and the intake's last
 abbrev pub PutsItem : (old new : PassView) (before after : QueueView) → Type 0
@@ -14,7 +14,7 @@ PutsItem old new before after = (item : ItemView)
     × (after ≡ record before { held = before.held ++ item ∷ [] })
 
 -- What a receiver's turn did: Put is one put that the intake took, Blocked one that it refused, and all else is none.
-abbrev pub PutsAsTold : Turn → (old new : PassView) (before after : QueueView) → Type 0
+abbrev pub PutsAsTold : ReceiverTurn → (old new : PassView) (before after : QueueView) → Type 0
 PutsAsTold Put old new before after = PutsItem old new before after
 PutsAsTold Blocked old new before after = (new ≡ record old { calls = old.calls + 1 }) × (after ≡ before) × (length before.held ≡ 256)
 PutsAsTold turn old new before after = (new ≡ old) × (after ≡ before)

@@ -1,37 +1,19 @@
-//! The page whose payload is coming, and which page is due.
+//! The page whose payload is coming.
 
 ghost use Rattle.std.specs.Prelude.{◌≡◌, ◌≢◌, ℕ, ◌+◌, ◌-◌, ◌*◌, ◌<◌, ◌≤◌, ◌++◌, length, take, IfOk, IfErr, Some};
 ghost use Rattle.lfi_stage.specs.Coming.{IsComing};
 ghost use Rattle.lfi_queues.specs.declared.item.ItemKind.TheVariants.{Page};
 ghost use Rattle.lfi_model.specs.Items.{item_of};
-ghost use Rattle.lfi_module.specs.Numbers.{page_words};
-ghost use Rattle.lfi_module.specs.Pages.{is_due, page_count, bytes_in_page};
 
-use crate::modules::OpenModule;
+use lfi_module::{ModuleNumber, WordCount};
 use lfi_queues::{Item, ItemKind};
 use page_buf::OpenPage;
-
-/// How many pages a module of so many words has.
-pub(crate) fn page_count(words: u32) -> u32
-    ensures { result ≡ page_count page_words words }
-{
-    words.div_ceil(1024)
-}
-
-/// Whether page `index` of `len` bytes is the next one due of a module.
-pub(crate) fn is_due(module: &OpenModule, index: u32, len: u32) -> bool
-    ensures { result ≡ is_due page_words «module».now.words «module».now.pages index len }
-{
-    let words = u64::from(module.words);
-    let rest = (4 * words).saturating_sub(4096 * u64::from(index));
-    index == module.pages && index < page_count(module.words) && u64::from(len) == rest.min(4096)
-}
 
 /// The page whose payload is coming: the next one due of its module.
 #[derive(Drop)]
 pub(crate) struct Coming {
-    pub(crate) module: u16,
-    pub(crate) words: u32,
+    pub(crate) module: ModuleNumber,
+    pub(crate) words: WordCount,
     pub(crate) pages: u32,
     /// How many bytes are still to come.
     pub(crate) left: u32,

@@ -1,6 +1,7 @@
 //! The receiver, which turns the bytes of one connection into items.
 
 ghost use Rattle.std.specs.Prelude.{◌≡◌, ◌≢◌, ℕ, ◌+◌, ◌-◌, ◌<◌, ◌≤◌, ◌==◌, ◌%◌, ◌^◌, ◌⊎◌, min, ◌↔◌, List, [], ◌∷◌, ◌++◌, length, take, drop, true, false, Some, None, is_some, IsSome, IsNone, IsTrue, option_to_list, if◌then◌else◌, flat_map, ◌||◌, ◌&&◌, not, nat_le};
+ghost use Rattle.lfi_module.specs.Numbers.{page_bytes, page_words};
 ghost use Rattle.lfi_stage.specs.Claims.{claims_in};
 ghost use Rattle.lfi_frame.specs.Feeds.{FeedStands, feed_fault};
 ghost use Rattle.lfi_stage.specs.Shares.{intake_of};
@@ -12,18 +13,19 @@ ghost use Rattle.lfi_model.specs.declared.connection.Progress.TheVariants.{Going
 ghost use Rattle.lfi_model.specs.Items.{item_of, reason_of, fault_by_cause, share_of};
 ghost use Rattle.lfi_stage.specs.Places.{progress_at, IsPossible};
 
-use crate::coming::{Coming, is_due};
+use crate::coming::Coming;
 use crate::modules::{Modules, OpenModule};
 use crate::shared::Shared;
 use lfi_frame::{Feed, FrameFault, Got, Step};
 use lfi_model::{Cause, Progress};
+use lfi_module::{Extent, ModuleNumber, PageSize, WordCount};
 use lfi_queues::{Item, ItemKind, PutPass, Reason};
 use page_buf::OpenPage;
 use std::alloc::Global;
 
 /// What a turn did.
 #[derive(Clone, Copy, Debug, PartialEq, Eq)]
-pub enum Turn {
+pub enum ReceiverTurn {
     /// It used bytes, and no item came of them; or it was given none.
     More,
     /// It put an item.
@@ -75,11 +77,8 @@ pub struct Receiver {
 }
 
 impl Receiver {
-    /// The most words of a module that is claimed.
-    const MOST_WORDS: u32 = 1024;
-
     ghost use Rattle.lfi_stage.specs.declared.receiver.Begun.TheVariants as begun;
-    ghost use Rattle.lfi_stage.specs.declared.receiver.Turn.TheVariants as turn;
+    ghost use Rattle.lfi_stage.specs.declared.receiver.ReceiverTurn.TheVariants as turn;
     ghost use Rattle.lfi_stage.specs.Turns.{PutsAsTold};
     ghost use Rattle.lfi_stage.specs.Receivers.{pass_of, claimed_by, cause_of, hand_of, fault_of, strays_at, made_by, cause_after, Agrees, Awaits, IsUnopened, Holds, StandsFor, IsOver, IsDuePage, IsFinished, due_of, AfterEnd};
 
@@ -106,7 +105,7 @@ impl Receiver {
     }
 
     /// Puts what is in hand, or keeps it there where the intake refuses it.
-    fn put_hand(&mut self, shared: &mut Shared) -> Turn
+    fn put_hand(&mut self, shared: &mut Shared) -> ReceiverTurn
         requires held { IsSome self.old.hand }
         requires part { self.old.pass.queue ≡ shared.old.intake.queue }
         ensures puts { PutsAsTold result self.old.pass self.new.pass shared.old.intake shared.new.intake }
@@ -117,13 +116,13 @@ impl Receiver {
         ensures rest { self.new ≡ record self.old { pass = self.new.pass; hand = self.new.hand } }
     {
         let Some(item) = self.hand.take() else {
-            return Turn::More;
+            return ReceiverTurn::More;
         };
         match shared.intake.put(&mut self.pass, item) {
-            Ok(()) => Turn::Put,
+            Ok(()) => ReceiverTurn::Put,
             Err(item) => {
                 self.hand = Some(item);
-                Turn::Blocked
+                ReceiverTurn::Blocked
             }
         }
     }
@@ -136,9 +135,8 @@ impl Receiver {
     }
 
     /// The End of an open module comes into the hand.
-    fn over(&mut self, ended: OpenModule, reason: Reason)
+    fn end_module(&mut self, ended: OpenModule, reason: Reason)
         requires free { self.old.hand ≡ None }
-        requires in_range { ended.number < 16 }
         requires possible { IsPossible (Going ended.words ended.pages) }
         ensures hand { self.new.hand ≡ Some (item_of ended.number (ended.pages + 1) ended.words (End reason)) }
         ensures modules { (m : ℕ) → progress_at self.new.modules m ≡ (if m == ended.number then Ended else progress_at self.old.modules m) }
@@ -154,21 +152,21 @@ impl Receiver {
     }
 
     /// Whether an Open of a module of so many words claims it.
-    fn may_claim(&self, words: u32) -> bool
-        ensures { result ≡ (not self.now.opened && nat_le words 1024) }
+    fn may_claim(&self, words: WordCount) -> bool
+        ensures { result ≡ (not self.now.opened && nat_le words page_words) }
     {
-        !self.opened && words <= Self::MOST_WORDS
+        !self.opened && words.number() <= PageSize::PROFILE.words()
     }
 
     /// An Open: it claims its module where it is the connection's first and the module has one
     /// page at the most; else it is a stray, which the answer tells.
-    fn open(&mut self, module: u16, words: u32, entry: u32) -> bool
-        requires free { self.old.hand ≡ None }
-        requires in_range { («module» < 16) × (words ≤ 4194304) × (entry < words) }
-        ensures holds { (messages : List Message) → Holds self.old messages [] → Holds self.new (messages ++ open_message «module» words entry ∷ []) [] }
+    fn open(&mut self, module: ModuleNumber, extent: Extent) -> bool
+        requires { self.old.hand ≡ None }
+        ensures holds { (messages : List Message) → Holds self.old messages [] → Holds self.new (messages ++ open_message «module» extent.words extent.entry ∷ []) [] }
         ensures hand { IsTrue result → self.new.hand ≡ None }
         ensures rest { self.new ≡ record self.old { modules = self.new.modules; opened = true; hand = self.new.hand; strays = self.new.strays } }
     {
+        let words = extent.words();
         let claims = self.may_claim(words);
         self.opened = true;
         if !claims {
@@ -181,15 +179,16 @@ impl Receiver {
             module,
             ordinal: 0,
             words,
-            kind: ItemKind::Open { entry },
+            kind: ItemKind::Open {
+                entry: extent.entry(),
+            },
         });
         false
     }
 
     /// A Close: it ends its module where that is open; else it is a stray, which the answer tells.
-    fn close(&mut self, module: u16) -> bool
-        requires free { self.old.hand ≡ None }
-        requires in_range { «module» < 16 }
+    fn close(&mut self, module: ModuleNumber) -> bool
+        requires { self.old.hand ≡ None }
         ensures holds { (messages : List Message) → Holds self.old messages [] → Holds self.new (messages ++ close_message «module» ∷ []) [] }
         ensures hand { IsTrue result → self.new.hand ≡ None }
         ensures rest { self.new ≡ record self.old { modules = self.new.modules; hand = self.new.hand; strays = self.new.strays } }
@@ -201,7 +200,7 @@ impl Receiver {
                     words,
                     pages,
                 };
-                self.over(open, Reason::Close);
+                self.end_module(open, Reason::Close);
                 false
             }
             _ => {
@@ -213,9 +212,9 @@ impl Receiver {
 
     /// The header of page `index` with `len` payload bytes: it is the one due of an open module
     /// and its payload is awaited, or it ends its module; or it is a stray.
-    fn page(&mut self, module: u16, index: u32, len: u32) -> Begun
+    fn page(&mut self, module: ModuleNumber, index: u32, len: u32) -> Begun
         requires free { self.old.hand ≡ None }
-        requires in_range { («module» < 16) × (0 < len) × (len ≤ 4096) × (len % 4 ≡ 0) }
+        requires in_range { (0 < len) × (len ≤ page_bytes) × (len % 4 ≡ 0) }
         ensures agrees { (messages : List Message) → Holds self.old messages [] → Agrees self.new.modules (made_by self.new) self.new.strays messages (unfinished «module» index len) }
         ensures holds { result ≢ begun.Starved → (messages : List Message) (rest : List ℕ) → Holds self.old messages [] → rest_of rest ≡ unfinished «module» index len → drop 12 rest ≡ [] → Holds self.new messages rest }
         ensures claims { (messages : List Message) → Holds self.old messages [] → (m : ℕ) → claimed_by self.new m ≡ claims_in messages m }
@@ -232,8 +231,8 @@ impl Receiver {
             words,
             pages,
         };
-        if !is_due(&ended, index, len) {
-            self.over(ended, Reason::PageFault(index));
+        if !words.is_due(PageSize::PROFILE, pages, index, len as usize) {
+            self.end_module(ended, Reason::PageFault(index));
             return Begun::Awaited;
         }
         match OpenPage::new(self.alloc) {
@@ -294,11 +293,7 @@ impl Receiver {
         match self.feed.feed(piece) {
             Ok(Step { used, got }) => match got {
                 Got::More => (used, false),
-                Got::Open {
-                    module,
-                    words,
-                    entry,
-                } => (used, self.open(module, words, entry)),
+                Got::Open { module, extent } => (used, self.open(module, extent)),
                 Got::Page { module, index, len } => (used, self.begin(module, index, len)),
                 Got::Payload { .. } => {
                     self.payload(&piece[..used]);
@@ -316,10 +311,10 @@ impl Receiver {
 
     /// The header of a page; where there is no memory for its payload the input is over. The
     /// answer tells whether it is a stray.
-    fn begin(&mut self, module: u16, index: u32, len: u32) -> bool
+    fn begin(&mut self, module: ModuleNumber, index: u32, len: u32) -> bool
         requires free { self.old.hand ≡ None }
         requires running { self.old.cause ≡ None }
-        requires in_range { («module» < 16) × (0 < len) × (len ≤ 4096) × (len % 4 ≡ 0) }
+        requires in_range { (0 < len) × (len ≤ page_bytes) × (len % 4 ≡ 0) }
         ensures stands { (messages : List Message) (rest : List ℕ) → Holds self.old messages [] → FeedStands self.old.feed messages rest → feed_fault self.old.feed ≡ None
             → length rest ≡ 12 → rest_of rest ≡ unfinished «module» index len → StandsFor self.new (flat_map spelling messages ++ rest) }
         ensures over { (messages : List Message) (rest : List ℕ) → Holds self.old messages [] → FeedStands self.old.feed messages rest → length rest ≡ 12 → rest_of rest ≡ unfinished «module» index len
@@ -356,7 +351,7 @@ impl Receiver {
         };
         match self.modules.first_going() {
             Some(open) => {
-                self.over(open, reason_of(fault));
+                self.end_module(open, reason_of(fault));
                 true
             }
             None => false,
@@ -366,7 +361,7 @@ impl Receiver {
     /// One turn: it puts the item in hand, or an End that is due; or it goes on in the bytes of
     /// the piece, up to the end of a header or a payload, and puts the item that came of them.
     /// It answers how many bytes it used, and what it did. Give it what it didn't use again.
-    pub fn turn(&mut self, shared: &mut Shared, piece: &[u8]) -> (usize, Turn)
+    pub fn turn(&mut self, shared: &mut Shared, piece: &[u8]) -> (usize, ReceiverTurn)
         requires { (pass_of self.old).queue ≡ (intake_of shared.old).queue }
         ensures used { result.0 ≤ length piece.now }
         ensures stands { (bytes : List ℕ) → StandsFor self.old bytes → StandsFor self.new (bytes ++ take result.0 piece.now) }
@@ -384,16 +379,16 @@ impl Receiver {
             return if self.end_next() {
                 (0, self.put_hand(shared))
             } else {
-                (0, Turn::Finished)
+                (0, ReceiverTurn::Finished)
             };
         }
         let (used, stray) = self.read(piece);
         if stray {
-            (used, Turn::Stray)
+            (used, ReceiverTurn::Stray)
         } else if self.hand.is_some() {
             (used, self.put_hand(shared))
         } else {
-            (used, Turn::More)
+            (used, ReceiverTurn::More)
         }
     }
 

@@ -7,11 +7,11 @@ ghost use Rattle.lfi_model.specs.Outcomes.{end_of};
 ghost use Rattle.lfi_stage.specs.Verifiers.{IsPlacing, HasEnded, HandledBy};
 ghost use Rattle.lfi_stage.specs.Tells.{Tells, HasEnd};
 
-use crate::coming::page_count;
 use crate::verifier::{Ended, Placing};
 use lfi_frame::FrameFault;
 use lfi_image::{Builder, CompleteImage};
 use lfi_model::Outcome;
+use lfi_module::{PageSize, WordCount};
 use lfi_queues::Reason;
 
 /// What is there of a module's image.
@@ -45,19 +45,21 @@ impl ModuleReport {
 }
 
 /// A module that was closed, whose words have no fault.
-fn closed(builder: Builder, words: u32, ended: Ended) -> ModuleReport
+fn closed(builder: Builder, words: WordCount, ended: Ended) -> ModuleReport
     requires { ended.reason ≡ Reason.Close }
     ensures { (m : ℕ) (items : List ItemView) → HasEnded m builder words ended items → Tells m result items }
 {
     match builder.finish() {
         Ok(image) => ModuleReport {
-            outcome: Outcome::Complete { words },
+            outcome: Outcome::Complete {
+                words: words.number(),
+            },
             image: ImageState::Whole(image),
         },
         Err(builder) => {
             let outcome = Outcome::Incomplete {
                 pages: ended.pages,
-                of: page_count(words),
+                of: words.pages(PageSize::PROFILE),
             };
             ModuleReport::part(outcome, builder)
         }
@@ -65,7 +67,7 @@ fn closed(builder: Builder, words: u32, ended: Ended) -> ModuleReport
 }
 
 /// A module that has ended, whose words have no fault.
-fn by_end(builder: Builder, words: u32, ended: Ended) -> ModuleReport
+fn by_end(builder: Builder, words: WordCount, ended: Ended) -> ModuleReport
     ensures { (m : ℕ) (items : List ItemView) → HasEnded m builder words ended items → Tells m result items }
 {
     match ended.reason {

@@ -1,6 +1,7 @@
 //! What became of a stage's work, once all of it has come to an end.
 
 ghost use Rattle.std.specs.Prelude.{◌≡◌, ◌≢◌, ℕ, ◌+◌, ◌<◌, ◌≤◌, List, [], ◌++◌, false, Some, None, slice_get, get_or};
+ghost use Rattle.lfi_module.specs.Numbers.{module_count};
 ghost use Rattle.lfi_queues.specs.Kept.{Kept};
 ghost use Rattle.lfi_queues.specs.Passes.{IsSamePass};
 ghost use Rattle.lfi_stage.specs.Shares.{intake_of};
@@ -13,12 +14,12 @@ ghost use Rattle.lfi_stage.specs.declared.report.ModuleReport.{ModuleReport};
 ghost use Rattle.lfi_queues.specs.Items.{ItemView};
 ghost use Rattle.lfi_stage.specs.declared.receiver.Receiver.{Receiver};
 
-use crate::modules::MODULES;
-use crate::receiver::{self, Receiver};
+use crate::receiver::{Receiver, ReceiverTurn};
 use crate::report::ModuleReport;
 use crate::shared::Shared;
-use crate::verifier::{self, Verifier};
+use crate::verifier::{Verifier, VerifierTurn};
 use lfi_frame::FrameFault;
+use lfi_module::ModuleNumber;
 
 /// The number of connections that a report has places for.
 pub const CONNECTIONS: usize = 8;
@@ -27,7 +28,7 @@ pub const CONNECTIONS: usize = 8;
 #[derive(Drop)]
 pub struct Report {
     /// By the modules' numbers.
-    pub modules: [ModuleReport; MODULES],
+    pub modules: [ModuleReport; ModuleNumber::COUNT],
     /// By the connections' numbers.
     pub faults: [Option<FrameFault>; CONNECTIONS],
     /// The strays of all connections; it stays at the greatest number.
@@ -43,7 +44,7 @@ pub(crate) fn drain(verifier: &mut Verifier, shared: &mut Shared)
     ensures empty { (intake_of shared.new).held ≡ [] }
     ensures queue { (intake_of shared.new).queue ≡ (intake_of shared.old).queue }
 {
-    while verifier.turn(shared) == verifier::Turn::Worked {}
+    while verifier.turn(shared) == VerifierTurn::Worked {}
 }
 
 /// Ends a receiver that wasn't told the end, and brings all that it still makes to the verifier.
@@ -59,14 +60,14 @@ fn finish(receiver: &mut Receiver, verifier: &mut Verifier, shared: &mut Shared)
 {
     receiver.end(false);
     drain(verifier, shared);
-    while receiver.turn(shared, &[]).1 == receiver::Turn::Put {
+    while receiver.turn(shared, &[]).1 == ReceiverTurn::Put {
         verifier.turn(shared);
     }
 }
 
 /// The report of what one receiver and one verifier have done.
 fn told_by(receiver: &Receiver, verifier: Verifier) -> Report
-    ensures modules { (m : ℕ) → m < 16 → (told : ModuleReport) × (slice_get result.modules m ≡ Some told) × ((items : List ItemView) → HandledBy m (placing_at verifier.placings m) items → HasEnd items → Tells m told items) }
+    ensures modules { (m : ℕ) → m < module_count → (told : ModuleReport) × (slice_get result.modules m ≡ Some told) × ((items : List ItemView) → HandledBy m (placing_at verifier.placings m) items → HasEnd items → Tells m told items) }
     ensures fault { get_or result.faults 0 None ≡ fault_of receiver.now }
     ensures no_fault { (c : ℕ) → 0 < c → get_or result.faults c None ≡ None }
     ensures strays { result.strays ≡ strays_at receiver.now }

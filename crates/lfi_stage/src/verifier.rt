@@ -3,16 +3,17 @@
 ghost use Rattle.std.specs.Prelude.{◌≡◌, ◌≢◌, ℕ, ◌+◌, ◌<◌, ◌≤◌, ◌==◌, ◌↔◌, List, [], ◌∷◌, ◌++◌, Option, Some, None, IfSome, IfNone, IfOk, get_or, length, if◌then◌else◌};
 ghost use Rattle.page_buf.specs.Spelled.{words_of};
 ghost use Rattle.lfi_rules.specs.Faults.{FirstFault};
+ghost use Rattle.lfi_module.specs.Numbers.{module_count, most_words};
 ghost use Rattle.lfi_image.specs.Built.{due, with_words};
 ghost use Rattle.lfi_queues.specs.Items.{ItemView, IsItem};
 ghost use Rattle.lfi_queues.specs.declared.item.ItemKind.TheVariants.{Open, Page, End};
 ghost use Rattle.lfi_model.specs.Modules.{IsModule};
 ghost use Rattle.lfi_stage.specs.Shares.{intake_of};
 
-use crate::modules::MODULES;
 use crate::report::{ModuleReport, report_of};
 use crate::shared::Shared;
 use lfi_image::{Builder, Places};
+use lfi_module::{ModuleNumber, WordCount};
 use lfi_queues::{Item, ItemKind, Reason, TakePass};
 use lfi_rules::{Fault, judge};
 use page_buf::SealedPage;
@@ -20,12 +21,9 @@ use std::alloc::{AllocError, Global};
 use std::array;
 use std::marker::Model;
 
-/// The most words of a module.
-const MOST_WORDS: u32 = 4_194_304;
-
 /// What a turn did.
 #[derive(Clone, Copy, Debug, PartialEq, Eq)]
-pub enum Turn {
+pub enum VerifierTurn {
     /// It took an item, judged it where it is a page, and placed it.
     Worked,
     /// The intake was empty.
@@ -57,7 +55,7 @@ fn place(builder: &mut Builder, page: SealedPage) -> Option<Fault>
 #[derive(Drop)]
 pub(crate) struct Placing {
     /// Its words in all.
-    pub(crate) words: u32,
+    pub(crate) words: WordCount,
     /// What is placed of it.
     pub(crate) builder: Builder,
     /// Its first fault.
@@ -70,15 +68,14 @@ impl Placing {
     ghost use Rattle.lfi_stage.specs.Verifiers.{IsPlacing};
 
     /// A module of which nothing but its Open has come, with the memory for its pages.
-    fn new(places: Places, module: u16, words: u32, entry: u32) -> Placing
-        requires module { «module» < 16 }
+    fn new(places: Places, module: ModuleNumber, words: WordCount, entry: u32) -> Placing
         requires words { words ≤ places }
         requires entry { entry < words }
         ensures { (first : ItemView) → first.«module» ≡ «module» → first.words ≡ words → first.kind ≡ Open entry → IsPlacing «module» result (first ∷ []) }
     {
         Placing {
             words,
-            builder: Builder::over(places, words, entry, module),
+            builder: Builder::over(places, words.number(), entry, module.number()),
             fault: None,
             ended: None,
         }
@@ -106,12 +103,12 @@ impl Placing {
 }
 
 /// Memory for the pages of each module.
-fn reserve(alloc: Global) -> Result<[Option<Places>; MODULES], AllocError>
-    ensures { IfOk result (λ spare. (m : ℕ) → m < 16 → get_or spare m None ≡ Some 4194304) }
+fn reserve(alloc: Global) -> Result<[Option<Places>; ModuleNumber::COUNT], AllocError>
+    ensures { IfOk result (λ spare. (m : ℕ) → m < module_count → get_or spare m None ≡ Some most_words) }
 {
     let mut spare = array::from_fn(|_| None);
-    for module in 0..MODULES {
-        spare[module] = Some(Places::new(alloc, MOST_WORDS)?);
+    for module in 0..ModuleNumber::COUNT {
+        spare[module] = Some(Places::new(alloc, WordCount::MOST.number())?);
     }
     Ok(spare)
 }
@@ -120,19 +117,20 @@ fn reserve(alloc: Global) -> Result<[Option<Places>; MODULES], AllocError>
 #[derive(Drop)]
 pub(crate) struct Placings {
     /// Memory for the modules whose Open hasn't come.
-    spare: [Option<Places>; MODULES],
-    placings: [Option<Placing>; MODULES],
+    spare: [Option<Places>; ModuleNumber::COUNT],
+    placings: [Option<Placing>; ModuleNumber::COUNT],
 }
 
 impl Model for Placings {
     ghost use Rattle.std.specs.Prelude.{List, Option, Some, None, ◌≡◌, ◌<◌, ℕ, length, get_or};
+    ghost use Rattle.lfi_module.specs.Numbers.{module_count, most_words};
     ghost use Rattle.lfi_stage.specs.declared.verifier.Placing.{Placing};
 
     ghost Value = { List (Option Placing) };
 
     ghost view = { λ p. p.placings };
 
-    ghost invariant = { λ p. (length p.placings ≡ 16) × (length p.spare ≡ 16) × ((m : ℕ) → m < 16 → get_or p.placings m None ≡ None → get_or p.spare m None ≡ Some 4194304) };
+    ghost invariant = { λ p. (length p.placings ≡ module_count) × (length p.spare ≡ module_count) × ((m : ℕ) → m < module_count → get_or p.placings m None ≡ None → get_or p.spare m None ≡ Some most_words) };
 }
 
 impl Placings {
@@ -155,14 +153,14 @@ impl Placings {
     fn handle(&mut self, item: Item)
         ensures { (taken : List ItemView) → HandledAll self.old taken → HandledAll self.new (taken ++ item ∷ []) }
     {
-        let module = item.module as usize;
+        let module = item.module.index();
         let before = self.placings[module].take();
         self.placings[module] = after(&mut self.spare[module], before, item);
     }
 
     /// What became of each module.
-    pub(crate) fn into_reports(self) -> [ModuleReport; MODULES]
-        ensures { (m : ℕ) → m < 16 → (told : ModuleReport) × (slice_get result m ≡ Some told) × ((items : List ItemView) → HandledBy m (placing_at self m) items → HasEnd items → Tells m told items) }
+    pub(crate) fn into_reports(self) -> [ModuleReport; ModuleNumber::COUNT]
+        ensures { (m : ℕ) → m < module_count → (told : ModuleReport) × (slice_get result m ≡ Some told) × ((items : List ItemView) → HandledBy m (placing_at self m) items → HasEnd items → Tells m told items) }
     {
         self.placings.map(report_of)
     }
@@ -173,8 +171,8 @@ ghost use Rattle.lfi_stage.specs.Verifiers.{HandledBy, HandledAll};
 /// One item of a module, which was so before: what it is then. Its Open takes the memory that is
 /// reserved for it.
 fn after(spare: &mut Option<Places>, before: Option<Placing>, item: Item) -> Option<Placing>
-    requires spare { before ≡ None → spare.old ≡ Some 4194304 }
-    ensures spare { result ≡ None → spare.new ≡ Some 4194304 }
+    requires spare { before ≡ None → spare.old ≡ Some most_words }
+    ensures spare { result ≡ None → spare.new ≡ Some most_words }
     ensures handled { (m : ℕ) (taken : List ItemView) → item.«module» ≡ m → HandledBy m before taken → IsModule (taken ++ item ∷ []) → HandledBy m result (taken ++ item ∷ []) }
 {
     let Item {
@@ -232,7 +230,7 @@ impl Verifier {
 
     /// One turn: it takes an item, judges it where it is a page, and places it. It takes no
     /// memory.
-    pub fn turn(&mut self, shared: &mut Shared) -> Turn
+    pub fn turn(&mut self, shared: &mut Shared) -> VerifierTurn
         requires { (pass_of self.old).queue ≡ (intake_of shared.old).queue }
         ensures takes { TakesAsTold result (pass_of self.old) (pass_of self.new) (intake_of shared.old) (intake_of shared.new) }
         ensures handled { Handled self.old → Handled self.new }
@@ -240,15 +238,15 @@ impl Verifier {
         match shared.intake.take(&mut self.pass) {
             Some(item) => {
                 self.placings.handle(item);
-                Turn::Worked
+                VerifierTurn::Worked
             }
-            None => Turn::Idle,
+            None => VerifierTurn::Idle,
         }
     }
 
     /// What became of each module.
-    pub(crate) fn into_reports(self) -> [ModuleReport; MODULES]
-        ensures { (m : ℕ) → m < 16 → (told : ModuleReport) × (slice_get result m ≡ Some told) × ((items : List ItemView) → HandledBy m (placing_at self.placings m) items → HasEnd items → Tells m told items) }
+    pub(crate) fn into_reports(self) -> [ModuleReport; ModuleNumber::COUNT]
+        ensures { (m : ℕ) → m < module_count → (told : ModuleReport) × (slice_get result m ≡ Some told) × ((items : List ItemView) → HandledBy m (placing_at self.placings m) items → HasEnd items → Tells m told items) }
     {
         self.placings.into_reports()
     }

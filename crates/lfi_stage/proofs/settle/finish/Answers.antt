@@ -1,5 +1,5 @@
 use Rattle.std.proofs.Common.{rules, ◌≡◌, ◌∙◌, ◌++◌, ◌∷◌, [], ap, sym, subst}
-use Rattle.lfi_stage.specs.declared.receiver.Turn.TheVariants as turn
+use Rattle.lfi_stage.specs.declared.receiver.ReceiverTurn.TheVariants as turn
 use Rattle.lfi_stage.specs.Turns.{PutsAsTold, PutsItem}
 use Rattle.lfi_stage.proofs.Settling.{TakesOne, takes_one, stands_on, some_cause}
 use Rattle.lfi_stage.proofs.settle.finish.Goals as goal

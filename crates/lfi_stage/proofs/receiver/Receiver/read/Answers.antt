@@ -17,7 +17,7 @@ returns-in-Open-clause-stands c = λ bytes stands.
     let r = c.args.self.now in
     let used : List ℕ = take c.in-Ok.field-0.used c.args.piece.now in
     let runs = running r bytes stands c.requires.running in
-    let message = open_message c.in-Open.«module» c.in-Open.words c.in-Open.entry in
+    let message = open_message c.in-Open.«module» c.in-Open.extent.words c.in-Open.extent.entry in
     let told = subst (λ g. IsTold g c.feed.new.self stands.messages stands.rest used) c.in-Open.is (c.in-Ok.ensures.told stands.messages stands.rest runs.feed) in
     let some : used ≢ [] = some_used c.args.piece.now c.in-Ok.field-0 (c.in-Ok.ensures.moves runs.faultless) (c.in-Ok.ensures.empty runs.faultless) (λ e. absurd (let is = c.in-Open.is in cc)) in
     message_stands r c.«open».new.self c.feed.new.self bytes used message stands c.requires.running some (omega arith) told.0 c.in-Ok.ensures.fault told.1

@@ -2,7 +2,7 @@ use Rattle.std.proofs.Common.{◌≡◌, rules, sym, ◌∙◌, None, true, leng
 use Rattle.std.specs.Prelude.{is_some}
 use Rattle.page_buf.specs.Spelled.{words_of}
 use Rattle.lfi_image.specs.Built.{due}
-use Rattle.lfi_stage.proofs.Placings.{page_over, bytes_in_pagegth, page_tried}
+use Rattle.lfi_stage.proofs.Placings.{page_over, page_length, page_tried}
 use Rattle.lfi_stage.proofs.verifier.Placing.page.Goals as goal
 
 pub returns-then-is_some : goal.returns-then-is_some
