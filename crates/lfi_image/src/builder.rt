@@ -138,7 +138,7 @@ impl Builder {
     pub fn due(&self) -> u32
         ensures { result ≡ due self.now }
     {
-        self.words().due(PageSize::profile(), self.placed)
+        self.words().due(PageSize::PROFILE, self.placed)
     }
 
     /// The word at `i`, one that is placed.
@@ -146,7 +146,7 @@ impl Builder {
         requires { i < length self.now.placed }
         ensures { result ≡ slice_index self.now.placed i }
     {
-        let size = PageSize::profile().words();
+        let size = PageSize::PROFILE.words();
         self.pages[(i / size) as usize].word((i % size) as usize)
     }
 }
