@@ -2,7 +2,7 @@
 ghost use Rattle.std.specs.Prelude.{◌≡◌, length};
 ghost use Rattle.lfi_module.specs.Numbers.{page_words};
 ghost use Rattle.lfi_module.specs.Pages.{words_due};
-ghost use Rattle.page_buf.specs.Spelled.{words_of};
+ghost use Rattle.a64_word.specs.Words.{words_of};
 ghost use Rattle.lfi_rules.specs.Verdicts.{Judges};
 
 use lfi_module::WordCount;

@@ -1,14 +1,14 @@
 -- One more page of a module, and the words by their pages.
 use Rattle.std.proofs.Common.{◌≡◌, ℕ, zero, suc, ◌+◌, ◌-◌, ◌*◌, ◌/◌, ◌%◌, ◌<◌, ◌≤◌, min, List, [], ◌∷◌, ◌++◌, length, get_or, Option, None, refl, sym, ◌∙◌, ap, subst, arith, length-append, append_assoc, append-nil}
 use Rattle.std.proofs.lemmas.List.{get_or_append_left, get_or-append-add}
-use Rattle.page_buf.specs.Spelled.{words_of}
-use Rattle.a64_effects.specs.declared.needs.Need.{Need}
+use Rattle.a64_word.specs.Words.{words_of}
+use Rattle.lfi_rules.specs.declared.needs.Need.{Need}
 use Rattle.lfi_rules.specs.declared.fault.Fault.{Fault}
 use Rattle.lfi_rules.specs.declared.verdict.PageVerdict.{PageVerdict}
 use Rattle.lfi_rules.specs.Faults.{FirstFault}
-use Rattle.lfi_rules.specs.Verdicts.{Judges, LeavesOpen, fault_after}
-use Rattle.lfi_rules.proofs.Pages.{appended, leaves_page}
-use Rattle.lfi_image.specs.Built.{IsBuilt, IsFull, AllFull, AreFull, words_in}
+use Rattle.lfi_rules.specs.Verdicts.{Judges, LeavesOpen}
+use Rattle.lfi_image.specs.Built.{words_in}
+use Rattle.lfi_image.specs.inner.Builders.{IsBuilt, IsFull, AllFull, AreFull}
 use Rattle.lfi_image.specs.Image.{IsImage}
 
 pub words_in-append : (ps qs : List (List ℕ)) → words_in (ps ++ qs) ≡ words_in ps ++ words_in qs
@@ -41,14 +41,6 @@ module _ (count first slot placed : ℕ) (tail : Need) (pages : List (List ℕ))
   pub none_yet : FirstFault ws n None
   none_yet = subst (λ k. FirstFault ws k None) same (subst (λ l. FirstFault l count None) words built.faultless)
 
-  pub fault_with_page : (page : List ℕ) (verdict : PageVerdict) (k : ℕ) (fault : Option Fault) → Judges page (length ws) n verdict
-      → length ws + length page ≤ n → k ≡ length page → fault ≡ fault_after count tail verdict k → FirstFault (ws ++ page) n fault
-  fault_with_page page verdict k fault judged room size is =
-      let open_now : LeavesOpen ws tail = subst (λ l. LeavesOpen l tail) words built.leaves in
-      let found = appended ws page n tail verdict none_yet open_now judged room in
-      let meant : fault ≡ fault_after n tail verdict (length page) = is ∙ (λ i. fault_after (same i) tail verdict (size i)) in
-      subst (λ f. FirstFault (ws ++ page) n f) (sym meant) found
-
   -- with all its words placed it is an image
   pub image_of : (e s : ℕ) → first ≡ e → slot ≡ s → count ≤ placed → IsImage (record { entry = e; slot = s; words = ws }) × (length ws ≡ n)
   image_of e s same_entry same_slot whole =
@@ -66,7 +58,7 @@ module _ (count first slot placed : ℕ) (tail : Need) (pages : List (List ℕ))
       )
 
 pub built_more : (count first slot placed : ℕ) (tail : Need) (pages : List (List ℕ)) (page : List ℕ) (verdict : PageVerdict)
-    → IsBuilt count first slot placed tail pages → 1 ≤ length (words_of page) → LeavesOpen (words_of page) verdict.tail
+    → IsBuilt count first slot placed tail pages → 1 ≤ length (words_of page) → LeavesOpen (words_in pages ++ words_of page) verdict.tail
     → FirstFault (words_in pages ++ words_of page) count None → length (words_of page) ≡ min 1024 (count - placed)
     → IsBuilt count first slot (placed + length (words_of page)) verdict.tail (pages ++ page ∷ [])
 built_more count first slot placed tail pages page verdict built some leaves none due =
@@ -83,7 +75,7 @@ built_more count first slot placed tail pages page verdict built some leaves non
       whole = λ less. full_more pages page (built.whole room) (let full : length (words_of page) ≡ 1024 = omega (arith, due, less) in full);
       full = full_before pages page (built.whole room) (omega (arith, due));
       faultless = subst (λ l. FirstFault l count None) (sym words) none;
-      leaves = subst (λ l. LeavesOpen l verdict.tail) (sym words) (leaves_page (words_in pages) (words_of page) verdict.tail some leaves);
+      leaves = subst (λ l. LeavesOpen l verdict.tail) (sym words) leaves;
     }
 
 -- There is a place for another page while words are missing.
@@ -121,3 +113,8 @@ word_of_page ps full size i d is within =
 -- A page that was judged at the place and in the module of a builder.
 pub judged_there : (page : List ℕ) (first place words n : ℕ) (verdict : PageVerdict) → first ≡ place → words ≡ n → Judges page first words verdict → Judges page place n verdict
 judged_there page first place words n verdict at same judged = subst (λ k. Judges page k n verdict) at (subst (λ k. Judges page first k verdict) same judged)
+
+-- The same fault, told of the module that a builder is.
+pub told_of : (pages ws page : List ℕ) (words n : ℕ) (found fault : Option Fault) → pages ≡ ws → words ≡ n → found ≡ fault → FirstFault (pages ++ page) words found → FirstFault (ws ++ page) n fault
+told_of pages ws page words n found fault same size is first =
+    subst (λ f. FirstFault (ws ++ page) n f) is (subst (λ k. FirstFault (ws ++ page) k found) size (subst (λ l. FirstFault (l ++ page) words found) same first))

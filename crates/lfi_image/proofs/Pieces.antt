@@ -8,8 +8,8 @@ use Rattle.std.specs.Io.KnownBytes.{Appends}
 use Rattle.std.proofs.KnownBytes.{Appends-trans}
 use borrow.Rule.Slice.PartMut.{put_mid, post_of}
 use lib.Seq.{take-add, take-append-le}
-use Rattle.page_buf.specs.Spelled.{words_of}
-use Rattle.page_buf.proofs.Spelled.{words_count}
+use Rattle.a64_word.specs.Words.{words_of}
+use Rattle.a64_word.proofs.WordLaws.{words_count}
 use Rattle.lfi_image.specs.Image.{code_of}
 
 pub take_split : (a b : ℕ) (old new : List ℕ) → a ≤ b → take a new ≡ take a old → take a old ++ slice_range new a b ≡ take b new

@@ -6,8 +6,8 @@ use Rattle.std.specs.Io.KnownBytes.{Consumes}
 use Rattle.std.proofs.KnownBytes.{Consumes-trans, Consumes-nil}
 use Rattle.std.proofs.lemmas.Bool.{cases_lt, leb-true, leb-false}
 use Rattle.std.proofs.lemmas.List.{get_or_append_left, get_or-drop, drop-drop}
-use Rattle.page_buf.specs.Spelled.{words_of}
-use Rattle.page_buf.proofs.Spelled.{words_fit}
+use Rattle.a64_word.specs.Words.{words_of}
+use Rattle.a64_word.proofs.WordLaws.{words_fit}
 use Rattle.lfi_rules.specs.declared.fault.Fault.{Fault}
 use Rattle.lfi_rules.specs.Faults.{FirstFault}
 use Rattle.lfi_image.specs.declared.fault.ImageFault.{ImageFault}
@@ -15,7 +15,7 @@ use Rattle.lfi_image.specs.declared.fault.ImageFault.TheVariants.{Magic, Profile
 use Rattle.lfi_image.specs.Image.{Module, Image, header_of, code_of, FileOf}
 use Rattle.lfi_image.specs.Built.{due}
 use Rattle.lfi_image.specs.Reading.{count_in, header_fault, whole_pages, page_end, IsCodeFault, IsFault, IsUnread, IsRestUnread, of_header, of_code}
-use Rattle.lfi_image.specs.Steps.{ReadsPage, IsPageFault, IsRead}
+use Rattle.lfi_image.specs.inner.Steps.{ReadsPage, IsPageFault, IsRead}
 use Rattle.lfi_image.proofs.Pieces.{words_of-append, code_of-append, word_count}
 use Rattle.lfi_image.proofs.Stays.{fault_stays, fault_in_page}
 

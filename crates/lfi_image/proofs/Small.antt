@@ -5,8 +5,8 @@ use Rattle.std.proofs.lemmas.Nat.{pow-add}
 use Rattle.std.proofs.lemmas.Bool.{cases_lt}
 use Rattle.std.proofs.lemmas.Option.{slice_get-get_or}
 use Rattle.a64_word.specs.declared.fields.Field.{Field}
-use Rattle.a64_word.specs.declared.inst.Inst.{Inst}
-use Rattle.a64_word.specs.declared.inst.Inst.TheVariants.{AddSubImmediate, LogicalImmediate, MoveWide, PcRelative, Bitfield, LogicalShifted, AddSubShifted, AddSubExtended, ConditionalCompare, ConditionalSelect, TwoSource, CountLeadingZeros, MultiplyAdd, MultiplyHigh, Nop, Breakpoint, Branch, ConditionalBranch, CompareBranch, TestBranch, BranchRegister, UnsignedOffset, SignedOffset, RegisterOffset, Pair}
+use Rattle.a64_word.specs.declared.instruction.Instruction.{Instruction}
+use Rattle.a64_word.specs.declared.instruction.Instruction.TheVariants.{AddSubImmediate, LogicalImmediate, MoveWide, PcRelative, Bitfield, LogicalShifted, AddSubShifted, AddSubExtended, ConditionalCompare, ConditionalSelect, TwoSource, CountLeadingZeros, MultiplyAdd, MultiplyHigh, Nop, Breakpoint, Branch, ConditionalBranch, CompareBranch, TestBranch, BranchRegister, UnsignedOffset, SignedOffset, RegisterOffset, Pair}
 use Rattle.a64_word.specs.Encoding.{fields, Spells}
 use Rattle.a64_word.specs.Fields.{total_width, sum_of, AllFit}
 use Rattle.lfi_rules.specs.Faults.{FirstFault}
@@ -15,7 +15,7 @@ use Rattle.lfi_rules.proofs.Lawful.{is_spelled}
 abbrev pub AreWords : List ℕ → Type 0
 AreWords words = (i : ℕ) → get_or words i 0 < 2 ^ 32
 
-total_is : (i : Inst) → total_width (fields i) ≡ 32
+total_is : (i : Instruction) → total_width (fields i) ≡ 32
 total_is (AddSubImmediate i) = refl
 total_is (LogicalImmediate i) = refl
 total_is (MoveWide i) = refl
@@ -49,7 +49,7 @@ sum_below (f ∷ fs) fit =
     let step : f.value + 1 ≤ 2 ^ f.width = omega (arith, fit.0) in
     rw (pow-add 2 f.width (total_width fs)) (omega (arith, rest, mul-le-mul_right (2 ^ total_width fs) step))
 
-spelled_small : (i : Inst) (word : ℕ) → Spells i word → word < 2 ^ 32
+spelled_small : (i : Instruction) (word : ℕ) → Spells i word → word < 2 ^ 32
 spelled_small i word s = subst (λ n. n < 2 ^ 32) (sym s.word_of.sum) (subst (λ n. sum_of (fields i) < 2 ^ n) (total_is i) (sum_below (fields i) s.word_of.in_range))
 
 outside : (xs : List ℕ) (i : ℕ) → length xs ≤ i → get_or xs i 0 ≡ 0

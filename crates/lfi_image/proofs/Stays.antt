@@ -5,6 +5,7 @@ use Rattle.std.proofs.lemmas.Bool.{cases_lt}
 use Rattle.std.proofs.lemmas.List.{get_or_append_left}
 use Rattle.std.proofs.lemmas.Option.{slice_get_within, slice_get-get_or, get_or_from_slice_get}
 use Rattle.lfi_rules.specs.declared.fault.Fault.{Fault}
+use Rattle.lfi_rules.specs.declared.rule.Rule.{Rule}
 use Rattle.lfi_rules.specs.Faults.{BreaksInside, by_itself, unmet, Breaks, inside, left_open, FirstFault, IsFirstInside}
 use Rattle.lfi_rules.proofs.Inside.{inside_within, fault_closes}
 use Rattle.lfi_rules.proofs.Pages.{more_breaks}
@@ -14,8 +15,8 @@ word_before ws more k w within at =
     slice_get-get_or ws k w within ∙ ap Some (sym (get_or_append_left ws more w k within) ∙ get_or_from_slice_get (ws ++ more) k w w at)
 
 -- A break at one of the first words is one without those that follow.
-breaks_before : (ws more : List ℕ) (n k r : ℕ) → k < length ws → BreaksInside (ws ++ more) 0 n k r → BreaksInside ws 0 n k r
-breaks_before ws more n k r early (by_itself i w p at low high broken) = by_itself i w p (word_before ws more i w (omega (arith, p, early)) at) low high broken
+breaks_before : (ws more : List ℕ) (n k : ℕ) (r : Rule) → k < length ws → BreaksInside (ws ++ more) 0 n k r → BreaksInside ws 0 n k r
+breaks_before ws more n k r early (by_itself i w p at broken) = by_itself i w p (word_before ws more i w (omega (arith, p, early)) at) broken
 breaks_before ws more n k r early (unmet i before w need p at_before at ten opens misses) =
     unmet i before w need p (word_before ws more i before (omega (arith, p, early)) at_before) (word_before ws more (i + 1) w (omega (arith, p, early)) at) ten opens misses
 

@@ -1,26 +1,42 @@
 -- One text after another, written.
-use Rattle.std.proofs.Common.{◌≡◌, ℕ, zero, suc, ◌+◌, ◌<◌, List, [], ◌∷◌, ◌++◌, length, take, drop, get_or, Option, Result, Ok, Err, refl, sym, ◌∙◌, ap, subst, arith, append_assoc, append-nil}
+use Rattle.std.proofs.Common.{◌≡◌, ℕ, zero, suc, ◌+◌, ◌<◌, List, [], ◌∷◌, ◌++◌, length, take, drop, get_or, Option, Result, Ok, Err, refl, sym, ◌∙◌, ap, subst, arith, append_assoc, append-nil, length-append}
 use Rattle.std.specs.Io.KnownBytes.{Appends}
 use Rattle.std.proofs.KnownBytes.{Appends-trans}
-use Rattle.page_buf.specs.Spelled.{words_of}
+use Rattle.a64_word.specs.Words.{words_of}
+use Rattle.std.specs.Prelude.{OnOk, OnErr, IfErr}
 use Rattle.lfi_image.specs.declared.fault.ImageFault.{ImageFault}
+use Rattle.lfi_image.specs.declared.fault.ImageFault.TheVariants.{Device}
 use Rattle.lfi_image.specs.Image.{code_of}
 use Rattle.lfi_image.specs.Built.{words_in}
-use Rattle.lfi_image.specs.Writing.{Writes}
+use Rattle.lfi_image.specs.Writing.{AppendsBeginning}
+use Rattle.lfi_image.specs.inner.Writing.{Writes}
 use Rattle.lfi_image.proofs.Pieces.{code_of-append}
 
 pub writes_after : (a b c : Option (List ℕ)) (xs ys : List ℕ) (r : Result (Unit {0}) ImageFault) → Appends a b xs → Writes b c ys r → Writes a c (xs ++ ys) r
 writes_after a b c xs ys (Ok x) p q = Appends-trans a b c xs ys p q
 writes_after a b c xs ys (Err fault) p q =
     let e = q.1 in
-    (q.0, (xs ++ e.0, e.1, ap (λ l. xs ++ l) e.2 ∙ sym (append_assoc xs e.0 e.1), Appends-trans a b c xs e.0 p e.3))
+    (q.0, (xs ++ e.0, e.1, ap (λ l. xs ++ l) e.2 ∙ sym (append_assoc xs e.0 e.1), e.3, Appends-trans a b c xs e.0 p e.4))
 
 -- A fault comes with a beginning of all that was to be written.
 pub writes_before : (a b : Option (List ℕ)) (xs ys : List ℕ) (r s : Result (Unit {0}) ImageFault) (fault : ImageFault) → r ≡ Err fault → s ≡ Err fault → Writes a b xs r → Writes a b (xs ++ ys) s
 writes_before a b xs ys r s fault e d w = subst (Writes a b (xs ++ ys)) (sym d) (longer (subst (Writes a b xs) e w))
   where
     longer : Writes a b xs (Err fault) → Writes a b (xs ++ ys) (Err fault)
-    longer q = let p = q.1 in (q.0, (p.0, p.1 ++ ys, ap (λ l. l ++ ys) p.2 ∙ append_assoc p.0 p.1 ys, p.3))
+    longer q = let p = q.1 in (q.0, (p.0, p.1 ++ ys, ap (λ l. l ++ ys) p.2 ∙ append_assoc p.0 p.1 ys, omega (arith, p.3, length-append p.1 ys), p.4))
+
+-- what it says of each outcome
+pub writes_all : (a b : Option (List ℕ)) (xs : List ℕ) (r : Result (Unit {0}) ImageFault) → Writes a b xs r → OnOk r (Appends a b xs)
+writes_all a b xs (Ok x) w = w
+writes_all a b xs (Err fault) w = tt
+
+pub writes_fault : (a b : Option (List ℕ)) (xs : List ℕ) (r : Result (Unit {0}) ImageFault) → Writes a b xs r → IfErr r (λ fault. fault ≡ Device)
+writes_fault a b xs (Ok x) w = tt
+writes_fault a b xs (Err fault) w = w.0
+
+pub writes_part : (a b : Option (List ℕ)) (xs : List ℕ) (r : Result (Unit {0}) ImageFault) → Writes a b xs r → OnErr r (AppendsBeginning a b xs)
+writes_part a b xs (Ok x) w = tt
+writes_part a b xs (Err fault) w = w.1
 
 -- the words of the pages before a page, of it, and of those after it
 pub words_taken : (ps : List (List ℕ)) (at : ℕ) (d : List ℕ) → at < length ps → words_in (take (at + 1) ps) ≡ words_in (take at ps) ++ words_of (get_or ps at d)

@@ -2,5 +2,5 @@ pub mod Image
 pub mod Reading
 pub mod Built
 pub mod Writing
-pub mod Steps
-pub mod Numbers
+pub mod Faults
+pub mod inner

@@ -2,23 +2,19 @@
 ghost use Rattle.std.specs.Prelude.{◌≡◌, ℕ, ◌+◌, ◌<◌, ◌≤◌, [], ◌++◌, length, slice_index, Some, None, IfOk, IfErr, OnErr, MatchResult, vec_capacity};
 ghost use Rattle.lfi_module.specs.Numbers.{page_words};
 ghost use Rattle.lfi_module.specs.Pages.{page_count};
-ghost use Rattle.page_buf.specs.Spelled.{words_of};
+ghost use Rattle.a64_word.specs.Words.{words_of};
 ghost use Rattle.lfi_rules.specs.Faults.{FirstFault};
-ghost use Rattle.lfi_rules.specs.Verdicts.{fault_after};
 ghost use Rattle.lfi_image.specs.Image.{Module, Image, IsImage};
-ghost use Rattle.lfi_image.specs.Built.{IsBuilt, words_in, due, with_placed};
+ghost use Rattle.lfi_image.specs.Built.{words_in, due, with_placed};
+ghost use Rattle.lfi_image.specs.inner.Builders.{IsBuilt};
 
 use crate::places::Places;
-use a64_effects::Need;
 use judged_page::JudgedPage;
 use lfi_module::{Extent, ModuleNumber, PageSize, WordCount};
-use lfi_rules::{Fault, PageVerdict, seam};
+use lfi_rules::{Fault, Need, fault_after};
 use page_buf::SealedPage;
 use std::alloc::{AllocError, Global};
 use std::marker::Model;
-
-/// The rule that a word meets what the word before it opens, and that a module's last word opens nothing.
-const OPEN_NEED: u8 = 10;
 
 /// The pages of a module so far. Their words have no fault.
 ///
@@ -39,27 +35,6 @@ impl Model for Builder {
     ghost view = { λ b. record { words = b.words; entry = b.entry; slot = b.slot; placed = words_in b.pages.items } };
 
     ghost invariant = { λ b. IsBuilt b.words b.entry b.slot b.placed b.tail b.pages.items × (page_count page_words b.words ≤ vec_capacity b.pages) };
-}
-
-/// The first fault that a page of `count` words brings after words that have none and leave `tail` open.
-fn fault_with(tail: Need, n: u32, verdict: &PageVerdict, count: usize) -> Option<Fault>
-    requires some { 1 ≤ n }
-    requires room { verdict.now.first + count ≤ n }
-    ensures { result ≡ fault_after n tail verdict.now count }
-{
-    let inside = seam(tail, verdict);
-    if inside.is_some() {
-        return inside;
-    }
-    let is_last = verdict.first + count as u32 == n;
-    match verdict.tail {
-        Need::Nothing => None,
-        _ if is_last => Some(Fault {
-            word: n - 1,
-            rule: OPEN_NEED,
-        }),
-        _ => None,
-    }
 }
 
 impl Builder {
@@ -103,7 +78,7 @@ impl Builder {
     {
         let (page, verdict) = page.into_parts();
         let count = page.len_words();
-        if let Some(fault) = fault_with(self.tail, self.words, &verdict, count) {
+        if let Some(fault) = fault_after(self.words, self.tail, &verdict, count) {
             return Err((fault, page));
         }
         match self.pages.push(page) {
@@ -163,7 +138,7 @@ impl Builder {
     pub fn due(&self) -> u32
         ensures { result ≡ due self.now }
     {
-        self.words().due(PageSize::profile(), self.placed)
+        self.words().due(PageSize::PROFILE, self.placed)
     }
 
     /// The word at `i`, one that is placed.
@@ -171,7 +146,7 @@ impl Builder {
         requires { i < length self.now.placed }
         ensures { result ≡ slice_index self.now.placed i }
     {
-        let size = PageSize::profile().words();
+        let size = PageSize::PROFILE.words();
         self.pages[(i / size) as usize].word((i % size) as usize)
     }
 }

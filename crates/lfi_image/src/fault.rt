@@ -1,7 +1,7 @@
 //! Why there is no image, or no file.
 
-ghost use Rattle.std.specs.Prelude.{◌≡◌};
-ghost use Rattle.lfi_image.specs.Numbers.{number_of};
+ghost use Rattle.std.specs.Prelude.{◌≡◌, Some};
+ghost use Rattle.lfi_image.specs.Faults.{number_of, fault_text};
 
 use lfi_rules::Fault;
 use std::fmt;
@@ -49,6 +49,9 @@ impl ImageFault {
 }
 
 impl fmt::Display for ImageFault {
+    ghost output = { λ fault. Some (fault_text fault) };
+
+    /// Writes what is wrong in plain words, without the number.
     fn fmt<W: fmt::Write>(&self, f: &mut fmt::Formatter<W>) -> fmt::Result {
         match self {
             ImageFault::Magic => f.write_str("it is no image file"),

@@ -30,7 +30,7 @@ impl Places {
     pub fn new(alloc: Global, words: WordCount) -> Result<Places, AllocError>
         ensures { IfOk result (λ places. places ≡ words) }
     {
-        let count = words.pages(PageSize::profile());
+        let count = words.pages(PageSize::PROFILE);
         let pages = Vec::with_capacity(alloc, count as usize)?;
         Ok(Places { pages, words })
     }

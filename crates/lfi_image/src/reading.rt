@@ -2,11 +2,11 @@
 ghost use Rattle.std.specs.Prelude.{◌≡◌, ◌*◌, ◌%◌, ◌<◌, ◌≤◌, [], length, take, true, false, IsTrue, IfOk, IfErr, IfSome, OnOk};
 ghost use Rattle.std.specs.Io.KnownBytes.{Consumes, IsAtEnd};
 ghost use Rattle.page_buf.specs.Page.{IsWhole};
-ghost use Rattle.page_buf.specs.Spelled.{words_of};
+ghost use Rattle.a64_word.specs.Words.{words_of};
 ghost use Rattle.lfi_image.specs.declared.fault.ImageFault.TheVariants.{NoMemory, Device};
 ghost use Rattle.lfi_image.specs.Image.{IsImage, FileOf, code_of};
 ghost use Rattle.lfi_image.specs.Reading.{IsCodeFault, IsFault, IsUnread, IsRestUnread};
-ghost use Rattle.lfi_image.specs.Steps.{IsShort, IsNoPage, ReadsPage, IsPageFault, IsRead, IsSameModule};
+ghost use Rattle.lfi_image.specs.inner.Steps.{IsShort, IsNoPage, ReadsPage, IsPageFault, IsRead, IsSameModule};
 
 use crate::builder::{Builder, CompleteImage};
 use crate::fault::ImageFault;

@@ -1,10 +1,13 @@
 //! Image files, written.
-ghost use Rattle.std.specs.Prelude.{◌≡◌, ◌≤◌, ◌<◌, length, MatchResult};
+ghost use Rattle.std.specs.Prelude.{◌≡◌, OnOk, OnErr, IfErr};
+ghost use Rattle.std.specs.Io.KnownBytes.{Appends};
 ghost use Rattle.page_buf.specs.Page.{IsWhole};
-ghost use Rattle.page_buf.specs.Spelled.{words_of};
+ghost use Rattle.a64_word.specs.Words.{words_of};
 ghost use Rattle.lfi_image.specs.Image.{file_of, header_of, code_of};
 ghost use Rattle.lfi_image.specs.Built.{words_in};
-ghost use Rattle.lfi_image.specs.Writing.{Writes};
+ghost use Rattle.lfi_image.specs.declared.fault.ImageFault.TheVariants.{Device};
+ghost use Rattle.lfi_image.specs.Writing.{AppendsBeginning};
+ghost use Rattle.lfi_image.specs.inner.Writing.{Writes};
 
 use crate::builder::CompleteImage;
 use crate::fault::ImageFault;
@@ -12,7 +15,7 @@ use crate::header::encode;
 use page_buf::SealedPage;
 use std::io::Write;
 
-/// Writes the bytes, or a beginning of them where the writer fails.
+/// Writes the bytes, or a part of them where the writer fails.
 fn write_bytes<W: Write>(writer: &mut W, bytes: &[u8]) -> Result<(), ImageFault>
     ensures { Writes (W.contents writer.old) (W.contents writer.new) bytes.now result }
 {
@@ -48,9 +51,11 @@ fn write_pages<W: Write>(writer: &mut W, pages: &[SealedPage]) -> Result<(), Ima
 }
 
 /// Writes an image's file. `Err` is [`ImageFault::Device`], where a write failed or took nothing of what was left:
-/// then a beginning of the file was written.
+/// then a beginning of the file was written, and not all of it.
 pub fn write_image<W: Write>(image: &CompleteImage, writer: &mut W) -> Result<(), ImageFault>
-    ensures { Writes (W.contents writer.old) (W.contents writer.new) (file_of image.now) result }
+    ensures written { OnOk result (Appends (W.contents writer.old) (W.contents writer.new) (file_of image.now)) }
+    ensures fault { IfErr result (λ fault. fault ≡ Device) }
+    ensures part { OnErr result (AppendsBeginning (W.contents writer.old) (W.contents writer.new) (file_of image.now)) }
 {
     let header = encode(image.words().number(), image.entry(), image.slot());
     write_bytes(writer, &header)?;

@@ -1,71 +1,76 @@
 //! Builders: what they take, what they give back, and when they are whole.
 
-use crate::rows::{GUARD_LINK, LOAD_LINK, MOVE_STACK, NOP, RET, append, builder, image};
+use crate::rows::{
+    GUARD_LINK, LOAD_LINK, MOVE_STACK, NOP, RET, UNKNOWN, append, builder, finished, image, module,
+    page_ending,
+};
+use judged_page::JudgedPage;
 use lfi_image::{Builder, Places};
-use lfi_rules::Fault;
-use std::alloc::Global;
+use lfi_module::WordCount;
+use lfi_rules::{Fault, Rule};
+use page_buf::SealedPage;
+use std::marker::Send;
 use std::test::Fail;
 
-/// A page of 1,023 NOPs and one more word.
-fn page_ending(alloc: Global, last: [u8; 4]) -> Result<Vec<u8>, Fail> {
-    let mut code = NOP.repeat(alloc, 1023)?;
-    code.extend_from_slice(&last)?;
-    Ok(code)
+fn needs_send<T: Send>(_: &T) {}
+
+#[test]
+fn a_judged_page_and_its_parts(rt: HostRuntime) -> Result<(), Fail> {
+    let page = SealedPage::of(rt.alloc(), &MOVE_STACK)?;
+    let judged = JudgedPage::judge(page, 1024, WordCount::of(1025));
+    needs_send(&judged);
+    assert!(rt; judged.first() == 1024 && judged.words().number() == 1025);
+    assert!(rt; judged.verdict().inner.is_none() && judged.page().len_words() == 1);
+    let (page, verdict) = judged.into_parts();
+    assert!(rt; verdict.first == 1024 && page.len_words() == 1);
+    Ok(())
 }
 
 #[test]
 fn an_unfinished_builder_comes_back(rt: HostRuntime) -> Result<(), Fail> {
-    let Err(mut builder) = builder(rt.alloc(), 2, 1, 3)?.finish() else {
+    let Err(builder) = builder(rt.alloc(), 2, 1, 3)?.finish() else {
         panic!(rt; "no word is placed")
     };
-    assert!(rt; builder.words() == 2 && builder.placed() == 0);
-    assert!(rt; builder.entry() == 1 && builder.slot() == 3);
+    assert!(rt; builder.words().number() == 2 && builder.placed() == 0);
+    assert!(rt; builder.entry() == 1 && builder.slot().number() == 3);
+    Ok(())
+}
+
+#[test]
+fn an_image_has_its_words(rt: HostRuntime) -> Result<(), Fail> {
     let code = [
         NOP[0], NOP[1], NOP[2], NOP[3], RET[0], RET[1], RET[2], RET[3],
     ];
-    assert_eq!(rt; append(rt.alloc(), &mut builder, &code)?, None);
-    assert!(rt; builder.placed() == 2);
-    assert_eq!(rt; builder.word(1), 0xD65F_03C0);
-    let Ok(image) = builder.finish() else {
-        panic!(rt; "all words are placed")
-    };
-    assert!(rt; image.words() == 2 && image.placed() == 2);
-    assert!(rt; image.entry() == 1 && image.slot() == 3);
-    assert_eq!(rt; (image.word(0), image.word(1)), (0xD503_201F, 0xD65F_03C0));
+    let image = image(rt.alloc(), 1, 3, &code)?;
+    assert!(rt; image.words().number() == 2 && image.placed() == 2);
+    assert!(rt; image.entry() == 1 && image.slot().number() == 3);
+    assert!(rt; image.word(0) == 0xD503_201F && image.word(1) == 0xD65F_03C0);
     Ok(())
 }
 
 #[test]
 fn places_are_reserved_before_the_module_is_known(rt: HostRuntime) -> Result<(), Fail> {
-    let places = Places::new(rt.alloc(), 1025)?;
-    assert_eq!(rt; places.words(), 1025);
-    let mut builder = Builder::over(places, 2, 1, 3);
-    assert_eq!(rt;
-        (
-            builder.words(),
-            builder.entry(),
-            builder.slot(),
-            builder.placed()
-        ),
-        (2, 1, 3, 0)
-    );
-    let code = NOP.repeat(rt.alloc(), 2)?;
-    assert_eq!(rt; append(rt.alloc(), &mut builder, &code)?, None);
-    let Ok(image) = builder.finish() else {
-        panic!(rt; "all words are placed")
-    };
-    assert_eq!(rt; (image.words(), image.entry(), image.slot()), (2, 1, 3));
-    let mut longest = Builder::over(Places::new(rt.alloc(), 1025)?, 1025, 1024, 15);
+    let places = Places::new(rt.alloc(), WordCount::of(1025))?;
+    let (extent, slot) = module(1025, 1024, 15)?;
+    assert!(rt; extent.words().number() <= places.words().number());
+    let mut longest = Builder::over(places, extent, slot);
     let first = page_ending(rt.alloc(), NOP)?;
-    assert_eq!(rt; append(rt.alloc(), &mut longest, &first)?, None);
-    assert_eq!(rt; append(rt.alloc(), &mut longest, &RET)?, None);
-    let Ok(image) = longest.finish() else {
-        panic!(rt; "all words of both pages are placed")
-    };
-    assert_eq!(rt;
-        (image.words(), image.entry(), image.slot()),
-        (1025, 1024, 15)
-    );
+    assert!(rt; append(rt.alloc(), &mut longest, &first)?.is_none());
+    assert!(rt; append(rt.alloc(), &mut longest, &RET)?.is_none());
+    let image = finished(longest)?;
+    assert!(rt; image.words().number() == 1025 && image.entry() == 1024);
+    assert!(rt; image.slot().number() == 15);
+    Ok(())
+}
+
+#[test]
+fn fewer_words_than_places(rt: HostRuntime) -> Result<(), Fail> {
+    let places = Places::new(rt.alloc(), WordCount::MOST)?;
+    let (extent, slot) = module(1, 0, 7)?;
+    assert!(rt; extent.words().number() <= places.words().number());
+    let mut builder = Builder::over(places, extent, slot);
+    assert!(rt; append(rt.alloc(), &mut builder, &RET)?.is_none());
+    assert!(rt; finished(builder)?.slot().number() == 7);
     Ok(())
 }
 
@@ -73,49 +78,42 @@ fn places_are_reserved_before_the_module_is_known(rt: HostRuntime) -> Result<(),
 fn a_need_is_met_over_a_seam(rt: HostRuntime) -> Result<(), Fail> {
     let mut builder = builder(rt.alloc(), 1025, 0, 0)?;
     let first = page_ending(rt.alloc(), LOAD_LINK)?;
-    assert_eq!(rt; append(rt.alloc(), &mut builder, &first)?, None);
-    let open = Fault {
+    let unmet = Fault {
         word: 1024,
-        rule: 10,
+        rule: Rule::NeedMet,
     };
-    assert_eq!(rt;
-        append(rt.alloc(), &mut builder, &NOP)?,
-        Some((open, 0xD503_201F))
-    );
-    assert_eq!(rt; builder.placed(), 1024);
-    assert_eq!(rt; append(rt.alloc(), &mut builder, &GUARD_LINK)?, None);
+    assert!(rt; append(rt.alloc(), &mut builder, &first)?.is_none());
+    assert!(rt; append(rt.alloc(), &mut builder, &NOP)? == Some(unmet));
+    assert!(rt; builder.placed() == 1024);
+    assert!(rt; append(rt.alloc(), &mut builder, &GUARD_LINK)?.is_none());
     assert!(rt; builder.placed() == 1025);
-    assert_eq!(rt;
-        (builder.word(1023), builder.word(1024)),
-        (0xA8C1_7BFD, 0x8B3E_42BE)
-    );
-    assert!(rt; builder.finish().is_ok());
+    assert!(rt; builder.word(1023) == 0xA8C1_7BFD && builder.word(1024) == 0x8B3E_42BE);
     Ok(())
 }
 
 #[test]
 fn the_last_word_opens_nothing(rt: HostRuntime) -> Result<(), Fail> {
     let mut last = builder(rt.alloc(), 1, 0, 0)?;
-    let open = Fault { word: 0, rule: 10 };
-    assert_eq!(rt;
-        append(rt.alloc(), &mut last, &MOVE_STACK)?,
-        Some((open, 0xD100_43FF))
-    );
-    assert_eq!(rt; append(rt.alloc(), &mut last, &RET)?, None);
+    let open = Fault {
+        word: 0,
+        rule: Rule::NeedMet,
+    };
+    assert!(rt; append(rt.alloc(), &mut last, &MOVE_STACK)? == Some(open));
+    assert!(rt; append(rt.alloc(), &mut last, &RET)?.is_none());
     let mut longer = builder(rt.alloc(), 1025, 0, 0)?;
     let first = page_ending(rt.alloc(), MOVE_STACK)?;
-    assert_eq!(rt; append(rt.alloc(), &mut longer, &first)?, None);
+    assert!(rt; append(rt.alloc(), &mut longer, &first)?.is_none());
     Ok(())
 }
 
 #[test]
 fn a_fault_inside_a_page_comes_back(rt: HostRuntime) -> Result<(), Fail> {
     let mut builder = builder(rt.alloc(), 1, 0, 15)?;
-    let unknown = Fault { word: 0, rule: 1 };
-    assert_eq!(rt;
-        append(rt.alloc(), &mut builder, &[0x01, 0x00, 0x00, 0xD4])?,
-        Some((unknown, 0xD400_0001))
-    );
-    assert_eq!(rt; image(rt.alloc(), 0, 15, &RET)?.slot(), 15);
+    let unknown = Fault {
+        word: 0,
+        rule: Rule::Spelled,
+    };
+    assert!(rt; append(rt.alloc(), &mut builder, &UNKNOWN)? == Some(unknown));
+    assert!(rt; builder.placed() == 0);
     Ok(())
 }

@@ -1,8 +1,8 @@
 //! Readers and writers that give and take little, or fail.
 
-use crate::rows::{NOP, ONE_RET, RET, append, builder, image};
+use crate::rows::{NOP, ONE_RET, RET, UNKNOWN, append, builder, fault_of, finished, image};
 use lfi_image::{CompleteImage, ImageFault, read_image, write_image};
-use lfi_rules::Fault;
+use lfi_rules::{Fault, Rule};
 use std::alloc::Global;
 use std::io::{self, ErrorKind, Read, Write};
 use std::test::Fail;
@@ -14,6 +14,18 @@ struct SlowReader<'a> {
     left: usize,
     step: usize,
     calls: u32,
+}
+
+impl<'a> SlowReader<'a> {
+    /// A reader of these bytes that hasn't been called.
+    fn new(bytes: &'a [u8], left: usize, step: usize) -> SlowReader<'a> {
+        SlowReader {
+            bytes,
+            left,
+            step,
+            calls: 0,
+        }
+    }
 }
 
 impl<'a> Read for SlowReader<'a> {
@@ -38,6 +50,18 @@ struct SlowWriter {
     left: usize,
     step: usize,
     calls: u32,
+}
+
+impl SlowWriter {
+    /// A writer that hasn't been called.
+    fn new(alloc: Global, left: usize, step: usize) -> SlowWriter {
+        SlowWriter {
+            taken: Vec::new(alloc),
+            left,
+            step,
+            calls: 0,
+        }
+    }
 }
 
 impl Write for SlowWriter {
@@ -75,67 +99,53 @@ impl Write for FullWriter {
     }
 }
 
+/// The fault of a file that is read so.
+fn fault_by(alloc: Global, file: &[u8], left: usize, step: usize) -> Option<ImageFault> {
+    let mut reader = SlowReader::new(file, left, step);
+    read_image(alloc, &mut reader).err()
+}
+
 #[test]
 fn a_byte_a_read(rt: HostRuntime) {
-    let mut reader = SlowReader {
-        bytes: &ONE_RET,
-        left: 100,
-        step: 1,
-        calls: 0,
-    };
+    let mut reader = SlowReader::new(&ONE_RET, 100, 1);
     let Ok(image) = read_image(rt.alloc(), &mut reader) else {
         panic!(rt; "the image was not read")
     };
-    assert_eq!(rt; (image.words(), image.entry(), image.slot()), (1, 0, 0));
+    assert!(rt; image.words().number() == 1 && image.entry() == 0);
+    assert!(rt; image.slot().number() == 0);
 }
 
 #[test]
 fn a_reader_that_fails(rt: HostRuntime) {
     for left in 0..=28 {
-        let mut reader = SlowReader {
-            bytes: &ONE_RET,
-            left,
-            step: 1,
-            calls: 0,
-        };
-        let fault = read_image(rt.alloc(), &mut reader).err();
-        assert_eq!(rt; fault, Some(ImageFault::Device), "after {left} bytes");
+        let fault = fault_by(rt.alloc(), &ONE_RET, left, 1);
+        assert!(rt; fault == Some(ImageFault::Device), "after {left} bytes");
     }
 }
 
 #[test]
 fn a_writer_that_fails(rt: HostRuntime) -> Result<(), Fail> {
     let image = image(rt.alloc(), 0, 0, &RET)?;
-    for left in 0..=28 {
-        let mut writer = SlowWriter {
-            taken: Vec::new(rt.alloc()),
-            left,
-            step: 1,
-            calls: 0,
-        };
+    for left in 0..28 {
+        let mut writer = SlowWriter::new(rt.alloc(), left, 1);
         let result = write_image(&image, &mut writer);
-        let want = if left < 28 {
-            Err(ImageFault::Device)
-        } else {
-            Ok(())
-        };
-        assert_eq!(rt; result, want, "after {left} bytes");
-        assert!(rt;
-            writer.taken.as_slice() == &ONE_RET[..left],
-            "after {left} bytes"
-        );
+        assert!(rt; result == Err(ImageFault::Device), "after {left} bytes");
+        assert!(rt; writer.taken.as_slice() == &ONE_RET[..left], "after {left} bytes");
     }
-    assert_eq!(rt;
-        write_image(&image, &mut FullWriter {}),
-        Err(ImageFault::Device)
-    );
+    let mut writer = SlowWriter::new(rt.alloc(), 28, 1);
+    assert!(rt; write_image(&image, &mut writer) == Ok(()));
+    assert!(rt; writer.taken.as_slice() == &ONE_RET[..]);
     Ok(())
 }
 
-/// The bytes of the code of a module of 17 full pages and one word.
-const LONG_CODE: usize = 69_636;
+#[test]
+fn a_writer_that_is_full(rt: HostRuntime) -> Result<(), Fail> {
+    let image = image(rt.alloc(), 0, 0, &RET)?;
+    assert!(rt; write_image(&image, &mut FullWriter {}) == Err(ImageFault::Device));
+    Ok(())
+}
 
-/// An image of so much code, all NOPs.
+/// An image of 17 full pages and one word, all NOPs.
 fn long_image(alloc: Global) -> Result<CompleteImage, Fail> {
     let mut builder = builder(alloc, 17_409, 17_408, 7)?;
     let page = NOP.repeat(alloc, 1024)?;
@@ -143,125 +153,148 @@ fn long_image(alloc: Global) -> Result<CompleteImage, Fail> {
         append(alloc, &mut builder, &page)?;
     }
     append(alloc, &mut builder, &NOP)?;
-    match builder.finish() {
-        Ok(image) => Ok(image),
-        Err(_) => Err(Fail::from("words are missing")),
+    finished(builder)
+}
+
+/// The bytes of its file.
+const LONG_FILE: usize = 69_660;
+
+/// Its file.
+fn long_file(alloc: Global) -> Result<Vec<u8>, Fail> {
+    let image = long_image(alloc)?;
+    let mut file = Vec::new(alloc);
+    match write_image(&image, &mut file) {
+        Ok(()) => Ok(file),
+        Err(_) => Err(Fail::from("the image was not written")),
     }
 }
 
 #[test]
-fn a_page_a_call(rt: HostRuntime) -> Result<(), Fail> {
-    let mut writer = SlowWriter {
-        taken: Vec::new(rt.alloc()),
-        left: 100_000,
-        step: 100_000,
-        calls: 0,
-    };
+fn a_page_a_call_written(rt: HostRuntime) -> Result<(), Fail> {
+    let mut writer = SlowWriter::new(rt.alloc(), 100_000, 100_000);
     let image = long_image(rt.alloc())?;
-    assert_eq!(rt; write_image(&image, &mut writer), Ok(()));
+    assert!(rt; write_image(&image, &mut writer) == Ok(()));
     // The header, and eighteen pages.
-    assert_eq!(rt; writer.calls, 19);
-    assert_eq!(rt; writer.taken.len(), 24 + LONG_CODE);
+    assert!(rt; writer.calls == 19);
+    assert!(rt; writer.taken.len() == LONG_FILE);
     assert!(rt; writer.taken[24..] == NOP.repeat(rt.alloc(), 17_409)?[..]);
-    let mut reader = SlowReader {
-        bytes: &writer.taken,
-        left: 100_000,
-        step: 100_000,
-        calls: 0,
-    };
+    Ok(())
+}
+
+#[test]
+fn a_page_a_call_read(rt: HostRuntime) -> Result<(), Fail> {
+    let file = long_file(rt.alloc())?;
+    let mut reader = SlowReader::new(&file, 100_000, 100_000);
     let Ok(back) = read_image(rt.alloc(), &mut reader) else {
         panic!(rt; "the image was not read")
     };
-    // The same, and the end.
-    assert_eq!(rt; reader.calls, 20);
-    assert_eq!(rt;
-        (back.words(), back.entry(), back.slot()),
-        (17_409, 17_408, 7)
-    );
+    // The header, eighteen pages, and the end.
+    assert!(rt; reader.calls == 20);
+    assert!(rt; back.words().number() == 17_409 && back.entry() == 17_408);
+    assert!(rt; back.slot().number() == 7);
     Ok(())
 }
 
 #[test]
 fn long_images_in_small_pieces(rt: HostRuntime) -> Result<(), Fail> {
-    let image = long_image(rt.alloc())?;
-    let mut file = Vec::new(rt.alloc());
-    assert_eq!(rt; write_image(&image, &mut file), Ok(()));
+    let file = long_file(rt.alloc())?;
     for step in [1, 7, 4095, 4096, 4097, 65_535, 65_537] {
-        let mut reader = SlowReader {
-            bytes: &file,
-            left: 100_000,
-            step,
-            calls: 0,
-        };
-        let words = read_image(rt.alloc(), &mut reader).map(|image| image.words());
-        assert_eq!(rt; words, Ok(17_409), "{step} bytes a call");
+        let fault = fault_by(rt.alloc(), &file, 100_000, step);
+        assert!(rt; fault.is_none(), "{step} bytes a call");
     }
-    for left in [24, 25, 4120, 65_559, 65_560, 65_561, 69_659] {
-        let mut writer = SlowWriter {
-            taken: Vec::new(rt.alloc()),
-            left,
-            step: 5000,
-            calls: 0,
-        };
+    Ok(())
+}
+
+/// Bytes after which a device fails: at the ends of the header and of pages, and beside them.
+const FAILS_AFTER: [usize; 7] = [24, 25, 4120, 65_559, 65_560, 65_561, 69_659];
+
+#[test]
+fn long_files_in_part_written(rt: HostRuntime) -> Result<(), Fail> {
+    let image = long_image(rt.alloc())?;
+    let file = long_file(rt.alloc())?;
+    for left in FAILS_AFTER {
+        let mut writer = SlowWriter::new(rt.alloc(), left, 5000);
         let result = write_image(&image, &mut writer);
-        assert_eq!(rt; result, Err(ImageFault::Device), "after {left} bytes");
-        assert!(rt;
-            left <= file.len() && writer.taken[..] == file[..left],
-            "after {left} bytes"
-        );
-        let mut reader = SlowReader {
-            bytes: &file,
-            left,
-            step: 5000,
-            calls: 0,
-        };
-        let fault = read_image(rt.alloc(), &mut reader).err();
-        assert_eq!(rt; fault, Some(ImageFault::Device), "after {left} bytes");
+        assert!(rt; result == Err(ImageFault::Device), "after {left} bytes");
+        assert!(rt; left <= file.len() && writer.taken[..] == file[..left], "after {left} bytes");
     }
     Ok(())
 }
 
 #[test]
-fn a_fault_comes_before_what_follows_its_page(rt: HostRuntime) -> Result<(), Fail> {
-    let image = long_image(rt.alloc())?;
-    let mut file = Vec::new(rt.alloc());
-    assert_eq!(rt; write_image(&image, &mut file), Ok(()));
-    // Word 1,500 is no instruction: it is in the second page, the bytes 4,120 to 8,215 of the file.
-    let unknown = ImageFault::Unlawful(Fault {
-        word: 1500,
-        rule: 1,
-    });
-    assert!(rt; file.len() > 6028);
-    file[6024..6028].copy_from_slice(&[0x01, 0x00, 0x00, 0xD4]);
-    for (left, want) in [
-        (8215, ImageFault::Device),
-        (8216, unknown),
-        (8217, unknown),
-        (69_660, unknown),
-    ] {
-        let mut reader = SlowReader {
-            bytes: &file,
-            left,
-            step: 4096,
-            calls: 0,
-        };
-        let fault = read_image(rt.alloc(), &mut reader).err();
-        assert_eq!(rt; fault, Some(want), "failing after {left} bytes");
+fn long_files_in_part_read(rt: HostRuntime) -> Result<(), Fail> {
+    let file = long_file(rt.alloc())?;
+    for left in FAILS_AFTER {
+        let fault = fault_by(rt.alloc(), &file, left, 5000);
+        assert!(rt; fault == Some(ImageFault::Device), "after {left} bytes");
     }
-    for (len, want) in [
-        (8215, ImageFault::Truncated),
-        (8216, unknown),
-        (8217, unknown),
-        (69_659, unknown),
-        (69_660, unknown),
-    ] {
+    Ok(())
+}
+
+/// Word 1,500 of the long file, which is in its second page, the bytes 4,120 to 8,215.
+const FAULTY: ImageFault = ImageFault::Unlawful(Fault {
+    word: 1500,
+    rule: Rule::Spelled,
+});
+
+/// The long file, with a word that is no instruction.
+fn faulty_file(alloc: Global) -> Result<Vec<u8>, Fail> {
+    let mut file = long_file(alloc)?;
+    if file.len() != LONG_FILE {
+        return Err(Fail::from("the file has another length"));
+    }
+    file[6024..6028].copy_from_slice(&UNKNOWN);
+    Ok(file)
+}
+
+/// After how many bytes the device fails, and what is answered.
+const FAILING: [(usize, ImageFault); 4] = [
+    (8215, ImageFault::Device),
+    (8216, FAULTY),
+    (8217, FAULTY),
+    (LONG_FILE, FAULTY),
+];
+
+#[test]
+fn a_fault_comes_before_a_failed_read(rt: HostRuntime) -> Result<(), Fail> {
+    let file = faulty_file(rt.alloc())?;
+    for (left, want) in FAILING {
+        let fault = fault_by(rt.alloc(), &file, left, 4096);
+        assert!(rt; fault == Some(want), "failing after {left} bytes");
+    }
+    Ok(())
+}
+
+/// How many bytes the file has, and what is answered.
+const ENDING: [(usize, ImageFault); 4] = [
+    (8215, ImageFault::Truncated),
+    (8216, FAULTY),
+    (8217, FAULTY),
+    (LONG_FILE, FAULTY),
+];
+
+#[test]
+fn a_fault_comes_before_an_early_end(rt: HostRuntime) -> Result<(), Fail> {
+    let mut file = faulty_file(rt.alloc())?;
+    for (len, want) in ENDING {
         assert!(rt; len <= file.len());
-        let mut reader = &file[..len];
-        let fault = read_image(rt.alloc(), &mut reader).err();
-        assert_eq!(rt; fault, Some(want), "{len} bytes");
+        assert!(rt; fault_of(rt.alloc(), &file[..len]) == Some(want), "{len} bytes");
     }
     file.push(0)?;
+    assert!(rt; fault_of(rt.alloc(), &file) == Some(FAULTY));
+    Ok(())
+}
+
+#[test]
+fn what_follows_a_fault_is_unread(rt: HostRuntime) -> Result<(), Fail> {
+    let file = faulty_file(rt.alloc())?;
     let mut reader = file.as_slice();
-    assert_eq!(rt; read_image(rt.alloc(), &mut reader).err(), Some(unknown));
+    assert!(rt; read_image(rt.alloc(), &mut reader).err() == Some(FAULTY));
+    // The third page and those after it.
+    assert!(rt; reader.len() == LONG_FILE - 8216);
+    let mut slow = SlowReader::new(&file, 100_000, 100_000);
+    assert!(rt; read_image(rt.alloc(), &mut slow).is_err());
+    // The header and two pages.
+    assert!(rt; slow.calls == 3 && slow.bytes.len() == LONG_FILE - 8216);
     Ok(())
 }

@@ -1,33 +1,39 @@
 //! What is wrong with a file, in the order in which it is asked.
 
-use crate::rows::{ONE_RET, page_of};
-use lfi_image::{ImageFault, read_image};
-use lfi_rules::{Fault, check_all};
+use crate::rows::{ONE_RET, UNKNOWN, fault_of};
+use lfi_image::ImageFault;
+use lfi_rules::{Fault, Rule, check_all};
+use page_buf::SealedPage;
 use std::test::Fail;
 
-fn fault(rt: &HostRuntime, bytes: &[u8]) -> Option<ImageFault> {
-    let mut reader = bytes;
-    read_image(rt.alloc(), &mut reader).err()
+/// The first word is no instruction.
+const FIRST_UNKNOWN: ImageFault = ImageFault::Unlawful(Fault {
+    word: 0,
+    rule: Rule::Spelled,
+});
+
+#[test]
+fn a_file_that_ends_early(rt: HostRuntime) {
+    for len in 0..28 {
+        let fault = fault_of(rt.alloc(), &ONE_RET[..len]);
+        assert!(rt; fault == Some(ImageFault::Truncated), "{len} bytes");
+    }
+    assert!(rt; fault_of(rt.alloc(), &ONE_RET).is_none());
 }
 
 #[test]
-fn rows(rt: HostRuntime) -> Result<(), Fail> {
-    assert_eq!(rt; fault(&rt, &ONE_RET), None);
-    for len in 0..28 {
-        assert_eq!(rt;
-            fault(&rt, &ONE_RET[..len]),
-            Some(ImageFault::Truncated),
-            "{len} bytes"
-        );
-    }
+fn a_byte_too_many(rt: HostRuntime) -> Result<(), Fail> {
     let mut more = Vec::from_slice(rt.alloc(), &ONE_RET)?;
     more.push(0)?;
-    assert_eq!(rt; fault(&rt, &more), Some(ImageFault::More));
-    let mut unlawful = ONE_RET;
-    unlawful[24..].copy_from_slice(&[0x01, 0x00, 0x00, 0xD4]);
-    let unknown = Fault { word: 0, rule: 1 };
-    assert_eq!(rt; fault(&rt, &unlawful), Some(ImageFault::Unlawful(unknown)));
+    assert!(rt; fault_of(rt.alloc(), &more) == Some(ImageFault::More));
     Ok(())
+}
+
+#[test]
+fn code_that_is_none(rt: HostRuntime) {
+    let mut unlawful = ONE_RET;
+    unlawful[24..].copy_from_slice(&UNKNOWN);
+    assert!(rt; fault_of(rt.alloc(), &unlawful) == Some(FIRST_UNKNOWN));
 }
 
 /// The number of the fault of the file of one RET with one byte set to another value; 0 for none.
@@ -53,8 +59,8 @@ fn each_header_byte(rt: HostRuntime) {
                 continue;
             }
             bytes[at] = value;
-            let got = fault(&rt, &bytes).map_or(0, |fault| fault.number());
-            assert_eq!(rt; got, number(at, value), "byte {at} is {value}");
+            let got = fault_of(rt.alloc(), &bytes).map_or(0, |fault| fault.number());
+            assert!(rt; got == number(at, value), "byte {at} is {value}");
         }
     }
 }
@@ -66,20 +72,10 @@ fn each_code_byte(rt: HostRuntime) -> Result<(), Fail> {
         for value in 0..=255u8 {
             let mut bytes = ONE_RET;
             bytes[at] = value;
-            let page = page_of(rt.alloc(), &bytes[24..])?;
-            assert_eq!(rt; page.len_words(), 1);
+            let page = SealedPage::of(rt.alloc(), &bytes[24..])?;
             let want = check_all(&page).map(ImageFault::Unlawful);
-            assert!(rt;
-                matches!(
-                    want,
-                    None | Some(ImageFault::Unlawful(Fault { word: 0, .. }))
-                ),
-                "byte {at} is {value}"
-            );
-            assert_eq!(rt; fault(&rt, &bytes), want, "byte {at} is {value}");
-            if want.is_none() {
-                lawful = lawful.saturating_add(1);
-            }
+            assert!(rt; fault_of(rt.alloc(), &bytes) == want, "byte {at} is {value}");
+            lawful = lawful.saturating_add(u32::from(want.is_none()));
         }
     }
     // RET itself four times, at least.
@@ -87,46 +83,32 @@ fn each_code_byte(rt: HostRuntime) -> Result<(), Fail> {
     Ok(())
 }
 
+/// Magic, profile, words and base are wrong at once. Each byte puts one right; the fault that is left after it.
+/// At the fifth, one of two words is there, and it is no instruction: its page isn't whole.
+const PUT_RIGHT: [(usize, u8, ImageFault); 8] = [
+    (0, 0x4C, ImageFault::Magic),
+    (1, 0x46, ImageFault::Magic),
+    (2, 0x49, ImageFault::Magic),
+    (3, 0x31, ImageFault::Profile),
+    (12, 1, ImageFault::Counts),
+    (4, 2, ImageFault::Base),
+    (20, 1, ImageFault::Truncated),
+    (4, 1, FIRST_UNKNOWN),
+];
+
 #[test]
 fn the_first_fault_counts(rt: HostRuntime) {
-    // Magic, profile, words and base are wrong at once, and are put right one by one.
     let mut bytes = [0; 28];
-    assert_eq!(rt; fault(&rt, &bytes), Some(ImageFault::Magic));
-    bytes[..4].copy_from_slice(b"LFI1");
-    assert_eq!(rt; fault(&rt, &bytes), Some(ImageFault::Profile));
-    bytes[12] = 1;
-    assert_eq!(rt; fault(&rt, &bytes), Some(ImageFault::Counts));
-    bytes[4] = 2;
-    assert_eq!(rt; fault(&rt, &bytes), Some(ImageFault::Base));
-    bytes[20] = 1;
-    // One of two words is there, and it is no instruction: its page isn't whole.
-    assert_eq!(rt; fault(&rt, &bytes), Some(ImageFault::Truncated));
-    bytes[4] = 1;
-    let unknown = Fault { word: 0, rule: 1 };
-    assert_eq!(rt; fault(&rt, &bytes), Some(ImageFault::Unlawful(unknown)));
+    for (at, value, want) in PUT_RIGHT {
+        assert!(rt; at < 28);
+        bytes[at] = value;
+        assert!(rt; fault_of(rt.alloc(), &bytes) == Some(want), "byte {at} is {value}");
+    }
 }
 
 #[test]
-fn numbers_and_texts(rt: HostRuntime) -> Result<(), Fail> {
-    let breaks = ImageFault::Unlawful(Fault { word: 7, rule: 10 });
-    let faults = [
-        ImageFault::Magic,
-        ImageFault::Profile,
-        ImageFault::Counts,
-        ImageFault::Base,
-        ImageFault::Truncated,
-        ImageFault::More,
-        breaks,
-        ImageFault::NoMemory,
-        ImageFault::Device,
-    ];
-    let mut number = 0u8;
-    for fault in faults {
-        number = number.saturating_add(1);
-        assert_eq!(rt; fault.number(), number);
-        assert!(rt; !format!(in rt.alloc(); "{fault}")?.is_empty());
-    }
-    let text = format!(in rt.alloc(); "{breaks}")?;
-    assert_eq!(rt; text.as_str(), "word 7 breaks rule 10");
+fn a_fault_prints_as_words(rt: HostRuntime) -> Result<(), Fail> {
+    let text = format!(in rt.alloc(); "{FIRST_UNKNOWN}, {}", ImageFault::Magic)?;
+    assert!(rt; text.as_str() == "word 0 breaks rule 1, it is no image file");
     Ok(())
 }

@@ -1,7 +1,7 @@
 //! Image files, written and read back.
 
 use crate::rows::{NOP, ONE_RET, RET, image};
-use lfi_image::{read_image, write_image};
+use lfi_image::{CompleteImage, read_image, write_image};
 use std::alloc::Global;
 use std::test::Fail;
 
@@ -15,41 +15,47 @@ fn file(alloc: Global, entry: u32, slot: u16, code: &[u8]) -> Result<Vec<u8>, Fa
     }
 }
 
+/// The image of a file.
+fn read_back(alloc: Global, file: &[u8]) -> Result<CompleteImage, Fail> {
+    let mut reader = file;
+    match read_image(alloc, &mut reader) {
+        Ok(image) => Ok(image),
+        Err(_) => Err(Fail::from("the image was not read")),
+    }
+}
+
 #[test]
 fn one_ret(rt: HostRuntime) -> Result<(), Fail> {
     let bytes = file(rt.alloc(), 0, 0, &RET)?;
     assert!(rt; bytes.as_slice() == ONE_RET.as_slice());
-    let mut reader = bytes.as_slice();
-    let Ok(back) = read_image(rt.alloc(), &mut reader) else {
-        panic!(rt; "the image was not read")
-    };
-    assert!(rt; back.words() == 1 && back.entry() == 0 && back.slot() == 0);
-    assert_eq!(rt; back.word(0), 0xD65F_03C0);
+    let back = read_back(rt.alloc(), &bytes)?;
+    assert!(rt; back.words().number() == 1 && back.entry() == 0);
+    assert!(rt; back.slot().number() == 0 && back.word(0) == 0xD65F_03C0);
     Ok(())
 }
+
+/// The file of two NOPs in slot 3, entered at word 1.
+const TWO_NOPS: [u8; 32] = [
+    0x4C, 0x46, 0x49, 0x31, 2, 0, 0, 0, 1, 0, 0, 0, 1, 0, 0, 0, 0, 0, 0, 0, 7, 0, 0, 0, 0x1F, 0x20,
+    0x03, 0xD5, 0x1F, 0x20, 0x03, 0xD5,
+];
 
 #[test]
 fn counts_entries_and_bases(rt: HostRuntime) -> Result<(), Fail> {
     let code = NOP.repeat(rt.alloc(), 2)?;
     let bytes = file(rt.alloc(), 1, 3, &code)?;
-    assert!(rt; bytes.len() == 32);
-    assert!(rt; bytes[..12] == [0x4C, 0x46, 0x49, 0x31, 2, 0, 0, 0, 1, 0, 0, 0]);
-    assert!(rt; bytes[12..24] == [1, 0, 0, 0, 0, 0, 0, 0, 7, 0, 0, 0]);
-    assert!(rt; bytes[24..] == code[..]);
+    assert!(rt; bytes.as_slice() == TWO_NOPS.as_slice());
     Ok(())
 }
 
 #[test]
-fn every_slot_and_a_long_module(rt: HostRuntime) -> Result<(), Fail> {
+fn every_slot_and_a_full_page(rt: HostRuntime) -> Result<(), Fail> {
     let code = NOP.repeat(rt.alloc(), 1024)?;
     for slot in 0..16 {
         let bytes = file(rt.alloc(), 1023, slot, &code)?;
-        let mut reader = bytes.as_slice();
-        let Ok(back) = read_image(rt.alloc(), &mut reader) else {
-            panic!(rt; "slot {slot}")
-        };
-        assert_eq!(rt; back.slot(), slot);
-        assert_eq!(rt; (back.words(), back.entry()), (1024, 1023));
+        let back = read_back(rt.alloc(), &bytes)?;
+        assert!(rt; back.slot().number() == slot, "slot {slot}");
+        assert!(rt; back.words().number() == 1024 && back.entry() == 1023);
     }
     Ok(())
 }

@@ -1,8 +1,10 @@
 //! What the tests share: code, the image file of one RET, and images of code.
 
-use lfi_image::{Builder, CompleteImage};
-use lfi_rules::{Fault, judge};
-use page_buf::{OpenPage, SealedPage};
+use judged_page::JudgedPage;
+use lfi_image::{Builder, CompleteImage, ImageFault, read_image};
+use lfi_module::{Extent, ModuleNumber, WordCount};
+use lfi_rules::Fault;
+use page_buf::SealedPage;
 use std::alloc::Global;
 use std::test::Fail;
 
@@ -11,6 +13,9 @@ pub const RET: [u8; 4] = [0xC0, 0x03, 0x5F, 0xD6];
 
 /// NOP.
 pub const NOP: [u8; 4] = [0x1F, 0x20, 0x03, 0xD5];
+
+/// SVC #0, which isn't in the profile.
+pub const UNKNOWN: [u8; 4] = [0x01, 0x00, 0x00, 0xD4];
 
 /// LDP X29, X30, [SP], #16, which opens the need for a guard into x30.
 pub const LOAD_LINK: [u8; 4] = [0xFD, 0x7B, 0xC1, 0xA8];
@@ -27,42 +32,48 @@ pub const ONE_RET: [u8; 28] = [
     0x5F, 0xD6,
 ];
 
-pub fn page_of(alloc: Global, code: &[u8]) -> Result<SealedPage, Fail> {
-    let mut page = OpenPage::new(alloc)?;
-    page.write(code);
-    match page.seal() {
-        Ok(page) => Ok(page),
-        Err(_) => Err(Fail::from("the code is not whole words")),
+/// Judges the page of this code and appends it. What comes back is the page's fault.
+pub fn append(alloc: Global, builder: &mut Builder, code: &[u8]) -> Result<Option<Fault>, Fail> {
+    if code.is_empty() || code.len() > 4096 || code.len() % 4 != 0 {
+        return Err(Fail::from("the code is no page"));
     }
-}
-
-/// Judges the page of this code and appends it. What comes back is the fault and the page's first word.
-pub fn append(
-    alloc: Global,
-    builder: &mut Builder,
-    code: &[u8],
-) -> Result<Option<(Fault, u32)>, Fail> {
-    let page = page_of(alloc, code)?;
-    if page.len_words() != builder.due() {
+    let page = SealedPage::of(alloc, code)?;
+    if page.len_words() != builder.due() as usize {
         return Err(Fail::from("the page has not the words due"));
     }
-    let verdict = judge(&page, builder.placed(), builder.words());
-    match builder.append(page, verdict) {
+    let page = JudgedPage::judge(page, builder.placed(), builder.words());
+    match builder.append(page) {
         Ok(()) => Ok(None),
-        Err((fault, back)) => {
-            if back.len_words() == 0 {
-                return Err(Fail::from("the page came back without words"));
-            }
-            Ok(Some((fault, back.word(0))))
-        }
+        Err((fault, _)) => Ok(Some(fault)),
     }
 }
 
+/// A module of so many words, its entry and its slot.
+pub fn module(words: u32, entry: u32, slot: u16) -> Result<(Extent, ModuleNumber), Fail> {
+    let Some(words) = WordCount::new(words) else {
+        return Err(Fail::from("no module has so many words"));
+    };
+    let Some(extent) = Extent::new(words, entry) else {
+        return Err(Fail::from("the entry is no word of the module"));
+    };
+    let Some(slot) = ModuleNumber::new(slot) else {
+        return Err(Fail::from("there is no such slot"));
+    };
+    Ok((extent, slot))
+}
+
+/// A builder of such a module.
 pub fn builder(alloc: Global, words: u32, entry: u32, slot: u16) -> Result<Builder, Fail> {
-    if words == 0 || words > 4_194_304 || entry >= words || slot >= 16 {
-        return Err(Fail::from("there is no such module"));
+    let (extent, slot) = module(words, entry, slot)?;
+    Ok(Builder::new(alloc, extent, slot)?)
+}
+
+/// The image that a builder has made.
+pub fn finished(builder: Builder) -> Result<CompleteImage, Fail> {
+    match builder.finish() {
+        Ok(image) => Ok(image),
+        Err(_) => Err(Fail::from("words are missing")),
     }
-    Ok(Builder::new(alloc, words, entry, slot)?)
 }
 
 /// The image of code that is one page.
@@ -72,8 +83,18 @@ pub fn image(alloc: Global, entry: u32, slot: u16, code: &[u8]) -> Result<Comple
     if append(alloc, &mut builder, code)?.is_some() {
         return Err(Fail::from("the code breaks a rule"));
     }
-    match builder.finish() {
-        Ok(image) => Ok(image),
-        Err(_) => Err(Fail::from("words are missing")),
-    }
+    finished(builder)
+}
+
+/// A page of 1,023 NOPs and one more word.
+pub fn page_ending(alloc: Global, last: [u8; 4]) -> Result<Vec<u8>, Fail> {
+    let mut code = NOP.repeat(alloc, 1023)?;
+    code.extend_from_slice(&last)?;
+    Ok(code)
+}
+
+/// The fault of a file; none where it is read.
+pub fn fault_of(alloc: Global, file: &[u8]) -> Option<ImageFault> {
+    let mut reader = file;
+    read_image(alloc, &mut reader).err()
 }

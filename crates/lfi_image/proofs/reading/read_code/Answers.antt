@@ -1,6 +1,6 @@
 use Rattle.std.proofs.Common.{rules, ap, sym, subst, ◌≡◌, ◌<◌, ◌∙◌, length}
 use Rattle.lfi_image.specs.Image.{Module}
-use Rattle.lfi_image.specs.Steps.{ReadsPage}
+use Rattle.lfi_image.specs.inner.Steps.{ReadsPage}
 use Rattle.std.specs.Option.{IfSome}
 use Rattle.std.proofs.lemmas.Result.{err_from_is_err_and}
 use Rattle.lfi_image.specs.declared.fault.ImageFault.{ImageFault}

@@ -3,7 +3,7 @@ use Rattle.std.specs.Option.{IfSome}
 use Rattle.std.proofs.lemmas.Result.{err_from_is_err_and}
 use Rattle.lfi_image.specs.declared.fault.ImageFault.{ImageFault}
 use Rattle.lfi_image.specs.declared.fault.ImageFault.TheVariants.{More}
-use Rattle.lfi_image.specs.Reading.{count_in, header_fault, IsFault, IsUnread, IsRestUnread}
+use Rattle.lfi_image.specs.Reading.{count_in, header_fault, IsFault, IsRestUnread}
 use Rattle.lfi_image.proofs.Runs.{header_told, code_told, more_told, header_unread, file_unread, memory_told}
 use Rattle.lfi_image.proofs.reading.read_image.Goals as goal
 

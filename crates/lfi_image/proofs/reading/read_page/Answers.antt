@@ -1,7 +1,6 @@
-use Rattle.std.proofs.Common.{rules, arith, ◌≡◌, ◌-◌, ◌*◌, min, length, ap, ◌∙◌, sym}
+use Rattle.std.proofs.Common.{rules, ◌≡◌, ◌*◌, length, ◌∙◌, sym}
 use Rattle.lfi_module.specs.Numbers.{page_words}
 use Rattle.lfi_module.specs.Pages.{words_due}
-use Rattle.lfi_image.specs.Built.{due}
 use Rattle.lfi_image.proofs.Pieces.{word_count}
 use Rattle.lfi_image.proofs.reading.read_page.Goals as goal
 

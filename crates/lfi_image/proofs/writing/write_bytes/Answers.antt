@@ -1,4 +1,4 @@
-use Rattle.std.proofs.Common.{◌≡◌, ◌+◌, take, drop, rules, refl, sym, take-append-drop}
+use Rattle.std.proofs.Common.{◌≡◌, ◌+◌, take, drop, rules, refl, sym, take-append-drop, arith, length-drop}
 use Rattle.std.proofs.KnownBytes.{Appends-kept}
 use Rattle.lfi_image.proofs.Pieces.{grown}
 use Rattle.lfi_image.proofs.writing.write_bytes.Goals as goal
@@ -10,6 +10,7 @@ returns-in-Ok-eq0 g c = (
     take c.loop-at.at c.args.bytes.now,
     drop c.loop-at.at c.args.bytes.now,
     sym (take-append-drop c.loop-at.at c.args.bytes.now),
+    omega (arith, length-drop c.loop-at.at c.args.bytes.now),
     let none : c.loop-at.at ≡ c.loop-at.at + c.in-Ok-eq0.field-0 = search rules in grown _ _ _ c.args.bytes.now c.loop-at.at c.in-Ok-eq0.field-0 c.loop-at.at none c.loop-at.invariant.1 c.in-Ok-eq0.ensures.bytes,
   ),
 )
@@ -25,6 +26,7 @@ returns-in-Err g c = (
     take c.loop-at.at c.args.bytes.now,
     drop c.loop-at.at c.args.bytes.now,
     sym (take-append-drop c.loop-at.at c.args.bytes.now),
+    omega (arith, length-drop c.loop-at.at c.args.bytes.now),
     Appends-kept _ _ _ _ c.loop-at.invariant.1 c.in-Err.ensures.bytes,
   ),
 )

@@ -3,8 +3,8 @@ use Rattle.std.proofs.lemmas.Result.{err_from_is_err_and}
 use Rattle.std.specs.Io.KnownBytes.{Appends}
 use Rattle.lfi_image.specs.Image.{header_of, code_of}
 use Rattle.lfi_image.specs.Built.{words_in}
-use Rattle.lfi_image.specs.Writing.{Writes}
-use Rattle.lfi_image.proofs.Written.{writes_after, writes_before}
+use Rattle.lfi_image.specs.inner.Writing.{Writes}
+use Rattle.lfi_image.proofs.Written.{writes_after, writes_before, writes_all, writes_fault, writes_part}
 use Rattle.lfi_image.proofs.writing.write_image.Goals as goal
 
 pub returns-in_err-write_bytes : goal.returns-in_err-write_bytes
@@ -13,9 +13,15 @@ returns-in_err-write_bytes g c =
     let head : c.encode-header.result ≡ header_of (length image.words) image.entry image.slot = search rules in
     let p = err_from_is_err_and c.from_residual.result c.from_residual.ensures.1 in
     let same : p.0 ≡ c.in_err-write_bytes.field-0.0 = p.2 in
+    let wrote : Writes (g.W.Write.contents c.args.writer.now) (g.W.Write.contents c.write_bytes.new.writer) (header_of (length image.words) image.entry image.slot ++ code_of image.words) c.from_residual.result =
     writes_before (g.W.Write.contents c.args.writer.now) (g.W.Write.contents c.write_bytes.new.writer) (header_of (length image.words) image.entry image.slot) (code_of image.words)
     c.write_bytes.result c.from_residual.result c.in_err-write_bytes.field-0.0 c.in_err-write_bytes.was (p.1 ∙ ap (λ f. Err f) same)
-    (subst (λ l. Writes (g.W.Write.contents c.args.writer.now) (g.W.Write.contents c.write_bytes.new.writer) l c.write_bytes.result) head c.write_bytes.ensures)
+    (subst (λ l. Writes (g.W.Write.contents c.args.writer.now) (g.W.Write.contents c.write_bytes.new.writer) l c.write_bytes.result) head c.write_bytes.ensures) in
+    record {
+      written = writes_all _ _ _ c.from_residual.result wrote;
+      fault = writes_fault _ _ _ c.from_residual.result wrote;
+      part = writes_part _ _ _ c.from_residual.result wrote;
+    }
 
 pub returns : goal.returns
 returns g c =
@@ -23,6 +29,12 @@ returns g c =
     let words : words_in c.pages.result.now ≡ image.words = c.pages.ensures in
     let head : c.encode-header.result ≡ header_of (length image.words) image.entry image.slot = search rules in
     let first : Appends (g.W.Write.contents c.args.writer.now) (g.W.Write.contents c.write_bytes.new.writer) c.encode-header.result = c.in_ok-write_bytes.ensures in
+    let wrote : Writes (g.W.Write.contents c.args.writer.now) (g.W.Write.contents c.write_pages.new.writer) (header_of (length image.words) image.entry image.slot ++ code_of image.words) c.write_pages.result =
     subst (λ l. Writes (g.W.Write.contents c.args.writer.now) (g.W.Write.contents c.write_pages.new.writer) (header_of (length image.words) image.entry image.slot ++ code_of l) c.write_pages.result) words
     (writes_after (g.W.Write.contents c.args.writer.now) (g.W.Write.contents c.write_bytes.new.writer) (g.W.Write.contents c.write_pages.new.writer) (header_of (length image.words) image.entry image.slot) (code_of (words_in c.pages.result.now)) c.write_pages.result
-    (subst (λ l. Appends (g.W.Write.contents c.args.writer.now) (g.W.Write.contents c.write_bytes.new.writer) l) head first) c.write_pages.ensures)
+    (subst (λ l. Appends (g.W.Write.contents c.args.writer.now) (g.W.Write.contents c.write_bytes.new.writer) l) head first) c.write_pages.ensures) in
+    record {
+      written = writes_all _ _ _ c.write_pages.result wrote;
+      fault = writes_fault _ _ _ c.write_pages.result wrote;
+      part = writes_part _ _ _ c.write_pages.result wrote;
+    }

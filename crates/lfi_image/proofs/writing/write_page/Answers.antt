@@ -1,5 +1,5 @@
 use Rattle.std.proofs.Common.{ℕ, List, arith, sym, subst}
-use Rattle.lfi_image.specs.Writing.{Writes}
+use Rattle.lfi_image.specs.inner.Writing.{Writes}
 use Rattle.lfi_image.proofs.Pieces.{code_of_words}
 use Rattle.lfi_image.proofs.writing.write_page.Goals as goal
 

@@ -2,11 +2,11 @@ use Rattle.std.proofs.Common.{rules, ◌≡◌, ℕ, ◌+◌, ◌<◌, List, len
 use Rattle.std.proofs.lemmas.Result.{err_from_is_err_and}
 use Rattle.std.specs.Io.KnownBytes.{Appends}
 use Rattle.std.proofs.KnownBytes.{Appends-trans}
-use Rattle.page_buf.specs.Spelled.{words_of}
+use Rattle.a64_word.specs.Words.{words_of}
 use Rattle.lfi_image.specs.declared.fault.ImageFault.{ImageFault}
 use Rattle.lfi_image.specs.Image.{code_of}
 use Rattle.lfi_image.specs.Built.{words_in}
-use Rattle.lfi_image.specs.Writing.{Writes}
+use Rattle.lfi_image.specs.inner.Writing.{Writes}
 use Rattle.lfi_image.proofs.Written.{writes_after, writes_before, code_taken, code_split}
 use Rattle.lfi_image.proofs.writing.write_pages.Goals as goal
 

@@ -1,13 +1,14 @@
-use Rattle.std.proofs.Common.{rules, refl, arith, false, ◌≡◌, ℕ, ◌+◌, ◌-◌, ◌<◌, ◌≤◌, List, [], ◌∷◌, ◌++◌, length, min, Some, None, ap, sym, ◌∙◌, subst, vec_capacity}
+use Rattle.std.proofs.Common.{rules, refl, arith, false, ◌≡◌, ℕ, ◌+◌, ◌-◌, ◌<◌, ◌≤◌, List, [], ◌∷◌, ◌++◌, length, min, None, ap, sym, ◌∙◌, subst, vec_capacity}
 use Rattle.std.specs.Vec.{vec_len}
 use Rattle.std.proofs.lemmas.Bool.{both_ways}
 use Rattle.lfi_module.specs.Numbers.{page_words}
 use Rattle.lfi_module.specs.Pages.{page_count, words_due}
-use Rattle.page_buf.specs.Spelled.{words_of}
+use Rattle.a64_word.specs.Words.{words_of}
 use Rattle.lfi_rules.specs.Faults.{FirstFault}
 use Rattle.lfi_rules.specs.Verdicts.{Judges}
-use Rattle.lfi_image.specs.Built.{words_in, IsBuilt}
-use Rattle.lfi_image.proofs.Building.{words_in-more, placed_is, fault_with_page, built_more, room_for_page, judged_there}
+use Rattle.lfi_image.specs.Built.{words_in}
+use Rattle.lfi_image.specs.inner.Builders.{IsBuilt}
+use Rattle.lfi_image.proofs.Building.{words_in-more, placed_is, built_more, room_for_page, judged_there, told_of}
 use Rattle.lfi_image.proofs.builder.Builder.append.Goals as goal
 
 pub returns-in-Some-clause-fault : goal.returns-in-Some-clause-fault
@@ -16,11 +17,11 @@ returns-in-Some-clause-fault c =
     let w : words_in c.self.inside.pages.items ≡ c.args.self.now.placed = search rules in
     let n : c.self.inside.words ≡ c.args.self.now.words = search rules in
     let count : c.len_words-count.result ≡ length (words_of page) = c.len_words-count.ensures.count ∙ ap (λ p. length (words_of p)) c.into_parts-page.ensures.page in
-    let judged : Judges (words_of page) (length c.args.self.now.placed) c.args.self.now.words c.into_parts-page.result.1 = judged_there _ _ _ _ _ _ c.requires.place c.requires.module c.into_parts-page.ensures.verdict in
-    let due : length (words_of page) ≡ words_due page_words c.args.self.now.words (length c.args.self.now.placed) = c.into_parts-page.ensures.due ∙ (λ i. words_due page_words (c.requires.module i) (c.requires.place i)) in
-    let room : length c.args.self.now.placed + length (words_of page) ≤ c.args.self.now.words = omega (arith, due, judged.some) in
-    fault_with_page _ _ _ _ _ _ _ _ c.self.invariant.0 w n (words_of page) c.into_parts-page.result.1 c.len_words-count.result (Some c.in-Some.fault)
-    judged room count (sym c.in-Some.is ∙ c.fault_with.ensures)
+    let judged : Judges (words_of page) (length (words_in c.self.inside.pages.items)) c.self.inside.words c.into_parts-page.result.1 =
+    judged_there _ _ _ _ _ _ (c.requires.place ∙ ap length (sym w)) (c.requires.module ∙ sym n) c.into_parts-page.ensures.verdict in
+    let found : FirstFault (words_in c.self.inside.pages.items ++ words_of page) c.self.inside.words c.fault_after.result =
+    c.fault_after.ensures.first (words_in c.self.inside.pages.items) (words_of page) c.self.invariant.0.faultless c.self.invariant.0.leaves judged count in
+    told_of _ _ _ _ _ _ _ w n c.in-Some.is found
 
 pub invariant_of-self : goal.invariant_of-self
 invariant_of-self c =
@@ -28,15 +29,15 @@ invariant_of-self c =
     let w : words_in c.self.inside.pages.items ≡ c.args.self.now.placed = search rules in
     let n : c.self.inside.words ≡ c.args.self.now.words = search rules in
     let count : c.len_words-count.result ≡ length (words_of page) = c.len_words-count.ensures.count ∙ ap (λ p. length (words_of p)) c.into_parts-page.ensures.page in
-    let judged : Judges (words_of page) (length c.args.self.now.placed) c.args.self.now.words c.into_parts-page.result.1 = judged_there _ _ _ _ _ _ c.requires.place c.requires.module c.into_parts-page.ensures.verdict in
+    let judged : Judges (words_of page) (length (words_in c.self.inside.pages.items)) c.self.inside.words c.into_parts-page.result.1 =
+    judged_there _ _ _ _ _ _ (c.requires.place ∙ ap length (sym w)) (c.requires.module ∙ sym n) c.into_parts-page.ensures.verdict in
+    let found : FirstFault (words_in c.self.inside.pages.items ++ words_of page) c.self.inside.words c.fault_after.result =
+    c.fault_after.ensures.first (words_in c.self.inside.pages.items) (words_of page) c.self.invariant.0.faultless c.self.invariant.0.leaves judged count in
+    let none : FirstFault (words_in c.self.inside.pages.items ++ words_of page) c.self.inside.words None = subst (λ f. FirstFault (words_in c.self.inside.pages.items ++ words_of page) c.self.inside.words f) c.in_default.is found in
     let due0 : length (words_of page) ≡ words_due page_words c.args.self.now.words (length c.args.self.now.placed) = c.into_parts-page.ensures.due ∙ (λ i. words_due page_words (c.requires.module i) (c.requires.place i)) in
-    let room : length c.args.self.now.placed + length (words_of page) ≤ c.args.self.now.words = omega (arith, due0, judged.some) in
-    let none : FirstFault (c.args.self.now.placed ++ words_of page) c.args.self.now.words None = fault_with_page _ _ _ _ _ _ _ _ c.self.invariant.0 w n (words_of page) c.into_parts-page.result.1 c.len_words-count.result None
-    judged room count (sym c.in_default.is ∙ c.fault_with.ensures) in
-    let none_in : FirstFault (words_in c.self.inside.pages.items ++ words_of page) c.self.inside.words None =
-    subst (λ l. FirstFault (l ++ words_of page) c.self.inside.words None) (sym w) (subst (λ m. FirstFault (c.args.self.now.placed ++ words_of page) m None) (sym n) none) in
     let due : length (words_of page) ≡ min 1024 (c.self.inside.words - c.self.inside.placed) = omega (arith, due0, n, placed_is _ _ _ _ _ _ _ _ c.self.invariant.0 w n) in
-    let built = built_more c.self.inside.words c.self.inside.entry c.self.inside.slot c.self.inside.placed c.self.inside.tail c.self.inside.pages.items page c.into_parts-page.result.1 c.self.invariant.0 judged.some judged.tail none_in due in
+    let leaves = c.fault_after.ensures.left (words_in c.self.inside.pages.items) (words_of page) judged in
+    let built = built_more c.self.inside.words c.self.inside.entry c.self.inside.slot c.self.inside.placed c.self.inside.tail c.self.inside.pages.items page c.into_parts-page.result.1 c.self.invariant.0 judged.some leaves none due in
     let pushed : c.push.new.self.items ≡ c.self.inside.pages.items ++ c.into_parts-page.result.0 ∷ [] = search rules in
     let items : c.push.new.self.items ≡ c.self.inside.pages.items ++ page ∷ [] = pushed ∙ ap (λ p. c.self.inside.pages.items ++ p ∷ []) c.into_parts-page.ensures.page in
     let grown : page_count page_words c.self.inside.words ≤ vec_capacity c.push.new.self = omega (arith, c.push.ensures.capacity, c.self.invariant.1) in (
@@ -63,22 +64,21 @@ returns-clause-faultless c =
     let w : words_in c.self.inside.pages.items ≡ c.args.self.now.placed = search rules in
     let n : c.self.inside.words ≡ c.args.self.now.words = search rules in
     let count : c.len_words-count.result ≡ length (words_of page) = c.len_words-count.ensures.count ∙ ap (λ p. length (words_of p)) c.into_parts-page.ensures.page in
-    let judged : Judges (words_of page) (length c.args.self.now.placed) c.args.self.now.words c.into_parts-page.result.1 = judged_there _ _ _ _ _ _ c.requires.place c.requires.module c.into_parts-page.ensures.verdict in
-    let due : length (words_of page) ≡ words_due page_words c.args.self.now.words (length c.args.self.now.placed) = c.into_parts-page.ensures.due ∙ (λ i. words_due page_words (c.requires.module i) (c.requires.place i)) in
-    let room : length c.args.self.now.placed + length (words_of page) ≤ c.args.self.now.words = omega (arith, due, judged.some) in
-    fault_with_page _ _ _ _ _ _ _ _ c.self.invariant.0 w n (words_of page) c.into_parts-page.result.1 c.len_words-count.result None
-    judged room count (sym c.in_default.is ∙ c.fault_with.ensures)
+    let judged : Judges (words_of page) (length (words_in c.self.inside.pages.items)) c.self.inside.words c.into_parts-page.result.1 =
+    judged_there _ _ _ _ _ _ (c.requires.place ∙ ap length (sym w)) (c.requires.module ∙ sym n) c.into_parts-page.ensures.verdict in
+    let found : FirstFault (words_in c.self.inside.pages.items ++ words_of page) c.self.inside.words c.fault_after.result =
+    c.fault_after.ensures.first (words_in c.self.inside.pages.items) (words_of page) c.self.invariant.0.faultless c.self.invariant.0.leaves judged count in
+    told_of _ _ _ _ _ _ _ w n c.in_default.is found
 
 pub unreachable-requires : goal.unreachable-requires
 unreachable-requires c =
     let page : List ℕ = c.args.page.page in
     let w : words_in c.self.inside.pages.items ≡ c.args.self.now.placed = search rules in
     let n : c.self.inside.words ≡ c.args.self.now.words = search rules in
-    let judged : Judges (words_of page) (length c.args.self.now.placed) c.args.self.now.words c.into_parts-page.result.1 = judged_there _ _ _ _ _ _ c.requires.place c.requires.module c.into_parts-page.ensures.verdict in
     let due : length (words_of page) ≡ words_due page_words c.args.self.now.words (length c.args.self.now.placed) = c.into_parts-page.ensures.due ∙ (λ i. words_due page_words (c.requires.module i) (c.requires.place i)) in
     let long : length c.self.inside.pages.items ≡ vec_len c.self.inside.pages = search rules in
     let placed : c.self.inside.placed ≡ length c.args.self.now.placed = placed_is _ _ _ _ _ _ _ _ c.self.invariant.0 w n in
-    let room : c.self.inside.placed < c.self.inside.words = omega (arith, due, judged.some, n, placed) in
+    let room : c.self.inside.placed < c.self.inside.words = omega (arith, due, c.into_parts-page.ensures.verdict.some, n, placed) in
     let place : length c.self.inside.pages.items < page_count page_words c.self.inside.words = room_for_page _ _ _ _ _ _ c.self.invariant.0 room in
     let less : vec_len c.self.inside.pages < vec_capacity c.self.inside.pages = omega (arith, place, long, c.self.invariant.1) in
     both_ways false refl (c.in-Err.ensures.succeeds less)

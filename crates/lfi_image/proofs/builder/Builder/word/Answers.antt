@@ -1,13 +1,13 @@
 use Rattle.std.proofs.Common.{rules, ◌≡◌, ◌/◌, ◌%◌, ◌<◌, [], length, get_or, ap, sym, subst, ◌∙◌}
 use Rattle.std.specs.Vec.{vec_len}
-use Rattle.page_buf.specs.Spelled.{words_of}
+use Rattle.a64_word.specs.Words.{words_of}
 use Rattle.lfi_image.specs.Built.{words_in}
 use Rattle.lfi_image.proofs.Building.{word_of_page}
 use Rattle.lfi_image.proofs.builder.Builder.word.Goals as goal
 
 pub index-requires : goal.index-requires
 index-requires c =
-    let size : c.words-size.result ≡ 1024 = c.words-size.ensures.value ∙ c.profile.ensures in
+    let size : c.words-size.result ≡ 1024 = c.words-size.ensures.value in
     let w : words_in c.self.inside.pages.items ≡ c.args.self.now.placed = search rules in
     let within : c.args.i < length (words_in c.self.inside.pages.items) = subst (λ l. c.args.i < length l) (sym w) c.requires in
     let long : length c.self.inside.pages.items ≡ vec_len c.self.inside.pages = search rules in
@@ -15,7 +15,7 @@ index-requires c =
 
 pub word-requires : goal.word-requires
 word-requires c =
-    let size : c.words-size.result ≡ 1024 = c.words-size.ensures.value ∙ c.profile.ensures in
+    let size : c.words-size.result ≡ 1024 = c.words-size.ensures.value in
     let w : words_in c.self.inside.pages.items ≡ c.args.self.now.placed = search rules in
     let within : c.args.i < length (words_in c.self.inside.pages.items) = subst (λ l. c.args.i < length l) (sym w) c.requires in
     let page : c.index.result.now ≡ get_or c.self.inside.pages.items (c.args.i / c.words-size.result) c.index.result.now = c.index.ensures in
@@ -23,7 +23,7 @@ word-requires c =
 
 pub returns : goal.returns
 returns c =
-    let size : c.words-size.result ≡ 1024 = c.words-size.ensures.value ∙ c.profile.ensures in
+    let size : c.words-size.result ≡ 1024 = c.words-size.ensures.value in
     let w : words_in c.self.inside.pages.items ≡ c.args.self.now.placed = search rules in
     let within : c.args.i < length (words_in c.self.inside.pages.items) = subst (λ l. c.args.i < length l) (sym w) c.requires in
     let page : c.index.result.now ≡ get_or c.self.inside.pages.items (c.args.i / c.words-size.result) c.index.result.now = c.index.ensures in

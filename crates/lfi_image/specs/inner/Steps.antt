@@ -2,7 +2,7 @@
 use Rattle.std.specs.Prelude.{◌≡◌, ℕ, ◌*◌, ◌<◌, ◌≤◌, List, ◌++◌, length, Option, Some, None, IfSome, ⊤}
 use Rattle.std.specs.Io.KnownBytes.{Consumes}
 use Rattle.lfi_module.specs.Numbers.{page_words}
-use Rattle.page_buf.specs.Spelled.{words_of}
+use Rattle.a64_word.specs.Words.{words_of}
 use Rattle.lfi_rules.specs.declared.fault.Fault.{Fault}
 use Rattle.lfi_rules.specs.Faults.{FirstFault}
 use Rattle.lfi_image.specs.declared.fault.ImageFault.{ImageFault}
