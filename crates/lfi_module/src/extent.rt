@@ -121,6 +121,14 @@ impl Extent {
         }
     }
 
+    /// A module of so many words that is entered at the word `entry`, which is known to be one of them.
+    pub fn of(words: WordCount, entry: u32) -> Extent
+        requires { entry < words }
+        ensures { result ≡ record { words = words; entry = entry } }
+    {
+        Extent { words, entry }
+    }
+
     /// How many words the module has.
     pub fn words(self) -> WordCount
         ensures { result ≡ self.words }

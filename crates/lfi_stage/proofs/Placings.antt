@@ -17,7 +17,7 @@ use Rattle.lfi_rules.specs.declared.fault.Fault.{Fault}
 use Rattle.lfi_rules.specs.Faults.{Breaks, FirstFault}
 use Rattle.lfi_rules.specs.Verdicts.{all_words}
 use Rattle.lfi_image.specs.Image.{Module}
-use Rattle.lfi_image.specs.Built.{due, with_words}
+use Rattle.lfi_image.specs.Built.{due, with_placed}
 use Rattle.lfi_model.specs.Modules.{OpensFirst, IsNext, IsModule}
 use Rattle.lfi_model.specs.Outcomes.{page_of, pages_of, end_of, reason_at, Begins, Placed}
 use Rattle.lfi_model.proofs.Faults.{breaks_within, fault_stays, placed_to_fault, placed_whole, placed_on, all_words-append}
@@ -120,7 +120,7 @@ module _ (m : ℕ) (p : Placing) (taken : List ItemView) (item : ItemView) (was 
   same_entry = (same_first taken was.opened).1
 
   same_builder : (us : List (List ℕ)) → builder_of m (taken ++ item ∷ []) us ≡ builder_of m taken us
-  same_builder us = λ i. record { count = same_words i; entry = same_entry i; slot = m; words = all_words us }
+  same_builder us = λ i. record { words = same_words i; entry = same_entry i; slot = m; placed = all_words us }
 
   none_ended : (o : Option Ended) → option_map (λ e. e.reason) o ≡ None → o ≡ None
   none_ended None h = refl
@@ -185,14 +185,14 @@ module _ (m : ℕ) (p : Placing) (taken : List ItemView) (item : ItemView) (was 
         (λ i. words_in_page page_words (words i) (ordinal i - 1)) ∙ ap (λ k. words_in_page page_words n k) (omega arith) in
         let count : length bytes / 4 ≡ length (words_of bytes) = words_count bytes in
         let long = f.1 in
-        let b_count : b.count ≡ n = ap (λ z. z.count) h.builder in
+        let b_count : b.words ≡ n = ap (λ z. z.words) h.builder in
         let b_words = h.whole none in
         let due_is : due b ≡ min 1024 (n - min n (1024 * length (pages_of taken))) = (λ i. min 1024 (b_count i - b_words i)) in
         omega arith
 
     -- it is placed
-    pub page_placed : (q : Placing) → q.words ≡ p.words → q.ended ≡ p.ended → p.fault ≡ None → IsItem item → q.builder ≡ with_words p.builder (words_of bytes)
-        → q.fault ≡ None → FirstFault (p.builder.words ++ words_of bytes) p.builder.count None → IsPlacing m q (taken ++ item ∷ [])
+    pub page_placed : (q : Placing) → q.words ≡ p.words → q.ended ≡ p.ended → p.fault ≡ None → IsItem item → q.builder ≡ with_placed p.builder (words_of bytes)
+        → q.fault ≡ None → FirstFault (p.builder.placed ++ words_of bytes) p.builder.words None → IsPlacing m q (taken ++ item ∷ [])
     page_placed q same_n same_ended none typed grown lawful_now lawful =
         let h = was.built in
         let b : Module = p.builder in
@@ -201,16 +201,16 @@ module _ (m : ℕ) (p : Placing) (taken : List ItemView) (item : ItemView) (was 
         let faultless : FirstFault (all_words (pages_of taken)) n None = subst (λ f. FirstFault (all_words (pages_of taken)) n f) none h.fault in
         let all : h.us ≡ pages_of taken = placed_all n (pages_of taken) h.us h.placed faultless in
         let us : List (List ℕ) = pages_of taken ++ words_of bytes ∷ [] in
-        let b_words : b.words ≡ all_words (pages_of taken) = ap (λ z. z.words) h.builder ∙ ap all_words all in
-        let b_count : b.count ≡ n = ap (λ z. z.count) h.builder in
+        let b_words : b.placed ≡ all_words (pages_of taken) = ap (λ z. z.placed) h.builder ∙ ap all_words all in
+        let b_count : b.words ≡ n = ap (λ z. z.words) h.builder in
         let whole_us : FirstFault (all_words us) n None =
-        subst (λ l. FirstFault l n None) (sym (words_snoc (pages_of taken) (words_of bytes))) (subst (λ l. FirstFault (l ++ words_of bytes) n None) b_words (subst (λ k. FirstFault (b.words ++ words_of bytes) k None) b_count lawful)) in
-        let c_words : c.words ≡ b.words ++ words_of bytes = ap (λ z. z.words) grown in
-        let words_us : c.words ≡ all_words us = c_words ∙ ap (λ l. l ++ words_of bytes) b_words ∙ sym (words_snoc (pages_of taken) (words_of bytes)) in
-        let as_built : c ≡ builder_of m taken us = grown ∙ (λ i. record { count = (ap (λ z. z.count) h.builder) i; entry = (ap (λ z. z.entry) h.builder) i; slot = (ap (λ z. z.slot) h.builder) i; words = (sym c_words ∙ words_us) i }) in
+        subst (λ l. FirstFault l n None) (sym (words_snoc (pages_of taken) (words_of bytes))) (subst (λ l. FirstFault (l ++ words_of bytes) n None) b_words (subst (λ k. FirstFault (b.placed ++ words_of bytes) k None) b_count lawful)) in
+        let c_words : c.placed ≡ b.placed ++ words_of bytes = ap (λ z. z.placed) grown in
+        let words_us : c.placed ≡ all_words us = c_words ∙ ap (λ l. l ++ words_of bytes) b_words ∙ sym (words_snoc (pages_of taken) (words_of bytes)) in
+        let as_built : c ≡ builder_of m taken us = grown ∙ (λ i. record { words = (ap (λ z. z.words) h.builder) i; entry = (ap (λ z. z.entry) h.builder) i; slot = (ap (λ z. z.slot) h.builder) i; placed = (sym c_words ∙ words_us) i }) in
         let long : length (words_of bytes) ≡ due b = page_length none typed in
         let before = h.whole none in
-        let split : length c.words ≡ length b.words + length (words_of bytes) = ap length c_words ∙ length-append b.words (words_of bytes) in
+        let split : length c.placed ≡ length b.placed + length (words_of bytes) = ap length c_words ∙ length-append b.placed (words_of bytes) in
         let more : length (pages_of (taken ++ item ∷ [])) ≡ length (pages_of taken) + 1 = ap length pages ∙ length-append (pages_of taken) (words_of bytes ∷ []) in
         page_by q same_n same_ended (record {
           us = us;
@@ -223,17 +223,17 @@ module _ (m : ℕ) (p : Placing) (taken : List ItemView) (item : ItemView) (was 
 
     -- it brings the first fault
     pub page_refused : (q : Placing) (fault : Fault) → q.words ≡ p.words → q.ended ≡ p.ended → p.fault ≡ None → q.builder ≡ p.builder
-        → q.fault ≡ Some fault → FirstFault (p.builder.words ++ words_of bytes) p.builder.count (Some fault) → IsPlacing m q (taken ++ item ∷ [])
+        → q.fault ≡ Some fault → FirstFault (p.builder.placed ++ words_of bytes) p.builder.words (Some fault) → IsPlacing m q (taken ++ item ∷ [])
     page_refused q fault same_n same_ended none now found first =
         let h = was.built in
         let b : Module = p.builder in
         let n : ℕ = words_at taken in
         let faultless : FirstFault (all_words (pages_of taken)) n None = subst (λ f. FirstFault (all_words (pages_of taken)) n f) none h.fault in
         let all : h.us ≡ pages_of taken = placed_all n (pages_of taken) h.us h.placed faultless in
-        let b_words : b.words ≡ all_words (pages_of taken) = ap (λ z. z.words) h.builder ∙ ap all_words all in
-        let b_count : b.count ≡ n = ap (λ z. z.count) h.builder in
+        let b_words : b.placed ≡ all_words (pages_of taken) = ap (λ z. z.placed) h.builder ∙ ap all_words all in
+        let b_count : b.words ≡ n = ap (λ z. z.words) h.builder in
         let here : FirstFault (all_words (pages_of taken) ++ words_of bytes) n (Some fault) =
-        subst (λ l. FirstFault (l ++ words_of bytes) n (Some fault)) b_words (subst (λ k. FirstFault (b.words ++ words_of bytes) k (Some fault)) b_count first) in
+        subst (λ l. FirstFault (l ++ words_of bytes) n (Some fault)) b_words (subst (λ k. FirstFault (b.placed ++ words_of bytes) k (Some fault)) b_count first) in
         let on : FirstFault (all_words (pages_of taken ++ words_of bytes ∷ [])) n (Some fault) = subst (λ l. FirstFault l n (Some fault)) (sym (words_snoc (pages_of taken) (words_of bytes))) here in
         let stays : Placed n (pages_of taken ++ words_of bytes ∷ []) h.us =
         subst (λ u. Placed n (pages_of taken ++ words_of bytes ∷ []) u) (sym all) (placed_to_fault n (pages_of taken) [] (words_of bytes) fault faultless here) in
@@ -247,7 +247,7 @@ module _ (m : ℕ) (p : Placing) (taken : List ItemView) (item : ItemView) (was 
         })
 
     -- what became of it
-    pub page_tried : (c : Module) (r : Option Fault) → p.fault ≡ None → IsItem item → FirstFault (p.builder.words ++ words_of bytes) p.builder.count r → IfNone r (c ≡ with_words p.builder (words_of bytes)) → IfSome r (λ _. c ≡ p.builder)
+    pub page_tried : (c : Module) (r : Option Fault) → p.fault ≡ None → IsItem item → FirstFault (p.builder.placed ++ words_of bytes) p.builder.words r → IfNone r (c ≡ with_placed p.builder (words_of bytes)) → IfSome r (λ _. c ≡ p.builder)
         → IsPlacing m (record p { builder = c; fault = r }) (taken ++ item ∷ [])
     page_tried c None none typed first placed refused = page_placed (record p { builder = c; fault = None }) refl refl none typed placed refl first
     page_tried c (Some fault) none typed first placed refused = page_refused (record p { builder = c; fault = Some fault }) fault refl refl none refused refl first
@@ -278,7 +278,7 @@ module _ (m : ℕ) (p : Placing) (taken : List ItemView) (item : ItemView) (was 
         builder = same_b ∙ h.builder ∙ sym (same_builder h.us);
         fault = subst (λ k. FirstFault (all_words (pages_of (taken ++ item ∷ []))) k q.fault) (sym same_words)
             (subst (λ l. FirstFault (all_words l) (words_at taken) q.fault) (sym pages) (subst (λ f. FirstFault (all_words (pages_of taken)) (words_at taken) f) (sym same) h.fault));
-        whole = λ none. ap (λ z. length z.words) same_b ∙ h.whole (sym same ∙ none) ∙ (λ i. min (sym same_words i) (1024 * length (sym pages i)));
+        whole = λ none. ap (λ z. length z.placed) same_b ∙ h.whole (sym same ∙ none) ∙ (λ i. min (sym same_words i) (1024 * length (sym pages i)));
       }
 
 pub no_break : (n k : ℕ) (r : Rule) → Breaks [] n k r → ⊥
@@ -286,7 +286,7 @@ no_break n k r h = let within : k < 0 = breaks_within [] n k r h in omega arith
 
 -- nothing but the Open has come
 pub just_opened : (m : ℕ) (q : Placing) (first : ItemView) (entry : ℕ) → first.«module» ≡ m → first.words ≡ q.words → first.kind ≡ Open entry → q.fault ≡ None → q.ended ≡ None
-    → q.builder ≡ record { count = q.words; entry = entry; slot = m; words = [] } → IsPlacing m q (first ∷ [])
+    → q.builder ≡ record { words = q.words; entry = entry; slot = m; placed = [] } → IsPlacing m q (first ∷ [])
 just_opened m q first entry number words is no_fault no_end new =
     let no_page : pages_of (first ∷ []) ≡ [] = ap (λ k. page_of k ++ []) is in
     let lawful : (n : ℕ) → FirstFault [] n None = λ n k r h. no_break n k r h in
@@ -304,7 +304,7 @@ just_opened m q first entry number words is no_fault no_end new =
     built no_page lawful = record {
       us = [];
       placed = subst (λ l. Placed first.words l []) (sym no_page) (placed_whole first.words [] (lawful first.words));
-      builder = new ∙ (λ i. record { count = sym words i; entry = sym (ap entry_by is) i; slot = m; words = [] });
+      builder = new ∙ (λ i. record { words = sym words i; entry = sym (ap entry_by is) i; slot = m; placed = [] });
       fault = subst (λ f. FirstFault (all_words (pages_of (first ∷ []))) first.words f) (sym no_fault) (subst (λ l. FirstFault (all_words l) first.words None) (sym no_page) (lawful first.words));
-      whole = λ none. ap (λ z. length z.words) new ∙ (let l = ap length no_page in omega arith);
+      whole = λ none. ap (λ z. length z.placed) new ∙ (let l = ap length no_page in omega arith);
     }

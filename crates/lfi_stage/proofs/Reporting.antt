@@ -42,20 +42,20 @@ told_by m b words e items outcome image ended is holds = record {
 
 -- how many words there are
 module _ (m : ℕ) (b : Module) (words : ℕ) (e : Ended) (items : List ItemView) (ended : HasEnded m b words e items) where
-  count_is : b.count ≡ words_at items
-  count_is = ap (λ z. z.count) ended.builder
+  count_is : b.words ≡ words_at items
+  count_is = ap (λ z. z.words) ended.builder
 
-  words_is : b.words ≡ all_words (pages_of items)
-  words_is = ap (λ z. z.words) ended.builder
+  words_is : b.placed ≡ all_words (pages_of items)
+  words_is = ap (λ z. z.placed) ended.builder
 
-  pub complete : e.reason ≡ Close → length b.words ≡ b.count → outcome_kind.Complete words ≡ by_end (words_at items) items e.reason
+  pub complete : e.reason ≡ Close → length b.placed ≡ b.words → outcome_kind.Complete words ≡ by_end (words_at items) items e.reason
   complete close all =
       let full : length (all_words (pages_of items)) ≡ words_at items = sym (ap length words_is) ∙ all ∙ count_is in
       ap (λ z. outcome_kind.Complete z) ended.words_are
       ∙ sym (ap (λ r. by_end (words_at items) items r) close
       ∙ ap (λ t. if t then outcome_kind.Complete (words_at items) else outcome_kind.Incomplete (length (pages_of items)) (page_count page_words (words_at items))) (eq-eqb (length (all_words (pages_of items))) (words_at items) full))
 
-  pub incomplete : e.reason ≡ Close → length b.words < b.count → outcome_kind.Incomplete e.pages (page_count page_words words) ≡ by_end (words_at items) items e.reason
+  pub incomplete : e.reason ≡ Close → length b.placed < b.words → outcome_kind.Incomplete e.pages (page_count page_words words) ≡ by_end (words_at items) items e.reason
   incomplete close few =
       let l = ap length words_is in let c = count_is in
       let less : (length (all_words (pages_of items)) == words_at items) ≡ false = (elim (eqb_tells (length (all_words (pages_of items))) (words_at items)) [
@@ -66,7 +66,7 @@ module _ (m : ℕ) (b : Module) (words : ℕ) (e : Ended) (items : List ItemView
       ∙ sym (ap (λ r. by_end (words_at items) items r) close
       ∙ ap (λ t. if t then outcome_kind.Complete (words_at items) else outcome_kind.Incomplete (length (pages_of items)) (page_count page_words (words_at items))) less)
 
-  pub whole_image : (i : Image) → i ≡ record { entry = b.entry; slot = b.slot; words = b.words } → outcome_kind.Complete words ≡ outcome_kind.Complete (words_at items) → IsImageOf m items (pages_of items) (outcome_kind.Complete words) (Whole i)
+  pub whole_image : (i : Image) → i ≡ record { entry = b.entry; slot = b.slot; words = b.placed } → outcome_kind.Complete words ≡ outcome_kind.Complete (words_at items) → IsImageOf m items (pages_of items) (outcome_kind.Complete words) (Whole i)
   whole_image i is same = (is ∙ (λ j. record { entry = (ap (λ z. z.entry) ended.builder) j; slot = (ap (λ z. z.slot) ended.builder) j; words = words_is j }), same)
 
 -- where there is no fault, all pages are placed

@@ -1,6 +1,7 @@
 -- What a verifier has placed of the items that it took. (docs/DEFINITIONS.md, "Verifiers")
 use Rattle.std.specs.Prelude.{◌≡◌, ℕ, ◌*◌, min, List, [], ◌∷◌, length, Option, Some, None, get_or}
 use Rattle.std.specs.Option.{option_map}
+use Rattle.lfi_module.specs.Numbers.{page_words}
 use Rattle.lfi_queues.specs.Items.{ItemView}
 use Rattle.lfi_queues.specs.declared.item.ItemKind.{ItemKind}
 use Rattle.lfi_queues.specs.declared.item.ItemKind.TheVariants.{Open}
@@ -27,7 +28,7 @@ entry_at (first ∷ items) = entry_by first.kind
 
 -- The builder of module m has its slot, the Open's words and entry, and these pages.
 abbrev pub builder_of : ℕ → List ItemView → List (List ℕ) → Module
-builder_of m taken us = record { count = words_at taken; entry = entry_at taken; slot = m; words = all_words us }
+builder_of m taken us = record { words = words_at taken; entry = entry_at taken; slot = m; placed = all_words us }
 
 -- It has placed the longest lawful beginning of the pages, and knows their first fault.
 pub record HasPlaced (m : ℕ) (p : Placing) (b : Module) (taken : List ItemView) : Type 0 where
@@ -35,7 +36,7 @@ pub record HasPlaced (m : ℕ) (p : Placing) (b : Module) (taken : List ItemView
   pub placed : Placed (words_at taken) (pages_of taken) us
   pub builder : b ≡ builder_of m taken us
   pub fault : FirstFault (all_words (pages_of taken)) (words_at taken) p.fault
-  pub whole : p.fault ≡ None → length b.words ≡ min (words_at taken) (1024 * length (pages_of taken))
+  pub whole : p.fault ≡ None → length b.placed ≡ min (words_at taken) (page_words * length (pages_of taken))
 
 -- Of module m these items were taken.
 pub record IsPlacing (m : ℕ) (p : Placing) (taken : List ItemView) : Type 0 where

@@ -4,7 +4,7 @@ ghost use Rattle.std.specs.Prelude.{◌≡◌, ◌≢◌, ℕ, ◌+◌, ◌<◌,
 ghost use Rattle.a64_word.specs.Words.{words_of};
 ghost use Rattle.lfi_rules.specs.Faults.{FirstFault};
 ghost use Rattle.lfi_module.specs.Numbers.{module_count, most_words};
-ghost use Rattle.lfi_image.specs.Built.{due, with_words};
+ghost use Rattle.lfi_image.specs.Built.{due, with_placed};
 ghost use Rattle.lfi_queues.specs.Items.{ItemView, IsItem};
 ghost use Rattle.lfi_queues.specs.declared.item.ItemKind.TheVariants.{Open, Page, End};
 ghost use Rattle.lfi_model.specs.Modules.{IsModule};
@@ -12,10 +12,11 @@ ghost use Rattle.lfi_stage.specs.Shares.{intake_of};
 
 use crate::report::{ModuleReport, report_of};
 use crate::shared::Shared;
+use judged_page::JudgedPage;
 use lfi_image::{Builder, Places};
-use lfi_module::{ModuleNumber, WordCount};
+use lfi_module::{Extent, ModuleNumber, WordCount};
 use lfi_queues::{Item, ItemKind, Reason, TakePass};
-use lfi_rules::{Fault, judge};
+use lfi_rules::Fault;
 use page_buf::SealedPage;
 use std::alloc::{AllocError, Global};
 use std::array;
@@ -40,12 +41,12 @@ pub(crate) struct Ended {
 /// Judges a page of the length due and places it, unless it brings a fault, which is the answer.
 fn place(builder: &mut Builder, page: SealedPage) -> Option<Fault>
     requires { length (words_of page) ≡ due builder.old }
-    ensures first { FirstFault (builder.old.words ++ words_of page) builder.old.count result }
-    ensures placed { IfNone result (builder.new ≡ with_words builder.old (words_of page)) }
+    ensures first { FirstFault (builder.old.placed ++ words_of page) builder.old.words result }
+    ensures placed { IfNone result (builder.new ≡ with_placed builder.old (words_of page)) }
     ensures refused { IfSome result (λ _. builder.new ≡ builder.old) }
 {
-    let verdict = judge(&page, builder.placed(), builder.words());
-    match builder.append(page, verdict) {
+    let page = JudgedPage::judge(page, builder.placed(), builder.words());
+    match builder.append(page) {
         Ok(()) => None,
         Err((fault, _)) => Some(fault),
     }
@@ -75,7 +76,7 @@ impl Placing {
     {
         Placing {
             words,
-            builder: Builder::over(places, words.number(), entry, module.number()),
+            builder: Builder::over(places, Extent::of(words, entry), module),
             fault: None,
             ended: None,
         }
@@ -88,7 +89,7 @@ impl Placing {
         if self.fault.is_some() {
             return;
         }
-        if page.len_words() != self.builder.due() {
+        if page.len_words() != self.builder.due() as usize {
             return;
         }
         self.fault = place(&mut self.builder, page);
@@ -108,7 +109,7 @@ fn reserve(alloc: Global) -> Result<[Option<Places>; ModuleNumber::COUNT], Alloc
 {
     let mut spare = array::from_fn(|_| None);
     for module in 0..ModuleNumber::COUNT {
-        spare[module] = Some(Places::new(alloc, WordCount::MOST.number())?);
+        spare[module] = Some(Places::new(alloc, WordCount::MOST)?);
     }
     Ok(spare)
 }

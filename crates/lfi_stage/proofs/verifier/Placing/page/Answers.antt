@@ -14,7 +14,7 @@ pub returns-then-len_words-due : goal.returns-then-len_words-due
 returns-then-len_words-due c = λ m taken item was numbered typed is.
     let none : c.args.self.now.fault ≡ None = search rules in
     absurd (let due_is : length (words_of c.args.page) ≡ due c.args.self.now.builder = page_length m c.args.self.now taken item was numbered c.args.page is none typed in
-    c.if-len_words-due.true (c.len_words.ensures.count ∙ due_is ∙ sym c.due.ensures.value))
+    c.if-len_words-due.true (c.len_words.ensures.count ∙ due_is ∙ sym c.due.ensures))
 
 pub returns : goal.returns
 returns c = λ m taken item was numbered typed is.
