@@ -1,6 +1,6 @@
 //! The report on several streams.
 
-ghost use Rattle.std.specs.Prelude.{◌≡◌, ◌<◌, ◌^◌, ◌-◌, IfOk, length, min, sum_by};
+ghost use Rattle.std.specs.Prelude.{◌≡◌, ℕ, ◌<◌, ◌≤◌, ◌^◌, ◌-◌, None, IfOk, length, map, take, get_or, min, sum_by};
 ghost use Rattle.lfi_module.specs.Numbers.{module_count};
 ghost use Rattle.lfi_plain.specs.Shares.{items_by};
 ghost use Rattle.lfi_plain.specs.Reports.{count_of, owner_of, AreMade, IsReported, AreReported};
@@ -8,10 +8,10 @@ ghost use Rattle.lfi_plain.specs.Reports.{count_of, owner_of, AreMade, IsReporte
 use crate::connection::{Connection, connection_of};
 use crate::load::{Loaded, load_module};
 use crate::share::PlainItem;
-use lfi_model::{Cause, Outcome};
+use lfi_frame::FrameFault;
+use lfi_model::{CONNECTIONS, Cause, Outcome, Summary};
 use lfi_module::ModuleNumber;
 use std::alloc::{AllocError, Global};
-use std::fmt;
 
 /// A whole stream: its bytes, what ended it, and which of the 16 modules are claimed for it.
 #[derive(Drop)]
@@ -32,25 +32,47 @@ pub struct PlainReport {
     pub strays: u64,
 }
 
-impl fmt::Display for PlainReport {
-    /// Writes a line for each module that isn't unused, one for each connection with a fault, and
-    /// the strays.
-    fn fmt<W: fmt::Write>(&self, f: &mut fmt::Formatter<W>) -> fmt::Result {
-        for (m, loaded) in self.modules.iter().enumerate() {
-            if loaded.outcome != Outcome::Unused {
-                let outcome = loaded.outcome;
-                writeln!(f, "module {m}: {outcome}")?;
-            }
+impl PlainReport {
+    /// What is told of it to users.
+    pub fn summary(&self) -> Summary
+        requires modules { length self.now.modules.items ≡ module_count }
+        requires connections { length self.now.connections.items ≤ 8 }
+        ensures outcomes { result.outcomes ≡ map (λ loaded. loaded.outcome) self.now.modules.items }
+        ensures faults { take (length self.now.connections.items) result.faults ≡ map (λ made. made.fault) self.now.connections.items }
+        ensures no_others { (c : ℕ) → length self.now.connections.items ≤ c → get_or result.faults c None ≡ None }
+        ensures strays { result.strays ≡ self.now.strays }
+    {
+        Summary {
+            outcomes: outcomes_of(self.modules.as_slice()),
+            faults: faults_of(self.connections.as_slice()),
+            strays: self.strays,
         }
-        for (c, made) in self.connections.iter().enumerate() {
-            if let Some(fault) = made.fault {
-                let number = fault.number();
-                writeln!(f, "connection {c}: fault {number}")?;
-            }
-        }
-        let strays = self.strays;
-        writeln!(f, "strays {strays}")
     }
+}
+
+/// The modules' outcomes, by their numbers.
+fn outcomes_of(modules: &[Loaded]) -> [Outcome; ModuleNumber::COUNT]
+    requires { length modules.now ≡ module_count }
+    ensures { result ≡ map (λ loaded. loaded.outcome) modules.now }
+{
+    let mut outcomes = [Outcome::Unused; ModuleNumber::COUNT];
+    for (number, loaded) in modules.iter().enumerate() {
+        outcomes[number] = loaded.outcome;
+    }
+    outcomes
+}
+
+/// The connections' faults, by their numbers.
+fn faults_of(connections: &[Connection]) -> [Option<FrameFault>; CONNECTIONS]
+    requires { length connections.now ≤ 8 }
+    ensures told { take (length connections.now) result ≡ map (λ made. made.fault) connections.now }
+    ensures no_others { (c : ℕ) → length connections.now ≤ c → get_or result c None ≡ None }
+{
+    let mut faults = [None; CONNECTIONS];
+    for (number, made) in connections.iter().enumerate() {
+        faults[number] = made.fault;
+    }
+    faults
 }
 
 /// How many words the module with these items has; 0 where there are none.

@@ -10,7 +10,7 @@ ghost use Rattle.lfi_plain.specs.Shares.{items_by};
 ghost use Rattle.lfi_plain.specs.Pages.{pages_by};
 
 use crate::share::{PlainItem, PlainKind};
-use lfi_rules::{Fault, Need, Rule, judge, seam};
+use lfi_rules::{Fault, Need, fault_after, judge};
 use std::alloc::{AllocError, Global};
 
 /// The words that bytes spell, four bytes a word, the lowest first.
@@ -59,17 +59,7 @@ pub fn first_fault(words: &Vec<u32>, n: u32) -> Option<Fault>
         return None;
     }
     let verdict = judge(words, 0, n);
-    let inside = seam(Need::Nothing, &verdict);
-    if inside.is_some() || words.len() < n as usize {
-        return inside;
-    }
-    match verdict.tail {
-        Need::Nothing => None,
-        _ => Some(Fault {
-            word: n - 1,
-            rule: Rule::NeedMet,
-        }),
-    }
+    fault_after(n, Need::Nothing, &verdict, words.len())
 }
 
 /// How many of the pages of a module of n words make their longest beginning without a fault.

@@ -9,3 +9,4 @@ pub mod Claims
 pub mod Tells
 pub mod Reports
 pub mod Stages
+pub mod Summaries

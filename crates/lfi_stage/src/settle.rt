@@ -1,6 +1,6 @@
 //! What became of a stage's work, once all of it has come to an end.
 
-ghost use Rattle.std.specs.Prelude.{◌≡◌, ◌≢◌, ℕ, ◌+◌, ◌<◌, ◌≤◌, List, [], ◌++◌, false, Some, None, slice_get, get_or};
+ghost use Rattle.std.specs.Prelude.{map, ◌≡◌, ◌≢◌, ℕ, ◌+◌, ◌<◌, ◌≤◌, List, [], ◌++◌, false, Some, None, slice_get, get_or};
 ghost use Rattle.lfi_module.specs.Numbers.{module_count};
 ghost use Rattle.lfi_queues.specs.Kept.{Kept};
 ghost use Rattle.lfi_queues.specs.Passes.{IsSamePass};
@@ -19,10 +19,8 @@ use crate::report::ModuleReport;
 use crate::shared::Shared;
 use crate::verifier::{Verifier, VerifierTurn};
 use lfi_frame::FrameFault;
+use lfi_model::{CONNECTIONS, Outcome, Summary};
 use lfi_module::ModuleNumber;
-
-/// The number of connections that a report has places for.
-pub const CONNECTIONS: usize = 8;
 
 /// What became of each module and each connection.
 #[derive(Drop)]
@@ -33,6 +31,32 @@ pub struct Report {
     pub faults: [Option<FrameFault>; CONNECTIONS],
     /// The strays of all connections; it stays at the greatest number.
     pub strays: u64,
+}
+
+impl Report {
+    ghost use Rattle.lfi_stage.specs.Summaries.{summary_of};
+
+    /// What is told of it to users: all but the images.
+    pub fn summary(&self) -> Summary
+        ensures { result ≡ summary_of self.now }
+    {
+        Summary {
+            outcomes: outcomes_of(&self.modules),
+            faults: self.faults,
+            strays: self.strays,
+        }
+    }
+}
+
+/// The modules' outcomes, by their numbers.
+fn outcomes_of(modules: &[ModuleReport; ModuleNumber::COUNT]) -> [Outcome; ModuleNumber::COUNT]
+    ensures { result ≡ map (λ told. told.outcome) modules.now }
+{
+    let mut outcomes = [Outcome::Unused; ModuleNumber::COUNT];
+    for (number, told) in modules.iter().enumerate() {
+        outcomes[number] = told.outcome;
+    }
+    outcomes
 }
 
 /// Takes all that the intake holds.
