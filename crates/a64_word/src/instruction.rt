@@ -64,19 +64,21 @@ fn data_register(word: u32) -> Option<Instruction>
 {
     if !flag(word, 28) {
         return match bits(word, 21, 4) {
-            0b1000 | 0b1010 | 0b1100 | 0b1110 => Some(Instruction::AddSubShifted(AddSubShifted::decode(
-                word,
-            )?)),
-            0b1001 | 0b1011 | 0b1101 | 0b1111 => Some(Instruction::AddSubExtended(AddSubExtended::decode(
-                word,
-            )?)),
+            0b1000 | 0b1010 | 0b1100 | 0b1110 => Some(Instruction::AddSubShifted(
+                AddSubShifted::decode(word)?,
+            )),
+            0b1001 | 0b1011 | 0b1101 | 0b1111 => Some(Instruction::AddSubExtended(
+                AddSubExtended::decode(word)?,
+            )),
             _ => Some(Instruction::LogicalShifted(LogicalShifted::decode(word)?)),
         };
     }
     match bits(word, 21, 4) {
         0b0010 => Some(Instruction::ConditionalCompare(ConditionalCompare::decode(word)?)),
         0b0100 => Some(Instruction::ConditionalSelect(ConditionalSelect::decode(word)?)),
-        0b0110 if flag(word, 30) => Some(Instruction::CountLeadingZeros(CountLeadingZeros::decode(word)?)),
+        0b0110 if flag(word, 30) => Some(Instruction::CountLeadingZeros(CountLeadingZeros::decode(
+            word,
+        )?)),
         0b0110 => Some(Instruction::TwoSource(TwoSource::decode(word)?)),
         0b1000 => Some(Instruction::MultiplyAdd(MultiplyAdd::decode(word)?)),
         0b1010 | 0b1110 => Some(Instruction::MultiplyHigh(MultiplyHigh::decode(word)?)),

@@ -1,5 +1,5 @@
 -- What an instruction asks of the next one: docs/DEFINITIONS.md, "Needs".
-use Rattle.std.specs.Prelude.{ℕ, ◌==◌, if◌then◌else◌, ◌&&◌, ◌||◌, nat_lt, not, Bool, true, false, ℤ, pos, negsuc}
+use Rattle.std.specs.Prelude.{◌==◌, if◌then◌else◌, ◌&&◌, ◌||◌, nat_lt, not, Bool, true, false, ℤ, pos, negsuc}
 use Rattle.a64_word.specs.declared.instruction.Instruction.{Instruction}
 use Rattle.a64_word.specs.declared.instruction.Instruction.TheVariants as instructions
 use Rattle.a64_word.specs.declared.operands.Size.{Size}

@@ -107,9 +107,7 @@ fn probes_stack(instruction: &Instruction) -> bool
 {
     match instruction {
         Instruction::UnsignedOffset(i) => i.rn.number() == STACK && i.imm12 == 0,
-        Instruction::Pair(i) => i.mode == PairMode::Offset
-            && i.rn.number() == STACK
-            && i.imm7 == 0,
+        Instruction::Pair(i) => i.mode == PairMode::Offset && i.rn.number() == STACK && i.imm7 == 0,
         _ => false,
     }
 }

@@ -131,8 +131,10 @@ fn earlier(fault: Fault, other: Option<Fault>) -> Option<Fault>
 {
     match other {
         Some(other)
-            if other.word < fault.word || (other.word == fault.word && other.rule.number() < fault.rule.number()) =>
-            Some(other),
+            if other.word < fault.word
+                || (other.word == fault.word && other.rule.number() < fault.rule.number()) => Some(
+            other,
+        ),
         _ => Some(fault),
     }
 }
