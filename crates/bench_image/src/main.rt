@@ -3,7 +3,9 @@
 #![tactic(auto)]
 
 use anyhow::{Result, bail};
+use judged_page::JudgedPage;
 use lfi_image::{Builder, CompleteImage, read_image, write_image};
+use lfi_module::{Extent, ModuleNumber, PageSize, WordCount};
 use lfi_rules::judge;
 use page_buf::{OpenPage, PAGE_BYTES, SealedPage};
 use std::alloc::Global;
@@ -14,15 +16,15 @@ use std::time::{CpuClock, Duration, Instant};
 /// Where the image is written.
 const PATH: &str = "bench.img";
 
-/// The words of the longest module.
-const MOST_WORDS: u32 = 4_194_304;
+/// NOP.
+const NOP: [u8; 4] = [0x1F, 0x20, 0x03, 0xD5];
 
 /// More than any gap between the pages of an image, so that it is taken from behind them.
 const BEHIND_BYTES: usize = 65_536;
 
-/// A page of so many NOPs, at most 1,024.
+/// A page of so many NOPs, at most those of a full page.
 fn page(alloc: Global, words: usize) -> Result<SealedPage> {
-    let code = [0x1F, 0x20, 0x03, 0xD5].repeat(alloc, PAGE_BYTES / 4)?;
+    let code = NOP.repeat(alloc, PAGE_BYTES / 4)?;
     let mut page = OpenPage::new(alloc)?;
     page.write(&code[..words.saturating_mul(4).min(code.len())]);
     match page.seal() {
@@ -33,13 +35,13 @@ fn page(alloc: Global, words: usize) -> Result<SealedPage> {
 
 /// Places the next page of a module, as many NOPs as are due.
 fn append_page(alloc: Global, builder: &mut Builder) -> Result<()> {
-    let due = builder.due();
+    let due = builder.due() as usize;
     let page = page(alloc, due)?;
     if page.len_words() != due {
         bail!("a page has not the words due")
     }
-    let verdict = judge(&page, builder.placed(), builder.words());
-    match builder.append(page, verdict) {
+    let page = JudgedPage::judge(page, builder.placed(), builder.words());
+    match builder.append(page) {
         Ok(()) => Ok(()),
         Err(_) => bail!("the code breaks a rule"),
     }
@@ -47,11 +49,14 @@ fn append_page(alloc: Global, builder: &mut Builder) -> Result<()> {
 
 /// An image of so many NOPs.
 fn image(alloc: Global, words: u32) -> Result<CompleteImage> {
-    if words == 0 || words > MOST_WORDS {
+    let Some(words) = WordCount::new(words) else {
         bail!("no module has so many words")
-    }
-    let mut builder = Builder::new(alloc, words, 0, 0)?;
-    for _ in 0..words.div_ceil(1024) {
+    };
+    let Some(extent) = Extent::new(words, 0) else {
+        bail!("a module has no first word")
+    };
+    let mut builder = Builder::new(alloc, extent, ModuleNumber::at(0))?;
+    for _ in 0..words.pages(PageSize::PROFILE) {
         append_page(alloc, &mut builder)?;
     }
     match builder.finish() {
@@ -63,11 +68,12 @@ fn image(alloc: Global, words: u32) -> Result<CompleteImage> {
 /// How many pages of a module have a fault, where each of its pages but the last is this one.
 fn faulty_pages(page: &SealedPage, words: u32) -> u32 {
     let mut faulty = 0u32;
-    if words > MOST_WORDS {
+    if words > WordCount::MOST.number() {
         return 0;
     }
-    for i in 0..words / 1024 {
-        let first = 1024 * i;
+    let size = PageSize::PROFILE.words();
+    for i in 0..words / size {
+        let first = size * i;
         let last = page.len_words() as u32 + first;
         if last <= words && judge(page, first, words).inner.is_some() {
             faulty = faulty.saturating_add(1);
@@ -147,7 +153,7 @@ fn read(rt: &HostRuntime, words: u32) -> Result<Spent> {
         bail!("the image was not read")
     };
     let spent = since.spent(rt)?;
-    if image.words() != words {
+    if image.words().number() != words {
         bail!("the image has not its words")
     }
     Ok(spent)
