@@ -1,0 +1,6 @@
+pub mod Checking
+pub mod Endings
+pub mod Failures
+pub mod Images
+pub mod Reporting
+pub mod Runs
