@@ -1,5 +1,6 @@
 pub mod Checking
 pub mod Endings
+pub mod Errors
 pub mod Failures
 pub mod Images
 pub mod Reporting

@@ -1,5 +1,5 @@
 -- What a run of the program finds, writes and ends with. (this project's profile: docs/DEFINITIONS.md, "The program")
-use Rattle.std.specs.Prelude.{◌≡◌, ◌⊎◌, ℕ, Bool, true, false, List, [], ◌++◌, Option, Some, None, IfSome, codes, option_map}
+use Rattle.std.specs.Prelude.{◌≡◌, ◌⊎◌, ℕ, Bool, true, false, List, [], ◌++◌, Option, Some, None, IfSome, codes, option_map, string_bytes, ⊤}
 use Rattle.std.specs.Io.KnownBytes.{Appends}
 use Rattle.lfi_image.specs.Image.{Image}
 use Rattle.lfi_stage.specs.declared.report.ModuleReport.{ModuleReport}
@@ -12,6 +12,7 @@ use Rattle.lfi_commands.specs.declared.verdict.Verdict.{Verdict}
 use Rattle.lfi_commands.specs.declared.ending.Ending.{Ending}
 use Rattle.lfi_commands.specs.declared.ending.Ending.TheVariants.{Well, NotWell, WrongWords, Failed}
 use Rattle.lfi_commands.specs.declared.failure.Failure.{Failure}
+use Rattle.lfi_commands.specs.declared.failure.Failure.TheVariants.{CannotRead, CannotWrite, NoMemory}
 use Rattle.lfi_commands.specs.Checking.{Checks, text_of}
 use Rattle.lfi_commands.specs.Endings.{ending_of, EndsBy}
 use Rattle.lfi_commands.specs.Failures.{failure_line, Told}
@@ -72,13 +73,19 @@ input_of (Load folder stream) = stream.now
 abbrev pub CarriesOutWords : List (List ℕ) → (List ℕ → Option (List ℕ)) → (old new : Left) → Ending → Type 0
 CarriesOutWords words file_at old new ending = (line : Line) × IsLine words line × CarriesOut line file_at old new ending
 
+-- It names the file that the words want to be read, or the standard output, or tells that there was no memory.
+abbrev pub FailsBy : List (List ℕ) → Failure → Type 0
+FailsBy words (CannotRead told) = (line : Line) × IsLine words line × (string_bytes told ≡ input_of line)
+FailsBy words (CannotWrite told) = string_bytes told ≡ codes "standard output"
+FailsBy words NoMemory = ⊤
+
 -- A failure was told, unless it is lost, and no file was put.
-abbrev pub TellsFailure : (old new : Left) → Type 0
-TellsFailure old new = (failure : Failure) × Told new.is_lost old.errors new.errors (failure_line failure) × (new.put ≡ old.put)
+abbrev pub TellsFailure : List (List ℕ) → (old new : Left) → Type 0
+TellsFailure words old new = (failure : Failure) × FailsBy words failure × Told new.is_lost old.errors new.errors (failure_line failure) × (new.put ≡ old.put)
 
 -- What a run of the program on these words did, by its ending.
 abbrev pub Runs : List (List ℕ) → (List ℕ → Option (List ℕ)) → (old new : Left) → Ending → Type 0
 Runs words file_at old new Well = (AsksHelp words × (new.put ≡ old.put) × (new.errors ≡ old.errors)) ⊎ CarriesOutWords words file_at old new Well
 Runs words file_at old new NotWell = CarriesOutWords words file_at old new NotWell
 Runs words file_at old new WrongWords = AreWrong words × (new.out ≡ old.out) × (new.put ≡ old.put)
-Runs words file_at old new Failed = TellsFailure old new ⊎ CarriesOutWords words file_at old new Failed
+Runs words file_at old new Failed = TellsFailure words old new ⊎ CarriesOutWords words file_at old new Failed

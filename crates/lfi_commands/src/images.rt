@@ -2,6 +2,7 @@
 
 ghost use Rattle.std.specs.Prelude.{◌≡◌, ◌∷◌, [], true, IfOk, IfErr, OnOk, OnErr, string_bytes};
 ghost use Rattle.lfi_commands.specs.Images.{image_file, image_in, images_in, image_path_of, Puts, WritesImages};
+ghost use Rattle.lfi_commands.specs.Errors.{is_lost_of, writer_of};
 ghost use Rattle.lfi_commands.specs.Failures.{TellsWrite};
 
 use crate::disk::Disk;
@@ -48,8 +49,8 @@ fn write_image_of<D: Disk, E: Write>(
     errors: &mut Errors<E>,
 ) -> bool
     ensures written { WritesImages folder.now (image_in state.now) (D.put_files disk.old) (D.put_files disk.new)
-        errors.new.is_lost (E.contents errors.old.writer) (E.contents errors.new.writer) result }
-    ensures lost { errors.old.is_lost ≡ true → errors.new.is_lost ≡ true }
+        (is_lost_of errors.new) (E.contents (writer_of errors.old)) (E.contents (writer_of errors.new)) result }
+    ensures lost { is_lost_of errors.old ≡ true → is_lost_of errors.new ≡ true }
 {
     let ImageState::Whole(image) = state else {
         return true;
@@ -73,8 +74,8 @@ pub fn write_images<D: Disk, E: Write>(
     errors: &mut Errors<E>,
 ) -> bool
     ensures written { WritesImages folder.now (images_in modules.now) (D.put_files disk.old) (D.put_files disk.new)
-        errors.new.is_lost (E.contents errors.old.writer) (E.contents errors.new.writer) result }
-    ensures lost { errors.old.is_lost ≡ true → errors.new.is_lost ≡ true }
+        (is_lost_of errors.new) (E.contents (writer_of errors.old)) (E.contents (writer_of errors.new)) result }
+    ensures lost { is_lost_of errors.old ≡ true → is_lost_of errors.new ≡ true }
 {
     let mut all = true;
     for told in modules {

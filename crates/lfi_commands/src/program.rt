@@ -2,6 +2,7 @@
 
 ghost use Rattle.std.specs.Prelude.{◌≡◌, ℕ, List, Option, Some, IfOk, IfErr, IfSome, OnErr, map, option_map, string_bytes};
 ghost use Rattle.lfi_command_line.specs.CommandLine.{IsLineFault};
+ghost use Rattle.lfi_commands.specs.Errors.{is_lost_of, writer_of};
 ghost use Rattle.lfi_commands.specs.Failures.{FailsOn, TellsRead};
 ghost use Rattle.lfi_commands.specs.Images.{WritesImages};
 ghost use Rattle.lfi_commands.specs.Runs.{asked_images, folder_or_none, left, input_of, FindsVerdict, FindsReport, CarriesOut, Runs};
@@ -55,7 +56,7 @@ fn write_asked_images<D: Disk, E: Write>(
 ) -> bool
     ensures { let asked = option_map (λ s. s.now) folder.entry in
         WritesImages (folder_or_none asked) (asked_images asked modules.now) (D.put_files disk.old) (D.put_files disk.new)
-        errors.new.is_lost (E.contents errors.old.writer) (E.contents errors.new.writer) result }
+        (is_lost_of errors.new) (E.contents (writer_of errors.old)) (E.contents (writer_of errors.new)) result }
 {
     match folder {
         Some(folder) => write_images(alloc, disk, folder, modules, errors),
@@ -74,8 +75,8 @@ fn run_load<D: Disk, O: Write, E: Write>(
     errors: &mut Errors<E>,
 ) -> Result<Ending, Failure>
     ensures found { IfOk result (FindsReport (D.file_at disk.old path.now) (option_map (λ s. s.now) folder.entry)
-        (left (O.contents out.old) (D.put_files disk.old) errors.old.is_lost (E.contents errors.old.writer))
-        (left (O.contents out.new) (D.put_files disk.new) errors.new.is_lost (E.contents errors.new.writer))) }
+        (left (O.contents out.old) (D.put_files disk.old) (is_lost_of errors.old) (E.contents (writer_of errors.old)))
+        (left (O.contents out.new) (D.put_files disk.new) (is_lost_of errors.new) (E.contents (writer_of errors.new)))) }
     ensures failure { IfErr result (FailsOn path.now) }
     ensures disk { OnErr result (disk.new ≡ disk.old) }
     ensures errors { OnErr result (errors.new ≡ errors.old) }
@@ -101,8 +102,8 @@ fn run<D: Disk, O: Write, E: Write>(
     errors: &mut Errors<E>,
 ) -> Result<Ending, Failure>
     ensures found { IfOk result (CarriesOut line.entry (D.file_at disk.old)
-        (left (O.contents out.old) (D.put_files disk.old) errors.old.is_lost (E.contents errors.old.writer))
-        (left (O.contents out.new) (D.put_files disk.new) errors.new.is_lost (E.contents errors.new.writer))) }
+        (left (O.contents out.old) (D.put_files disk.old) (is_lost_of errors.old) (E.contents (writer_of errors.old)))
+        (left (O.contents out.new) (D.put_files disk.new) (is_lost_of errors.new) (E.contents (writer_of errors.new)))) }
     ensures failure { IfErr result (FailsOn (input_of line.entry)) }
     ensures disk { OnErr result (disk.new ≡ disk.old) }
     ensures errors { OnErr result (errors.new ≡ errors.old) }
@@ -125,8 +126,8 @@ fn tell_fault<O: Write, E: Write>(
 ) -> Ending
     ensures { (words : List (List ℕ)) (file_at : List ℕ → Option (List ℕ)) (put : Option (List (List ℕ × List ℕ))) → IsLineFault words fault.now
         → Runs words file_at
-        (left (O.contents out.old) put errors.old.is_lost (E.contents errors.old.writer))
-        (left (O.contents out.new) put errors.new.is_lost (E.contents errors.new.writer)) result }
+        (left (O.contents out.old) put (is_lost_of errors.old) (E.contents (writer_of errors.old)))
+        (left (O.contents out.new) put (is_lost_of errors.new) (E.contents (writer_of errors.new))) result }
 {
     match fault {
         LineFault::NoMemory => errors.tell(&Failure::NoMemory),
@@ -134,10 +135,12 @@ fn tell_fault<O: Write, E: Write>(
             Ok(()) => return Ending::Well,
             Err(_) => errors.tell(&Failure::writing(alloc, OUTPUT)),
         },
-        LineFault::Wrong(text) => match write!(errors.writer, "{text}") {
-            Ok(()) => return Ending::WrongWords,
-            Err(_) => errors.is_lost = true,
-        },
+        LineFault::Wrong(text) => {
+            errors.write_text(text);
+            if !errors.is_lost() {
+                return Ending::WrongWords;
+            }
+        }
     }
     Ending::Failed
 }
@@ -152,8 +155,8 @@ pub fn run_words<D: Disk, O: Write, E: Write>(
     errors: &mut Errors<E>,
 ) -> Ending
     ensures { Runs (map string_bytes words.now) (D.file_at disk.old)
-        (left (O.contents out.old) (D.put_files disk.old) errors.old.is_lost (E.contents errors.old.writer))
-        (left (O.contents out.new) (D.put_files disk.new) errors.new.is_lost (E.contents errors.new.writer)) result }
+        (left (O.contents out.old) (D.put_files disk.old) (is_lost_of errors.old) (E.contents (writer_of errors.old)))
+        (left (O.contents out.new) (D.put_files disk.new) (is_lost_of errors.new) (E.contents (writer_of errors.new))) result }
 {
     match read_line(alloc, words) {
         Ok(line) => match run(alloc, disk, line, out, errors) {
