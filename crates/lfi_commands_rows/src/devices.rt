@@ -1,7 +1,7 @@
 //! Readers and writers that give and take little, or fail.
 
-use crate::runs::{ONE_RET, ONE_RET_REPORT, RET, begin, words};
-use lfi_commands::{CommandFault, Ending, Errors, SystemDisk, Verdict, check, load, run_words};
+use crate::runs::{ONE_RET, ONE_RET_REPORT, RET, begin, run_over};
+use lfi_commands::{CommandFault, Ending, Errors, SystemDisk, Verdict, check, load};
 use lfi_model::Outcome;
 use std::fs;
 use std::io::{self, Read, Write};
@@ -122,15 +122,14 @@ fn output_that_fails(rt: HostRuntime) -> Result<(), Fail> {
     fs::write(&rt, "written.tmp/written.stream", ONE_RET.as_slice())?;
     for answer in ANSWERS {
         let line = answer.line;
-        let words = words(rt.alloc(), line)?;
         for left in 0..answer.length {
             let mut errors = Errors::new(Vec::new(rt.alloc()));
             let mut disk = SystemDisk::new(&rt);
             let mut out = FullWriter { left };
-            let ending = run_words(rt.alloc(), &mut disk, &words, &mut out, &mut errors);
+            let ending = run_over(rt.alloc(), &mut disk, line, &mut out, &mut errors)?;
             assert!(rt; ending == Ending::Failed, "{line}");
             assert!(rt;
-                errors.writer.as_slice() == b"lfiload: cannot write standard output\n".as_slice(),
+                errors.writer().as_slice() == b"lfiload: cannot write standard output\n".as_slice(),
                 "{line}"
             );
         }
@@ -148,13 +147,12 @@ const UNTOLD: [&str; 3] = [
 #[test]
 fn errors_that_fail(rt: HostRuntime) -> Result<(), Fail> {
     for line in UNTOLD {
-        let words = words(rt.alloc(), line)?;
         let mut errors = Errors::new(FullWriter { left: 0 });
         let mut disk = SystemDisk::new(&rt);
         let mut out = FullWriter { left: 0 };
-        let ending = run_words(rt.alloc(), &mut disk, &words, &mut out, &mut errors);
+        let ending = run_over(rt.alloc(), &mut disk, line, &mut out, &mut errors)?;
         assert!(rt; ending == Ending::Failed, "{line}");
-        assert!(rt; errors.is_lost, "{line}");
+        assert!(rt; errors.is_lost(), "{line}");
     }
     Ok(())
 }

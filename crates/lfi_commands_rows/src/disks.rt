@@ -2,8 +2,8 @@
 
 ghost use Rattle.std.specs.Prelude.{◌≡◌, Some, map, string_bytes};
 
-use crate::runs::{ONE_RET, ONE_RET_IMAGE, ONE_RET_REPORT, words};
-use lfi_commands::{Disk, Ending, Errors, run_words};
+use crate::runs::{ONE_RET, ONE_RET_IMAGE, ONE_RET_REPORT, run_over};
+use lfi_commands::{Disk, Ending, Errors};
 use lfi_image::{CompleteImage, write_image};
 use std::io;
 use std::test::Fail;
@@ -42,17 +42,21 @@ impl<'a> Disk for MemoryDisk<'a> {
         let alloc = *self.put.allocator();
         let path = String::from_str(alloc, path)?;
         let mut bytes = Vec::new(alloc);
-        if write_image(image, &mut bytes).is_err() {
-            return Err(io::Error::from(io::ErrorKind::OutOfMemory));
+        match write_image(image, &mut bytes) {
+            Ok(()) => {
+                self.put.push(PutFile { path, bytes })?;
+                Ok(())
+            }
+            Err(_) => Err(io::Error::from(io::ErrorKind::OutOfMemory)),
         }
-        self.put.push(PutFile { path, bytes })?;
-        Ok(())
     }
 }
 
+/// The words of the runs.
+const LINE: &str = "lfiload load --out folder any.stream";
+
 #[test]
 fn a_disk_with_room(rt: HostRuntime) -> Result<(), Fail> {
-    let words = words(rt.alloc(), "lfiload load --out folder any.stream")?;
     let mut out = Vec::new(rt.alloc());
     let mut errors = Errors::new(Vec::new(rt.alloc()));
     let mut disk = MemoryDisk {
@@ -60,10 +64,10 @@ fn a_disk_with_room(rt: HostRuntime) -> Result<(), Fail> {
         put: Vec::new(rt.alloc()),
         room: 1,
     };
-    let ending = run_words(rt.alloc(), &mut disk, &words, &mut out, &mut errors);
+    let ending = run_over(rt.alloc(), &mut disk, LINE, &mut out, &mut errors)?;
     assert!(rt; ending == Ending::Well);
     assert!(rt; out.as_slice() == ONE_RET_REPORT.as_bytes());
-    assert!(rt; errors.writer.is_empty());
+    assert!(rt; errors.writer().is_empty());
     assert!(rt; disk.put.len() == 1 && disk.put[0].path.as_str() == "folder/module-00.img");
     assert!(rt; disk.put[0].bytes.as_slice() == ONE_RET_IMAGE.as_slice());
     Ok(())
@@ -71,7 +75,6 @@ fn a_disk_with_room(rt: HostRuntime) -> Result<(), Fail> {
 
 #[test]
 fn a_full_disk(rt: HostRuntime) -> Result<(), Fail> {
-    let words = words(rt.alloc(), "lfiload load --out folder any.stream")?;
     let mut out = Vec::new(rt.alloc());
     let mut errors = Errors::new(Vec::new(rt.alloc()));
     let mut disk = MemoryDisk {
@@ -79,11 +82,11 @@ fn a_full_disk(rt: HostRuntime) -> Result<(), Fail> {
         put: Vec::new(rt.alloc()),
         room: 0,
     };
-    let ending = run_words(rt.alloc(), &mut disk, &words, &mut out, &mut errors);
+    let ending = run_over(rt.alloc(), &mut disk, LINE, &mut out, &mut errors)?;
     assert!(rt; ending == Ending::Failed);
     assert!(rt; out.as_slice() == ONE_RET_REPORT.as_bytes());
     assert!(rt;
-        errors.writer.as_slice() == b"lfiload: cannot write folder/module-00.img\n".as_slice()
+        errors.writer().as_slice() == b"lfiload: cannot write folder/module-00.img\n".as_slice()
     );
     assert!(rt; disk.put.is_empty());
     Ok(())

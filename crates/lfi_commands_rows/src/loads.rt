@@ -3,6 +3,7 @@
 use crate::runs::{ONE_RET, ONE_RET_IMAGE, ONE_RET_REPORT, RET, Run, assert_runs, begin, run_line};
 use std::alloc::{AllocError, Global};
 use std::fs;
+use std::os::unix::fs::symlink;
 use std::test::Fail;
 
 const RUNS: [Run; 7] = [
@@ -67,6 +68,24 @@ fn short_streams(rt: HostRuntime) -> Result<(), Fail> {
     let image = fs::read(&rt, "loaded.tmp/images/module-00.img")?;
     assert!(rt; image.as_slice() == ONE_RET_IMAGE.as_slice());
     fs::remove_dir_all(&rt, "loaded.tmp")?;
+    Ok(())
+}
+
+#[test]
+fn a_full_device(rt: HostRuntime) -> Result<(), Fail> {
+    begin(&rt, "device.tmp")?;
+    fs::write(&rt, "device.tmp/one_ret.stream", ONE_RET.as_slice())?;
+    symlink(&rt, "/dev/full", "device.tmp/module-00.img")?;
+    let ran = run_line(
+        &rt,
+        "lfiload load --out device.tmp device.tmp/one_ret.stream",
+    )?;
+    assert!(rt; ran.status == 3);
+    assert!(rt; ran.out.as_slice() == ONE_RET_REPORT.as_bytes());
+    assert!(rt;
+        ran.err.as_slice() == b"lfiload: cannot write device.tmp/module-00.img\n".as_slice()
+    );
+    fs::remove_dir_all(&rt, "device.tmp")?;
     Ok(())
 }
 

@@ -1,9 +1,9 @@
 //! Runs of the program over the system's files, and what they must answer.
 
-use lfi_commands::{Errors, SystemDisk, run_words};
+use lfi_commands::{Disk, Ending, Errors, SystemDisk, run_words};
 use std::alloc::{AllocError, Global};
 use std::fs::{self, Files};
-use std::io;
+use std::io::{self, Write};
 use std::process::Abort;
 use std::test::Fail;
 
@@ -45,23 +45,35 @@ pub struct Ran {
 }
 
 /// The words of a line, which stand a space apart.
-pub fn words(alloc: Global, line: &str) -> Result<Vec<String>, AllocError> {
+fn words(alloc: Global, line: &str) -> Result<Vec<String>, AllocError> {
     line.split(' ')
         .map(|word| String::from_str(alloc, word))
         .try_collect(alloc)
 }
 
+/// Runs the program on the words of a line, over any disk and writers.
+pub fn run_over<D: Disk, O: Write, E: Write>(
+    alloc: Global,
+    disk: &mut D,
+    line: &str,
+    out: &mut O,
+    errors: &mut Errors<E>,
+) -> Result<Ending, AllocError> {
+    let words = words(alloc, line)?;
+    Ok(run_words(alloc, disk, &words, out, errors))
+}
+
 /// Runs the program on the words of a line, over the system's files.
 pub fn run_line<R: Files + AllocGlobal>(rt: &R, line: &str) -> Result<Ran, AllocError> {
-    let words = words(rt.alloc(), line)?;
     let mut out = Vec::new(rt.alloc());
-    let mut errors = Errors::new(Vec::new(rt.alloc()));
+    let mut err = Vec::new(rt.alloc());
+    let mut errors = Errors::new(&mut err);
     let mut disk = SystemDisk::new(rt);
-    let ending = run_words(rt.alloc(), &mut disk, &words, &mut out, &mut errors);
+    let ending = run_over(rt.alloc(), &mut disk, line, &mut out, &mut errors)?;
     Ok(Ran {
         status: ending.status(),
         out,
-        err: errors.writer,
+        err,
     })
 }
 
