@@ -1,20 +1,7 @@
 //! `lfiload`: checks the code of modules, and loads modules from streams.
 #![tactic(auto)]
 
-mod check;
-mod code;
-mod command_line;
-mod commands;
-mod failure;
-mod help;
-mod images;
-mod program;
-mod report;
-#[cfg(test)]
-mod tests;
-
-use failure::Failure;
-use program::run_words;
+use lfi_commands::{Ending, Errors, Failure, SystemDisk, run_words};
 use std::process::ExitCode;
 use std::{env, io};
 
@@ -24,10 +11,22 @@ fn words(rt: &HostRuntime) -> io::Result<Vec<String>> {
 }
 
 fn main(rt: HostRuntime) -> ExitCode {
-    let mut err = rt.stderr();
-    let status = match words(&rt) {
-        Ok(words) => run_words(&rt, &words, &mut io::writer(&rt), &mut err),
-        Err(error) => Failure::reading(rt.alloc(), "the command line", error).tell(&mut err),
+    let mut errors = Errors::new(rt.stderr());
+    let ending = match words(&rt) {
+        Ok(words) => {
+            let mut disk = SystemDisk::new(&rt);
+            run_words(
+                rt.alloc(),
+                &mut disk,
+                &words,
+                &mut io::writer(&rt),
+                &mut errors,
+            )
+        }
+        Err(error) => {
+            errors.tell(&Failure::reading(rt.alloc(), "the command line", error));
+            Ending::Failed
+        }
     };
-    ExitCode::from(status)
+    ExitCode::from(ending.status())
 }

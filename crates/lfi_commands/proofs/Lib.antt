@@ -1,0 +1,4 @@
+mod Fates
+mod Lines
+mod Paths
+mod Spelled

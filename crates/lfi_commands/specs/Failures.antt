@@ -1,0 +1,51 @@
+-- What `lfiload` tells of a failure. (this project's profile: docs/DEFINITIONS.md, "The program")
+use Rattle.std.specs.Prelude.{◌≡◌, ⊤, ℕ, Bool, true, false, List, ◌++◌, Option, codes, string_bytes}
+use Rattle.std.specs.List.{flat_map}
+use Rattle.std.specs.Io.KnownBytes.{Appends}
+use Rattle.lfi_commands.specs.declared.commands.CommandFault.{CommandFault}
+use Rattle.lfi_commands.specs.declared.commands.CommandFault.TheVariants as fault
+use Rattle.lfi_commands.specs.declared.failure.Failure.{Failure}
+use Rattle.lfi_commands.specs.declared.failure.Failure.TheVariants.{CannotRead, CannotWrite, NoMemory}
+
+-- a failure in words
+abbrev pub failure_text : Failure → List ℕ
+failure_text (CannotRead path) = codes "cannot read " ++ string_bytes path
+failure_text (CannotWrite path) = codes "cannot write " ++ string_bytes path
+failure_text NoMemory = codes "no memory"
+
+-- its line
+abbrev pub failure_line : Failure → List ℕ
+failure_line failure = codes "lfiload: " ++ failure_text failure ++ codes "\n"
+
+-- the lines of several
+abbrev pub failure_lines : List Failure → List ℕ
+failure_lines failures = flat_map failure_line failures
+
+-- it names this path as one that can't be read, or tells that there was no memory
+abbrev pub TellsRead : List ℕ → Failure → Type 0
+TellsRead path (CannotRead told) = string_bytes told ≡ path
+TellsRead path (CannotWrite told) = ⊥
+TellsRead path NoMemory = ⊤
+
+-- it names this path as one that can't be written, or tells that there was no memory
+abbrev pub TellsWrite : List ℕ → Failure → Type 0
+TellsWrite path (CannotRead told) = ⊥
+TellsWrite path (CannotWrite told) = string_bytes told ≡ path
+TellsWrite path NoMemory = ⊤
+
+-- it tells of a command's fault, where the input is the file at this path
+abbrev pub TellsOf : CommandFault → List ℕ → Failure → Type 0
+TellsOf fault.NoMemory path failure = failure ≡ NoMemory
+TellsOf fault.NotRead path failure = TellsRead path failure
+TellsOf fault.NotWritten path failure = TellsWrite (codes "standard output") failure
+
+-- it tells of a fault of a command whose input is the file at this path
+abbrev pub FailsOn : List ℕ → Failure → Type 0
+FailsOn path (CannotRead told) = string_bytes told ≡ path
+FailsOn path (CannotWrite told) = string_bytes told ≡ codes "standard output"
+FailsOn path NoMemory = ⊤
+
+-- These lines were written to the errors, unless something is lost.
+abbrev pub Told : Bool → (old new : Option (List ℕ)) → List ℕ → Type 0
+Told true old new lines = ⊤
+Told false old new lines = Appends old new lines

@@ -1,0 +1,7 @@
+pub mod Checking
+pub mod Endings
+pub mod Errors
+pub mod Failures
+pub mod Images
+pub mod Reporting
+pub mod Runs

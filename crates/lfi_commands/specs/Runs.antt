@@ -1,0 +1,91 @@
+-- What a run of the program finds, writes and ends with. (this project's profile: docs/DEFINITIONS.md, "The program")
+use Rattle.std.specs.Prelude.{◌≡◌, ◌⊎◌, ℕ, Bool, true, false, List, [], ◌++◌, Option, Some, None, IfSome, codes, option_map, string_bytes, ⊤}
+use Rattle.std.specs.Io.KnownBytes.{Appends}
+use Rattle.lfi_image.specs.Image.{Image}
+use Rattle.lfi_stage.specs.declared.report.ModuleReport.{ModuleReport}
+use Rattle.lfi_stage.specs.declared.settle.Report.{Report}
+use Rattle.lfi_stage.specs.Stages.{IsLoaded}
+use Rattle.lfi_command_line.specs.declared.command_line.Line.{Line}
+use Rattle.lfi_command_line.specs.declared.command_line.Line.TheVariants.{Check, Load}
+use Rattle.lfi_command_line.specs.CommandLine.{IsLine, AsksHelp, AreWrong}
+use Rattle.lfi_commands.specs.declared.verdict.Verdict.{Verdict}
+use Rattle.lfi_commands.specs.declared.ending.Ending.{Ending}
+use Rattle.lfi_commands.specs.declared.ending.Ending.TheVariants.{Well, NotWell, WrongWords, Failed}
+use Rattle.lfi_commands.specs.declared.failure.Failure.{Failure}
+use Rattle.lfi_commands.specs.declared.failure.Failure.TheVariants.{CannotRead, CannotWrite, NoMemory}
+use Rattle.lfi_commands.specs.Checking.{Checks, text_of}
+use Rattle.lfi_commands.specs.Endings.{ending_of, EndsBy}
+use Rattle.lfi_commands.specs.Failures.{failure_line, Told}
+use Rattle.lfi_commands.specs.Images.{images_in, WritesImages}
+use Rattle.lfi_commands.specs.Reporting.{report_text}
+
+-- Of code that has these bytes, where they are known, one verdict was found; its line was written, and it gives the ending.
+pub record FindsVerdict (bytes out_old out_new : Option (List ℕ)) (ending : Ending) : Type 0 where
+  pub verdict : Verdict
+  pub checks : IfSome bytes (λ xs. Checks xs verdict)
+  pub written : Appends out_old out_new (text_of verdict ++ codes "\n")
+  pub ends : ending ≡ ending_of verdict
+
+-- the ending of a load: by the report, where all images were put
+abbrev pub EndsLoad : Report → Bool → Ending → Type 0
+EndsLoad report true ending = EndsBy report ending
+EndsLoad report false ending = ending ≡ Failed
+
+-- the images that are asked for: all whole ones where a folder is named
+abbrev pub asked_images : Option (List ℕ) → List ModuleReport → List Image
+asked_images None modules = []
+asked_images (Some folder) modules = images_in modules
+
+abbrev pub folder_or_none : Option (List ℕ) → List ℕ
+folder_or_none None = []
+folder_or_none (Some folder) = folder
+
+-- what a run has written: its output, the files put, its errors, and whether some of these are lost
+pub record Left : Type 0 where
+  pub out : Option (List ℕ)
+  pub put : Option (List (List ℕ × List ℕ))
+  pub is_lost : Bool
+  pub errors : Option (List ℕ)
+
+abbrev pub left : Option (List ℕ) → Option (List (List ℕ × List ℕ)) → Bool → Option (List ℕ) → Left
+left out put is_lost errors = record { out = out; put = put; is_lost = is_lost; errors = errors }
+
+-- Of a stream that has these bytes, where they are known, one report was found; its text was written, its images were put into the folder, and it gives the ending.
+pub record FindsReport (bytes folder : Option (List ℕ)) (old new : Left) (ending : Ending) : Type 0 where
+  pub report : Report
+  pub loaded : IfSome bytes (λ xs. IsLoaded xs report)
+  pub written : Appends old.out new.out (report_text report)
+  pub all : Bool
+  pub images : WritesImages (folder_or_none folder) (asked_images folder report.modules) old.put new.put new.is_lost old.errors new.errors all
+  pub ends : EndsLoad report all ending
+
+-- What the line asks for was carried out, with this ending.
+abbrev pub CarriesOut : Line → (List ℕ → Option (List ℕ)) → (old new : Left) → Ending → Type 0
+CarriesOut (Check file) file_at old new ending = FindsVerdict (file_at file.now) old.out new.out ending × (new.put ≡ old.put) × (new.errors ≡ old.errors)
+CarriesOut (Load folder stream) file_at old new ending = FindsReport (file_at stream.now) (option_map (λ s. s.now) folder) old new ending
+
+-- the file that the line wants to be read
+abbrev pub input_of : Line → List ℕ
+input_of (Check file) = file.now
+input_of (Load folder stream) = stream.now
+
+-- The words ask for a line, and it was carried out.
+abbrev pub CarriesOutWords : List (List ℕ) → (List ℕ → Option (List ℕ)) → (old new : Left) → Ending → Type 0
+CarriesOutWords words file_at old new ending = (line : Line) × IsLine words line × CarriesOut line file_at old new ending
+
+-- It names the file that the words want to be read, or the standard output, or tells that there was no memory.
+abbrev pub FailsBy : List (List ℕ) → Failure → Type 0
+FailsBy words (CannotRead told) = (line : Line) × IsLine words line × (string_bytes told ≡ input_of line)
+FailsBy words (CannotWrite told) = string_bytes told ≡ codes "standard output"
+FailsBy words NoMemory = ⊤
+
+-- A failure was told, unless it is lost, and no file was put.
+abbrev pub TellsFailure : List (List ℕ) → (old new : Left) → Type 0
+TellsFailure words old new = (failure : Failure) × FailsBy words failure × Told new.is_lost old.errors new.errors (failure_line failure) × (new.put ≡ old.put)
+
+-- What a run of the program on these words did, by its ending.
+abbrev pub Runs : List (List ℕ) → (List ℕ → Option (List ℕ)) → (old new : Left) → Ending → Type 0
+Runs words file_at old new Well = (AsksHelp words × (new.put ≡ old.put) × (new.errors ≡ old.errors)) ⊎ CarriesOutWords words file_at old new Well
+Runs words file_at old new NotWell = CarriesOutWords words file_at old new NotWell
+Runs words file_at old new WrongWords = AreWrong words × (new.out ≡ old.out) × (new.put ≡ old.put)
+Runs words file_at old new Failed = TellsFailure words old new ⊎ CarriesOutWords words file_at old new Failed

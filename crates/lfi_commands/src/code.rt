@@ -1,0 +1,78 @@
+//! The code of a module, as a file holds it.
+
+ghost use Rattle.std.specs.Prelude.{◌≡◌, ℕ, ◌<◌, ◌≤◌, List, length, slice_index, IfSome, IfNone};
+ghost use Rattle.page_buf.specs.Spelled.{words_of};
+ghost use Rattle.lfi_commands.specs.Checking.{IsCode};
+
+use a64_word::Words;
+use std::marker::Model;
+
+/// The most bytes of code that a module has: 4,194,304 words.
+pub const MOST_BYTES: usize = 16_777_216;
+
+/// The bytes of a word.
+const WORD_BYTES: usize = 4;
+
+/// Code: whole words of 32 bits, 1 to 4,194,304 of them, each with its lowest byte first.
+///
+/// A contract sees it as the list of its bytes.
+#[derive(Drop)]
+pub struct Code<'a> {
+    bytes: &'a [u8],
+}
+
+impl<'a> Model for Code<'a> {
+    ghost use Rattle.std.specs.Prelude.{List, ℕ};
+    ghost use Rattle.lfi_commands.specs.Checking.{IsCode};
+
+    ghost Value = { List ℕ };
+
+    ghost view = { λ c. c.bytes.now };
+
+    ghost invariant = { λ c. IsCode c.bytes.now };
+}
+
+impl<'a> Code<'a> {
+    /// These bytes as code. `None` where they aren't: there are none, they aren't whole words, or
+    /// they are more than 16,777,216.
+    pub fn new(bytes: &'a [u8]) -> Option<Code<'a>>
+        ensures some { IfSome result (λ code. IsCode bytes.entry.now × (code ≡ bytes.entry.now)) }
+        ensures none { IfNone result (¬ (IsCode bytes.entry.now)) }
+    {
+        if bytes.is_empty() || bytes.len() % WORD_BYTES != 0 || bytes.len() > MOST_BYTES {
+            return None;
+        }
+        Some(Code { bytes })
+    }
+
+    /// How many words there are: 1 to 4,194,304.
+    pub fn len_words(&self) -> usize
+        ensures count { result ≡ length (words_of self.now) }
+        ensures range { (1 ≤ result) × (result ≤ 4194304) }
+    {
+        self.bytes.len() / WORD_BYTES
+    }
+
+    /// The word at `i`, its lowest byte first.
+    #[tactic(auto, using(crate::proofs::Spelled::fit))]
+    fn word_at(&self, i: usize) -> u32
+        requires { i < length (words_of self.now) }
+        ensures { result ≡ slice_index (words_of self.now) i }
+    {
+        let bytes = self.bytes;
+        let at = WORD_BYTES * i;
+        u32::from_le_bytes([bytes[at], bytes[at + 1], bytes[at + 2], bytes[at + 3]])
+    }
+}
+
+impl Words for Code<'_> {
+    ghost words = { words_of };
+
+    fn count(&self) -> usize {
+        self.len_words()
+    }
+
+    fn word(&self, i: usize) -> u32 {
+        self.word_at(i)
+    }
+}

@@ -1,0 +1,67 @@
+//! The files that the commands read and write.
+
+ghost use Rattle.std.specs.Prelude.{◌≡◌, ℕ, List, [], ◌∷◌, Option, Some, None, IfSome, IfOk, OnOk, OnErr};
+ghost use Rattle.lfi_image.specs.Image.{file_of};
+ghost use Rattle.lfi_commands.specs.Images.{Puts};
+
+use lfi_image::{CompleteImage, write_image};
+use std::fs::{File, Files};
+use std::io::{self, Read};
+
+/// Where the commands find their input, and put the images.
+pub trait Disk {
+    /// What reads a file.
+    type Reader: Read + Drop;
+
+    /// The bytes of the file at a path, where they are known.
+    ghost file_at: { Self → List ℕ → Option (List ℕ) } = { λ _ _. None };
+
+    /// The paths and bytes of the files that were put there, the oldest first, where they are known.
+    ghost put_files: { Self → Option (List (List ℕ × List ℕ)) } = { λ _. None };
+
+    /// Opens the file at this path.
+    ///
+    /// # Errors
+    ///
+    /// Where there is none that can be read, or no memory.
+    fn open(&self, path: &str) -> io::Result<Self::Reader>
+        ensures { IfOk result (λ reader. IfSome (file_at self.now path.now) (λ bytes. Self.Reader.remaining reader ≡ Some bytes)) };
+
+    /// Puts the file of an image at this path, in place of one that is there.
+    ///
+    /// # Errors
+    ///
+    /// Where it can't be written whole; a beginning of it may then be there.
+    fn put_image(&mut self, path: &str, image: &CompleteImage) -> io::Result<()>
+        ensures ok { OnOk result (Puts (put_files self.old) (put_files self.new) ((path.now, file_of image.now) ∷ [])) }
+        ensures err { OnErr result (put_files self.new ≡ put_files self.old) };
+}
+
+/// The system's files. It tells contracts nothing of their bytes.
+#[derive(Drop)]
+pub struct SystemDisk<'a, R> {
+    rt: &'a R,
+}
+
+impl<'a, R: Files> SystemDisk<'a, R> {
+    /// The files that this runtime reaches.
+    pub fn new(rt: &'a R) -> SystemDisk<'a, R> {
+        SystemDisk { rt }
+    }
+}
+
+impl<R: Files> Disk for SystemDisk<'_, R> {
+    type Reader = R::File;
+
+    fn open(&self, path: &str) -> io::Result<R::File> {
+        File::open(self.rt, path)
+    }
+
+    fn put_image(&mut self, path: &str, image: &CompleteImage) -> io::Result<()> {
+        let mut file = File::create(self.rt, path)?;
+        match write_image(image, &mut file) {
+            Ok(()) => Ok(()),
+            Err(_) => Err(io::Error::from(io::ErrorKind::Other)),
+        }
+    }
+}

@@ -1,0 +1,65 @@
+//! Where the program tells what went wrong.
+
+ghost use Rattle.std.specs.Prelude.{◌≡◌, false, true, IfSome};
+ghost use Rattle.lfi_commands.specs.Errors.{is_lost_of, writer_of};
+ghost use Rattle.lfi_commands.specs.Failures.{failure_line, Told};
+
+use crate::failure::Failure;
+use std::fmt::Display;
+use std::io::Write;
+
+/// The standard error, or what stands for it. What can't be written there is dropped, and it is kept that something was.
+#[derive(Drop)]
+pub struct Errors<W> {
+    writer: W,
+    is_lost: bool,
+}
+
+impl<W> Errors<W> {
+    /// Over this writer, to which nothing was told yet.
+    pub fn new(writer: W) -> Errors<W>
+        ensures writer { writer_of result ≡ writer }
+        ensures lost { is_lost_of result ≡ false }
+    {
+        Errors {
+            writer,
+            is_lost: false,
+        }
+    }
+
+    /// The writer.
+    pub fn writer(&self) -> &W
+        ensures { result.now ≡ writer_of self.now }
+    {
+        &self.writer
+    }
+
+    /// Whether something could not be written.
+    pub fn is_lost(&self) -> bool
+        ensures { result ≡ is_lost_of self.now }
+    {
+        self.is_lost
+    }
+}
+
+impl<W: Write> Errors<W> {
+    /// Tells of a failure by a line.
+    pub fn tell(&mut self, failure: &Failure)
+        ensures told { Told (is_lost_of self.new) (W.contents (writer_of self.old)) (W.contents (writer_of self.new)) (failure_line failure.now) }
+        ensures lost { is_lost_of self.old ≡ true → is_lost_of self.new ≡ true }
+    {
+        if writeln!(self.writer, "lfiload: {failure}").is_err() {
+            self.is_lost = true;
+        }
+    }
+
+    /// Writes a text as it is.
+    pub fn write_text<T: Display + Drop>(&mut self, text: T)
+        ensures told { IfSome (T.output text) (Told (is_lost_of self.new) (W.contents (writer_of self.old)) (W.contents (writer_of self.new))) }
+        ensures lost { is_lost_of self.old ≡ true → is_lost_of self.new ≡ true }
+    {
+        if write!(self.writer, "{text}").is_err() {
+            self.is_lost = true;
+        }
+    }
+}

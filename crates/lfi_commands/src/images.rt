@@ -1,0 +1,85 @@
+//! The files of whole images.
+
+ghost use Rattle.std.specs.Prelude.{◌≡◌, ◌∷◌, [], true, IfOk, IfErr, OnOk, OnErr, string_bytes};
+ghost use Rattle.lfi_commands.specs.Images.{image_file, image_in, images_in, image_path_of, Puts, WritesImages};
+ghost use Rattle.lfi_commands.specs.Errors.{is_lost_of, writer_of};
+ghost use Rattle.lfi_commands.specs.Failures.{TellsWrite};
+
+use crate::disk::Disk;
+use crate::errors::Errors;
+use crate::failure::Failure;
+use lfi_image::CompleteImage;
+use lfi_stage::report::{ImageState, ModuleReport};
+use std::alloc::{AllocError, Global};
+use std::io::Write;
+
+/// The path of an image in this folder, by its own slot.
+fn image_path(alloc: Global, folder: &str, image: &CompleteImage) -> Result<String, AllocError>
+    ensures { IfOk result (λ path. string_bytes path ≡ image_path_of folder.now image.now.slot) }
+{
+    let slot = image.slot();
+    format!(in alloc; "{folder}/module-{slot:02}.img")
+}
+
+/// Puts an image into this folder.
+fn put<D: Disk>(
+    alloc: Global,
+    disk: &mut D,
+    folder: &str,
+    image: &CompleteImage,
+) -> Result<(), Failure>
+    ensures ok { OnOk result (Puts (D.put_files disk.old) (D.put_files disk.new) (image_file folder.now image.now ∷ [])) }
+    ensures err { OnErr result (D.put_files disk.new ≡ D.put_files disk.old) }
+    ensures failure { IfErr result (TellsWrite (image_path_of folder.now image.now.slot)) }
+{
+    let path = image_path(alloc, folder, image)?;
+    match disk.put_image(path.as_str(), image) {
+        Ok(()) => Ok(()),
+        Err(_) => Err(Failure::writing(alloc, path.as_str())),
+    }
+}
+
+/// Writes the image of a module, where it is whole, to its file in this folder. It tells of it where it can't be
+/// written, and answers whether it was.
+fn write_image_of<D: Disk, E: Write>(
+    alloc: Global,
+    disk: &mut D,
+    folder: &str,
+    state: &ImageState,
+    errors: &mut Errors<E>,
+) -> bool
+    ensures written { WritesImages folder.now (image_in state.now) (D.put_files disk.old) (D.put_files disk.new)
+        (is_lost_of errors.new) (E.contents (writer_of errors.old)) (E.contents (writer_of errors.new)) result }
+    ensures lost { is_lost_of errors.old ≡ true → is_lost_of errors.new ≡ true }
+{
+    let ImageState::Whole(image) = state else {
+        return true;
+    };
+    match put(alloc, disk, folder, image) {
+        Ok(()) => true,
+        Err(failure) => {
+            errors.tell(&failure);
+            false
+        }
+    }
+}
+
+/// Writes each whole image of these modules to the file of its slot in this folder. It tells of each that can't be
+/// written, and writes the others; it answers whether all were written.
+pub fn write_images<D: Disk, E: Write>(
+    alloc: Global,
+    disk: &mut D,
+    folder: &str,
+    modules: &[ModuleReport],
+    errors: &mut Errors<E>,
+) -> bool
+    ensures written { WritesImages folder.now (images_in modules.now) (D.put_files disk.old) (D.put_files disk.new)
+        (is_lost_of errors.new) (E.contents (writer_of errors.old)) (E.contents (writer_of errors.new)) result }
+    ensures lost { is_lost_of errors.old ≡ true → is_lost_of errors.new ≡ true }
+{
+    let mut all = true;
+    for told in modules {
+        all &= write_image_of(alloc, disk, folder, &told.image, errors);
+    }
+    all
+}

@@ -1,0 +1,25 @@
+//! The commands of `lfiload`: `check` and `load` over any reader and writer, their texts, failures and
+//! exit statuses, and the files that they read and write.
+#![tactic(auto)]
+
+mod code;
+mod commands;
+mod disk;
+mod ending;
+mod errors;
+mod failure;
+mod images;
+mod program;
+mod report;
+mod verdict;
+
+pub use code::{Code, MOST_BYTES};
+pub use commands::{CommandFault, check, load};
+pub use disk::{Disk, SystemDisk};
+pub use ending::Ending;
+pub use errors::Errors;
+pub use failure::Failure;
+pub use images::write_images;
+pub use program::run_words;
+pub use report::write_report;
+pub use verdict::{Verdict, judge_code};

@@ -1,0 +1,171 @@
+//! The program, from its words to its ending.
+
+ghost use Rattle.std.specs.Prelude.{◌≡◌, ℕ, List, Option, Some, IfOk, IfErr, IfSome, OnErr, map, option_map, string_bytes};
+ghost use Rattle.lfi_command_line.specs.CommandLine.{IsLineFault};
+ghost use Rattle.lfi_commands.specs.Errors.{is_lost_of, writer_of};
+ghost use Rattle.lfi_commands.specs.Failures.{FailsOn, TellsRead};
+ghost use Rattle.lfi_commands.specs.Images.{WritesImages};
+ghost use Rattle.lfi_commands.specs.Runs.{asked_images, folder_or_none, left, input_of, FindsVerdict, FindsReport, CarriesOut, Runs};
+
+use crate::commands::{check, load};
+use crate::disk::Disk;
+use crate::ending::Ending;
+use crate::errors::Errors;
+use crate::failure::{Failure, OUTPUT};
+use crate::images::write_images;
+use lfi_command_line::{Line, LineFault, read_line};
+use lfi_stage::report::ModuleReport;
+use std::alloc::Global;
+use std::io::Write;
+
+/// Opens the file at this path.
+fn open<D: Disk>(alloc: Global, disk: &D, path: &str) -> Result<D::Reader, Failure>
+    ensures reader { IfOk result (λ reader. IfSome (D.file_at disk.now path.now) (λ bytes. D.Reader.remaining reader ≡ Some bytes)) }
+    ensures failure { IfErr result (TellsRead path.now) }
+{
+    match disk.open(path) {
+        Ok(reader) => Ok(reader),
+        Err(error) => Err(Failure::reading(alloc, path, error)),
+    }
+}
+
+/// Judges the code in a file, and writes what is found of it.
+fn run_check<D: Disk, O: Write>(
+    alloc: Global,
+    disk: &D,
+    path: &str,
+    out: &mut O,
+) -> Result<Ending, Failure>
+    ensures found { IfOk result (FindsVerdict (D.file_at disk.now path.now) (O.contents out.old) (O.contents out.new)) }
+    ensures failure { IfErr result (FailsOn path.now) }
+{
+    let reader = open(alloc, disk, path)?;
+    match check(alloc, reader, out) {
+        Ok(verdict) => Ok(Ending::of_verdict(&verdict)),
+        Err(fault) => Err(Failure::of(alloc, fault, path)),
+    }
+}
+
+/// Writes the whole images of modules to a folder, where one is named. It answers whether all that was to be written was.
+fn write_asked_images<D: Disk, E: Write>(
+    alloc: Global,
+    disk: &mut D,
+    folder: Option<&str>,
+    modules: &[ModuleReport],
+    errors: &mut Errors<E>,
+) -> bool
+    ensures { let asked = option_map (λ s. s.now) folder.entry in
+        WritesImages (folder_or_none asked) (asked_images asked modules.now) (D.put_files disk.old) (D.put_files disk.new)
+        (is_lost_of errors.new) (E.contents (writer_of errors.old)) (E.contents (writer_of errors.new)) result }
+{
+    match folder {
+        Some(folder) => write_images(alloc, disk, folder, modules, errors),
+        None => true,
+    }
+}
+
+/// Loads the modules of the stream in a file, writes the report, and writes the whole images to a folder where one is
+/// named.
+fn run_load<D: Disk, O: Write, E: Write>(
+    alloc: Global,
+    disk: &mut D,
+    folder: Option<&str>,
+    path: &str,
+    out: &mut O,
+    errors: &mut Errors<E>,
+) -> Result<Ending, Failure>
+    ensures found { IfOk result (FindsReport (D.file_at disk.old path.now) (option_map (λ s. s.now) folder.entry)
+        (left (O.contents out.old) (D.put_files disk.old) (is_lost_of errors.old) (E.contents (writer_of errors.old)))
+        (left (O.contents out.new) (D.put_files disk.new) (is_lost_of errors.new) (E.contents (writer_of errors.new)))) }
+    ensures failure { IfErr result (FailsOn path.now) }
+    ensures disk { OnErr result (disk.new ≡ disk.old) }
+    ensures errors { OnErr result (errors.new ≡ errors.old) }
+{
+    let reader = open(alloc, disk, path)?;
+    let report = match load(alloc, reader, out) {
+        Ok(report) => report,
+        Err(fault) => return Err(Failure::of(alloc, fault, path)),
+    };
+    if write_asked_images(alloc, disk, folder, &report.modules, errors) {
+        Ok(Ending::of_report(&report))
+    } else {
+        Ok(Ending::Failed)
+    }
+}
+
+/// Carries out what the program is asked for.
+fn run<D: Disk, O: Write, E: Write>(
+    alloc: Global,
+    disk: &mut D,
+    line: Line<'_>,
+    out: &mut O,
+    errors: &mut Errors<E>,
+) -> Result<Ending, Failure>
+    ensures found { IfOk result (CarriesOut line.entry (D.file_at disk.old)
+        (left (O.contents out.old) (D.put_files disk.old) (is_lost_of errors.old) (E.contents (writer_of errors.old)))
+        (left (O.contents out.new) (D.put_files disk.new) (is_lost_of errors.new) (E.contents (writer_of errors.new)))) }
+    ensures failure { IfErr result (FailsOn (input_of line.entry)) }
+    ensures disk { OnErr result (disk.new ≡ disk.old) }
+    ensures errors { OnErr result (errors.new ≡ errors.old) }
+{
+    match line {
+        Line::Check { file } => run_check(alloc, disk, file, out),
+        Line::Load {
+            out: folder,
+            stream,
+        } => run_load(alloc, disk, folder, stream, out, errors),
+    }
+}
+
+/// Writes the parser's text: help to the output, and all else to the errors.
+fn tell_fault<O: Write, E: Write>(
+    alloc: Global,
+    fault: &LineFault,
+    out: &mut O,
+    errors: &mut Errors<E>,
+) -> Ending
+    ensures { (words : List (List ℕ)) (file_at : List ℕ → Option (List ℕ)) (put : Option (List (List ℕ × List ℕ))) → IsLineFault words fault.now
+        → Runs words file_at
+        (left (O.contents out.old) put (is_lost_of errors.old) (E.contents (writer_of errors.old)))
+        (left (O.contents out.new) put (is_lost_of errors.new) (E.contents (writer_of errors.new))) result }
+{
+    match fault {
+        LineFault::NoMemory => errors.tell(&Failure::NoMemory),
+        LineFault::Help(text) => match write!(out, "{text}") {
+            Ok(()) => return Ending::Well,
+            Err(_) => errors.tell(&Failure::writing(alloc, OUTPUT)),
+        },
+        LineFault::Wrong(text) => {
+            errors.write_text(text);
+            if !errors.is_lost() {
+                return Ending::WrongWords;
+            }
+        }
+    }
+    Ending::Failed
+}
+
+/// Carries out what the words of the command line ask for, of which the first is the program's name: reads and writes
+/// files of the disk, writes the answer to `out`, and tells what went wrong.
+pub fn run_words<D: Disk, O: Write, E: Write>(
+    alloc: Global,
+    disk: &mut D,
+    words: &[String],
+    out: &mut O,
+    errors: &mut Errors<E>,
+) -> Ending
+    ensures { Runs (map string_bytes words.now) (D.file_at disk.old)
+        (left (O.contents out.old) (D.put_files disk.old) (is_lost_of errors.old) (E.contents (writer_of errors.old)))
+        (left (O.contents out.new) (D.put_files disk.new) (is_lost_of errors.new) (E.contents (writer_of errors.new))) result }
+{
+    match read_line(alloc, words) {
+        Ok(line) => match run(alloc, disk, line, out, errors) {
+            Ok(ending) => ending,
+            Err(failure) => {
+                errors.tell(&failure);
+                Ending::Failed
+            }
+        },
+        Err(fault) => tell_fault(alloc, &fault, out, errors),
+    }
+}

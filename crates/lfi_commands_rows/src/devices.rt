@@ -1,0 +1,158 @@
+//! Readers and writers that give and take little, or fail.
+
+use crate::runs::{ONE_RET, ONE_RET_REPORT, RET, begin, run_over};
+use lfi_commands::{CommandFault, Ending, Errors, SystemDisk, Verdict, check, load};
+use lfi_model::Outcome;
+use std::fs;
+use std::io::{self, Read, Write};
+use std::test::Fail;
+
+/// Gives a byte a read, and fails once it has given `left` bytes.
+#[derive(Drop)]
+struct SlowReader<'a> {
+    bytes: &'a [u8],
+    left: usize,
+}
+
+impl<'a> Read for SlowReader<'a> {
+    fn read(&mut self, buf: &mut [u8]) -> io::Result<usize> {
+        if self.left == 0 {
+            return Err(io::Error::from(io::ErrorKind::Other));
+        }
+        if self.bytes.is_empty() || buf.is_empty() {
+            return Ok(0);
+        }
+        buf[0] = self.bytes[0];
+        self.bytes = &self.bytes[1..];
+        self.left -= 1;
+        Ok(1)
+    }
+}
+
+/// Takes `left` bytes more, and then fails.
+#[derive(Drop)]
+struct FullWriter {
+    left: usize,
+}
+
+impl Write for FullWriter {
+    fn write(&mut self, bytes: &[u8]) -> io::Result<usize> {
+        if self.left == 0 {
+            return Err(io::Error::from(io::ErrorKind::StorageFull));
+        }
+        let taken = bytes.len().min(self.left);
+        self.left -= taken;
+        Ok(taken)
+    }
+
+    fn flush(&mut self) -> io::Result<()> {
+        Ok(())
+    }
+}
+
+#[test]
+fn a_byte_a_read(rt: HostRuntime) -> Result<(), Fail> {
+    let mut out = Vec::new(rt.alloc());
+    let code = SlowReader {
+        bytes: RET.as_slice(),
+        left: 5,
+    };
+    let verdict = check(rt.alloc(), code, &mut out);
+    assert!(rt; verdict == Ok(Verdict::Lawful { words: 1 }));
+    let stream = SlowReader {
+        bytes: ONE_RET.as_slice(),
+        left: 41,
+    };
+    let outcome = match load(rt.alloc(), stream, &mut out) {
+        Ok(report) => Some(report.modules[0].outcome),
+        Err(_) => None,
+    };
+    assert!(rt; outcome == Some(Outcome::Complete { words: 1 }));
+    assert!(rt;
+        out.as_slice() == b"lawful, 1 words\nmodule 0: complete, 1 words\nstrays 0\n".as_slice()
+    );
+    Ok(())
+}
+
+#[test]
+fn reads_that_fail(rt: HostRuntime) -> Result<(), Fail> {
+    let mut out = Vec::new(rt.alloc());
+    for left in 0..=RET.len() {
+        let code = SlowReader {
+            bytes: RET.as_slice(),
+            left,
+        };
+        let verdict = check(rt.alloc(), code, &mut out);
+        assert!(rt; verdict == Err(CommandFault::NotRead), "{left}");
+    }
+    for left in 0..=ONE_RET.len() {
+        let stream = SlowReader {
+            bytes: ONE_RET.as_slice(),
+            left,
+        };
+        let report = load(rt.alloc(), stream, &mut out);
+        assert!(rt; report.err() == Some(CommandFault::NotRead), "{left}");
+    }
+    assert!(rt; out.is_empty());
+    Ok(())
+}
+
+/// A line, and how many bytes its answer has.
+#[derive(Clone, Copy)]
+struct Answer {
+    line: &'static str,
+    length: usize,
+}
+
+const ANSWERS: [Answer; 2] = [
+    Answer {
+        line: "lfiload check written.tmp/written.code",
+        length: 16,
+    },
+    Answer {
+        line: "lfiload load written.tmp/written.stream",
+        length: ONE_RET_REPORT.len(),
+    },
+];
+
+#[test]
+fn output_that_fails(rt: HostRuntime) -> Result<(), Fail> {
+    begin(&rt, "written.tmp")?;
+    fs::write(&rt, "written.tmp/written.code", RET.as_slice())?;
+    fs::write(&rt, "written.tmp/written.stream", ONE_RET.as_slice())?;
+    for answer in ANSWERS {
+        let line = answer.line;
+        for left in 0..answer.length {
+            let mut errors = Errors::new(Vec::new(rt.alloc()));
+            let mut disk = SystemDisk::new(&rt);
+            let mut out = FullWriter { left };
+            let ending = run_over(rt.alloc(), &mut disk, line, &mut out, &mut errors)?;
+            assert!(rt; ending == Ending::Failed, "{line}");
+            assert!(rt;
+                errors.writer().as_slice() == b"lfiload: cannot write standard output\n".as_slice(),
+                "{line}"
+            );
+        }
+    }
+    fs::remove_dir_all(&rt, "written.tmp")?;
+    Ok(())
+}
+
+const UNTOLD: [&str; 3] = [
+    "lfiload --help",
+    "lfiload unknown",
+    "lfiload check missing.code",
+];
+
+#[test]
+fn errors_that_fail(rt: HostRuntime) -> Result<(), Fail> {
+    for line in UNTOLD {
+        let mut errors = Errors::new(FullWriter { left: 0 });
+        let mut disk = SystemDisk::new(&rt);
+        let mut out = FullWriter { left: 0 };
+        let ending = run_over(rt.alloc(), &mut disk, line, &mut out, &mut errors)?;
+        assert!(rt; ending == Ending::Failed, "{line}");
+        assert!(rt; errors.is_lost(), "{line}");
+    }
+    Ok(())
+}

@@ -1,0 +1,15 @@
+//! Tests of the commands: whole runs over files, and readers, writers and disks that give and take little, or fail.
+#![tactic(auto)]
+
+#[cfg(test)]
+mod checks;
+#[cfg(test)]
+mod devices;
+#[cfg(test)]
+mod disks;
+#[cfg(test)]
+mod loads;
+#[cfg(test)]
+mod runs;
+#[cfg(test)]
+mod usage;

@@ -1,0 +1,61 @@
+//! Wrong words, and help.
+
+use crate::runs::run_line;
+use std::test::Fail;
+
+const WRONG: [&str; 8] = [
+    "lfiload",
+    "lfiload check",
+    "lfiload check a b",
+    "lfiload check --out images a",
+    "lfiload load",
+    "lfiload load --out images",
+    "lfiload help",
+    "lfiload unknown a",
+];
+
+#[test]
+fn wrong_words(rt: HostRuntime) -> Result<(), Fail> {
+    for line in WRONG {
+        let ran = run_line(&rt, line)?;
+        assert!(rt; ran.status == 2, "{line}");
+        assert!(rt; ran.out.is_empty(), "{line}");
+        assert!(rt; !ran.err.is_empty(), "{line}");
+    }
+    Ok(())
+}
+
+/// A wish for help, and what the text has.
+#[derive(Clone, Copy)]
+struct Help {
+    line: &'static str,
+    text: &'static str,
+}
+
+const HELPS: [Help; 3] = [
+    Help {
+        line: "lfiload --help",
+        text: "Exit status:",
+    },
+    Help {
+        line: "lfiload check --help",
+        text: "word K rule R",
+    },
+    Help {
+        line: "lfiload load --help",
+        text: "module M: page fault, index I",
+    },
+];
+
+#[test]
+fn wishes_for_help(rt: HostRuntime) -> Result<(), Fail> {
+    for help in HELPS {
+        let line = help.line;
+        let ran = run_line(&rt, line)?;
+        assert!(rt; ran.status == 0, "{line}");
+        assert!(rt; ran.err.is_empty(), "{line}");
+        let text = String::from_utf8(ran.out)?;
+        assert!(rt; text.contains(help.text), "{line}");
+    }
+    Ok(())
+}

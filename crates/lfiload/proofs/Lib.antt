@@ -1,5 +1,0 @@
-mod Asked
-mod Given
-mod Lines
-mod Paths
-mod Spelled
