@@ -110,7 +110,10 @@ fn a_writer_that_fails(rt: HostRuntime) -> Result<(), Fail> {
         let mut writer = SlowWriter::new(rt.alloc(), left, 1);
         let result = write_image(&image, &mut writer);
         assert!(rt; result == Err(ImageFault::Device), "after {left} bytes");
-        assert!(rt; writer.taken.as_slice() == &ONE_RET[..left], "after {left} bytes");
+        assert!(rt;
+            writer.taken.as_slice() == &ONE_RET[..left],
+            "after {left} bytes"
+        );
     }
     Ok(())
 }
@@ -183,7 +186,10 @@ fn long_files_in_part_written(rt: HostRuntime) -> Result<(), Fail> {
         let mut writer = SlowWriter::new(rt.alloc(), left, 5000);
         let result = write_image(&image, &mut writer);
         assert!(rt; result == Err(ImageFault::Device), "after {left} bytes");
-        assert!(rt; left <= file.len() && writer.taken[..] == file[..left], "after {left} bytes");
+        assert!(rt;
+            left <= file.len() && writer.taken[..] == file[..left],
+            "after {left} bytes"
+        );
     }
     Ok(())
 }
@@ -245,7 +251,10 @@ fn a_fault_comes_before_an_early_end(rt: HostRuntime) -> Result<(), Fail> {
     let mut file = faulty_file(rt.alloc())?;
     for (len, want) in ENDING {
         assert!(rt; len <= file.len());
-        assert!(rt; fault_of(rt.alloc(), &file[..len]) == Some(want), "{len} bytes");
+        assert!(rt;
+            fault_of(rt.alloc(), &file[..len]) == Some(want),
+            "{len} bytes"
+        );
     }
     file.push(0)?;
     assert!(rt; fault_of(rt.alloc(), &file) == Some(FAULTY));

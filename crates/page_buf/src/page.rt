@@ -4,7 +4,7 @@ ghost use Rattle.page_buf.specs.Page.{IsWhole};
 ghost use Rattle.a64_word.specs.Words.{words_of};
 
 use crate::raw_bytes::{Deed, RawBytes};
-use a64_word::{WORD_BYTES, Words, word_count, word_at};
+use a64_word::{WORD_BYTES, Words, word_at, word_count};
 use std::alloc::{AllocError, Global};
 use std::marker::Model;
 
