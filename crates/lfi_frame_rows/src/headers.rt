@@ -1,7 +1,10 @@
 //! Headers, one at a time.
 
-use lfi_frame::header::Header;
-use lfi_frame::{Feed, FrameFault, Got, Step};
+ghost use Rattle.std.specs.Prelude.{◌<◌, ◌≤◌};
+ghost use Rattle.lfi_module.specs.Numbers.{module_count, most_words};
+
+use lfi_frame::{Feed, FrameFault, Got, Header, Step};
+use lfi_module::{Extent, ModuleNumber, WordCount};
 
 /// The bytes of a header with these numbers.
 pub fn header(kind: u8, second: u8, module: u16, a: u32, b: u32) -> [u8; 12] {
@@ -73,55 +76,47 @@ fn first_of_several_faults(rt: HostRuntime) {
     }
 }
 
+/// An Open of this module with so many words, entered at this word.
+pub fn open(module: usize, words: u32, entry: u32) -> Got
+    requires module { «module» < module_count }
+    requires words { (1 ≤ words) × (words ≤ most_words) }
+    requires entry { entry < words }
+{
+    Got::Open {
+        module: ModuleNumber::at(module),
+        extent: Extent::of(WordCount::of(words), entry),
+    }
+}
+
+/// The header of this page, of so many bytes.
+pub fn page(module: usize, index: u32, len: u32) -> Got
+    requires { «module» < module_count }
+{
+    Got::Page {
+        module: ModuleNumber::at(module),
+        index,
+        len,
+    }
+}
+
+/// A Close of this module.
+pub fn close(module: usize) -> Got
+    requires { «module» < module_count }
+{
+    Got::Close {
+        module: ModuleNumber::at(module),
+    }
+}
+
 #[test]
 fn ends_of_the_ranges(rt: HostRuntime) {
     for (kind, module, a, b, got) in [
-        (
-            1,
-            0,
-            1,
-            0,
-            Got::Open {
-                module: 0,
-                words: 1,
-                entry: 0,
-            },
-        ),
-        (
-            1,
-            15,
-            4_194_304,
-            4_194_303,
-            Got::Open {
-                module: 15,
-                words: 4_194_304,
-                entry: 4_194_303,
-            },
-        ),
-        (
-            2,
-            0,
-            0,
-            4,
-            Got::Page {
-                module: 0,
-                index: 0,
-                len: 4,
-            },
-        ),
-        (
-            2,
-            2,
-            4_294_967_295,
-            4_096,
-            Got::Page {
-                module: 2,
-                index: 4_294_967_295,
-                len: 4_096,
-            },
-        ),
-        (3, 0, 0, 0, Got::Close { module: 0 }),
-        (3, 15, 0, 0, Got::Close { module: 15 }),
+        (1, 0, 1, 0, open(0, 1, 0)),
+        (1, 15, 4_194_304, 4_194_303, open(15, 4_194_304, 4_194_303)),
+        (2, 0, 0, 4, page(0, 0, 4)),
+        (2, 2, 4_294_967_295, 4_096, page(2, 4_294_967_295, 4_096)),
+        (3, 0, 0, 0, close(0)),
+        (3, 15, 0, 0, close(15)),
     ] {
         let bytes = header(kind, 0, module, a, b);
         assert_eq!(rt; Header::read(&bytes).fault(), None, "at {bytes:?}");

@@ -1,5 +1,6 @@
 //! The stream of one module of one word, RET, in any pieces and cut anywhere.
 
+use crate::headers::{close, open, page};
 use lfi_frame::{Feed, FrameFault, Got, Step};
 use std::alloc::{AllocError, Global};
 use std::test::Fail;
@@ -11,20 +12,6 @@ const ONE_RET: [u8; 40] = [
     0xc0, 0x03, 0x5f, 0xd6, // RET
     3, 0, 0, 0, 0, 0, 0, 0, 0, 0, 0, 0, // Close
 ];
-
-const OPEN: Got = Got::Open {
-    module: 0,
-    words: 1,
-    entry: 0,
-};
-
-const PAGE: Got = Got::Page {
-    module: 0,
-    index: 0,
-    len: 4,
-};
-
-const CLOSE: Got = Got::Close { module: 0 };
 
 /// What a feed tells of bytes that come in pieces of this many, each used up before the next, and the fault that it ends with.
 fn told(
@@ -57,12 +44,13 @@ fn told(
 fn call_by_call(rt: HostRuntime) {
     let mut feed = Feed::default();
     for (from, used, got) in [
-        (0, 12, OPEN),
-        (12, 12, PAGE),
+        (0, 12, open(0, 1, 0)),
+        (12, 12, page(0, 0, 4)),
         (24, 4, Got::Payload { ended: true }),
-        (28, 12, CLOSE),
+        (28, 12, close(0)),
         (40, 0, Got::More),
     ] {
+        assert!(rt; from <= 40);
         assert_eq!(rt;
             feed.feed(&ONE_RET[from..]),
             Ok(Step { used, got }),
@@ -77,9 +65,9 @@ fn in_pieces_of_any_size(rt: HostRuntime) -> Result<(), Fail> {
     for piece in 4..=40usize {
         let (got, fault) = told(rt.alloc(), ONE_RET.as_slice(), piece)?;
         assert_eq!(rt; fault, None, "in pieces of {piece}");
-        assert_eq!(rt; got.first(), Some(&OPEN), "in pieces of {piece}");
-        assert_eq!(rt; got.get(1), Some(&PAGE), "in pieces of {piece}");
-        assert_eq!(rt; got.last(), Some(&CLOSE), "in pieces of {piece}");
+        assert_eq!(rt; got.first(), Some(&open(0, 1, 0)), "in pieces of {piece}");
+        assert_eq!(rt; got.get(1), Some(&page(0, 0, 4)), "in pieces of {piece}");
+        assert_eq!(rt; got.last(), Some(&close(0)), "in pieces of {piece}");
     }
     Ok(())
 }
@@ -88,13 +76,13 @@ fn in_pieces_of_any_size(rt: HostRuntime) -> Result<(), Fail> {
 fn byte_by_byte(rt: HostRuntime) -> Result<(), Fail> {
     let (got, fault) = told(rt.alloc(), ONE_RET.as_slice(), 1)?;
     let wanted = [
-        OPEN,
-        PAGE,
+        open(0, 1, 0),
+        page(0, 0, 4),
         Got::Payload { ended: false },
         Got::Payload { ended: false },
         Got::Payload { ended: false },
         Got::Payload { ended: true },
-        CLOSE,
+        close(0),
     ];
     assert_eq!(rt; got.as_slice(), wanted.as_slice());
     assert_eq!(rt; fault, None);

@@ -150,6 +150,7 @@ pub fn strays_of(made: &[Connection]) -> u64
 pub fn report_on(alloc: Global, streams: &[PlainStream]) -> Result<PlainReport, AllocError>
     ensures connections { IfOk result (λ report. AreMade streams.now report.connections.items) }
     ensures modules { IfOk result (λ report. AreReported streams.now report.connections.items 0 report.modules.items) }
+    ensures one_each { IfOk result (λ report. length report.connections.items ≡ length streams.now) }
     ensures all { IfOk result (λ report. length report.modules.items ≡ module_count) }
     ensures strays { IfOk result (λ report.
         report.strays ≡ min (sum_by (λ connection. connection.strays) report.connections.items) (2 ^ 64 - 1)) }

@@ -91,6 +91,6 @@ pub fn told(
 ) -> Result<String, AllocError> {
     let mut streams = Vec::new(alloc);
     streams.push(stream(alloc, bytes, cause, modules)?)?;
-    let report = report_on(alloc, streams.as_slice())?;
-    format!(in alloc; "{report}")
+    let summary = report_on(alloc, streams.as_slice())?.summary();
+    format!(in alloc; "{summary}")
 }

@@ -4,54 +4,23 @@ ghost use Rattle.std.specs.Prelude.{◌≤◌};
 
 use crate::build::{NOP, RET, Text, one_word, told};
 use crate::cuts::cut_short;
-use lfi_model::{Cause, Outcome};
-use lfi_stage::settle::Report;
+use lfi_model::Cause;
 use lfi_stage::stage::{load, load_in_pieces};
 use std::alloc::{AllocError, Global};
-use std::fmt;
 use std::test::Fail;
-
-/// A stage's report, to be written as the plain program's is.
-#[derive(Drop)]
-struct Written {
-    report: Report,
-}
-
-impl fmt::Display for Written {
-    fn fmt<W: fmt::Write>(&self, f: &mut fmt::Formatter<W>) -> fmt::Result {
-        for (m, told) in self.report.modules.iter().enumerate() {
-            if told.outcome != Outcome::Unused {
-                let outcome = told.outcome;
-                writeln!(f, "module {m}: {outcome}")?;
-            }
-        }
-        for (c, found) in self.report.faults.iter().enumerate() {
-            if let Some(fault) = *found {
-                let number = fault.number();
-                writeln!(f, "connection {c}: fault {number}")?;
-            }
-        }
-        let strays = self.report.strays;
-        writeln!(f, "strays {strays}")
-    }
-}
 
 /// The text of the stage's report on one connection.
 pub fn loaded(alloc: Global, bytes: &[u8]) -> Result<String, AllocError> {
-    let written = Written {
-        report: load(alloc, bytes)?,
-    };
-    format!(in alloc; "{written}")
+    let summary = load(alloc, bytes)?.summary();
+    format!(in alloc; "{summary}")
 }
 
 /// The text of the stage's report on one connection that comes in pieces of so many bytes.
 fn loaded_in_pieces(alloc: Global, bytes: &[u8], most: usize) -> Result<String, AllocError>
     requires { 1 ≤ most }
 {
-    let written = Written {
-        report: load_in_pieces(alloc, bytes, most)?,
-    };
-    format!(in alloc; "{written}")
+    let summary = load_in_pieces(alloc, bytes, most)?.summary();
+    format!(in alloc; "{summary}")
 }
 
 /// The text of the plain program's report on one connection, of which at most the first message

@@ -1,6 +1,6 @@
 use Rattle.std.proofs.Common.{sym, subst, arith}
 use Rattle.lfi_plain.specs.Reports.{AreReported, IsReported}
-use Rattle.lfi_plain.proofs.Reporting.{reported_more}
+use Rattle.lfi_plain.proofs.Reporting.{made_long, reported_more}
 use Rattle.lfi_plain.proofs.report.report_on.Goals as goal
 
 pub loop-m-preserved : goal.loop-m-preserved
@@ -13,3 +13,6 @@ loop-m-preserved c =
           (reported_more streams made 0 c.loop-m.m c.loop-m.modules.items c.in_ok-report_module.field-0 c.loop-m.invariant.are (omega arith) here);
       long = (let len = c.in_ok-push.ensures.len in omega arith);
     }
+
+pub returns-clause-one_each : goal.returns-clause-one_each
+returns-clause-one_each c = made_long c.args.streams.now c.in_ok-connections.connections.items c.in_ok-connections.ensures
