@@ -6,7 +6,7 @@ use std::fs;
 use std::os::unix::fs::symlink;
 use std::test::Fail;
 
-const RUNS: [Run; 7] = [
+const RUNS: [Run; 8] = [
     Run {
         line: "lfiload load loaded.tmp/one_ret.stream",
         status: 0,
@@ -48,6 +48,13 @@ const RUNS: [Run; 7] = [
         status: 3,
         out: "",
         err: "lfiload: cannot read missing.stream\n",
+    },
+    // A folder is opened, and then can't be read.
+    Run {
+        line: "lfiload load loaded.tmp/images",
+        status: 3,
+        out: "",
+        err: "lfiload: cannot read loaded.tmp/images\n",
     },
 ];
 
