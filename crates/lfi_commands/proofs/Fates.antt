@@ -10,7 +10,7 @@ use Rattle.lfi_stage.specs.declared.report.ModuleReport.{ModuleReport}
 use Rattle.lfi_commands.specs.declared.failure.Failure.{Failure}
 use Rattle.lfi_commands.specs.Failures.{failure_line, failure_lines, Told, TellsWrite}
 use Rattle.lfi_commands.specs.Images.{Fate, Puts, NamesPath, WritesImages, failures_in, file_written, files_written, image_file, image_in, image_path_of, images_in, is_none_of}
-use Rattle.lfi_commands.proofs.Lines.{all_taken, joined, no_more}
+use Rattle.lfi_commands.proofs.Joined.{all_taken, joined, no_more}
 
 abbrev Files : Type 0
 Files = List (List ℕ × List ℕ)

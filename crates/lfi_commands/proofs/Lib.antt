@@ -1,4 +1,4 @@
 mod Fates
-mod Lines
+mod Joined
 mod Paths
 mod Spelled

@@ -1,7 +1,7 @@
 -- Words by their places in the bytes, and lawful words.
 use Rattle.std.proofs.Common.{◌≡◌, ℕ, ◌*◌, ◌≤◌, List, length, None}
-use Rattle.page_buf.specs.Spelled.{words_of}
-use Rattle.page_buf.proofs.Spelled.{words_fit}
+use Rattle.a64_word.specs.Words.{words_of}
+use Rattle.a64_word.proofs.WordLaws.{words_fit}
 use Rattle.lfi_rules.specs.Faults.{FirstFault}
 
 pub fit : (xs : List ℕ) → 4 * length (words_of xs) ≤ length xs

@@ -1,13 +1,15 @@
 -- What `lfiload check` finds of code, and prints. (this project's profile: docs/DEFINITIONS.md, "The program")
-use Rattle.std.specs.Prelude.{◌≡◌, ℕ, ◌<◌, ◌≤◌, ◌%◌, List, length, ◌++◌, codes, decimal, Some, None}
-use Rattle.page_buf.specs.Spelled.{words_of}
+use Rattle.std.specs.Prelude.{◌≡◌, ℕ, ◌<◌, ◌≤◌, ◌%◌, ◌*◌, List, length, ◌++◌, codes, decimal, Some, None}
+use Rattle.a64_word.specs.Words.{words_of}
+use Rattle.lfi_module.specs.Numbers.{most_words}
 use Rattle.lfi_rules.specs.Faults.{FirstFault}
+use Rattle.lfi_rules.specs.Texts.{fault_text}
 use Rattle.lfi_commands.specs.declared.verdict.Verdict.{Verdict}
 use Rattle.lfi_commands.specs.declared.verdict.Verdict.TheVariants.{Lawful, Refused, BadLength}
 
--- the bytes make 1 to 4,194,304 whole words
+-- the bytes are those of whole words, at least one and no more than a module has
 abbrev pub IsCode : List ℕ → Type 0
-IsCode bytes = (0 < length bytes) × (length bytes % 4 ≡ 0) × (length bytes ≤ 16777216)
+IsCode bytes = (0 < length bytes) × (length bytes % 4 ≡ 0) × (length bytes ≤ 4 * most_words)
 
 -- the verdict on these bytes
 abbrev pub Checks : List ℕ → Verdict → Type 0
@@ -16,7 +18,7 @@ Checks bytes (Refused fault) = IsCode bytes × FirstFault (words_of bytes) (leng
 Checks bytes BadLength = ¬ (IsCode bytes)
 
 -- the line that is printed
-abbrev pub text_of : Verdict → List ℕ
-text_of (Lawful n) = codes "lawful, " ++ decimal n ++ codes " words"
-text_of (Refused fault) = codes "word " ++ decimal fault.word ++ codes " rule " ++ decimal fault.rule
-text_of BadLength = codes "bad length"
+abbrev pub verdict_text : Verdict → List ℕ
+verdict_text (Lawful n) = codes "lawful, " ++ decimal n ++ codes " words"
+verdict_text (Refused fault) = fault_text fault
+verdict_text BadLength = codes "bad length"

@@ -5,7 +5,8 @@ use Rattle.lfi_commands.specs.declared.verdict.Verdict.{Verdict}
 use Rattle.lfi_commands.specs.declared.verdict.Verdict.TheVariants.{Lawful, Refused, BadLength}
 use Rattle.lfi_commands.specs.declared.ending.Ending.{Ending}
 use Rattle.lfi_commands.specs.declared.ending.Ending.TheVariants.{Well, NotWell, WrongWords, Failed}
-use Rattle.lfi_commands.specs.Reporting.{IsWell}
+use Rattle.lfi_model.specs.Texts.{IsWell}
+use Rattle.lfi_stage.specs.Summaries.{summary_of}
 
 -- the exit status
 abbrev pub number_of : Ending → ℕ
@@ -22,7 +23,7 @@ ending_of BadLength = NotWell
 
 -- by a report
 abbrev pub EndsBy : Report → Ending → Type 0
-EndsBy report Well = IsWell report
-EndsBy report NotWell = ¬ (IsWell report)
+EndsBy report Well = IsWell (summary_of report)
+EndsBy report NotWell = ¬ (IsWell (summary_of report))
 EndsBy report WrongWords = ⊥
 EndsBy report Failed = ⊥

@@ -3,5 +3,4 @@ pub mod Endings
 pub mod Errors
 pub mod Failures
 pub mod Images
-pub mod Reporting
 pub mod Runs

@@ -13,17 +13,18 @@ use Rattle.lfi_commands.specs.declared.ending.Ending.{Ending}
 use Rattle.lfi_commands.specs.declared.ending.Ending.TheVariants.{Well, NotWell, WrongWords, Failed}
 use Rattle.lfi_commands.specs.declared.failure.Failure.{Failure}
 use Rattle.lfi_commands.specs.declared.failure.Failure.TheVariants.{CannotRead, CannotWrite, NoMemory}
-use Rattle.lfi_commands.specs.Checking.{Checks, text_of}
+use Rattle.lfi_commands.specs.Checking.{Checks, verdict_text}
 use Rattle.lfi_commands.specs.Endings.{ending_of, EndsBy}
 use Rattle.lfi_commands.specs.Failures.{failure_line, Told}
 use Rattle.lfi_commands.specs.Images.{images_in, WritesImages}
-use Rattle.lfi_commands.specs.Reporting.{report_text}
+use Rattle.lfi_model.specs.Texts.{summary_text}
+use Rattle.lfi_stage.specs.Summaries.{summary_of}
 
 -- Of code that has these bytes, where they are known, one verdict was found; its line was written, and it gives the ending.
 pub record FindsVerdict (bytes out_old out_new : Option (List ℕ)) (ending : Ending) : Type 0 where
   pub verdict : Verdict
   pub checks : IfSome bytes (λ xs. Checks xs verdict)
-  pub written : Appends out_old out_new (text_of verdict ++ codes "\n")
+  pub written : Appends out_old out_new (verdict_text verdict ++ codes "\n")
   pub ends : ending ≡ ending_of verdict
 
 -- the ending of a load: by the report, where all images were put
@@ -54,7 +55,7 @@ left out put is_lost errors = record { out = out; put = put; is_lost = is_lost; 
 pub record FindsReport (bytes folder : Option (List ℕ)) (old new : Left) (ending : Ending) : Type 0 where
   pub report : Report
   pub loaded : IfSome bytes (λ xs. IsLoaded xs report)
-  pub written : Appends old.out new.out (report_text report)
+  pub written : Appends old.out new.out (summary_text (summary_of report))
   pub all : Bool
   pub images : WritesImages (folder_or_none folder) (asked_images folder report.modules) old.put new.put new.is_lost old.errors new.errors all
   pub ends : EndsLoad report all ending

@@ -1,17 +1,15 @@
 //! The code of a module, as a file holds it.
 
 ghost use Rattle.std.specs.Prelude.{◌≡◌, ℕ, ◌<◌, ◌≤◌, List, length, slice_index, IfSome, IfNone};
-ghost use Rattle.page_buf.specs.Spelled.{words_of};
+ghost use Rattle.lfi_module.specs.Numbers.{most_words};
+ghost use Rattle.a64_word.specs.Words.{words_of};
 ghost use Rattle.lfi_commands.specs.Checking.{IsCode};
 
-use a64_word::Words;
+use a64_word::{WORD_BYTES, Words, word_at, word_count};
 use std::marker::Model;
 
 /// The most bytes of code that a module has: 4,194,304 words.
 pub const MOST_BYTES: usize = 16_777_216;
-
-/// The bytes of a word.
-const WORD_BYTES: usize = 4;
 
 /// Code: whole words of 32 bits, 1 to 4,194,304 of them, each with its lowest byte first.
 ///
@@ -48,20 +46,9 @@ impl<'a> Code<'a> {
     /// How many words there are: 1 to 4,194,304.
     pub fn len_words(&self) -> usize
         ensures count { result ≡ length (words_of self.now) }
-        ensures range { (1 ≤ result) × (result ≤ 4194304) }
+        ensures range { (1 ≤ result) × (result ≤ most_words) }
     {
-        self.bytes.len() / WORD_BYTES
-    }
-
-    /// The word at `i`, its lowest byte first.
-    #[tactic(auto, using(crate::proofs::Spelled::fit))]
-    fn word_at(&self, i: usize) -> u32
-        requires { i < length (words_of self.now) }
-        ensures { result ≡ slice_index (words_of self.now) i }
-    {
-        let bytes = self.bytes;
-        let at = WORD_BYTES * i;
-        u32::from_le_bytes([bytes[at], bytes[at + 1], bytes[at + 2], bytes[at + 3]])
+        word_count(self.bytes)
     }
 }
 
@@ -73,6 +60,6 @@ impl Words for Code<'_> {
     }
 
     fn word(&self, i: usize) -> u32 {
-        self.word_at(i)
+        word_at(self.bytes, i)
     }
 }

@@ -3,11 +3,11 @@
 ghost use Rattle.std.specs.Prelude.{◌≡◌, ◌≢◌, ◌++◌, IfOk, IfErr, IfSome, codes};
 ghost use Rattle.std.specs.Io.KnownBytes.{Appends};
 ghost use Rattle.lfi_stage.specs.Stages.{IsLoaded};
-ghost use Rattle.lfi_commands.specs.Checking.{Checks, text_of};
-ghost use Rattle.lfi_commands.specs.Reporting.{report_text};
+ghost use Rattle.lfi_commands.specs.Checking.{Checks, verdict_text};
+ghost use Rattle.lfi_model.specs.Texts.{summary_text};
+ghost use Rattle.lfi_stage.specs.Summaries.{summary_of};
 
 use crate::code::MOST_BYTES;
-use crate::report::write_report;
 use crate::verdict::{Verdict, judge_code};
 use lfi_stage::settle::Report;
 use lfi_stage::stage;
@@ -53,7 +53,7 @@ pub fn check<R: Read + Drop, W: Write>(
     writer: &mut W,
 ) -> Result<Verdict, CommandFault>
     ensures verdict { IfOk result (λ verdict. IfSome (R.remaining reader) (λ bytes. Checks bytes verdict)) }
-    ensures written { IfOk result (λ verdict. Appends (W.contents writer.old) (W.contents writer.new) (text_of verdict ++ codes "\n")) }
+    ensures written { IfOk result (λ verdict. Appends (W.contents writer.old) (W.contents writer.new) (verdict_text verdict ++ codes "\n")) }
     ensures unwritten { IfErr result (λ fault. fault ≢ CommandFault.NotWritten → writer.new ≡ writer.old) }
 {
     let bytes = read_all(alloc, reader.take(MOST_BYTES as u64 + 1))?;
@@ -75,14 +75,15 @@ pub fn load<R: Read + Drop, W: Write>(
     writer: &mut W,
 ) -> Result<Report, CommandFault>
     ensures report { IfOk result (λ report. IfSome (R.remaining reader) (λ bytes. IsLoaded bytes report)) }
-    ensures written { IfOk result (λ report. Appends (W.contents writer.old) (W.contents writer.new) (report_text report)) }
+    ensures written { IfOk result (λ report. Appends (W.contents writer.old) (W.contents writer.new) (summary_text (summary_of report))) }
     ensures unwritten { IfErr result (λ fault. fault ≢ CommandFault.NotWritten → writer.new ≡ writer.old) }
 {
     let bytes = read_all(alloc, reader)?;
     let Ok(report) = stage::load(alloc, &bytes) else {
         return Err(CommandFault::NoMemory);
     };
-    match write_report(&report, writer) {
+    let summary = report.summary();
+    match write!(writer, "{summary}") {
         Ok(()) => Ok(report),
         Err(_) => Err(CommandFault::NotWritten),
     }

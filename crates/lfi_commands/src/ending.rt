@@ -1,13 +1,9 @@
 //! How a run of the program ends.
 
-ghost use Rattle.std.specs.Prelude.{◌≡◌, ◌↔◌, None, All, IsTrue};
+ghost use Rattle.std.specs.Prelude.{◌≡◌};
 ghost use Rattle.lfi_commands.specs.Endings.{number_of, ending_of, EndsBy};
-ghost use Rattle.lfi_commands.specs.Reporting.{is_well};
 
 use crate::verdict::Verdict;
-use lfi_frame::FrameFault;
-use lfi_model::Outcome;
-use lfi_stage::report::ModuleReport;
 use lfi_stage::settle::Report;
 
 /// How a run of the program ends.
@@ -21,27 +17,6 @@ pub enum Ending {
     WrongWords,
     /// A device failed, or memory was refused.
     Failed,
-}
-
-/// Whether a module is whole, or was not claimed.
-fn is_well(outcome: Outcome) -> bool
-    ensures { result ≡ is_well outcome }
-{
-    matches!(outcome, Outcome::Unused | Outcome::Complete { .. })
-}
-
-/// Whether each of these modules is whole, or was not claimed.
-fn all_well(modules: &[ModuleReport]) -> bool
-    ensures { IsTrue result ↔ All (λ told. IsTrue (is_well told.outcome)) modules.now }
-{
-    modules.iter().all(|told| is_well(told.outcome))
-}
-
-/// Whether none of these connections came to a fault.
-fn none_failed(faults: &[Option<FrameFault>]) -> bool
-    ensures { IsTrue result ↔ All (λ fault. fault ≡ None) faults.now }
-{
-    faults.iter().all(|fault| fault.is_none())
 }
 
 impl Ending {
@@ -72,7 +47,7 @@ impl Ending {
     pub fn of_report(report: &Report) -> Ending
         ensures { EndsBy report.now result }
     {
-        if all_well(&report.modules) && none_failed(&report.faults) {
+        if report.summary().is_well() {
             Ending::Well
         } else {
             Ending::NotWell

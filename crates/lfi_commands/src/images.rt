@@ -17,7 +17,7 @@ use std::io::Write;
 fn image_path(alloc: Global, folder: &str, image: &CompleteImage) -> Result<String, AllocError>
     ensures { IfOk result (λ path. string_bytes path ≡ image_path_of folder.now image.now.slot) }
 {
-    let slot = image.slot();
+    let slot = image.slot().number();
     format!(in alloc; "{folder}/module-{slot:02}.img")
 }
 

@@ -10,7 +10,6 @@ mod errors;
 mod failure;
 mod images;
 mod program;
-mod report;
 mod verdict;
 
 pub use code::{Code, MOST_BYTES};
@@ -21,5 +20,4 @@ pub use errors::Errors;
 pub use failure::Failure;
 pub use images::write_images;
 pub use program::run_words;
-pub use report::write_report;
 pub use verdict::{Verdict, judge_code};

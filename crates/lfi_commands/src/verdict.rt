@@ -1,7 +1,7 @@
 //! Whether code is lawful.
 
 ghost use Rattle.std.specs.Prelude.{Some};
-ghost use Rattle.lfi_commands.specs.Checking.{Checks, text_of};
+ghost use Rattle.lfi_commands.specs.Checking.{Checks, verdict_text};
 
 use crate::code::Code;
 use lfi_rules::{Fault, check_all};
@@ -19,12 +19,12 @@ pub enum Verdict {
 }
 
 impl fmt::Display for Verdict {
-    ghost output = { λ verdict. Some (text_of verdict) };
+    ghost output = { λ verdict. Some (verdict_text verdict) };
 
     fn fmt<W: fmt::Write>(&self, f: &mut fmt::Formatter<W>) -> fmt::Result {
         match self {
             Verdict::Lawful { words } => write!(f, "lawful, {words} words"),
-            Verdict::Refused(Fault { word, rule }) => write!(f, "word {word} rule {rule}"),
+            Verdict::Refused(fault) => write!(f, "{fault}"),
             Verdict::BadLength => write!(f, "bad length"),
         }
     }

@@ -50,27 +50,15 @@ fn an_image_has_its_words(rt: HostRuntime) -> Result<(), Fail> {
 
 #[test]
 fn places_are_reserved_before_the_module_is_known(rt: HostRuntime) -> Result<(), Fail> {
-    let places = Places::new(rt.alloc(), WordCount::of(1025))?;
+    let places = Places::new(rt.alloc(), WordCount::MOST)?;
     let (extent, slot) = module(1025, 1024, 15)?;
     assert!(rt; extent.words().number() <= places.words().number());
-    let mut longest = Builder::over(places, extent, slot);
-    let first = page_ending(rt.alloc(), NOP)?;
-    assert!(rt; append(rt.alloc(), &mut longest, &first)?.is_none());
-    assert!(rt; append(rt.alloc(), &mut longest, &RET)?.is_none());
-    let image = finished(longest)?;
+    let mut builder = Builder::over(places, extent, slot);
+    assert!(rt; append(rt.alloc(), &mut builder, &page_ending(rt.alloc(), NOP)?)?.is_none());
+    assert!(rt; append(rt.alloc(), &mut builder, &RET)?.is_none());
+    let image = finished(builder)?;
     assert!(rt; image.words().number() == 1025 && image.entry() == 1024);
     assert!(rt; image.slot().number() == 15);
-    Ok(())
-}
-
-#[test]
-fn fewer_words_than_places(rt: HostRuntime) -> Result<(), Fail> {
-    let places = Places::new(rt.alloc(), WordCount::MOST)?;
-    let (extent, slot) = module(1, 0, 7)?;
-    assert!(rt; extent.words().number() <= places.words().number());
-    let mut builder = Builder::over(places, extent, slot);
-    assert!(rt; append(rt.alloc(), &mut builder, &RET)?.is_none());
-    assert!(rt; finished(builder)?.slot().number() == 7);
     Ok(())
 }
 
@@ -100,9 +88,6 @@ fn the_last_word_opens_nothing(rt: HostRuntime) -> Result<(), Fail> {
     };
     assert!(rt; append(rt.alloc(), &mut last, &MOVE_STACK)? == Some(open));
     assert!(rt; append(rt.alloc(), &mut last, &RET)?.is_none());
-    let mut longer = builder(rt.alloc(), 1025, 0, 0)?;
-    let first = page_ending(rt.alloc(), MOVE_STACK)?;
-    assert!(rt; append(rt.alloc(), &mut longer, &first)?.is_none());
     Ok(())
 }
 

@@ -74,7 +74,10 @@ fn each_code_byte(rt: HostRuntime) -> Result<(), Fail> {
             bytes[at] = value;
             let page = SealedPage::of(rt.alloc(), &bytes[24..])?;
             let want = check_all(&page).map(ImageFault::Unlawful);
-            assert!(rt; fault_of(rt.alloc(), &bytes) == want, "byte {at} is {value}");
+            assert!(rt;
+                fault_of(rt.alloc(), &bytes) == want,
+                "byte {at} is {value}"
+            );
             lawful = lawful.saturating_add(u32::from(want.is_none()));
         }
     }
@@ -102,7 +105,10 @@ fn the_first_fault_counts(rt: HostRuntime) {
     for (at, value, want) in PUT_RIGHT {
         assert!(rt; at < 28);
         bytes[at] = value;
-        assert!(rt; fault_of(rt.alloc(), &bytes) == Some(want), "byte {at} is {value}");
+        assert!(rt;
+            fault_of(rt.alloc(), &bytes) == Some(want),
+            "byte {at} is {value}"
+        );
     }
 }
 

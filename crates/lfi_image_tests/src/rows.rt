@@ -88,8 +88,8 @@ pub fn image(alloc: Global, entry: u32, slot: u16, code: &[u8]) -> Result<Comple
 
 /// A page of 1,023 NOPs and one more word.
 pub fn page_ending(alloc: Global, last: [u8; 4]) -> Result<Vec<u8>, Fail> {
-    let mut code = NOP.repeat(alloc, 1023)?;
-    code.extend_from_slice(&last)?;
+    let mut code = NOP.repeat(alloc, 1024)?;
+    code[4092..].copy_from_slice(&last);
     Ok(code)
 }
 

@@ -1,5 +1,5 @@
 use Rattle.std.proofs.Common.{length, ◌∙◌, ap}
-use Rattle.page_buf.specs.Spelled.{words_of}
+use Rattle.a64_word.specs.Words.{words_of}
 use Rattle.lfi_commands.proofs.Spelled.{lawful}
 use Rattle.lfi_commands.proofs.verdict.judge_code.Goals as goal
 
