@@ -255,9 +255,9 @@ fn first_other(set: &RegisterSet, uses: &[(u32, u8, Width)], word: u32) -> Optio
 
 #[test]
 fn writes_registers(rt: HostRuntime) {
-    for word in WORDS {
-        let found = match decode(word) {
-            Some(instruction) => first_other(&writes(&instruction), &WRITES, word),
+    for word in &WORDS {
+        let found = match decode(*word) {
+            Some(instruction) => first_other(&writes(&instruction), &WRITES, *word),
             None => Some(32),
         };
         assert!(rt; found == None, "{word:#x} at {found:?}");
@@ -266,9 +266,9 @@ fn writes_registers(rt: HostRuntime) {
 
 #[test]
 fn reads_registers(rt: HostRuntime) {
-    for word in WORDS {
-        let found = match decode(word) {
-            Some(instruction) => first_other(&reads(&instruction), &READS, word),
+    for word in &WORDS {
+        let found = match decode(*word) {
+            Some(instruction) => first_other(&reads(&instruction), &READS, *word),
             None => Some(32),
         };
         assert!(rt; found == None, "{word:#x} at {found:?}");
@@ -456,9 +456,9 @@ const TARGETS: [(u32, u32, Option<i64>); 11] = [
 
 #[test]
 fn targets(rt: HostRuntime) {
-    for (word, place, to) in TARGETS {
-        let found = match decode(word) {
-            Some(instruction) => target(&instruction, place) == to,
+    for (word, place, to) in &TARGETS {
+        let found = match decode(*word) {
+            Some(instruction) => target(&instruction, *place) == *to,
             None => false,
         };
         assert!(rt; found, "{word:#x}");

@@ -102,9 +102,9 @@ const OTHERS: [(u32, &str); 64] = [
 ];
 
 fn expected(word: u32) -> &'static str {
-    for (other, class) in OTHERS {
-        if other == word {
-            return class;
+    for (other, class) in &OTHERS {
+        if *other == word {
+            return *class;
         }
     }
     "none"
@@ -123,8 +123,8 @@ fn first_other(word: u32, fixed: u32) -> Option<u32> {
 
 #[test]
 fn flips_each_fixed_bit(rt: HostRuntime) {
-    for (word, fixed, class) in CLASSES {
-        assert!(rt; class_of(decode(word)) == class, "{word:#x}");
-        assert!(rt; first_other(word, fixed) == None, "{word:#x}");
+    for (word, fixed, class) in &CLASSES {
+        assert!(rt; class_of(decode(*word)) == *class, "{word:#x}");
+        assert!(rt; first_other(*word, *fixed) == None, "{word:#x}");
     }
 }

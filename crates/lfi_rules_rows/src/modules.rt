@@ -229,8 +229,8 @@ const MODULES: [(&[u32], Option<Fault>); 16] = [
 
 #[test]
 fn modules(rt: HostRuntime) -> Result<(), Fail> {
-    for (words, fault) in MODULES {
-        assert!(rt; fault_of(&rt, words)? == fault, "{words:?}");
+    for (words, fault) in &MODULES {
+        assert!(rt; fault_of(&rt, words)? == *fault, "{words:?}");
     }
     Ok(())
 }

@@ -330,18 +330,25 @@ const SIZES: [usize; 13] = [
     1, 2, 3, 7, 100, 1000, 1001, 1023, 1024, 1025, 2048, 2099, 2100,
 ];
 
-/// The module is the same however it is cut.
+/// Whether a module of 2,100 words, with these from a place on and all others NOP, has a first fault, however it is cut.
+fn has_fault(
+    rt: &HostRuntime,
+    at: usize,
+    changed: &[u32],
+    expected: Option<Fault>,
+) -> Result<bool, Fail> {
+    let mut words = Vec::with_capacity(rt.alloc(), 2100)?;
+    for place in 0..2100usize {
+        let word = changed.get(place.wrapping_sub(at)).copied();
+        words.push(word.unwrap_or(NOP))?;
+    }
+    Ok(fault_of(rt, &words)? == expected && first_other(rt, &words, &SIZES)? == None)
+}
+
 #[test]
 fn cuts_large_modules(rt: HostRuntime) -> Result<(), Fail> {
-    for (at, changed, expected) in LARGE {
-        let mut words = Vec::with_capacity(rt.alloc(), 2100)?;
-        for place in 0..2100usize {
-            let word = changed.get(place.wrapping_sub(at)).copied();
-            words.push(word.unwrap_or(NOP))?;
-        }
-        assert!(rt; fault_of(&rt, &words)? == expected, "{at}");
-        let other = first_other(&rt, &words, &SIZES)?;
-        assert!(rt; other == None, "{at} by {other:?}");
+    for (at, changed, expected) in &LARGE {
+        assert!(rt; has_fault(&rt, *at, changed, *expected)?, "{at}");
     }
     Ok(())
 }

@@ -589,8 +589,15 @@ fn lawful_words(rt: HostRuntime) -> Result<(), Fail> {
 
 #[test]
 fn broken_words(rt: HostRuntime) -> Result<(), Fail> {
-    for (rule, words) in BROKEN {
-        let other = first_other(&rt, words, Some(Fault { word: 0, rule }))?;
+    for (rule, words) in &BROKEN {
+        let other = first_other(
+            &rt,
+            words,
+            Some(Fault {
+                word: 0,
+                rule: *rule,
+            }),
+        )?;
         assert!(rt; other == None, "{other:?} has not {rule}");
     }
     Ok(())
