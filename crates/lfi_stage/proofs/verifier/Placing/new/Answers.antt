@@ -1,5 +1,4 @@
 use Rattle.std.proofs.Common.{◌≡◌, ◌∙◌, ap, [], refl}
-use Rattle.lfi_image.specs.Image.{Module}
 use Rattle.lfi_stage.proofs.Placings.{just_opened}
 use Rattle.lfi_stage.proofs.verifier.Placing.new.Goals as goal
 
