@@ -44,11 +44,11 @@ impl Builder {
         ensures { IfOk result (λ b. b ≡ record { words = extent.words; entry = extent.entry; slot = slot; placed = [] }) }
     {
         let places = Places::new(alloc, extent.words())?;
-        Ok(Builder::over(places, extent, slot))
+        Ok(Builder::in_places(places, extent, slot))
     }
 
     /// The same module in places that were reserved before, which are enough: see [`Places::words`]. It takes no memory.
-    pub fn over(places: Places, extent: Extent, slot: ModuleNumber) -> Builder
+    pub fn in_places(places: Places, extent: Extent, slot: ModuleNumber) -> Builder
         requires { extent.words ≤ places }
         ensures { result ≡ record { words = extent.words; entry = extent.entry; slot = slot; placed = [] } }
     {

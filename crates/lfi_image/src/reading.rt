@@ -1,6 +1,7 @@
 //! Image files, read.
 ghost use Rattle.std.specs.Prelude.{◌≡◌, ◌*◌, ◌%◌, ◌<◌, ◌≤◌, [], length, take, true, false, IsTrue, IfOk, IfErr, IfSome, OnOk};
 ghost use Rattle.std.specs.Io.KnownBytes.{Consumes, IsAtEnd};
+ghost use Rattle.lfi_module.specs.Numbers.{page_bytes};
 ghost use Rattle.page_buf.specs.Page.{IsWhole};
 ghost use Rattle.a64_word.specs.Words.{words_of};
 ghost use Rattle.lfi_image.specs.declared.fault.ImageFault.TheVariants.{NoMemory, Device};
@@ -61,7 +62,7 @@ fn is_at_end<R: Read>(reader: &mut R) -> Result<bool, ImageFault>
 
 /// A sealed page of these bytes. Its words give them back.
 fn sealed(alloc: Global, bytes: &[u8]) -> Result<SealedPage, ImageFault>
-    requires { IsWhole bytes.now × (length bytes.now ≤ 4096) }
+    requires { IsWhole bytes.now × (length bytes.now ≤ page_bytes) }
     ensures page { IfOk result (λ page. page ≡ bytes.now) }
     ensures back { code_of (words_of bytes.now) ≡ bytes.now }
     ensures fault { IfErr result (λ fault. fault ≡ NoMemory) }
@@ -74,7 +75,7 @@ fn sealed(alloc: Global, bytes: &[u8]) -> Result<SealedPage, ImageFault>
 
 /// Reads a page of so many bytes.
 fn read_sealed<R: Read>(alloc: Global, reader: &mut R, len: usize) -> Result<SealedPage, ImageFault>
-    requires { (0 < len) × (len ≤ 4096) × (len % 4 ≡ 0) }
+    requires { (0 < len) × (len ≤ page_bytes) × (len % 4 ≡ 0) }
     ensures read { IfOk result (λ page. Consumes (R.remaining reader.old) (R.remaining reader.new) page) }
     ensures size { IfOk result (λ page. length page ≡ len) }
     ensures back { IfOk result (λ page. code_of (words_of page) ≡ page) }

@@ -53,7 +53,7 @@ fn places_are_reserved_before_the_module_is_known(rt: HostRuntime) -> Result<(),
     let places = Places::new(rt.alloc(), WordCount::MOST)?;
     let (extent, slot) = module(1025, 1024, 15)?;
     assert!(rt; extent.words().number() <= places.words().number());
-    let mut builder = Builder::over(places, extent, slot);
+    let mut builder = Builder::in_places(places, extent, slot);
     assert!(rt; append(rt.alloc(), &mut builder, &page_ending(rt.alloc(), NOP)?)?.is_none());
     assert!(rt; append(rt.alloc(), &mut builder, &RET)?.is_none());
     let image = finished(builder)?;

@@ -85,7 +85,9 @@ impl WordCount {
     pub fn is_due(self, size: PageSize, come: u32, index: u32, bytes: usize) -> bool
         ensures { result ≡ is_due size self come index bytes }
     {
-        index == come && index < self.pages(size) && bytes == self.bytes_in_page(size, index) as usize
+        index == come
+            && index < self.pages(size)
+            && bytes == self.bytes_in_page(size, index) as usize
     }
 }
 

@@ -76,7 +76,7 @@ impl Placing {
     {
         Placing {
             words,
-            builder: Builder::over(places, Extent::of(words, entry), module),
+            builder: Builder::in_places(places, Extent::of(words, entry), module),
             fault: None,
             ended: None,
         }

@@ -1,5 +1,6 @@
 //! Pages: open, while bytes are appended, and sealed, once no byte is written any more.
 ghost use Rattle.std.specs.Prelude.{◌≡◌, ℕ, ◌+◌, ◌-◌, ◌*◌, ◌<◌, ◌≤◌, ◌==◌, List, [], ◌∷◌, ◌++◌, length, take, min, slice_index, MatchResult, IfOk};
+ghost use Rattle.lfi_module.specs.Numbers.{page_bytes, page_words};
 ghost use Rattle.page_buf.specs.Page.{IsWhole};
 ghost use Rattle.a64_word.specs.Words.{words_of};
 
@@ -17,14 +18,14 @@ struct Block {
     len: usize,
     deed: Deed<Global>,
     alloc: Global,
-    ghost written: { (len ≡ length bytes.written) × (len ≤ 4096) },
-    ghost whole: { bytes.size ≡ 4096 },
+    ghost written: { (len ≡ length bytes.written) × (len ≤ page_bytes) },
+    ghost whole: { bytes.size ≡ page_bytes },
     ghost freeable: { (deed.alloc ≡ alloc) × (deed.ptr ≡ bytes.ptr) × (deed.size ≡ bytes.size) },
 }
 
 impl Block {
     fn append(&mut self, source: &[u8])
-        requires { length self.old.bytes.written + length source.now ≤ 4096 }
+        requires { length self.old.bytes.written + length source.now ≤ page_bytes }
         ensures { self.new.bytes.written ≡ self.old.bytes.written ++ source.now }
     {
         self.bytes.append(self.len, source);
@@ -95,7 +96,7 @@ impl OpenPage {
     /// How many bytes have been written, at most 4,096.
     pub fn len(&self) -> usize
         ensures count { result ≡ length self.now }
-        ensures most { result ≤ 4096 }
+        ensures most { result ≤ page_bytes }
     {
         self.block.len
     }
@@ -109,9 +110,9 @@ impl OpenPage {
 
     /// Appends the beginning of `bytes` that fits behind what is written, and answers its length in bytes.
     pub fn write(&mut self, bytes: &[u8]) -> usize
-        ensures count { result ≡ min (length bytes.now) (4096 - length self.old) }
+        ensures count { result ≡ min (length bytes.now) (page_bytes - length self.old) }
         ensures appended { self.new ≡ self.old ++ take result bytes.now }
-        ensures fits { length self.new ≤ 4096 }
+        ensures fits { length self.new ≤ page_bytes }
     {
         let count = bytes.len().min(PAGE_BYTES - self.block.len);
         self.block.append(&bytes[..count]);
@@ -134,7 +135,7 @@ impl SealedPage {
     /// A page of these bytes, which make 1 to 1,024 whole words. `Err` only where the allocator refuses its 4,096 bytes.
     pub fn of(alloc: Global, bytes: &[u8]) -> Result<SealedPage, AllocError>
         requires whole { IsWhole bytes.now }
-        requires fits { length bytes.now ≤ 4096 }
+        requires fits { length bytes.now ≤ page_bytes }
         ensures { IfOk result (λ page. page ≡ bytes.now) }
     {
         let mut page = OpenPage::new(alloc)?;
@@ -148,7 +149,7 @@ impl SealedPage {
     /// The bytes, without a copy: 4 to 4,096, and a multiple of 4.
     pub fn bytes(&self) -> &[u8]
         ensures same { result.now ≡ self.now }
-        ensures size { (length self.now ≤ 4096) × IsWhole self.now }
+        ensures size { (length self.now ≤ page_bytes) × IsWhole self.now }
     {
         self.block.bytes.as_slice(self.block.len)
     }
@@ -157,7 +158,7 @@ impl SealedPage {
     #[tactic(auto, using(a64_word::proofs::WordLaws::words_count))]
     pub fn len_words(&self) -> usize
         ensures count { result ≡ length (words_of self.now) }
-        ensures range { (1 ≤ result) × (result ≤ 1024) }
+        ensures range { (1 ≤ result) × (result ≤ page_words) }
     {
         word_count(self.bytes())
     }

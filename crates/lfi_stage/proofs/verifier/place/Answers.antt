@@ -1,6 +1,5 @@
-use Rattle.std.proofs.Common.{◌≡◌, ◌++◌, sym, subst, ap, List, ℕ, Option, Some, None}
+use Rattle.std.proofs.Common.{◌≡◌, ◌++◌, sym, subst, ap, Some, None}
 use Rattle.a64_word.specs.Words.{words_of}
-use Rattle.lfi_rules.specs.declared.fault.Fault.{Fault}
 use Rattle.lfi_rules.specs.Faults.{FirstFault}
 use Rattle.lfi_stage.proofs.verifier.place.Goals.{in-Ok, in-Err}
 use Rattle.lfi_stage.proofs.verifier.place.Goals as goal
