@@ -5,7 +5,7 @@ use Rattle.lfi_stage.specs.declared.receiver.Receiver.{Receiver}
 use Rattle.lfi_stage.specs.declared.verifier.Verifier.{Verifier}
 use Rattle.lfi_stage.specs.declared.stage.Stage.{Stage}
 use Rattle.lfi_model.specs.declared.connection.Cause.{Cause}
-use Rattle.lfi_model.specs.declared.connection.Cause.TheVariants.{Starved}
+use Rattle.lfi_model.specs.declared.connection.Cause.TheVariants.{Starved, Failed}
 use Rattle.lfi_stage.specs.Shares.{intake_of}
 use Rattle.lfi_stage.specs.declared.settle.Report.{Report}
 use Rattle.lfi_stage.specs.Reports.{Reports}
@@ -28,9 +28,10 @@ pub record IsNew (stage : Stage) : Type 0 where
   pub running : cause_of receiver ≡ None
   pub handled : Handled verifier
 
--- How much of the text was heard: all of it, unless there was no memory for a page; then all up to the end of that page's header.
+-- How much of the text was heard: all of it, unless there was no memory for a page; then all up to the end of that page's header. No read of it failed.
 abbrev pub IsHeard : Option Cause → (heard text : List ℕ) → Type 0
 IsHeard (Some Starved) heard text = AsksMemory heard × (rest : List ℕ) × (text ≡ heard ++ rest)
+IsHeard (Some Failed) heard text = ⊥
 IsHeard cause heard text = heard ≡ text
 
 -- The receiver stands for what was heard of the text.

@@ -13,4 +13,4 @@ pushed xs ys x path bytes more same is = ap (map shown) more ∙ map-append show
 pub returns-in_ok-push-in-Ok-clause-ok : goal.returns-in_ok-push-in-Ok-clause-ok
 returns-in_ok-push-in-Ok-clause-ok c =
     pushed c.args.self.now.put.items c.push.new.self.items (record { path = c.in_ok-path.path; bytes = c.write_image.new.writer }) c.args.path.now (file_of c.args.image.now)
-    c.in_ok-push-in-Ok.ensures.items c.in_ok-path.ensures.ok (c.in-Ok.ensures ∙ ap (λ l. l ++ file_of c.args.image.now) c.new-bytes.ensures.items)
+    c.in_ok-push-in-Ok.ensures.items c.in_ok-path.ensures.ok (c.in-Ok.ensures.written ∙ ap (λ l. l ++ file_of c.args.image.now) c.new-bytes.ensures.items)
