@@ -1,6 +1,5 @@
 -- New seats, one after another.
-use Rattle.std.proofs.Common.{◌≡◌, ℕ, zero, suc, ◌+◌, ◌-◌, ◌<◌, List, [], ◌∷◌, ◌++◌, length, replicate, get_or, set, Option, Some, None, sym, refl, ap, subst, ◌∙◌, arith}
-use Rattle.std.proofs.lemmas.Option.{none-some}
+use Rattle.std.proofs.Common.{◌≡◌, ℕ, zero, suc, ◌+◌, ◌-◌, ◌<◌, List, [], ◌∷◌, ◌++◌, length, replicate, get_or, set, Option, Some, None, refl, ap, subst, ◌∙◌, arith}
 use Rattle.atomic_table.specs.Seated.{TableId}
 use Rattle.lfi_board.specs.declared.hand.Hand.{Hand}
 use Rattle.lfi_board.specs.declared.seats.SequencerSeat.{SequencerSeat}
@@ -48,22 +47,3 @@ new_present z n zero (Some x ∷ ss) a = absurd a
 new_present z n (suc k) [] a = absurd a
 new_present z n (suc k) (None ∷ ss) a = absurd a
 new_present z n (suc k) (Some x ∷ ss) a = let r = new_present z n k ss a.1 in omega arith
-
-abbrev or_else : ReceiverSeat → Option ReceiverSeat → ReceiverSeat
-or_else d None = d
-or_else d (Some x) = x
-
-pub new_at : (z : TableId) (n k : ℕ) (ss : Row) (i : ℕ) (d : Option ReceiverSeat) (s : ReceiverSeat) → i < length ss → get_or ss i d ≡ Some s → NewReceivers z n k ss → IsNewReceiver z n s
-new_at z n zero [] i d s lt e a = absurd (omega arith)
-new_at z n zero (None ∷ ss) zero d s lt e a = absurd (none-some s e)
-new_at z n zero (None ∷ ss) (suc i) d s lt e a = new_at z n zero ss i d s (omega arith) e a
-new_at z n zero (Some x ∷ ss) i d s lt e a = absurd a
-new_at z n (suc k) [] i d s lt e a = absurd a
-new_at z n (suc k) (None ∷ ss) i d s lt e a = absurd a
-new_at z n (suc k) (Some x ∷ ss) zero d s lt e a = subst (IsNewReceiver z n) (ap (or_else x) e) a.0
-new_at z n (suc k) (Some x ∷ ss) (suc i) d s lt e a = new_at z n k ss i d s (omega arith) e a.1
-
-pub sequencer_at : (z : TableId) (n i : ℕ) (ss : List SequencerSeat) (j : ℕ) (d : SequencerSeat) → j < length ss → NewSequencers z n i ss → (get_or ss j d).seat.table_id ≡ z
-sequencer_at z n i [] j d lt a = absurd (omega arith)
-sequencer_at z n i (s ∷ ss) zero d lt a = a.0.0
-sequencer_at z n i (s ∷ ss) (suc j) d lt a = sequencer_at z n (suc i) ss j d (omega arith) a.1

@@ -9,6 +9,8 @@ mod hand;
 mod holds;
 mod makes;
 mod seats;
+#[cfg(test)]
+mod tests;
 
 pub use board::Board;
 pub use hand::{Hand, Sighting};
