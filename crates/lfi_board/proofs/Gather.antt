@@ -1,5 +1,5 @@
 -- The seats of all receivers, one taken out and put back.
-use Rattle.std.proofs.Common.{◌≡◌, ℕ, zero, suc, ◌+◌, ◌<◌, ◌≤◌, ◌≢◌, List, [], ◌∷◌, length, get_or, set, take, drop, if◌then◌else◌, refl, sym, ap, subst, ◌∙◌, arith, Option, Some, None, Bool, true, false, not, true≢false, eq-eqb, ne_eqb}
+use Rattle.std.proofs.Common.{◌≡◌, ℕ, zero, suc, ◌+◌, ◌<◌, ◌≤◌, ◌≢◌, [], ◌∷◌, length, get_or, set, take, drop, if◌then◌else◌, refl, sym, ap, subst, ◌∙◌, arith, Option, Some, None, true, false, not, true≢false, eq-eqb, ne_eqb}
 use Rattle.std.proofs.lemmas.Option.{none-some}
 use Rattle.atomic_table.specs.Seated.{TableId}
 use Rattle.lfi_board.specs.declared.seats.ReceiverSeat.{ReceiverSeat}

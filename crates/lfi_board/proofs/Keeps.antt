@@ -1,8 +1,8 @@
 -- Each step keeps the rule of the board.
-use Rattle.std.proofs.Common.{◌≡◌, ◌≢◌, ℕ, zero, suc, ◌+◌, ◌-◌, ◌*◌, ◌%◌, ◌^◌, ◌<◌, ◌≤◌, Bool, true, false, eqb, List, [], ◌∷◌, ◌++◌, length, get_or, set, sym, refl, ap, ◌∙◌, subst, ⊎_elim, inl, inr, arith, replicate, length-set, get_or-set_same, get_or-set_other, eq-eqb, ne_eqb, if◌then◌else◌}
+use Rattle.std.proofs.Common.{◌≡◌, ◌≢◌, ℕ, zero, suc, ◌+◌, ◌*◌, ◌%◌, ◌^◌, ◌<◌, ◌≤◌, Bool, true, false, eqb, List, [], ◌∷◌, ◌++◌, length, get_or, set, sym, refl, ap, ◌∙◌, subst, ⊎_elim, arith, replicate, length-set, get_or-set_same, get_or-set_other, eq-eqb, ne_eqb, if◌then◌else◌}
 use mathlib.Core.Logic.{dite}
 use mathlib.Core.Option.{none, some, some-injective, some-ne-none}
-use native.Mathlib.Decide.{ℕ_discrete, dec_le}
+use native.Mathlib.Decide.{ℕ_discrete}
 use lib.ListN.{get_elem?}
 use lib.Seq.{set-get_or}
 use prog.Atomic.{either}
@@ -10,7 +10,7 @@ use Rattle.atomic_table.specs.Table.{State, Me, step, keeps, stepped, Allows, En
 use Rattle.atomic_table.proofs.Lists.{at_set, at_snoc, set_again, set_else}
 use Rattle.lfi_board.specs.declared.hand.Hand.{Hand}
 use Rattle.lfi_board.specs.declared.hand.Sighting.{Sighting}
-use Rattle.lfi_board.specs.Hands.{total, times, IsSince, receiver_hand, onlooker, hand_of, sighting, sees, claims, ends, Follows}
+use Rattle.lfi_board.specs.Hands.{total, times, IsSince, receiver_hand, onlooker, hand_of, sees, claims, ends, Follows}
 use Rattle.lfi_board.specs.inner.Rule.{View, receiving, claims_of, ending, taken, AllSince, AllKnow, Kept, first_of, rest_of}
 use Rattle.lfi_board.specs.inner.Plays.{sat, claimed, changed, looked, ended, asked, AllFollow, board_size}
 

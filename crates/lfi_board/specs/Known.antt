@@ -1,5 +1,5 @@
 -- What a clause sees of a board and of its seats. (docs/DEFINITIONS.md, "The board")
-use Rattle.std.specs.Prelude.{◌≡◌, ℕ}
+use Rattle.std.specs.Prelude.{ℕ}
 use Rattle.atomic_table.specs.Seated.{TableId}
 use Rattle.lfi_board.specs.declared.board.Board.{Board}
 use Rattle.lfi_board.specs.declared.hand.Hand.{Hand}

@@ -1,6 +1,6 @@
 -- The rule of the board: what its words, and what all seats know, have to do with each other.
 -- Words 0 to 15 are the phases of the modules: 0 free, 1 open, 2 refused, 3 done. Word 16 is the number of receivers that have ended.
-use Rattle.std.specs.Prelude.{◌≡◌, ℕ, ◌+◌, ◌<◌, ◌≤◌, if◌then◌else◌, ◌==◌, List, [], ◌∷◌, length, slice_index}
+use Rattle.std.specs.Prelude.{◌≡◌, ℕ, ◌<◌, ◌≤◌, if◌then◌else◌, ◌==◌, List, [], ◌∷◌, length, slice_index}
 use mathlib.Core.Option.{some}
 use lib.ListN.{get_elem?}
 use Rattle.atomic_table.specs.Table.{State}

@@ -1,4 +1,4 @@
-use Rattle.std.proofs.Common.{rules, ◌≡◌, ◌<◌, [], ◌∷◌, get_or, true, false, sym, ap, subst, ◌∙◌}
+use Rattle.std.proofs.Common.{◌≡◌, ◌<◌, [], ◌∷◌, get_or, true, false, sym, ap, subst, ◌∙◌}
 use Rattle.lfi_board.specs.inner.Gathered.{claims_by}
 use Rattle.lfi_board.proofs.Gather.{claims_next, is_mine, not_mine, alone}
 use Rattle.lfi_board.proofs.holds.place_of.Goals as goal

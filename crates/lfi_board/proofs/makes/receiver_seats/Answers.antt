@@ -1,4 +1,4 @@
-use Rattle.std.proofs.Common.{rules, arith, ◌≡◌, ◌<◌, [], ◌∷◌, length, ◌∙◌, sym, ap}
+use Rattle.std.proofs.Common.{rules, [], ◌∷◌, ◌∙◌, sym, ap}
 use Rattle.lfi_board.specs.Hands.{receiver_hand, hand_of}
 use Rattle.lfi_board.specs.inner.Rule.{first_of, rest_of}
 use Rattle.lfi_board.specs.Rows.{IsNewReceiver}

@@ -1,4 +1,4 @@
-use Rattle.std.proofs.Common.{rules, arith, ◌≡◌, ◌+◌, ◌<◌, [], ◌∷◌, length, ◌∙◌, sym, ap, subst}
+use Rattle.std.proofs.Common.{rules, ◌≡◌, ◌+◌, length, ◌∙◌, sym, ap, subst}
 use Rattle.lfi_board.specs.Hands.{hand_of, onlooker}
 use Rattle.lfi_board.specs.Rows.{NewSequencers}
 use Rattle.lfi_board.proofs.Keeps.{sits, first_receivers}

@@ -1,4 +1,4 @@
-use Rattle.std.proofs.Common.{rules, arith, ◌≡◌, ◌<◌, All, ◌∙◌, sym, ap, subst}
+use Rattle.std.proofs.Common.{rules, All, ◌∙◌, sym, ap, subst}
 use Rattle.std.proofs.lemmas.List.Elements.{All-push}
 use Rattle.lfi_board.specs.Hands.{hand_of, onlooker}
 use Rattle.lfi_board.specs.Rows.{IsNewWatcher}

@@ -1,10 +1,10 @@
-use Rattle.std.proofs.Common.{rules, arith, ◌≡◌, ◌<◌, ◌≤◌, length, set, ◌++◌, refl, sym, ap, subst, ◌∙◌, None}
+use Rattle.std.proofs.Common.{rules, set, ◌++◌, sym, ap, subst, ◌∙◌}
 use Rattle.lfi_board.specs.Rows.{AllOn, AreSame}
 use Rattle.lfi_board.specs.Known.{board_id}
 use Rattle.lfi_board.specs.Hands.{hand_of}
 use Rattle.lfi_board.specs.inner.Rule.{first_of, rest_of}
 use Rattle.lfi_board.proofs.Keeps.{asks, splits_whole, splits_first, joins_push}
-use Rattle.lfi_board.proofs.Gather.{on_at, on_without, all_same, gathered_none, gathered_some, same_none, same_put}
+use Rattle.lfi_board.proofs.Gather.{on_at, on_without, all_same, same_put}
 use Rattle.lfi_board.proofs.board.Board.+ask.Goals as goal
 
 pub load-requires : goal.load-requires

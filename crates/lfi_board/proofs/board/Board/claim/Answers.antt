@@ -1,4 +1,4 @@
-use Rattle.std.proofs.Common.{rules, arith, ◌≡◌, ◌<◌}
+use Rattle.std.proofs.Common.{rules}
 use Rattle.lfi_board.proofs.Keeps.{claims_keeps}
 use Rattle.lfi_board.proofs.board.Board.claim.Goals as goal
 

@@ -1,4 +1,4 @@
-use Rattle.std.proofs.Common.{rules, arith, ◌≡◌, ℕ, ◌<◌, ◌≢◌, [], ◌∷◌, sym, ap, subst, ◌∙◌}
+use Rattle.std.proofs.Common.{rules, ℕ, [], ◌∷◌, sym, ap, subst, ◌∙◌}
 use Rattle.lfi_board.specs.Hands.{onlooker}
 use Rattle.lfi_board.specs.inner.Rule.{View, taken}
 use Rattle.lfi_board.specs.Rows.{MayFollow}

@@ -1,4 +1,4 @@
-use Rattle.std.proofs.Common.{rules, arith, ◌≡◌, ◌<◌}
+use Rattle.std.proofs.Common.{rules, arith}
 use Rattle.lfi_board.proofs.Keeps.{looks}
 use Rattle.lfi_board.proofs.board.Board.look.Goals as goal
 

@@ -1,4 +1,4 @@
-use Rattle.std.proofs.Common.{rules, ◌≡◌, ◌≤◌, refl, sym, ◌∙◌, replicate}
+use Rattle.std.proofs.Common.{rules, ◌≡◌, refl, sym, ◌∙◌}
 use Rattle.lfi_board.proofs.Keeps.{opens}
 use Rattle.lfi_board.proofs.Fresh.{zeros, new_on, new_present}
 use Rattle.lfi_board.proofs.board.Board.new.Goals as goal
