@@ -1,0 +1,5 @@
+pub mod Hands
+pub mod Calls
+pub mod Known
+pub mod Rows
+pub mod inner
