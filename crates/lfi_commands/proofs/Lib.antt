@@ -1,3 +1,4 @@
+mod Begun
 mod Fates
 mod Joined
 mod Paths

@@ -2,9 +2,9 @@
 use Rattle.std.specs.Prelude.{◌≡◌, ℕ, Bool, true, false, List, [], ◌∷◌, ◌++◌, map, Option, Some, None, ⊤, codes, decimal, if◌then◌else◌, nat_lt}
 use Rattle.std.specs.List.{AllByRecursion, filter_map, flat_map}
 use Rattle.lfi_image.specs.Image.{Image, file_of}
-use Rattle.lfi_stage.specs.declared.report.ImageState.{ImageState}
-use Rattle.lfi_stage.specs.declared.report.ImageState.TheVariants.{Absent, Part, Whole}
-use Rattle.lfi_stage.specs.declared.report.ModuleReport.{ModuleReport}
+use Rattle.lfi_place.specs.declared.report.ImageState.{ImageState}
+use Rattle.lfi_place.specs.declared.report.ImageState.TheVariants.{Absent, Part, Whole}
+use Rattle.lfi_place.specs.declared.report.ModuleReport.{ModuleReport}
 use Rattle.lfi_commands.specs.declared.failure.Failure.{Failure}
 use Rattle.lfi_commands.specs.Failures.{failure_lines, TellsWrite, Told}
 

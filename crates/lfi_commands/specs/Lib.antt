@@ -4,3 +4,4 @@ pub mod Errors
 pub mod Failures
 pub mod Images
 pub mod Runs
+pub mod inner

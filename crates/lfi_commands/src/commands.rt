@@ -1,6 +1,7 @@
 //! The commands, over any reader and writer.
 
-ghost use Rattle.std.specs.Prelude.{◌≡◌, ◌≢◌, ◌++◌, IfOk, IfErr, IfSome, codes};
+ghost use Rattle.std.specs.Prelude.{◌≡◌, ◌≢◌, ◌≤◌, ◌++◌, IfOk, IfErr, IfSome, codes};
+ghost use Rattle.lfi_module.specs.Numbers.{most_words};
 ghost use Rattle.std.specs.Io.KnownBytes.{Appends};
 ghost use Rattle.lfi_stage.specs.Stages.{IsLoaded};
 ghost use Rattle.lfi_commands.specs.Checking.{Checks, verdict_text};
@@ -8,11 +9,14 @@ ghost use Rattle.lfi_model.specs.Texts.{summary_text};
 ghost use Rattle.lfi_stage.specs.Summaries.{summary_of};
 
 use crate::code::MOST_BYTES;
+use crate::pieces::judge_pieces;
 use crate::verdict::{Verdict, judge_code};
+use a64_word::WORD_BYTES;
 use lfi_stage::settle::Report;
 use lfi_stage::stage;
 use std::alloc::Global;
 use std::io::{self, Read, Write};
+use std::sync::Wait;
 
 /// Why a command comes to no answer, or can't tell it.
 #[derive(Clone, Copy, PartialEq, Eq, Debug)]
@@ -57,10 +61,54 @@ pub fn check<R: Read + Drop, W: Write>(
     ensures unwritten { IfErr result (λ fault. fault ≢ CommandFault.NotWritten → writer.new ≡ writer.old) }
 {
     let bytes = read_all(alloc, reader.take(MOST_BYTES as u64 + 1))?;
-    let verdict = judge_code(&bytes);
+    write_verdict(judge_code(&bytes), writer)
+}
+
+/// Writes the line of a verdict.
+fn write_verdict<W: Write>(verdict: Verdict, writer: &mut W) -> Result<Verdict, CommandFault>
+    ensures same { IfOk result (λ written. written ≡ verdict) }
+    ensures written { IfOk result (λ written. Appends (W.contents writer.old) (W.contents writer.new) (verdict_text verdict ++ codes "\n")) }
+    ensures fault { IfErr result (λ fault. fault ≡ CommandFault.NotWritten) }
+{
     match writeln!(writer, "{verdict}") {
         Ok(()) => Ok(verdict),
         Err(_) => Err(CommandFault::NotWritten),
+    }
+}
+
+/// How many words code of so many bytes has, where it can be code: 1 to 4,194,304 of them.
+fn words_in(length: Option<u64>) -> Option<u32>
+    ensures { IfSome result (λ words. (1 ≤ words) × (words ≤ most_words)) }
+{
+    match length {
+        Some(bytes) if bytes > 0 && bytes % WORD_BYTES as u64 == 0 && bytes <= MOST_BYTES as u64 =>
+            { Some((bytes / WORD_BYTES as u64) as u32) }
+        _ => None,
+    }
+}
+
+/// Judges the code that a reader has left, up to its end, and writes the line of what is found, where it may be known before
+/// how many bytes that is. It is then judged piece by piece as it is read.
+///
+/// # Errors
+///
+/// Where a read or the write fails, or there is no memory for the code, or the bytes are others in number than was known.
+pub fn check_file<R: Read + Drop, W: Write>(
+    alloc: Global,
+    reader: R,
+    length: Option<u64>,
+    writer: &mut W,
+) -> Result<Verdict, CommandFault>
+    ensures verdict { IfOk result (λ verdict. IfSome (R.remaining reader) (λ bytes. Checks bytes verdict)) }
+    ensures written { IfOk result (λ verdict. Appends (W.contents writer.old) (W.contents writer.new) (verdict_text verdict ++ codes "\n")) }
+    ensures unwritten { IfErr result (λ fault. fault ≢ CommandFault.NotWritten → writer.new ≡ writer.old) }
+{
+    match words_in(length) {
+        Some(words) => {
+            let verdict = judge_pieces(alloc, reader, words)?;
+            write_verdict(verdict, writer)
+        }
+        None => check(alloc, reader, writer),
     }
 }
 
@@ -69,7 +117,8 @@ pub fn check<R: Read + Drop, W: Write>(
 /// # Errors
 ///
 /// Where a read or a write fails, or there is no memory for the stream or the stage.
-pub fn load<R: Read + Drop, W: Write>(
+pub fn load<S: Wait, R: Read + Drop, W: Write>(
+    rt: &S,
     alloc: Global,
     reader: R,
     writer: &mut W,
@@ -79,7 +128,7 @@ pub fn load<R: Read + Drop, W: Write>(
     ensures unwritten { IfErr result (λ fault. fault ≢ CommandFault.NotWritten → writer.new ≡ writer.old) }
 {
     let bytes = read_all(alloc, reader)?;
-    let Ok(report) = stage::load(alloc, &bytes) else {
+    let Ok(report) = stage::load(rt, alloc, &bytes) else {
         return Err(CommandFault::NoMemory);
     };
     let summary = report.summary();

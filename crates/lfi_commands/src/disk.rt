@@ -5,7 +5,7 @@ ghost use Rattle.lfi_image.specs.Image.{file_of};
 ghost use Rattle.lfi_commands.specs.Images.{Puts};
 
 use lfi_image::{CompleteImage, write_image};
-use std::fs::{File, Files};
+use std::fs::{File, Files, OpenFile};
 use std::io::{self, Read};
 
 /// Where the commands find their input, and put the images.
@@ -26,6 +26,12 @@ pub trait Disk {
     /// Where there is none that can be read, or no memory.
     fn open(&self, path: &str) -> io::Result<Self::Reader>
         ensures { IfOk result (λ reader. IfSome (file_at self.now path.now) (λ bytes. Self.Reader.remaining reader ≡ Some bytes)) };
+
+    /// How many bytes an opened file has, where that is known before they are read. Nothing rests on it but how much memory
+    /// its reading takes, and that a file which gives fewer or more can't be read.
+    fn length(&self, _reader: &Self::Reader) -> Option<u64> {
+        None
+    }
 
     /// Puts the file of an image at this path, in place of one that is there.
     ///
@@ -55,6 +61,13 @@ impl<R: Files> Disk for SystemDisk<'_, R> {
 
     fn open(&self, path: &str) -> io::Result<R::File> {
         File::open(self.rt, path)
+    }
+
+    fn length(&self, reader: &R::File) -> Option<u64> {
+        match reader.metadata() {
+            Ok(metadata) if metadata.is_file() => Some(metadata.len()),
+            _ => None,
+        }
     }
 
     fn put_image(&mut self, path: &str, image: &CompleteImage) -> io::Result<()> {

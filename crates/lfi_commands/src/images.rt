@@ -9,7 +9,7 @@ use crate::disk::Disk;
 use crate::errors::Errors;
 use crate::failure::Failure;
 use lfi_image::CompleteImage;
-use lfi_stage::report::{ImageState, ModuleReport};
+use lfi_place::{ImageState, ModuleReport};
 use std::alloc::{AllocError, Global};
 use std::io::Write;
 

@@ -9,11 +9,12 @@ mod ending;
 mod errors;
 mod failure;
 mod images;
+mod pieces;
 mod program;
 mod verdict;
 
 pub use code::{Code, MOST_BYTES};
-pub use commands::{CommandFault, check, load};
+pub use commands::{CommandFault, check, check_file, load};
 pub use disk::{Disk, SystemDisk};
 pub use ending::Ending;
 pub use errors::Errors;

@@ -7,16 +7,17 @@ ghost use Rattle.lfi_commands.specs.Failures.{FailsOn, TellsRead};
 ghost use Rattle.lfi_commands.specs.Images.{WritesImages};
 ghost use Rattle.lfi_commands.specs.Runs.{asked_images, folder_or_none, left, input_of, FindsVerdict, FindsReport, CarriesOut, Runs};
 
-use crate::commands::{check, load};
+use crate::commands::{check_file, load};
 use crate::disk::Disk;
 use crate::ending::Ending;
 use crate::errors::Errors;
 use crate::failure::{Failure, OUTPUT};
 use crate::images::write_images;
 use lfi_command_line::{Line, LineFault, read_line};
-use lfi_stage::report::ModuleReport;
+use lfi_place::ModuleReport;
 use std::alloc::Global;
 use std::io::Write;
+use std::sync::Wait;
 
 /// Opens the file at this path.
 fn open<D: Disk>(alloc: Global, disk: &D, path: &str) -> Result<D::Reader, Failure>
@@ -40,7 +41,8 @@ fn run_check<D: Disk, O: Write>(
     ensures failure { IfErr result (FailsOn path.now) }
 {
     let reader = open(alloc, disk, path)?;
-    match check(alloc, reader, out) {
+    let length = disk.length(&reader);
+    match check_file(alloc, reader, length, out) {
         Ok(verdict) => Ok(Ending::of_verdict(&verdict)),
         Err(fault) => Err(Failure::of(alloc, fault, path)),
     }
@@ -66,7 +68,8 @@ fn write_asked_images<D: Disk, E: Write>(
 
 /// Loads the modules of the stream in a file, writes the report, and writes the whole images to a folder where one is
 /// named.
-fn run_load<D: Disk, O: Write, E: Write>(
+fn run_load<S: Wait, D: Disk, O: Write, E: Write>(
+    rt: &S,
     alloc: Global,
     disk: &mut D,
     folder: Option<&str>,
@@ -82,7 +85,7 @@ fn run_load<D: Disk, O: Write, E: Write>(
     ensures errors { OnErr result (errors.new ≡ errors.old) }
 {
     let reader = open(alloc, disk, path)?;
-    let report = match load(alloc, reader, out) {
+    let report = match load(rt, alloc, reader, out) {
         Ok(report) => report,
         Err(fault) => return Err(Failure::of(alloc, fault, path)),
     };
@@ -94,7 +97,8 @@ fn run_load<D: Disk, O: Write, E: Write>(
 }
 
 /// Carries out what the program is asked for.
-fn run<D: Disk, O: Write, E: Write>(
+fn run<S: Wait, D: Disk, O: Write, E: Write>(
+    rt: &S,
     alloc: Global,
     disk: &mut D,
     line: Line<'_>,
@@ -113,7 +117,7 @@ fn run<D: Disk, O: Write, E: Write>(
         Line::Load {
             out: folder,
             stream,
-        } => run_load(alloc, disk, folder, stream, out, errors),
+        } => run_load(rt, alloc, disk, folder, stream, out, errors),
     }
 }
 
@@ -147,7 +151,8 @@ fn tell_fault<O: Write, E: Write>(
 
 /// Carries out what the words of the command line ask for, of which the first is the program's name: reads and writes
 /// files of the disk, writes the answer to `out`, and tells what went wrong.
-pub fn run_words<D: Disk, O: Write, E: Write>(
+pub fn run_words<S: Wait, D: Disk, O: Write, E: Write>(
+    rt: &S,
     alloc: Global,
     disk: &mut D,
     words: &[String],
@@ -159,7 +164,7 @@ pub fn run_words<D: Disk, O: Write, E: Write>(
         (left (O.contents out.new) (D.put_files disk.new) (is_lost_of errors.new) (E.contents (writer_of errors.new))) result }
 {
     match read_line(alloc, words) {
-        Ok(line) => match run(alloc, disk, line, out, errors) {
+        Ok(line) => match run(rt, alloc, disk, line, out, errors) {
             Ok(ending) => ending,
             Err(failure) => {
                 errors.tell(&failure);

@@ -1,7 +1,7 @@
 //! Readers and writers that give and take little, or fail.
 
 use crate::runs::{ONE_RET, ONE_RET_REPORT, RET, begin, run_over};
-use lfi_commands::{CommandFault, Ending, Errors, SystemDisk, Verdict, check, load};
+use lfi_commands::{CommandFault, Ending, Errors, SystemDisk, Verdict, check, check_file, load};
 use lfi_model::Outcome;
 use std::fs;
 use std::io::{self, Read, Write};
@@ -50,6 +50,54 @@ impl Write for FullWriter {
     }
 }
 
+/// RET twice.
+const TWO_RETS: [u8; 8] = [0xC0, 0x03, 0x5F, 0xD6, 0xC0, 0x03, 0x5F, 0xD6];
+
+/// How many bytes a file is told to have, of the eight that it gives, and what comes of it.
+const LENGTHS: [(Option<u64>, Result<Verdict, CommandFault>); 6] = [
+    (None, Ok(Verdict::Lawful { words: 2 })),
+    (Some(8), Ok(Verdict::Lawful { words: 2 })),
+    (Some(4), Err(CommandFault::NotRead)),
+    (Some(12), Err(CommandFault::NotRead)),
+    (Some(0), Ok(Verdict::Lawful { words: 2 })),
+    (Some(7), Ok(Verdict::Lawful { words: 2 })),
+];
+
+#[test]
+fn files_of_another_length(rt: HostRuntime) -> Result<(), Fail> {
+    for (length, expected) in LENGTHS {
+        let mut out = Vec::new(rt.alloc());
+        let code = SlowReader {
+            bytes: TWO_RETS.as_slice(),
+            left: 100,
+        };
+        let verdict = check_file(rt.alloc(), code, length, &mut out);
+        assert!(rt; verdict == expected, "{length:?}");
+    }
+    Ok(())
+}
+
+/// Code of 40,000 words is read in three pieces; SVC #0, which is no instruction here, stands in the second.
+#[test]
+fn a_fault_in_a_later_piece(rt: HostRuntime) -> Result<(), Fail> {
+    let mut code = TWO_RETS.repeat(rt.alloc(), 20_000)?;
+    let fault = [0x01, 0x00, 0x00, 0xD4];
+    for i in 0..4usize {
+        if 80_000 + i < code.len() {
+            code[80_000 + i] = fault[i];
+        }
+    }
+    let mut out = Vec::new(rt.alloc());
+    let reader = SlowReader {
+        bytes: &code,
+        left: 1_000_000,
+    };
+    let verdict = check_file(rt.alloc(), reader, Some(160_000), &mut out);
+    assert!(rt; verdict.is_ok());
+    assert!(rt; out.as_slice() == b"word 20000 rule 1\n".as_slice());
+    Ok(())
+}
+
 #[test]
 fn a_byte_a_read(rt: HostRuntime) -> Result<(), Fail> {
     let mut out = Vec::new(rt.alloc());
@@ -63,7 +111,7 @@ fn a_byte_a_read(rt: HostRuntime) -> Result<(), Fail> {
         bytes: ONE_RET.as_slice(),
         left: 41,
     };
-    let outcome = match load(rt.alloc(), stream, &mut out) {
+    let outcome = match load(&rt, rt.alloc(), stream, &mut out) {
         Ok(report) => Some(report.modules[0].outcome),
         Err(_) => None,
     };
@@ -90,7 +138,7 @@ fn reads_that_fail(rt: HostRuntime) -> Result<(), Fail> {
             bytes: ONE_RET.as_slice(),
             left,
         };
-        let report = load(rt.alloc(), stream, &mut out);
+        let report = load(&rt, rt.alloc(), stream, &mut out);
         assert!(rt; report.err() == Some(CommandFault::NotRead), "{left}");
     }
     assert!(rt; out.is_empty());
@@ -126,7 +174,7 @@ fn output_that_fails(rt: HostRuntime) -> Result<(), Fail> {
             let mut errors = Errors::new(Vec::new(rt.alloc()));
             let mut disk = SystemDisk::new(&rt);
             let mut out = FullWriter { left };
-            let ending = run_over(rt.alloc(), &mut disk, line, &mut out, &mut errors)?;
+            let ending = run_over(&rt, rt.alloc(), &mut disk, line, &mut out, &mut errors)?;
             assert!(rt; ending == Ending::Failed, "{line}");
             assert!(rt;
                 errors.writer().as_slice() == b"lfiload: cannot write standard output\n".as_slice(),
@@ -150,7 +198,7 @@ fn errors_that_fail(rt: HostRuntime) -> Result<(), Fail> {
         let mut errors = Errors::new(FullWriter { left: 0 });
         let mut disk = SystemDisk::new(&rt);
         let mut out = FullWriter { left: 0 };
-        let ending = run_over(rt.alloc(), &mut disk, line, &mut out, &mut errors)?;
+        let ending = run_over(&rt, rt.alloc(), &mut disk, line, &mut out, &mut errors)?;
         assert!(rt; ending == Ending::Failed, "{line}");
         assert!(rt; errors.is_lost(), "{line}");
     }

@@ -64,7 +64,7 @@ fn a_disk_with_room(rt: HostRuntime) -> Result<(), Fail> {
         put: Vec::new(rt.alloc()),
         room: 1,
     };
-    let ending = run_over(rt.alloc(), &mut disk, LINE, &mut out, &mut errors)?;
+    let ending = run_over(&rt, rt.alloc(), &mut disk, LINE, &mut out, &mut errors)?;
     assert!(rt; ending == Ending::Well);
     assert!(rt; out.as_slice() == ONE_RET_REPORT.as_bytes());
     assert!(rt; errors.writer().is_empty());
@@ -82,7 +82,7 @@ fn a_full_disk(rt: HostRuntime) -> Result<(), Fail> {
         put: Vec::new(rt.alloc()),
         room: 0,
     };
-    let ending = run_over(rt.alloc(), &mut disk, LINE, &mut out, &mut errors)?;
+    let ending = run_over(&rt, rt.alloc(), &mut disk, LINE, &mut out, &mut errors)?;
     assert!(rt; ending == Ending::Failed);
     assert!(rt; out.as_slice() == ONE_RET_REPORT.as_bytes());
     assert!(rt;

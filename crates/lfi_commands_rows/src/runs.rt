@@ -5,6 +5,7 @@ use std::alloc::{AllocError, Global};
 use std::fs::{self, Files};
 use std::io::{self, Write};
 use std::process::Abort;
+use std::sync::Wait;
 use std::test::Fail;
 
 /// RET, a branch to the address in x30.
@@ -52,7 +53,8 @@ fn words(alloc: Global, line: &str) -> Result<Vec<String>, AllocError> {
 }
 
 /// Runs the program on the words of a line, over any disk and writers.
-pub fn run_over<D: Disk, O: Write, E: Write>(
+pub fn run_over<S: Wait, D: Disk, O: Write, E: Write>(
+    rt: &S,
     alloc: Global,
     disk: &mut D,
     line: &str,
@@ -60,16 +62,16 @@ pub fn run_over<D: Disk, O: Write, E: Write>(
     errors: &mut Errors<E>,
 ) -> Result<Ending, AllocError> {
     let words = words(alloc, line)?;
-    Ok(run_words(alloc, disk, &words, out, errors))
+    Ok(run_words(rt, alloc, disk, &words, out, errors))
 }
 
 /// Runs the program on the words of a line, over the system's files.
-pub fn run_line<R: Files + AllocGlobal>(rt: &R, line: &str) -> Result<Ran, AllocError> {
+pub fn run_line<R: Files + AllocGlobal + Wait>(rt: &R, line: &str) -> Result<Ran, AllocError> {
     let mut out = Vec::new(rt.alloc());
     let mut err = Vec::new(rt.alloc());
     let mut errors = Errors::new(&mut err);
     let mut disk = SystemDisk::new(rt);
-    let ending = run_over(rt.alloc(), &mut disk, line, &mut out, &mut errors)?;
+    let ending = run_over(rt, rt.alloc(), &mut disk, line, &mut out, &mut errors)?;
     Ok(Ran {
         status: ending.status(),
         out,
@@ -78,7 +80,10 @@ pub fn run_line<R: Files + AllocGlobal>(rt: &R, line: &str) -> Result<Ran, Alloc
 }
 
 /// Runs each line, and compares.
-pub fn assert_runs<R: Files + AllocGlobal + Abort>(rt: &R, runs: &[Run]) -> Result<(), Fail> {
+pub fn assert_runs<R: Files + AllocGlobal + Abort + Wait>(
+    rt: &R,
+    runs: &[Run],
+) -> Result<(), Fail> {
     for run in runs {
         let ran = run_line(rt, run.line)?;
         let line = run.line;

@@ -2,11 +2,11 @@
 use Rattle.std.proofs.Common.{ap, ◌∙◌, ◌≡◌, ℕ, ◌+◌, ◌==◌, List, [], ◌∷◌, ◌++◌, length, Option, Some, None, refl, sym, subst, inl, inr, arith, Bool, true, false, cond, length-append, not, ◌||◌, ◌⊎◌}
 use Rattle.std.specs.List.{filter, fold, list_any}
 use Rattle.std.proofs.lemmas.List.{append-nil}
-use Rattle.lfi_queues.specs.Items.{ItemView}
-use Rattle.lfi_queues.specs.declared.item.ItemKind.{ItemKind}
-use Rattle.lfi_queues.specs.declared.item.ItemKind.TheVariants.{Open, Page, End}
-use Rattle.lfi_queues.specs.declared.item.Reason.{Reason}
-use Rattle.lfi_queues.specs.declared.item.Reason.TheVariants.{Close, PageFault}
+use Rattle.lfi_model.specs.Item.{ItemView}
+use Rattle.lfi_model.specs.declared.item.ItemKind.{ItemKind}
+use Rattle.lfi_model.specs.declared.item.ItemKind.TheVariants.{Open, Page, End}
+use Rattle.lfi_model.specs.declared.item.Reason.{Reason}
+use Rattle.lfi_model.specs.declared.item.Reason.TheVariants.{Close, PageFault}
 use Rattle.lfi_model.specs.declared.connection.Progress.{Progress}
 use Rattle.lfi_model.specs.declared.connection.Progress.TheVariants.{Unclaimed, Going, Ended}
 use Rattle.lfi_model.specs.declared.connection.Cause.{Cause}
@@ -39,7 +39,7 @@ split_push (i ∷ items) (b ∷ before) after x y e =
     ]
 
 -- one more item, numbered by its place, that fits
-numbered_more : (items : List ItemView) (x : ItemView) → IsModule items → IsNext items x → IsModule (items ++ x ∷ [])
+pub numbered_more : (items : List ItemView) (x : ItemView) → IsModule items → IsNext items x → IsModule (items ++ x ∷ [])
 numbered_more items x numbered next before after y e =
     elim (split_push items before after x y e) [
       | inl h ↦ subst (λ z. IsNext before z) (sym h.1) (subst (λ l. IsNext l x) (sym h.0) next)
@@ -119,11 +119,11 @@ page_more m n p items bytes g =
       fits = λ y w. fits_more items x y (g.fits y w) w refl;
     }
 
-nothing_before : (before after : List ItemView) (x : ItemView) → [] ≡ before ++ x ∷ after → ⊥
+pub nothing_before : (before after : List ItemView) (x : ItemView) → [] ≡ before ++ x ∷ after → ⊥
 nothing_before [] after x e = cc
 nothing_before (b ∷ before) after x e = cc
 
-module_none : IsModule []
+pub module_none : IsModule []
 module_none before after x e = absurd (nothing_before before after x e)
 
 opened : (m words entry : ℕ) (items : List ItemView) → items ≡ [] → IsGoing words 0 (items ++ item_of m 0 words (Open entry) ∷ [])

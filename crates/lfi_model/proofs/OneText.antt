@@ -3,7 +3,7 @@ use Rattle.std.proofs.Common.{◌≡◌, ℕ, ◌<◌, Bool, List, Option, sym, 
 use Rattle.lfi_frame.specs.declared.fault.FrameFault.{FrameFault}
 use Rattle.lfi_module.specs.Numbers.{module_count}
 use Rattle.lfi_frame.proofs.Cuts.{only}
-use Rattle.lfi_queues.specs.Items.{ItemView}
+use Rattle.lfi_model.specs.Item.{ItemView}
 use Rattle.lfi_model.specs.declared.connection.Cause.{Cause}
 use Rattle.lfi_model.specs.Items.{ItemsOf, items_of, connection_fault, strays_of}
 

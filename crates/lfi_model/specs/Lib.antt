@@ -1,3 +1,5 @@
+pub mod Item
+pub mod Judged
 pub mod Items
 pub mod Modules
 pub mod Outcomes

@@ -1,8 +1,8 @@
 -- How the items of one module follow each other. (docs/DEFINITIONS.md, "A module's items")
 use Rattle.std.specs.Prelude.{◌≡◌, ℕ, ◌==◌, List, [], ◌∷◌, ◌++◌, length, filter, None, ◌⊎◌}
-use Rattle.lfi_queues.specs.Items.{ItemView}
-use Rattle.lfi_queues.specs.declared.item.ItemKind.{ItemKind}
-use Rattle.lfi_queues.specs.declared.item.ItemKind.TheVariants.{Open}
+use Rattle.lfi_model.specs.Item.{ItemView}
+use Rattle.lfi_model.specs.declared.item.ItemKind.{ItemKind}
+use Rattle.lfi_model.specs.declared.item.ItemKind.TheVariants.{Open}
 use Rattle.lfi_model.specs.Outcomes.{end_of}
 
 -- x stands in the list

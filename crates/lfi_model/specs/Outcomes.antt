@@ -1,10 +1,10 @@
 -- What becomes of a module, by one plain pass over its items. (docs/DEFINITIONS.md, "Outcomes")
 use Rattle.std.specs.Prelude.{◌≡◌, ℕ, ◌≤◌, ◌==◌, if◌then◌else◌, List, [], ◌∷◌, ◌++◌, length, Bool, true, false, Option, Some, None, flat_map}
-use Rattle.lfi_queues.specs.Items.{ItemView}
-use Rattle.lfi_queues.specs.declared.item.ItemKind.{ItemKind}
-use Rattle.lfi_queues.specs.declared.item.ItemKind.TheVariants.{Page, End}
-use Rattle.lfi_queues.specs.declared.item.Reason.{Reason}
-use Rattle.lfi_queues.specs.declared.item.Reason.TheVariants.{Close, Lost, PageFault, NoMemory}
+use Rattle.lfi_model.specs.Item.{ItemView}
+use Rattle.lfi_model.specs.declared.item.ItemKind.{ItemKind}
+use Rattle.lfi_model.specs.declared.item.ItemKind.TheVariants.{Page, End}
+use Rattle.lfi_model.specs.declared.item.Reason.{Reason}
+use Rattle.lfi_model.specs.declared.item.Reason.TheVariants.{Close, Lost, PageFault, NoMemory}
 use Rattle.lfi_rules.specs.declared.fault.Fault.{Fault}
 use Rattle.lfi_rules.specs.Faults.{FirstFault}
 use Rattle.lfi_rules.specs.Verdicts.{all_words}

@@ -4,8 +4,8 @@ ghost use Rattle.std.specs.Prelude.{◌≡◌, ◌<◌, ℕ, Bool, List, [], ◌
 ghost use Rattle.lfi_module.specs.Numbers.{module_count};
 ghost use Rattle.lfi_frame.specs.declared.fault.FrameFault.{FrameFault};
 ghost use Rattle.lfi_frame.specs.Streams.{Message, short};
-ghost use Rattle.lfi_queues.specs.Items.{ItemView};
-ghost use Rattle.lfi_queues.specs.declared.item.Reason.{Reason};
+ghost use Rattle.lfi_model.specs.Item.{ItemView};
+ghost use Rattle.lfi_model.specs.declared.item.Reason.{Reason};
 ghost use Rattle.lfi_rules.specs.declared.fault.Fault.{Fault};
 ghost use Rattle.lfi_rules.specs.Faults.{FirstFault};
 ghost use Rattle.lfi_rules.specs.Verdicts.{all_words};

@@ -4,3 +4,4 @@ pub mod Pages
 pub mod Loads
 pub mod Sized
 pub mod Reporting
+pub mod Spelled

@@ -2,8 +2,8 @@
 use Rattle.std.proofs.Common.{zero, suc, ◌≡◌, ℕ, ◌+◌, ◌<◌, List, [], ◌∷◌, ◌++◌, length, get_or, refl, sym, ap, subst, arith, Some, inl, inr, ◌⊎◌}
 use Rattle.std.specs.Prelude.{is_some, Bool, position}
 use Rattle.std.proofs.lemmas.List.Quantifiers.{position-Some}
-use Rattle.lfi_queues.specs.Items.{ItemView}
-use Rattle.lfi_queues.specs.declared.item.Reason.{Reason}
+use Rattle.lfi_model.specs.Item.{ItemView}
+use Rattle.lfi_model.specs.declared.item.Reason.{Reason}
 use Rattle.lfi_model.specs.Items.{modules, items_of}
 use Rattle.lfi_model.specs.Modules.{Member}
 use Rattle.lfi_model.specs.Outcomes.{end_of}

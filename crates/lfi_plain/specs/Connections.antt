@@ -2,7 +2,7 @@
 use Rattle.std.specs.Prelude.{ℕ, List, Bool, false, Option, ◌++◌, slice_index_or}
 use Rattle.lfi_frame.specs.declared.fault.FrameFault.{FrameFault}
 use Rattle.lfi_frame.specs.Streams.{Message, Rest}
-use Rattle.lfi_queues.specs.Items.{ItemView}
+use Rattle.lfi_model.specs.Item.{ItemView}
 use Rattle.lfi_model.specs.Items.{Share, share_of, ends_of}
 
 -- which modules are claimed

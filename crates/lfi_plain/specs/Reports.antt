@@ -1,7 +1,7 @@
 -- What the plain program reports of several streams. (docs/DEFINITIONS.md, "Reports")
 use Rattle.std.specs.Prelude.{◌≡◌, ℕ, ◌+◌, ◌≤◌, List, [], ◌∷◌, length, Option, Some, None, position, slice_get}
 use Rattle.lfi_module.specs.Numbers.{module_count, most_words}
-use Rattle.lfi_queues.specs.Items.{ItemView}
+use Rattle.lfi_model.specs.Item.{ItemView}
 use Rattle.lfi_rules.specs.Verdicts.{all_words}
 use Rattle.lfi_model.specs.declared.outcome.Outcome.TheVariants as outcome
 use Rattle.lfi_model.specs.Items.{ItemsOf}

@@ -1,9 +1,9 @@
 -- What the plain program's items and shares stand for. (docs/DEFINITIONS.md, "Items of a connection")
 use Rattle.std.specs.Prelude.{ℕ, List, [], map, slice_index_or}
 use Rattle.std.specs.Global.{Vec}
-use Rattle.lfi_queues.specs.Items.{ItemView}
-use Rattle.lfi_queues.specs.declared.item.ItemKind.{ItemKind}
-use Rattle.lfi_queues.specs.declared.item.ItemKind.TheVariants as kind
+use Rattle.lfi_model.specs.Item.{ItemView}
+use Rattle.lfi_model.specs.declared.item.ItemKind.{ItemKind}
+use Rattle.lfi_model.specs.declared.item.ItemKind.TheVariants as kind
 use Rattle.lfi_model.specs.Items.{Share}
 use Rattle.lfi_plain.specs.declared.share.PlainKind.{PlainKind}
 use Rattle.lfi_plain.specs.declared.share.PlainKind.TheVariants.{Open, Page, End}

@@ -9,8 +9,7 @@ ghost use Rattle.lfi_plain.specs.Pages.{pages_by, outcome_by, told_by, IsEnded};
 
 use crate::share::{PlainItem, PlainKind, page_count};
 use crate::words::{all_words, first_fault, pages_of, placed};
-use lfi_model::Outcome;
-use lfi_queues::Reason;
+use lfi_model::{Outcome, Reason};
 use lfi_rules::Fault;
 use std::alloc::{AllocError, Global};
 

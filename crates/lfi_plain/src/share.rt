@@ -4,7 +4,7 @@ ghost use Rattle.std.specs.Prelude.{◌≡◌, ◌+◌, ◌++◌, true, ◌<◌,
 ghost use Rattle.lfi_model.specs.Items.{item_of, reason_of, is_going, nothing_yet, with_stray, with_item, after_message, after_rest, share_of, ends_of};
 ghost use Rattle.lfi_module.specs.Numbers.{page_words};
 ghost use Rattle.lfi_module.specs.Pages.{page_count, is_due};
-ghost use Rattle.lfi_queues.specs.declared.item.ItemKind.TheVariants as kind;
+ghost use Rattle.lfi_model.specs.declared.item.ItemKind.TheVariants as kind;
 ghost use Rattle.lfi_model.specs.declared.connection.Progress.TheVariants.{Unclaimed, Going, Ended};
 ghost use Rattle.lfi_plain.specs.Shares.{progress_by, share_by, item_by, items_by};
 ghost use Rattle.lfi_plain.specs.Messages.{message_of, rest_by};
@@ -12,7 +12,7 @@ ghost use Rattle.lfi_plain.specs.Messages.{message_of, rest_by};
 use crate::message::PlainMessage;
 use crate::rest::PlainRest;
 use lfi_frame::FrameFault;
-use lfi_queues::Reason;
+use lfi_model::Reason;
 use std::alloc::{AllocError, Global};
 
 /// What an item brings.

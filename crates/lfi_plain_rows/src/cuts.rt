@@ -100,7 +100,7 @@ fn header_faults(rt: HostRuntime) -> Result<(), Fail> {
     for (bytes, want) in rows {
         let report = told(rt.alloc(), &bytes, Cause::End, &[0])?;
         assert_eq!(rt; report.as_str(), want, "{bytes:?}");
-        let staged = loaded(rt.alloc(), &bytes)?;
+        let staged = loaded(&rt, &bytes)?;
         assert_eq!(rt; staged.as_str(), want, "{bytes:?}");
     }
     Ok(())

@@ -47,7 +47,7 @@ fn one_word_modules(rt: HostRuntime) -> Result<(), Fail> {
         let text = one_word(rt.alloc(), 0, word)?;
         let report = told(rt.alloc(), text.bytes.as_slice(), Cause::End, &[0])?;
         assert_eq!(rt; report.as_str(), want, "word {word:#x}");
-        let staged = loaded(rt.alloc(), text.bytes.as_slice())?;
+        let staged = loaded(&rt, text.bytes.as_slice())?;
         assert_eq!(rt; staged.as_str(), want, "word {word:#x}");
     }
     Ok(())

@@ -7,20 +7,25 @@ use crate::cuts::cut_short;
 use lfi_model::Cause;
 use lfi_stage::stage::{load, load_in_pieces};
 use std::alloc::{AllocError, Global};
+use std::sync::Wait;
 use std::test::Fail;
 
 /// The text of the stage's report on one connection.
-pub fn loaded(alloc: Global, bytes: &[u8]) -> Result<String, AllocError> {
-    let summary = load(alloc, bytes)?.summary();
-    format!(in alloc; "{summary}")
+pub fn loaded(rt: &(impl Wait + AllocGlobal), bytes: &[u8]) -> Result<String, AllocError> {
+    let summary = load(rt, rt.alloc(), bytes)?.summary();
+    format!(in rt.alloc(); "{summary}")
 }
 
 /// The text of the stage's report on one connection that comes in pieces of so many bytes.
-fn loaded_in_pieces(alloc: Global, bytes: &[u8], most: usize) -> Result<String, AllocError>
+fn loaded_in_pieces(
+    rt: &(impl Wait + AllocGlobal),
+    bytes: &[u8],
+    most: usize,
+) -> Result<String, AllocError>
     requires { 1 ≤ most }
 {
-    let summary = load_in_pieces(alloc, bytes, most)?.summary();
-    format!(in alloc; "{summary}")
+    let summary = load_in_pieces(rt, rt.alloc(), bytes, most)?.summary();
+    format!(in rt.alloc(); "{summary}")
 }
 
 /// The text of the plain program's report on one connection, of which at most the first message
@@ -39,7 +44,7 @@ fn cut_at_every_byte(rt: HostRuntime) -> Result<(), Fail> {
     let text = one_word(rt.alloc(), 0, RET)?;
     assert_eq!(rt; text.bytes.len(), 40);
     for len in 0..=40usize {
-        let report = loaded(rt.alloc(), &text.bytes[..len])?;
+        let report = loaded(&rt, &text.bytes[..len])?;
         assert_eq!(rt;
             report.as_str(),
             cut_short(len, Cause::End),
@@ -53,7 +58,7 @@ fn cut_at_every_byte(rt: HostRuntime) -> Result<(), Fail> {
 fn in_pieces_of_every_length(rt: HostRuntime) -> Result<(), Fail> {
     let text = one_word(rt.alloc(), 0, RET)?;
     for most in 1..=41usize {
-        let report = loaded_in_pieces(rt.alloc(), text.bytes.as_slice(), most)?;
+        let report = loaded_in_pieces(&rt, text.bytes.as_slice(), most)?;
         assert_eq!(rt;
             report.as_str(),
             "module 0: complete, 1 words\nstrays 0\n",
@@ -68,7 +73,7 @@ fn cut_at_every_byte_in_pieces_of_one(rt: HostRuntime) -> Result<(), Fail> {
     let text = one_word(rt.alloc(), 0, RET)?;
     assert_eq!(rt; text.bytes.len(), 40);
     for len in 0..=40usize {
-        let report = loaded_in_pieces(rt.alloc(), &text.bytes[..len], 1)?;
+        let report = loaded_in_pieces(&rt, &text.bytes[..len], 1)?;
         assert_eq!(rt;
             report.as_str(),
             cut_short(len, Cause::End),
@@ -82,7 +87,7 @@ fn cut_at_every_byte_in_pieces_of_one(rt: HostRuntime) -> Result<(), Fail> {
 fn a_full_page_in_pieces(rt: HostRuntime) -> Result<(), Fail> {
     let text = of_words(rt.alloc(), 7, 1024)?;
     for most in 1..=5usize {
-        let report = loaded_in_pieces(rt.alloc(), text.bytes.as_slice(), most)?;
+        let report = loaded_in_pieces(&rt, text.bytes.as_slice(), most)?;
         assert_eq!(rt;
             report.as_str(),
             "module 7: complete, 1024 words\nstrays 0\n",
@@ -101,7 +106,7 @@ fn spoiled_in_every_byte(rt: HostRuntime) -> Result<(), Fail> {
             if let Some(place) = bytes.get_mut(at) {
                 *place = byte;
             }
-            let report = loaded(rt.alloc(), bytes.as_slice())?;
+            let report = loaded(&rt, bytes.as_slice())?;
             let plain = plainly(rt.alloc(), bytes.as_slice())?;
             assert_eq!(rt; report.as_str(), plain.as_str(), "byte {at} is {byte}");
         }
@@ -133,7 +138,7 @@ fn modules_of_one_page(rt: HostRuntime) -> Result<(), Fail> {
     ];
     for (module, words, expected) in rows {
         let text = of_words(rt.alloc(), module, words)?;
-        let report = loaded(rt.alloc(), text.bytes.as_slice())?;
+        let report = loaded(&rt, text.bytes.as_slice())?;
         assert_eq!(rt; report.as_str(), expected, "{words} words");
     }
     Ok(())
@@ -144,7 +149,7 @@ fn more_than_one_page_is_not_claimed(rt: HostRuntime) -> Result<(), Fail> {
     let mut text = Text::new(rt.alloc());
     text.open(3, 1025)?;
     text.close(3)?;
-    let report = loaded(rt.alloc(), text.bytes.as_slice())?;
+    let report = loaded(&rt, text.bytes.as_slice())?;
     assert_eq!(rt; report.as_str(), "strays 2\n");
     Ok(())
 }
@@ -158,7 +163,7 @@ fn only_the_first_open_claims(rt: HostRuntime) -> Result<(), Fail> {
     text.page(3, 0, &[RET])?;
     text.close(4)?;
     text.close(3)?;
-    let report = loaded(rt.alloc(), text.bytes.as_slice())?;
+    let report = loaded(&rt, text.bytes.as_slice())?;
     assert_eq!(rt; report.as_str(), "module 3: complete, 1 words\nstrays 3\n");
     Ok(())
 }
@@ -168,7 +173,7 @@ fn closed_before_its_page(rt: HostRuntime) -> Result<(), Fail> {
     let mut text = Text::new(rt.alloc());
     text.open(3, 1)?;
     text.close(3)?;
-    let report = loaded(rt.alloc(), text.bytes.as_slice())?;
+    let report = loaded(&rt, text.bytes.as_slice())?;
     assert_eq!(rt;
         report.as_str(),
         "module 3: incomplete, 0 of 1 pages\nstrays 0\n"
@@ -183,7 +188,7 @@ fn another_module_opened_before(rt: HostRuntime) -> Result<(), Fail> {
     text.open(0, 1)?;
     text.page(0, 0, &[RET])?;
     text.close(0)?;
-    let report = loaded(rt.alloc(), text.bytes.as_slice())?;
+    let report = loaded(&rt, text.bytes.as_slice())?;
     assert_eq!(rt;
         report.as_str(),
         "module 1: lost, fault 9\nconnection 0: fault 9\nstrays 3\n"

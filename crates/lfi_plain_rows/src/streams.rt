@@ -30,7 +30,7 @@ fn page_of_no_module(rt: HostRuntime) -> Result<(), Fail> {
     let bytes = [2, 0, 0, 0, 0, 0, 0, 0, 4, 0, 0, 0, 0xc0, 0x03];
     let report = told(rt.alloc(), &bytes, Cause::End, &[0])?;
     assert_eq!(rt; report.as_str(), "connection 0: fault 9\nstrays 1\n");
-    let staged = loaded(rt.alloc(), &bytes)?;
+    let staged = loaded(&rt, &bytes)?;
     assert_eq!(rt; staged.as_str(), report.as_str());
     Ok(())
 }
@@ -42,7 +42,7 @@ fn opened_again(rt: HostRuntime) -> Result<(), Fail> {
     text.close(0)?;
     let report = told(rt.alloc(), text.bytes.as_slice(), Cause::End, &[0])?;
     assert_eq!(rt; report.as_str(), "module 0: complete, 1 words\nstrays 2\n");
-    let staged = loaded(rt.alloc(), text.bytes.as_slice())?;
+    let staged = loaded(&rt, text.bytes.as_slice())?;
     assert_eq!(rt; staged.as_str(), report.as_str());
     Ok(())
 }
@@ -59,7 +59,7 @@ fn pages_that_are_not_due(rt: HostRuntime) -> Result<(), Fail> {
         text.close(0)?;
         let report = told(rt.alloc(), text.bytes.as_slice(), Cause::End, &[0])?;
         assert_eq!(rt; report.as_str(), want, "page {index} of {words} words");
-        let staged = loaded(rt.alloc(), text.bytes.as_slice())?;
+        let staged = loaded(&rt, text.bytes.as_slice())?;
         assert_eq!(rt; staged.as_str(), want, "page {index} of {words} words");
     }
     Ok(())

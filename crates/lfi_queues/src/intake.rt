@@ -1,119 +1,110 @@
-//! The intake: the queue that receivers put to and verifiers take from. Its callers lend it by
-//! `&mut`, one at a time.
+//! The intake: the queue from those who make items to those who judge them.
 
-ghost use Rattle.std.specs.Prelude.{◌≡◌, ◌+◌, ◌≤◌, ◌<◌, ◌↔◌, [], ◌∷◌, ◌++◌, length, Some, None, IsErr, OnOk, OnErr, IfOk, IfErr, MatchOption, IfSome, IfNone};
-ghost use Rattle.lfi_queues.specs.Passes.{IsSamePass, new_passes};
+ghost use Rattle.std.specs.Prelude.{◌≡◌, ◌+◌, ◌<◌, [], ◌∷◌, ◌++◌, List, length, IfOk, OnOk, IfErr, ⊤};
+ghost use Rattle.lfi_queues.specs.Kept.{Kept};
+ghost use Rattle.lfi_queues.specs.Passes.{new_passes, IsSamePass, SeenByPutter, SeenByTaker, AreAllPasses, items_at, with_first, after_rest, IsFirstOf};
+ghost use Rattle.lfi_queues.specs.Taken.{MatchTaken};
 
-use crate::item::Item;
-use crate::pass::{PutPass, QueueId, TakePass};
+use crate::pass::{PutPass, TakePass};
+use crate::queue::RuledQueue;
 use std::alloc::{AllocError, Global};
-use std::collections::VecDeque;
 use std::marker::Model;
+use std::sync::Wait;
 
-/// A queue of items, of at most 256.
+/// What a take answered.
 #[derive(Drop)]
-pub struct Intake {
-    queue: QueueId,
-    items: VecDeque<Item>,
+pub enum Taken<T> {
+    /// The item that was taken.
+    Item(T),
+    /// There was none.
+    Empty,
+    /// Another taker came between: take again. An intake of one queue never answers this.
+    Again,
 }
 
-impl Model for Intake {
-    ghost use Rattle.std.specs.Prelude.{◌≤◌, length};
-    ghost use Rattle.std.specs.VecDeque.{deque_capacity};
-    ghost use Rattle.lfi_queues.specs.Passes.{QueueView};
-
-    ghost Value = { QueueView };
-
-    ghost view = { λ q. record { queue = q.queue; held = q.items.items } };
-
-    ghost invariant = { λ q. (256 ≤ deque_capacity q.items) × (length q.items.items ≤ 256) };
+/// A queue of at most 256 items, which threads share by `&`.
+#[derive(Drop)]
+pub struct Intake<T> {
+    queue: RuledQueue<T, 256>,
 }
 
-impl Intake {
-    /// How many items it holds at the most.
-    pub const CAPACITY: usize = 256;
+impl<T> Model for Intake<T> {
+    ghost use Rattle.lfi_queues.specs.Passes.{QueueId};
 
+    ghost Value = { QueueId };
+
+    ghost view = { λ i. i.queue };
+}
+
+impl<T> Intake<T> {
     /// An empty intake with its passes, in the order of their numbers. This is its only call that
-    /// takes memory.
+    /// takes memory. There is at least one taker.
+    ///
+    /// # Errors
+    ///
+    /// `AllocError` where memory is refused.
     pub fn new(
         alloc: Global,
-        receivers: usize,
-        verifiers: usize,
-    ) -> Result<(Intake, Vec<PutPass>, Vec<TakePass>), AllocError>
-        ensures queue { IfOk result (λ r. r.0.queue ≡ record { putters = receivers; takers = verifiers }) }
-        ensures empty { IfOk result (λ r. r.0.held ≡ []) }
-        ensures puts { IfOk result (λ r. r.1.items ≡ new_passes r.0.queue receivers) }
-        ensures takes { IfOk result (λ r. r.2.items ≡ new_passes r.0.queue verifiers) }
+        putters: usize,
+        takers: usize,
+    ) -> Result<(Intake<T>, Vec<PutPass<T>>, Vec<TakePass<T>>), AllocError>
+    where
+        T: Drop,
+        requires takers { 0 < takers }
+        ensures counts { IfOk result (λ r. (r.0.putters ≡ putters) × (r.0.takers ≡ takers)) }
+        ensures puts { IfOk result (λ r. r.1.items ≡ new_passes r.0 putters) }
+        ensures takes { IfOk result (λ r. r.2.items ≡ new_passes r.0 takers) }
     {
-        let queue = QueueId {
-            putters: receivers,
-            takers: verifiers,
-        };
-        let items = VecDeque::with_capacity(alloc, Self::CAPACITY)?;
-        let puts = Self::putters(alloc, &queue)?;
-        let takes = Self::takers(alloc, &queue)?;
-        Ok((Intake { queue, items }, puts, takes))
+        let (queue, puts, takes) = RuledQueue::new(alloc, putters, takers)?;
+        Ok((Intake { queue }, puts, takes))
     }
 
-    fn putters(alloc: Global, queue: &QueueId) -> Result<Vec<PutPass>, AllocError>
-        ensures { IfOk result (λ puts. puts.items ≡ new_passes queue.now queue.now.putters) }
-    {
-        let mut puts = Vec::new(alloc);
-        for number in 0..queue.putters {
-            puts.push(PutPass::new(queue, number))?;
-        }
-        Ok(puts)
-    }
-
-    fn takers(alloc: Global, queue: &QueueId) -> Result<Vec<TakePass>, AllocError>
-        ensures { IfOk result (λ takes. takes.items ≡ new_passes queue.now queue.now.takers) }
-    {
-        let mut takes = Vec::new(alloc);
-        for number in 0..queue.takers {
-            takes.push(TakePass::new(queue, number))?;
-        }
-        Ok(takes)
-    }
-
-    /// Puts the item at the end, or hands it back where the intake is full.
-    pub fn put(&mut self, pass: &mut PutPass, item: Item) -> Result<(), Item>
-        requires { pass.old.queue ≡ self.old.queue }
+    /// Puts the item at the end.
+    ///
+    /// # Errors
+    ///
+    /// The item itself, where the intake was full.
+    pub fn put<R: Wait>(&self, rt: &R, pass: &mut PutPass<T>, item: T) -> Result<(), T>
+        requires { pass.old.queue ≡ self.now }
         ensures same { IsSamePass pass.old pass.new }
         ensures counted { pass.new.calls ≡ pass.old.calls + 1 }
         ensures ok { OnOk result (pass.new.items ≡ pass.old.items ++ item ∷ []) }
         ensures err { IfErr result (λ back. (back ≡ item) × (pass.new.items ≡ pass.old.items)) }
-
-        // What the intake holds then, and when it is full.
-        ensures held { OnOk result (self.new ≡ record self.old { held = self.old.held ++ item ∷ [] }) }
-        ensures kept { OnErr result (self.new ≡ self.old) }
-        ensures full { IsErr result ↔ (length self.old.held ≡ 256) }
+        ensures full { IfErr result (λ _. (held : List T) × (length held ≡ 256) × SeenByPutter pass.old held) }
     {
-        pass.call();
-        if self.items.len() == Self::CAPACITY {
-            return Err(item);
-        }
-        pass.add(&item);
-        match self.items.push_back(item) {
-            Ok(()) => Ok(()),
-            Err(_) => unreachable!(),
-        }
+        self.queue.put(rt, pass, item)
     }
 
     /// Takes the item that was put first, if there is one.
-    pub fn take(&mut self, pass: &mut TakePass) -> Option<Item>
-        requires { pass.old.queue ≡ self.old.queue }
+    pub fn take<R: Wait>(&self, rt: &R, pass: &mut TakePass<T>) -> Taken<T>
+        requires { pass.old.queue ≡ self.now }
         ensures same { IsSamePass pass.old pass.new }
         ensures counted { pass.new.calls ≡ pass.old.calls + 1 }
-        ensures taken { IfSome result (λ item. pass.new.items ≡ pass.old.items ++ item ∷ []) }
-        ensures none { IfNone result (pass.new.items ≡ pass.old.items) }
-
-        // What the intake holds then, and when it is empty.
-        ensures held { IfSome result (λ item. self.old ≡ record self.new { held = item ∷ self.new.held }) }
-        ensures empty { IfNone result ((self.old.held ≡ []) × (self.new ≡ self.old)) }
+        ensures taken { MatchTaken result (λ item. pass.new.items ≡ pass.old.items ++ item ∷ []) (pass.new.items ≡ pass.old.items) (pass.new.items ≡ pass.old.items) }
+        ensures empty { MatchTaken result (λ _. ⊤) (SeenByTaker pass.old []) ⊤ }
     {
-        pass.call();
-        let item = self.items.pop_front()?;
-        pass.add(&item);
-        Some(item)
+        match self.queue.take(rt, pass) {
+            Some(item) => Taken::Item(item),
+            None => Taken::Empty,
+        }
+    }
+
+    /// Takes an item that is left, as the first taker, which doesn't count as a call. It is handed
+    /// all passes, each at the place of its number; where it answers None nothing is left, and what
+    /// was put is what was taken.
+    pub fn rest<R: Wait>(
+        &self,
+        rt: &R,
+        puts: &mut [Option<PutPass<T>>],
+        takes: &mut [Option<TakePass<T>>],
+    ) -> Option<T>
+        requires takers { 0 < self.now.takers }
+        requires puts { AreAllPasses self.now self.now.putters puts.old }
+        requires takes { AreAllPasses self.now self.now.takers takes.old }
+        ensures puts { puts.new ≡ puts.old }
+        ensures takes { takes.new ≡ with_first takes.old (λ pass. after_rest pass result) }
+        ensures kept { (held : List T) × Kept (items_at puts.old) (items_at takes.old) held × IsFirstOf held result }
+    {
+        self.queue.rest(rt, puts, takes)
     }
 }

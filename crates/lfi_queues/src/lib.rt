@@ -1,12 +1,15 @@
-//! What receivers hand to verifiers: items, and the intake that carries them.
+//! Queues that several threads share: each pass puts to one queue, or takes from it, and contracts
+//! know what it put or took. A queue knows nothing of the items that it carries.
 #![tactic(auto)]
 
 pub mod intake;
-pub mod item;
+pub mod lane;
+pub mod laws;
+mod log;
 pub mod pass;
-#[cfg(test)]
-mod tests;
+pub mod queue;
 
-pub use intake::Intake;
-pub use item::{Item, ItemKind, Reason};
-pub use pass::{PutPass, QueueId, TakePass};
+pub use intake::{Intake, Taken};
+pub use lane::Lane;
+pub use pass::{PutPass, TakePass};
+pub use queue::RuledQueue;

@@ -1,168 +1,166 @@
-//! Passes: the rights to put to a queue and to take from it. What a pass has done is known to
+//! Passes: the rights to put to a queue and to take from it. What a pass was used for is known to
 //! contracts alone and takes no bytes.
 
-ghost use Rattle.std.specs.Prelude.{◌≡◌, ◌+◌, [], ◌∷◌, ◌++◌};
-ghost use Rattle.lfi_queues.specs.Passes.{new_pass};
+ghost use Rattle.std.specs.Prelude.{◌≡◌, ◌+◌, ◌<◌, [], ◌∷◌, Some, IsSome, IfOk, OnOk};
+ghost use Rattle.crossbeam_queue.specs.Passes.{view as known, IsPassOf, IsSamePass as IsSamePort};
+ghost use Rattle.lfi_queues.specs.Passes.{new_pass, new_passes};
+ghost use Rattle.lfi_queues.specs.inner.Delivery.{log, next_putter, one_more_putter, next_taker, one_more_taker};
+ghost use Rattle.lfi_queues.specs.inner.Ports.{queue_id};
 
-use crate::item::Item;
+use crate::log::{All, Log, NewPutter, NewTaker, Ring};
 use auxiliary::{Auxiliary, Reading};
-use std::collections::LinkedList;
+use crossbeam_queue::Pass;
+use std::alloc::{AllocError, Global};
 use std::marker::Model;
-
-/// Which queue it is: how many passes put to it, and how many take from it.
-#[derive(Clone, Copy, Debug, PartialEq, Eq)]
-pub struct QueueId {
-    pub putters: usize,
-    pub takers: usize,
-}
 
 struct Zero;
 
-impl Reading<usize, u64> for Zero {
+impl Reading<(u64, u64), u64> for Zero {
     ghost reads = { λ _. 0 };
 }
 
-struct Same;
+/// The same value, known to contracts alone.
+pub(crate) struct Same;
 
-impl Reading<usize, usize> for Same {
-    ghost reads = { λ number. number };
+impl Reading<(u64, u64), (u64, u64)> for Same {
+    ghost reads = { λ counts. counts };
 }
 
-impl Reading<QueueId, QueueId> for Same {
-    ghost reads = { λ queue. queue };
-}
-
-struct NoItems;
-
-impl Reading<usize, LinkedList<Item>> for NoItems {
-    ghost reads = { λ _. [] };
-}
-
-struct Then;
-
-impl<'a> Reading<(&'a Auxiliary<LinkedList<Item>>, &'a Item), LinkedList<Item>> for Then {
-    ghost reads = { λ p. p.0.now.value ++ p.1.now ∷ [] };
-}
-
-struct Next;
+/// The number of calls with one more.
+pub(crate) struct Next;
 
 impl Reading<Auxiliary<u64>, u64> for Next {
     ghost reads = { λ calls. calls.value + 1 };
 }
 
-/// What a pass was used for.
+/// The right to put to a queue. It can be sent to another thread.
 #[derive(Drop)]
-struct History {
-    queue: Auxiliary<QueueId>,
-    number: Auxiliary<usize>,
-    calls: Auxiliary<u64>,
-    items: Auxiliary<LinkedList<Item>>,
+pub struct PutPass<T> {
+    pub(crate) seat: Pass<T, Log<T>>,
+    pub(crate) calls: Auxiliary<u64>,
+    pub(crate) counts: Auxiliary<(u64, u64)>,
 }
 
-impl Model for History {
+impl<T> Model for PutPass<T> {
+    ghost use Rattle.std.specs.Prelude.{◌≡◌, []};
+    ghost use Rattle.crossbeam_queue.specs.Passes.{view as known};
     ghost use Rattle.lfi_queues.specs.Passes.{PassView};
 
-    ghost Value = { PassView };
+    ghost Value = { PassView T };
 
-    ghost view = { λ h. record { queue = h.queue.value; number = h.number.value; calls = h.calls.value; items = h.items.value } };
+    ghost use Rattle.lfi_queues.specs.inner.Ports.{queue_id, number_of, items_of, putting};
+
+    ghost view = { λ p. record { queue = queue_id p.seat.table_id p.counts.value; number = number_of (known p.seat).puts; calls = p.calls.value; items = items_of (known p.seat).puts } };
+
+    ghost invariant = { λ p. (known p.seat ≡ putting (number_of (known p.seat).puts) (items_of (known p.seat).puts)) × (p.seat.me.1 ≡ []) };
 }
 
-impl History {
-    fn new(queue: &QueueId, number: usize) -> History
-        ensures { result ≡ new_pass queue.now number }
-    {
-        History {
-            queue: Auxiliary::of::<QueueId, Same>(queue),
-            number: Auxiliary::of::<usize, Same>(&number),
-            calls: Auxiliary::of::<usize, Zero>(&number),
-            items: Auxiliary::of::<usize, NoItems>(&number),
-        }
-    }
-
-    fn call(&mut self)
-        ensures { self.new ≡ record self.old { calls = self.old.calls + 1 } }
-    {
-        self.calls = Auxiliary::of::<Auxiliary<u64>, Next>(&self.calls);
-    }
-
-    fn add(&mut self, item: &Item)
-        ensures { self.new ≡ record self.old { items = self.old.items ++ item.now ∷ [] } }
-    {
-        self.items = Auxiliary::of::<(&Auxiliary<LinkedList<Item>>, &Item), Then>(&(
-            &self.items,
-            item,
-        ));
-    }
-}
-
-/// The right to put to a queue.
+/// The right to take from a queue. It can be sent to another thread.
 #[derive(Drop)]
-pub struct PutPass {
-    history: History,
+pub struct TakePass<T> {
+    pub(crate) seat: Pass<T, Log<T>>,
+    pub(crate) calls: Auxiliary<u64>,
+    pub(crate) counts: Auxiliary<(u64, u64)>,
 }
 
-impl Model for PutPass {
+impl<T> Model for TakePass<T> {
+    ghost use Rattle.std.specs.Prelude.{◌≡◌, []};
+    ghost use Rattle.crossbeam_queue.specs.Passes.{view as known};
     ghost use Rattle.lfi_queues.specs.Passes.{PassView};
 
-    ghost Value = { PassView };
+    ghost Value = { PassView T };
 
-    ghost view = { λ p. p.history };
+    ghost use Rattle.lfi_queues.specs.inner.Ports.{queue_id, number_of, items_of, taking};
+
+    ghost view = { λ p. record { queue = queue_id p.seat.table_id p.counts.value; number = number_of (known p.seat).takes; calls = p.calls.value; items = items_of (known p.seat).takes } };
+
+    ghost invariant = { λ p. (known p.seat ≡ taking p.counts.value (number_of (known p.seat).takes) (items_of (known p.seat).takes)) × (p.seat.me.1 ≡ []) };
 }
 
-/// The right to take from a queue.
-#[derive(Drop)]
-pub struct TakePass {
-    history: History,
-}
-
-impl Model for TakePass {
-    ghost use Rattle.lfi_queues.specs.Passes.{PassView};
-
-    ghost Value = { PassView };
-
-    ghost view = { λ p. p.history };
-}
-
-impl PutPass {
-    pub(crate) fn new(queue: &QueueId, number: usize) -> PutPass
-        ensures { result ≡ new_pass queue.now number }
-    {
-        PutPass {
-            history: History::new(queue, number),
-        }
-    }
-
-    pub(crate) fn call(&mut self)
-        ensures { self.new ≡ record self.old { calls = self.old.calls + 1 } }
-    {
-        self.history.call();
-    }
-
-    pub(crate) fn add(&mut self, item: &Item)
-        ensures { self.new ≡ record self.old { items = self.old.items ++ item.now ∷ [] } }
-    {
-        self.history.add(item);
+/// The pass of the next putter.
+fn new_putter<T>(queue: &Ring<T>, maker: &mut Pass<T, Log<T>>, counts: &(u64, u64)) -> PutPass<T>
+    requires { IsPassOf queue.now maker.old × IsSome (known maker.old).made }
+    ensures maker { IsSamePort maker.old maker.new × (known maker.new ≡ log (known maker.old).puts (known maker.old).takes (one_more_putter (known maker.old).made)) }
+    ensures pass { result ≡ new_pass (queue_id queue.now.table.shared.table_id counts.now) (next_putter (known maker.old).made) }
+{
+    PutPass {
+        seat: queue.another::<NewPutter>(maker),
+        calls: Auxiliary::of::<(u64, u64), Zero>(counts),
+        counts: Auxiliary::of::<(u64, u64), Same>(counts),
     }
 }
 
-impl TakePass {
-    pub(crate) fn new(queue: &QueueId, number: usize) -> TakePass
-        ensures { result ≡ new_pass queue.now number }
-    {
-        TakePass {
-            history: History::new(queue, number),
-        }
+/// The passes of all putters, in the order of their numbers.
+pub(crate) fn new_putters<T: Drop>(
+    alloc: Global,
+    queue: &Ring<T>,
+    maker: &mut Pass<T, Log<T>>,
+    counts: &(u64, u64),
+) -> Result<Vec<PutPass<T>>, AllocError>
+    requires { IsPassOf queue.now maker.old × (known maker.old ≡ log [] [] (Some (0, 0))) }
+    ensures maker { OnOk result (IsSamePort maker.old maker.new × (known maker.new ≡ log [] [] (Some (counts.now.0, 0)))) }
+    ensures passes { IfOk result (λ passes. passes.items ≡ new_passes (queue_id queue.now.table.shared.table_id counts.now) counts.now.0) }
+{
+    let mut passes = Vec::new(alloc);
+    for _number in 0..counts.0 {
+        passes.push(new_putter(queue, maker, counts))?;
     }
+    Ok(passes)
+}
 
-    pub(crate) fn call(&mut self)
-        ensures { self.new ≡ record self.old { calls = self.old.calls + 1 } }
-    {
-        self.history.call();
+/// The pass of a taker but the first.
+fn later_taker<T>(queue: &Ring<T>, maker: &mut Pass<T, Log<T>>, counts: &(u64, u64)) -> TakePass<T>
+    requires maker { IsPassOf queue.now maker.old × IsSome (known maker.old).made }
+    requires later { 0 < next_taker (known maker.old).made }
+    ensures maker { IsSamePort maker.old maker.new × (known maker.new ≡ log (known maker.old).puts (known maker.old).takes (one_more_taker (known maker.old).made)) }
+    ensures pass { result ≡ new_pass (queue_id queue.now.table.shared.table_id counts.now) (next_taker (known maker.old).made) }
+{
+    TakePass {
+        seat: queue.another::<NewTaker>(maker),
+        calls: Auxiliary::of::<(u64, u64), Zero>(counts),
+        counts: Auxiliary::of::<(u64, u64), Same>(counts),
     }
+}
 
-    pub(crate) fn add(&mut self, item: &Item)
-        ensures { self.new ≡ record self.old { items = self.old.items ++ item.now ∷ [] } }
-    {
-        self.history.add(item);
+/// The passes of all takers but the first.
+fn later_takers<T: Drop>(
+    alloc: Global,
+    queue: &Ring<T>,
+    maker: &mut Pass<T, Log<T>>,
+    counts: &(u64, u64),
+) -> Result<Vec<TakePass<T>>, AllocError>
+    requires maker { IsPassOf queue.now maker.old × (known maker.old ≡ log [] [] (Some (counts.now.0, 1))) }
+    requires some { 0 < counts.now.1 }
+    ensures maker { OnOk result (IsSamePort maker.old maker.new × (known maker.new ≡ log [] [] (Some (counts.now.0, counts.now.1)))) }
+    ensures passes { IfOk result (λ passes. new_pass (queue_id queue.now.table.shared.table_id counts.now) 0 ∷ passes.items ≡ new_passes (queue_id queue.now.table.shared.table_id counts.now) counts.now.1) }
+{
+    let mut passes = Vec::new(alloc);
+    for _number in 1..counts.1 {
+        passes.push(later_taker(queue, maker, counts))?;
     }
+    Ok(passes)
+}
+
+/// The passes of all takers, in the order of their numbers. The first is the one that knows how
+/// many passes there are.
+pub(crate) fn new_takers<T: Drop>(
+    alloc: Global,
+    queue: &Ring<T>,
+    mut maker: Pass<T, Log<T>>,
+    counts: &(u64, u64),
+) -> Result<Vec<TakePass<T>>, AllocError>
+    requires maker { IsPassOf queue.now maker × (known maker ≡ log [] [] (Some (counts.now.0, 0))) }
+    requires some { 0 < counts.now.1 }
+    ensures passes { IfOk result (λ passes. passes.items ≡ new_passes (queue_id queue.now.table.shared.table_id counts.now) counts.now.1) }
+{
+    let first = queue.another::<NewTaker>(&mut maker);
+    let mut passes = later_takers(alloc, queue, &mut maker, counts)?;
+    queue.absorb::<All>(&mut maker, first);
+    let first = TakePass {
+        seat: maker,
+        calls: Auxiliary::of::<(u64, u64), Zero>(counts),
+        counts: Auxiliary::of::<(u64, u64), Same>(counts),
+    };
+    passes.insert(0, first)?;
+    Ok(passes)
 }

@@ -6,6 +6,7 @@ ghost use Rattle.lfi_module.specs.Numbers.{most_words};
 use crate::fault::Fault;
 use crate::inspect::inspect;
 use crate::needs::{Need, meets, opens};
+use crate::pass::pass;
 use crate::rule::Rule;
 use a64_word::{Words, decode};
 
@@ -71,14 +72,21 @@ fn first_inside<W: Words>(words: &W, first: u32, n: u32) -> (Option<Fault>, Need
     ensures fault { IsFirstInside (W.words words.now) first n result.0 }
     ensures left { result.0 ≡ None → LeavesOpen (W.words words.now) result.1 }
 {
+    let count = words.count();
     let mut left = Need::Nothing;
-    for i in 0..words.count() {
+    let mut i = 0;
+    while i < count {
+        i = pass(words, i, left, first, n);
+        if i == count {
+            return (None, left);
+        }
         let place = first + i as u32;
         let (rule, opened) = inspect(words.word(i), left, place, n);
         if let Some(rule) = rule {
             return (Some(Fault { word: place, rule }), opened);
         }
         left = opened;
+        i += 1;
     }
     (None, left)
 }

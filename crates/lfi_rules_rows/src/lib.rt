@@ -8,4 +8,8 @@ mod needs;
 #[cfg(test)]
 mod pages;
 #[cfg(test)]
+mod plain;
+#[cfg(test)]
+mod random;
+#[cfg(test)]
 mod words;

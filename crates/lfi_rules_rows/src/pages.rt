@@ -10,7 +10,12 @@ const NOP: u32 = 0xD503201F;
 const GUARD: u32 = 0x8B3E42BE;
 
 /// The verdict on a page that stands in a module of n words from `first` on.
-fn verdict_of(rt: &HostRuntime, words: &[u32], first: u32, n: u32) -> Result<PageVerdict, Fail> {
+pub fn verdict_of(
+    rt: &HostRuntime,
+    words: &[u32],
+    first: u32,
+    n: u32,
+) -> Result<PageVerdict, Fail> {
     let words = Vec::from_slice(rt.alloc(), words)?;
     if words.is_empty() || n > 4_194_304 || first > n || words.len() > (n - first) as usize {
         return Err(Fail::new("the page doesn't fit"));
@@ -32,7 +37,7 @@ fn fault_with(
 }
 
 /// The first fault of a module that is cut into pages of so many words, by their verdicts.
-fn fault_by_pages(rt: &HostRuntime, words: &[u32], size: usize) -> Result<Option<Fault>, Fail>
+pub fn fault_by_pages(rt: &HostRuntime, words: &[u32], size: usize) -> Result<Option<Fault>, Fail>
     requires { 1 ≤ size }
 {
     let n = u32::try_from(words.len())?;

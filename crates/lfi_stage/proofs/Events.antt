@@ -3,9 +3,9 @@ use Rattle.std.proofs.Common.{◌≡◌, ◌≢◌, ℕ, ◌+◌, ◌-◌, ◌<�
 use Rattle.std.proofs.lemmas.Bool.{eq-eqb}
 use Rattle.std.proofs.lemmas.Bool.Decides.{eqb_tells}
 use Rattle.lfi_frame.specs.Streams.{Message, open_message, page_message, close_message, header_of, short, faulty, unfinished}
-use Rattle.lfi_queues.specs.Items.{ItemView}
-use Rattle.lfi_queues.specs.declared.item.ItemKind.TheVariants.{Open, Page, End}
-use Rattle.lfi_queues.specs.declared.item.Reason.TheVariants.{PageFault}
+use Rattle.lfi_model.specs.Item.{ItemView}
+use Rattle.lfi_model.specs.declared.item.ItemKind.TheVariants.{Open, Page, End}
+use Rattle.lfi_model.specs.declared.item.Reason.TheVariants.{PageFault}
 use Rattle.lfi_model.specs.declared.connection.Progress.{Progress}
 use Rattle.lfi_model.specs.declared.connection.Progress.TheVariants.{Unclaimed, Going, Ended}
 use Rattle.lfi_model.specs.Items.{Share, after_message, after_header, item_of, share_of, with_item, with_stray}

@@ -6,9 +6,9 @@ use Rattle.lfi_frame.specs.Streams.{Message, open_message, page_message, close_m
 use Rattle.lfi_frame.specs.declared.fault.FrameFault.{FrameFault}
 use Rattle.lfi_frame.specs.declared.header.Header.{Header}
 use Rattle.lfi_frame.proofs.Cuts.{rest_short, rest_long}
-use Rattle.lfi_queues.specs.Items.{ItemView}
-use Rattle.lfi_queues.specs.declared.item.ItemKind.TheVariants.{Open, Page, End}
-use Rattle.lfi_queues.specs.declared.item.Reason.TheVariants.{Close, PageFault}
+use Rattle.lfi_model.specs.Item.{ItemView}
+use Rattle.lfi_model.specs.declared.item.ItemKind.TheVariants.{Open, Page, End}
+use Rattle.lfi_model.specs.declared.item.Reason.TheVariants.{Close, PageFault}
 use Rattle.lfi_model.specs.declared.connection.Progress.{Progress}
 use Rattle.lfi_model.specs.declared.connection.Progress.TheVariants.{Unclaimed, Going, Ended}
 use Rattle.lfi_model.specs.declared.connection.Cause.{Cause}

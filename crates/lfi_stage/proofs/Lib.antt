@@ -2,7 +2,5 @@ pub mod Books
 pub mod Events
 pub mod Holding
 pub mod Standing
-pub mod Placings
-pub mod Reporting
 pub mod Loading
 pub mod Settling

@@ -1,13 +1,10 @@
 -- The parts of a stage of one receiver and one verifier, of which all that was put was taken.
-use Rattle.std.proofs.Common.{◌≡◌, ℕ, zero, suc, List, [], ◌∷◌, Option, Some, None, ◌++◌, ◌-◌, ◌^◌, min, sum_by, length, take, drop, cond, refl, sym, ◌∙◌, ap, subst}
-use Rattle.std.proofs.Math.Dec.{eqb-zero-suc}
+use Rattle.std.proofs.Common.{◌≡◌, ℕ, zero, suc, List, [], ◌∷◌, Option, Some, None, ◌++◌, ◌-◌, ◌^◌, min, sum_by, length, take, drop, refl, sym, ◌∙◌, ap, subst}
 use Rattle.std.specs.Prelude.{slice_get}
 use Rattle.std.proofs.Math.Seq.{take-length}
 use Rattle.std.proofs.lemmas.List.{take-append-drop}
-use Rattle.lfi_queues.specs.Items.{ItemView}
-use Rattle.lfi_queues.specs.Kept.{Kept}
-use Rattle.lfi_queues.specs.Passes.{PassView, QueueView, IsSamePass, new_pass}
-use Rattle.lfi_queues.proofs.Alone.{at_first, kept_first}
+use Rattle.lfi_model.specs.Item.{ItemView}
+use Rattle.lfi_queues.specs.Passes.{PassView, QueueId, IsSamePass, new_pass}
 use Rattle.lfi_stage.specs.declared.receiver.Receiver.{Receiver}
 use Rattle.lfi_stage.specs.declared.verifier.Verifier.{Verifier}
 use Rattle.lfi_stage.specs.Receivers.{StandsFor, StandsBy, Ends, IsFaulty, IsOver, claimed_by}
@@ -19,35 +16,23 @@ use Rattle.lfi_model.specs.declared.connection.Cause.{Cause}
 use Rattle.lfi_model.specs.declared.connection.Cause.TheVariants as cause_kind
 use Rattle.lfi_model.specs.Items.{connection_fault, fault_of, is_inside, share_at, share_of, ends_of, modules}
 use Rattle.lfi_stage.specs.Verified.{Handled}
-use Rattle.lfi_stage.specs.Reports.{puts_of, takes_of, AreParts}
+use Rattle.lfi_stage.specs.Reports.{AreParts}
 
 module _ (r : Receiver) (v : Verifier) where
-  put_first : (k : ℕ) → puts_of (r ∷ []) k ≡ at_first r.pass.items k
-  put_first zero = refl
-  put_first (suc k) = sym (ap (λ b. cond b r.pass.items []) (eqb-zero-suc k))
-
-  took_first : (k : ℕ) → takes_of (v ∷ []) k ≡ at_first v.pass.items k
-  took_first zero = refl
-  took_first (suc k) = sym (ap (λ b. cond b v.pass.items []) (eqb-zero-suc k))
-
-  pub kept_one : r.pass.items ≡ v.pass.items → (held : List ItemView) → held ≡ [] → Kept (puts_of (r ∷ [])) (takes_of (v ∷ [])) held
-  kept_one all held none = subst (λ l. Kept (puts_of (r ∷ [])) (takes_of (v ∷ [])) l) (sym none)
-      (kept_first (puts_of (r ∷ [])) (takes_of (v ∷ [])) r.pass.items put_first (λ k. took_first k ∙ ap (λ l. at_first l k) (sym all)))
-
-  pub parts_one : (old_put old_take : PassView) (old new : QueueView) → old_put ≡ new_pass old.queue 0 → old_take ≡ new_pass old.queue 0
-      → IsSamePass old_put r.pass → IsSamePass old_take v.pass → new.queue ≡ old.queue → (old.queue.putters ≡ 1) × (old.queue.takers ≡ 1) → Handled v
-      → AreParts new (r ∷ []) (v ∷ [])
-  parts_one old_put old_take old new is_put is_take put take same counts handled = record {
-    receiver_count = sym (ap (λ q. q.putters) same ∙ counts.0);
-    verifier_count = sym (ap (λ q. q.takers) same ∙ counts.1);
+  pub parts_one : (old_put old_take : PassView ItemView) (intake : QueueId) → old_put ≡ new_pass intake 0 → old_take ≡ new_pass intake 0
+      → IsSamePass old_put r.pass → IsSamePass old_take v.pass → (intake.putters ≡ 1) × (intake.takers ≡ 1) → Handled v
+      → AreParts intake (r ∷ []) (v ∷ [])
+  parts_one old_put old_take intake is_put is_take put take counts handled = record {
+    receiver_count = sym counts.0;
+    verifier_count = sym counts.1;
     receivers_are = receiver_at;
     verifiers_are = verifier_at;
     handled = handled_at;
   }
     where
-      receiver_at : (c : ℕ) (q : Receiver) → slice_get (r ∷ []) c ≡ Some q → (q.pass.queue ≡ new.queue) × (q.pass.number ≡ c)
+      receiver_at : (c : ℕ) (q : Receiver) → slice_get (r ∷ []) c ≡ Some q → (q.pass.queue ≡ intake) × (q.pass.number ≡ c)
       receiver_at zero q e = (let is : r ≡ q = some_same r q e in (
-        ap (λ x. x.pass.queue) (sym is) ∙ put.queue ∙ ap (λ p. p.queue) is_put ∙ sym same,
+        ap (λ x. x.pass.queue) (sym is) ∙ put.queue ∙ ap (λ p. p.queue) is_put,
         ap (λ x. x.pass.number) (sym is) ∙ put.number ∙ ap (λ p. p.number) is_put,
       ))
         where
@@ -55,9 +40,9 @@ module _ (r : Receiver) (v : Verifier) where
           some_same a b e = cc
       receiver_at (suc c) q e = absurd cc
 
-      verifier_at : (k : ℕ) (q : Verifier) → slice_get (v ∷ []) k ≡ Some q → (q.pass.queue ≡ new.queue) × (q.pass.number ≡ k)
+      verifier_at : (k : ℕ) (q : Verifier) → slice_get (v ∷ []) k ≡ Some q → (q.pass.queue ≡ intake) × (q.pass.number ≡ k)
       verifier_at zero q e = (let is : v ≡ q = some_same v q e in (
-        ap (λ x. x.pass.queue) (sym is) ∙ take.queue ∙ ap (λ p. p.queue) is_take ∙ sym same,
+        ap (λ x. x.pass.queue) (sym is) ∙ take.queue ∙ ap (λ p. p.queue) is_take,
         ap (λ x. x.pass.number) (sym is) ∙ take.number ∙ ap (λ p. p.number) is_take,
       ))
         where

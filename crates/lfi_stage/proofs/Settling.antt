@@ -1,56 +1,39 @@
 -- What a put and a take after each other do, and what is kept of one pass of each kind.
-use Rattle.std.proofs.Common.{rules, arith, ◌≡◌, ◌≢◌, ℕ, ◌+◌, ◌-◌, ◌^◌, ◌<◌, ◌≤◌, zero, suc, List, [], ◌∷◌, ◌++◌, length, length-append, length-drop, length-take, take, drop, get_or, min, Option, Some, None, IsSome, true, false, option_to_list, refl, sym, ◌∙◌, ap, subst}
+use Rattle.std.proofs.Common.{rules, arith, ◌≡◌, ℕ, ◌+◌, ◌-◌, ◌^◌, ◌<◌, ◌≤◌, zero, suc, List, [], ◌∷◌, ◌++◌, length, length-append, length-take, take, drop, get_or, min, Option, Some, None, IsSome, false, option_to_list, refl, sym, ◌∙◌, ap, subst}
 use Rattle.std.proofs.lemmas.List.{take-take}
-use Rattle.std.specs.Prelude.{sum, slice_get, slice_index, is_some}
+use Rattle.std.specs.Prelude.{sum, slice_get, slice_index, MatchOption}
+use Rattle.std.specs.Option.{option_map_or}
 use Rattle.lfi_frame.specs.declared.fault.FrameFault.{FrameFault}
 use Rattle.lfi_frame.specs.Streams.{Message, Cut}
 use Rattle.lfi_frame.proofs.Cuts.{only}
 use Rattle.lfi_queues.specs.Kept.{Kept}
-use Rattle.lfi_queues.proofs.Alone.{kept_alone}
+use Rattle.lfi_queues.specs.Passes.{QueueId, pass_at, items_at, IsPass, AreAllPasses}
+use Rattle.lfi_queues.proofs.Shares.{one_taker, only_part}
 use Rattle.lfi_model.specs.Items.{ItemsOf, items_of, connection_fault, strays_of}
 use Rattle.lfi_model.specs.Modules.{of, IsModule}
 use Rattle.lfi_model.proofs.Numbered.{items_numbered, items_end}
 use Rattle.lfi_stage.specs.declared.verifier.Verifier.{Verifier}
-use Rattle.lfi_stage.specs.declared.report.ModuleReport.{ModuleReport}
+use Rattle.lfi_place.specs.declared.report.ModuleReport.{ModuleReport}
 use Rattle.lfi_stage.specs.declared.settle.Report.{Report}
 use Rattle.lfi_stage.specs.Claims.{claims_in}
 use Rattle.lfi_stage.specs.Verified.{Handled}
-use Rattle.lfi_stage.specs.Verifiers.{HandledBy, placing_at}
-use Rattle.lfi_stage.specs.Tells.{Tells, HasEnd}
-use Rattle.lfi_stage.specs.Reports.{puts_of, takes_of, AreParts, Reports}
+use Rattle.lfi_place.specs.Placed.{HandledBy}
+use Rattle.lfi_stage.specs.Verifiers.{placing_at}
+use Rattle.lfi_place.specs.Tells.{Tells, HasEnd}
+use Rattle.lfi_stage.specs.Reports.{AreParts, Reports}
 use Rattle.lfi_stage.proofs.Books.{numbered}
 use Rattle.lfi_stage.proofs.Holding.{idle_items}
 use Rattle.std.proofs.lemmas.List.{append-nil}
-use Rattle.lfi_queues.specs.Items.{ItemView}
-use Rattle.lfi_queues.specs.Passes.{PassView, QueueView, IsSamePass}
+use Rattle.lfi_model.specs.Item.{ItemView}
+use Rattle.lfi_queues.specs.Passes.{PassView, IsSamePass}
 use Rattle.lfi_stage.specs.declared.receiver.ReceiverTurn.{ReceiverTurn}
 use Rattle.lfi_stage.specs.declared.receiver.ReceiverTurn.TheVariants as turn
 use Rattle.lfi_model.specs.declared.connection.Cause.{Cause}
 use Rattle.lfi_stage.specs.declared.receiver.Receiver.{Receiver}
 use Rattle.lfi_stage.specs.declared.verifier.VerifierTurn.{VerifierTurn}
-use Rattle.lfi_stage.specs.declared.verifier.VerifierTurn.TheVariants.{Worked, Idle}
+use Rattle.lfi_stage.specs.declared.verifier.VerifierTurn.TheVariants.{Worked, Idle, Again}
 use Rattle.lfi_stage.specs.Receivers.{StandsFor, StandsBy, Ends, IsFinished, claimed_by, cause_after}
 use Rattle.lfi_stage.specs.Turns.{PutsAsTold, TakesAsTold}
-
--- a take from an intake that holds one item
-pub record TakesOne (old new : PassView) (item : ItemView) (before after : QueueView) : Type 0 where
-  pub items : new.items ≡ old.items ++ item ∷ []
-  pub empty : after.held ≡ []
-  pub pass : new.queue ≡ old.queue
-  pub intake : after.queue ≡ before.queue
-
-pub takes_one : (t : VerifierTurn) (old new : PassView) (item : ItemView) (before after : QueueView) → TakesAsTold t old new before after → before.held ≡ item ∷ [] → TakesOne old new item before after
-takes_one Worked old new item before after told one =
-    let both : told.0 ∷ after.held ≡ item ∷ [] = ap (λ q. q.held) (sym told.2) ∙ one in
-    let same : told.0 ≡ item = cc in
-    let none : after.held ≡ [] = cc in
-    record {
-      items = ap (λ p. p.items) told.1 ∙ ap (λ x. old.items ++ x ∷ []) same;
-      empty = none;
-      pass = ap (λ p. p.queue) told.1;
-      intake = sym (ap (λ q. q.queue) told.2);
-    }
-takes_one Idle old new item before after told one = absurd (let none : before.held ≡ [] = told.2 in cc)
 
 -- a turn that used nothing
 pub stands_on : (r : Receiver) (bytes piece : List ℕ) (n : ℕ) → n ≡ 0 → StandsFor r (bytes ++ take n piece) → StandsFor r bytes
@@ -59,16 +42,16 @@ stands_on r bytes piece n none stands = subst (λ l. StandsFor r l) (append-nil 
 pub some_cause : (o : Option Cause) (cause : Cause) → o ≡ Some cause → IsSome o
 some_cause o cause e = subst (λ z. IsSome z) (sym e) refl
 
-only_one : {A : Type 0} (xs ys : List A) (x : A) → xs ≡ ys ++ x ∷ [] → length xs ≡ 1 → xs ≡ x ∷ []
+pub only_one : {A : Type 0} (xs ys : List A) (x : A) → xs ≡ ys ++ x ∷ [] → length xs ≡ 1 → xs ≡ x ∷ []
 only_one xs [] x e l = e
 only_one xs (y ∷ []) x e l = absurd (let k = ap length e in omega arith)
 only_one xs (y ∷ z ∷ ys) x e l = absurd (let k = ap length e in let a = length-append ys (x ∷ []) in omega arith)
 
 -- All that a receiver made has come to the verifier, and has been placed: that is what the report tells.
-module _ (r r' : Receiver) (v v' : Verifier) (intake : QueueView) (texts : ℕ → List ℕ) (report : Report)
-    (parts : AreParts intake (r ∷ []) (v ∷ [])) (kept : Kept (puts_of (r ∷ [])) (takes_of (v ∷ [])) intake.held)
+module _ (r r' : Receiver) (v v' : Verifier) (intake : QueueId) (texts : ℕ → List ℕ) (report : Report)
+    (parts : AreParts intake (r ∷ []) (v ∷ []))
     (stands : StandsFor r' (texts 0)) (finished : IsFinished r') (ended : r'.cause ≡ Some (cause_after r.cause false)) (same_claims : (m : ℕ) → claimed_by r' m ≡ claimed_by r m)
-    (handled : Handled v → Handled v') (all : r.pass.items ≡ v.pass.items ++ intake.held → r'.pass.items ≡ v'.pass.items)
+    (handled : Handled v → Handled v') (arrived : v'.pass.items ≡ r'.pass.items)
     (told : (m : ℕ) → m < 16 → (t : ModuleReport) × (slice_get report.modules m ≡ Some t) × ((items : List ItemView) → HandledBy m (placing_at v'.placings m) items → HasEnd items → Tells m t items))
     (fault : get_or report.faults 0 None ≡ r'.fault) (no_fault : (c : ℕ) → 0 < c → get_or report.faults c None ≡ None) (strays : report.strays ≡ r'.strays) where
   abbrev cause : Cause
@@ -95,20 +78,9 @@ module _ (r r' : Receiver) (v v' : Verifier) (intake : QueueView) (texts : ℕ �
       ∙ (λ i. of m ((sym (append-nil r'.pass.items) ∙ ap (λ h. r'.pass.items ++ option_to_list h) (sym finished.empty_handed)) i) ++ sym (finished.none_due m) i)
       ∙ ends.items m ∙ ap (λ c. items_of ms rest cause c m) claims
 
-  others_put : (q : ℕ) → q ≢ 0 → puts_of (r ∷ []) q ≡ []
-  others_put zero apart = absurd (apart refl)
-  others_put (suc q) apart = refl
-
-  others_took : (q : ℕ) → q ≢ 0 → takes_of (v ∷ []) q ≡ []
-  others_took zero apart = absurd (apart refl)
-  others_took (suc q) apart = refl
-
-  arrived : r'.pass.items ≡ v'.pass.items
-  arrived = all (kept_alone (puts_of (r ∷ [])) (takes_of (v ∷ [])) intake.held 0 0 kept others_put others_took)
-
   placed : (m : ℕ) → HandledBy m (placing_at v'.placings m) (items m)
   placed m =
-      let same : of m v'.pass.items ≡ items m = ap (λ l. of m l) (sym arrived) ∙ made m in
+      let same : of m v'.pass.items ≡ items m = ap (λ l. of m l) arrived ∙ made m in
       subst (λ l. HandledBy m (placing_at v'.placings m) l) same
       (handled (parts.handled 0 v refl) m (subst (λ l. IsModule l) (sym same) (items_numbered ms rest cause (claimed_by r) m)))
 
@@ -172,48 +144,34 @@ first_alone f (suc (suc (suc (suc (suc (suc (suc zero))))))) more = refl
 first_alone f (suc (suc (suc (suc (suc (suc (suc (suc c)))))))) more = refl
 
 -- in the words of `settle`
-pub settled : (rs rs' : List Receiver) (vs vs' : List Verifier) (r r' : Receiver) (v v' : Verifier) (intake : QueueView) (report : Report)
-    → rs ≡ rs' ++ r ∷ [] → vs ≡ vs' ++ v ∷ [] → intake.queue.putters ≡ 1 → intake.queue.takers ≡ 1 → AreParts intake rs vs → Kept (puts_of rs) (takes_of vs) intake.held
+pub settled : (rs rs' : List Receiver) (vs vs' : List Verifier) (r r' : Receiver) (v v' : Verifier) (intake : QueueId) (report : Report)
+    → rs ≡ rs' ++ r ∷ [] → vs ≡ vs' ++ v ∷ [] → intake.putters ≡ 1 → intake.takers ≡ 1 → AreParts intake rs vs
     → ((bytes : List ℕ) → StandsFor r bytes → StandsFor r' bytes) → IsFinished r' → r'.cause ≡ Some (cause_after r.cause false) → ((m : ℕ) → claimed_by r' m ≡ claimed_by r m)
-    → (Handled v → Handled v') → (r.pass.items ≡ v.pass.items ++ intake.held → r'.pass.items ≡ v'.pass.items)
+    → (Handled v → Handled v') → v'.pass.items ≡ r'.pass.items
     → ((m : ℕ) → m < 16 → (t : ModuleReport) × (slice_get report.modules m ≡ Some t) × ((items : List ItemView) → HandledBy m (placing_at v'.placings m) items → HasEnd items → Tells m t items))
     → get_or report.faults 0 None ≡ r'.fault → ((c : ℕ) → 0 < c → get_or report.faults c None ≡ None) → report.strays ≡ r'.strays
     → (texts : ℕ → List ℕ) → ((c : ℕ) (q : Receiver) → slice_get rs c ≡ Some q → StandsFor q (texts c)) → Reports rs texts report
-settled rs rs' vs vs' r r' v v' intake report last_r last_v one_r one_v parts kept stands finished ended claims handled all told fault no_fault strays texts all_stand =
+settled rs rs' vs vs' r r' v v' intake report last_r last_v one_r one_v parts stands finished ended claims handled arrived told fault no_fault strays texts all_stand =
     let rs_is : rs ≡ r ∷ [] = only_one rs rs' r last_r (parts.receiver_count ∙ one_r) in
     let vs_is : vs ≡ v ∷ [] = only_one vs vs' v last_v (parts.verifier_count ∙ one_v) in
     let parts' : AreParts intake (r ∷ []) (v ∷ []) = subst (λ l. AreParts intake l (v ∷ [])) rs_is (subst (λ l. AreParts intake rs l) vs_is parts) in
-    let kept' : Kept (puts_of (r ∷ [])) (takes_of (v ∷ [])) intake.held = subst (λ l. Kept (puts_of l) (takes_of (v ∷ [])) intake.held) rs_is (subst (λ l. Kept (puts_of rs) (takes_of l) intake.held) vs_is kept) in
     let mine : StandsFor r (texts 0) = all_stand 0 r (ap (λ l. slice_get l 0) rs_is) in
-    subst (λ l. Reports l texts report) (sym rs_is) (settled_one r r' v v' intake texts report parts' kept' (stands (texts 0) mine) finished ended claims handled all told fault no_fault strays)
+    subst (λ l. Reports l texts report) (sym rs_is) (settled_one r r' v v' intake texts report parts' (stands (texts 0) mine) finished ended claims handled arrived told fault no_fault strays)
 
--- A receiver's turn on an empty intake.
-pub record AfterTurn (t : ReceiverTurn) (r q : PassView) (v : List ItemView) (before after : QueueView) : Type 0 where
-  pub items : q.items ≡ v ++ after.held
-  pub free : t ≢ turn.Blocked
-  pub pass : IsSamePass r q
-  pub intake : after.queue ≡ before.queue
+-- a turn leaves the pass that it was
+pub after_turn : (t : ReceiverTurn) (r q : PassView ItemView) → PutsAsTold t r q → IsSamePass r q
+after_turn turn.Put r q told = record { queue = ap (λ p. p.queue) told.1; number = ap (λ p. p.number) told.1 }
+after_turn turn.Blocked r q told = record { queue = ap (λ p. p.queue) told; number = ap (λ p. p.number) told }
+after_turn turn.More r q told = record { queue = ap (λ p. p.queue) told; number = ap (λ p. p.number) told }
+after_turn turn.Stray r q told = record { queue = ap (λ p. p.queue) told; number = ap (λ p. p.number) told }
+after_turn turn.Finished r q told = record { queue = ap (λ p. p.queue) told; number = ap (λ p. p.number) told }
 
-same_items : (r q : PassView) (v : List ItemView) (before after : QueueView) → (q ≡ r) × (after ≡ before) → before.held ≡ [] → r.items ≡ v → (q.items ≡ v ++ after.held) × IsSamePass r q × (after.queue ≡ before.queue)
-same_items r q v before after told none same = (
-  ap (λ p. p.items) told.0 ∙ same ∙ sym (append-nil v) ∙ ap (λ l. v ++ l) (sym (ap (λ z. z.held) told.1 ∙ none)),
-  record { queue = ap (λ p. p.queue) told.0; number = ap (λ p. p.number) told.0 },
-  ap (λ z. z.queue) told.1,
-)
+pub after_take : (t : VerifierTurn) (r q : PassView ItemView) → TakesAsTold t r q → IsSamePass r q
+after_take Worked r q told = record { queue = ap (λ p. p.queue) told.1; number = ap (λ p. p.number) told.1 }
+after_take Idle r q told = record { queue = ap (λ p. p.queue) told; number = ap (λ p. p.number) told }
+after_take Again r q told = record { queue = ap (λ p. p.queue) told; number = ap (λ p. p.number) told }
 
-pub after_turn : (t : ReceiverTurn) (r q : PassView) (v : List ItemView) (before after : QueueView) → PutsAsTold t r q before after → before.held ≡ [] → r.items ≡ v → AfterTurn t r q v before after
-after_turn turn.Put r q v before after told none same = record {
-  items = ap (λ p. p.items) told.1 ∙ (λ i. same i ++ told.0 ∷ []) ∙ ap (λ l. v ++ l) (sym (ap (λ z. z.held) told.2 ∙ ap (λ l. l ++ told.0 ∷ []) none));
-  free = λ e. absurd (cc);
-  pass = record { queue = ap (λ p. p.queue) told.1; number = ap (λ p. p.number) told.1 };
-  intake = ap (λ z. z.queue) told.2;
-}
-after_turn turn.Blocked r q v before after told none same = absurd (let full = told.2 in let l = ap length none in omega arith)
-after_turn turn.More r q v before after told none same = (let s = same_items r q v before after told none same in record { items = s.0; free = λ e. absurd (cc); pass = s.1; intake = s.2 })
-after_turn turn.Stray r q v before after told none same = (let s = same_items r q v before after told none same in record { items = s.0; free = λ e. absurd (cc); pass = s.1; intake = s.2 })
-after_turn turn.Finished r q v before after told none same = (let s = same_items r q v before after told none same in record { items = s.0; free = λ e. absurd (cc); pass = s.1; intake = s.2 })
-
-pub same_pass : (a b c : PassView) → IsSamePass a b → IsSamePass b c → IsSamePass a c
+pub same_pass : (a b c : PassView ItemView) → IsSamePass a b → IsSamePass b c → IsSamePass a c
 same_pass a b c f g = record { queue = g.queue ∙ f.queue; number = g.number ∙ f.number }
 
 takes_nothing : (m : ℕ) (xs : List ℕ) → xs ≡ [] → take m xs ≡ []
@@ -222,21 +180,45 @@ takes_nothing (suc m) [] none = refl
 takes_nothing (suc m) (x ∷ xs) none = absurd (let l = ap length none in omega arith)
 
 -- a text that goes on by a part of the rest
-pub take_on : (n k : ℕ) (xs : List ℕ) → take n xs ++ take k (drop n xs) ≡ take (n + k) xs
+take_on : (n k : ℕ) (xs : List ℕ) → take n xs ++ take k (drop n xs) ≡ take (n + k) xs
 take_on zero k xs = (let e : k ≡ 0 + k = omega arith in ap (λ m. take m xs) e)
 take_on (suc n) k [] = takes_nothing k [] refl ∙ sym (takes_nothing (suc n + k) [] refl)
 take_on (suc n) k (x ∷ xs) = (let e : suc (n + k) ≡ suc n + k = omega arith in ap (λ l. x ∷ l) (take_on n k xs) ∙ ap (λ m. take m (x ∷ xs)) e)
 
--- a piece of the rest that isn't empty
-pub piece_some : (n end : ℕ) (xs : List ℕ) → n < length xs → n < end → take (end - n) (drop n xs) ≢ []
-piece_some n end xs less more none = absurd (let l = ap length none in let t = length-take (end - n) (drop n xs) in let d = length-drop n xs in omega arith)
+-- what was used of the rest
+pub take_piece : (n k most : ℕ) (xs : List ℕ) → k ≤ length (take most (drop n xs)) → take n xs ++ take k (take most (drop n xs)) ≡ take (n + k) xs
+take_piece n k most xs within =
+    let less : k ≤ most = (let t = length-take most (drop n xs) in omega arith) in
+    ap (λ l. take n xs ++ l) (take-take k most (drop n xs) less) ∙ take_on n k xs
 
--- what was used of it
-pub take_piece : (n k end : ℕ) (xs : List ℕ) → k ≤ length (take (end - n) (drop n xs)) → take n xs ++ take k (take (end - n) (drop n xs)) ≡ take (n + k) xs
-take_piece n k end xs within =
-    let less : k ≤ end - n = (let t = length-take (end - n) (drop n xs) in omega arith) in
-    ap (λ l. take n xs ++ l) (take-take k (end - n) (drop n xs) less) ∙ take_on n k xs
+-- one pass at the first of eight places
+abbrev pub alone : Option (PassView ItemView) → List (Option (PassView ItemView))
+alone first = first ∷ None ∷ None ∷ None ∷ None ∷ None ∷ None ∷ None ∷ []
 
-pub not_some : {A : Type 0} (o : Option A) → (is_some o ≡ true → ⊥) → o ≡ None
-not_some None h = refl
-not_some (Some x) h = absurd (h refl)
+pub none_else : (first : Option (PassView ItemView)) (k : ℕ) → 0 < k → pass_at (alone first) k ≡ None
+none_else first zero later = absurd (omega arith)
+none_else first (suc zero) later = refl
+none_else first (suc (suc zero)) later = refl
+none_else first (suc (suc (suc zero))) later = refl
+none_else first (suc (suc (suc (suc zero)))) later = refl
+none_else first (suc (suc (suc (suc (suc zero))))) later = refl
+none_else first (suc (suc (suc (suc (suc (suc zero)))))) later = refl
+none_else first (suc (suc (suc (suc (suc (suc (suc zero))))))) later = refl
+none_else first (suc (suc (suc (suc (suc (suc (suc (suc k)))))))) later = refl
+
+-- it is all passes of a kind
+pub alone_all : (queue : QueueId) (count : ℕ) (pass : PassView ItemView) → count ≡ 1 → (pass.queue ≡ queue) × (pass.number ≡ 0) → AreAllPasses queue count (alone (Some pass))
+alone_all queue count pass one is zero = ((omega arith), is.0, is.1)
+alone_all queue count pass one is (suc k) = subst (λ o. MatchOption o (count ≤ suc k) (IsPass queue count (suc k))) (sym (none_else (Some pass) (suc k) (omega arith))) (omega arith)
+
+nothing_at : (places : List (Option (PassView ItemView))) (k : ℕ) → pass_at places k ≡ None → items_at places k ≡ []
+nothing_at places k none = ap (λ o. option_map_or (λ (p : PassView ItemView). p.items) o []) none
+
+-- what one pass put is what one pass took, once nothing is held
+pub all_taken : (put : PassView ItemView) (takes : List (Option (PassView ItemView))) → Kept (items_at (alone (Some put))) (items_at takes) [] → ((k : ℕ) → 0 < k → pass_at takes k ≡ None) → items_at takes 0 ≡ put.items
+all_taken put takes kept none =
+    let took = one_taker (items_at (alone (Some put))) (items_at takes) 0 kept (λ s apart. nothing_at takes s (none s (omega arith))) in
+    only_part (items_at (alone (Some put))) (items_at takes 0) 0 (λ q apart. nothing_at (alone (Some put)) q (none_else (Some put) q (omega arith))) took
+
+pub kept_pass : (a b : PassView ItemView) → b ≡ a → IsSamePass a b
+kept_pass a b e = record { queue = ap (λ p. p.queue) e; number = ap (λ p. p.number) e }

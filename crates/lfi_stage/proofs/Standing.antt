@@ -27,9 +27,9 @@ use Rattle.std.specs.Prelude.{All}
 use Rattle.lfi_stage.proofs.Holding.{unfinished_long}
 use Rattle.lfi_frame.proofs.Cuts.{rest_short, rest_long}
 use Rattle.lfi_frame.proofs.Feeding.{stands_cut, page_rest}
-use Rattle.lfi_queues.specs.Items.{ItemView}
+use Rattle.lfi_model.specs.Item.{ItemView}
 use Rattle.lfi_queues.specs.Passes.{PassView}
-use Rattle.lfi_queues.specs.declared.item.ItemKind.TheVariants.{End}
+use Rattle.lfi_model.specs.declared.item.ItemKind.TheVariants.{End}
 use Rattle.lfi_model.specs.declared.connection.Cause.{Cause}
 use Rattle.lfi_model.specs.declared.connection.Cause.TheVariants as cause_kind
 use Rattle.lfi_model.specs.declared.connection.Progress.{Progress}
@@ -46,7 +46,7 @@ use Rattle.std.proofs.Common.{sum_by}
 use Rattle.lfi_stage.proofs.Events.{changed_at, claims_other, faulty_adds}
 
 -- what is in hand is put, or stays there
-pub put_on : (r : Receiver) (pass : PassView) (hand : Option ItemView) (bytes : List ℕ) → pass.items ++ option_to_list hand ≡ made_by r → StandsFor r bytes → StandsFor (record r { pass = pass; hand = hand }) bytes
+pub put_on : (r : Receiver) (pass : PassView ItemView) (hand : Option ItemView) (bytes : List ℕ) → pass.items ++ option_to_list hand ≡ made_by r → StandsFor r bytes → StandsFor (record r { pass = pass; hand = hand }) bytes
 put_on r pass hand bytes same stands = record {
   messages = stands.messages;
   rest = stands.rest;

@@ -6,7 +6,6 @@ pub mod Shares
 pub mod Verifiers
 pub mod Verified
 pub mod Claims
-pub mod Tells
 pub mod Reports
 pub mod Stages
 pub mod Summaries

@@ -3,7 +3,7 @@ use Rattle.std.specs.Prelude.{◌≡◌, ℕ, ◌+◌, ◌-◌, ◌<◌, ◌^◌
 use Rattle.lfi_frame.specs.declared.fault.FrameFault.{FrameFault}
 use Rattle.lfi_frame.specs.Streams.{Message, Rest, short, faulty, unfinished, rest_of, Cut}
 use Rattle.lfi_frame.specs.Feeds.{FeedStands, feed_fault}
-use Rattle.lfi_queues.specs.Items.{ItemView}
+use Rattle.lfi_model.specs.Item.{ItemView}
 use Rattle.lfi_queues.specs.Passes.{PassView}
 use Rattle.lfi_model.specs.declared.connection.Cause.{Cause}
 use Rattle.lfi_model.specs.declared.connection.Cause.TheVariants.{End, Failed, Starved}
@@ -21,7 +21,7 @@ use Rattle.lfi_stage.specs.declared.receiver.ReceiverTurn.{ReceiverTurn}
 use Rattle.lfi_stage.specs.declared.receiver.ReceiverTurn.TheVariants as turn
 
 -- its pass of the intake
-abbrev pub pass_of : Receiver → PassView
+abbrev pub pass_of : Receiver → PassView ItemView
 pass_of r = r.pass
 
 -- the modules that it has claimed

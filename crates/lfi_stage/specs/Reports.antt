@@ -1,33 +1,25 @@
 -- What a report says of the texts of a stage's receivers. (docs/DEFINITIONS.md, "Reports")
 use Rattle.std.specs.Prelude.{◌≡◌, ◌-◌, ◌<◌, ◌^◌, ℕ, List, [], length, sum, min, Some, None, true, false, slice_get, get_or, slice_index}
-use Rattle.std.specs.Option.{option_map_or}
 use Rattle.lfi_module.specs.Numbers.{module_count}
 use Rattle.lfi_frame.specs.Streams.{Message, Cut}
-use Rattle.lfi_queues.specs.Items.{ItemView}
-use Rattle.lfi_queues.specs.Passes.{QueueView}
+use Rattle.lfi_model.specs.Item.{ItemView}
+use Rattle.lfi_queues.specs.Passes.{QueueId}
 use Rattle.lfi_model.specs.Items.{ItemsOf}
 use Rattle.lfi_stage.specs.declared.receiver.Receiver.{Receiver}
 use Rattle.lfi_stage.specs.declared.verifier.Verifier.{Verifier}
-use Rattle.lfi_stage.specs.declared.report.ModuleReport.{ModuleReport}
+use Rattle.lfi_place.specs.declared.report.ModuleReport.{ModuleReport}
 use Rattle.lfi_stage.specs.declared.settle.Report.{Report}
 use Rattle.lfi_stage.specs.Claims.{claims_in}
 use Rattle.lfi_stage.specs.Receivers.{pass_of, cause_of, claimed_by, cause_after}
 use Rattle.lfi_stage.specs.Verified.{pass_of as take_pass_of, Handled}
-use Rattle.lfi_stage.specs.Tells.{Tells}
-
--- what each receiver's pass put, and each verifier's took, by their numbers
-abbrev pub puts_of : List Receiver → ℕ → List ItemView
-puts_of receivers k = option_map_or (λ r. (pass_of r).items) (slice_get receivers k) []
-
-abbrev pub takes_of : List Verifier → ℕ → List ItemView
-takes_of verifiers k = option_map_or (λ v. (take_pass_of v).items) (slice_get verifiers k) []
+use Rattle.lfi_place.specs.Tells.{Tells}
 
 -- These are all parts of one stage: each has the pass of its number, and there are as many as the intake has passes.
-pub record AreParts (intake : QueueView) (receivers : List Receiver) (verifiers : List Verifier) : Type 0 where
-  pub receiver_count : length receivers ≡ intake.queue.putters
-  pub verifier_count : length verifiers ≡ intake.queue.takers
-  pub receivers_are : (c : ℕ) (r : Receiver) → slice_get receivers c ≡ Some r → ((pass_of r).queue ≡ intake.queue) × ((pass_of r).number ≡ c)
-  pub verifiers_are : (k : ℕ) (v : Verifier) → slice_get verifiers k ≡ Some v → ((take_pass_of v).queue ≡ intake.queue) × ((take_pass_of v).number ≡ k)
+pub record AreParts (intake : QueueId) (receivers : List Receiver) (verifiers : List Verifier) : Type 0 where
+  pub receiver_count : length receivers ≡ intake.putters
+  pub verifier_count : length verifiers ≡ intake.takers
+  pub receivers_are : (c : ℕ) (r : Receiver) → slice_get receivers c ≡ Some r → ((pass_of r).queue ≡ intake) × ((pass_of r).number ≡ c)
+  pub verifiers_are : (k : ℕ) (v : Verifier) → slice_get verifiers k ≡ Some v → ((take_pass_of v).queue ≡ intake) × ((take_pass_of v).number ≡ k)
   pub handled : (k : ℕ) (v : Verifier) → slice_get verifiers k ≡ Some v → Handled v
 
 -- The report is one plain pass over these texts, one a receiver, each with the cause that its receiver was told, or just the end, and the modules that it claimed.

@@ -9,7 +9,7 @@ use Rattle.lfi_model.specs.declared.connection.Cause.TheVariants.{Starved, Faile
 use Rattle.lfi_stage.specs.Shares.{intake_of}
 use Rattle.lfi_stage.specs.declared.settle.Report.{Report}
 use Rattle.lfi_stage.specs.Reports.{Reports}
-use Rattle.lfi_stage.specs.Receivers.{pass_of, hand_of, cause_of, StandsFor, AsksMemory}
+use Rattle.lfi_stage.specs.Receivers.{pass_of, cause_of, StandsFor, AsksMemory}
 use Rattle.lfi_stage.specs.Verified.{pass_of as take_pass_of, Handled}
 
 -- One receiver and one verifier, of which nothing was done, with the passes of an empty intake.
@@ -18,13 +18,11 @@ pub record IsNew (stage : Stage) : Type 0 where
   pub verifier : Verifier
   pub receivers : stage.receivers.items ≡ receiver ∷ []
   pub verifiers : stage.verifiers.items ≡ verifier ∷ []
-  pub putters : (intake_of stage.shared).queue.putters ≡ 1
-  pub takers : (intake_of stage.shared).queue.takers ≡ 1
-  pub empty : (intake_of stage.shared).held ≡ []
-  pub put : pass_of receiver ≡ new_pass (intake_of stage.shared).queue 0
-  pub take : take_pass_of verifier ≡ new_pass (intake_of stage.shared).queue 0
+  pub putters : (intake_of stage.shared).putters ≡ 1
+  pub takers : (intake_of stage.shared).takers ≡ 1
+  pub put : pass_of receiver ≡ new_pass (intake_of stage.shared) 0
+  pub take : take_pass_of verifier ≡ new_pass (intake_of stage.shared) 0
   pub stands : StandsFor receiver []
-  pub empty_handed : hand_of receiver ≡ None
   pub running : cause_of receiver ≡ None
   pub handled : Handled verifier
 

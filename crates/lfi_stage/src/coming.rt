@@ -2,11 +2,11 @@
 
 ghost use Rattle.std.specs.Prelude.{◌≡◌, ◌≢◌, ℕ, ◌+◌, ◌-◌, ◌*◌, ◌<◌, ◌≤◌, ◌++◌, length, take, IfOk, IfErr, Some};
 ghost use Rattle.lfi_stage.specs.Coming.{IsComing};
-ghost use Rattle.lfi_queues.specs.declared.item.ItemKind.TheVariants.{Page};
+ghost use Rattle.lfi_model.specs.declared.item.ItemKind.TheVariants.{Page};
 ghost use Rattle.lfi_model.specs.Items.{item_of};
 
+use lfi_model::{Item, ItemKind};
 use lfi_module::{ModuleNumber, WordCount};
-use lfi_queues::{Item, ItemKind};
 use page_buf::OpenPage;
 
 /// The page whose payload is coming: the next one due of its module.

@@ -5,7 +5,6 @@
 mod coming;
 pub mod modules;
 pub mod receiver;
-pub mod report;
 pub mod settle;
 pub mod shared;
 pub mod stage;

@@ -7,7 +7,7 @@ ghost use Rattle.lfi_frame.specs.Feeds.{FeedStands, feed_fault};
 ghost use Rattle.lfi_stage.specs.Shares.{intake_of};
 ghost use Rattle.lfi_frame.specs.declared.fault.FrameFault.{FrameFault};
 ghost use Rattle.lfi_frame.specs.Streams.{Message, open_message, page_message, close_message, rest_of, short, unfinished, spelling, IsMessage};
-ghost use Rattle.lfi_queues.specs.declared.item.ItemKind.TheVariants.{End};
+ghost use Rattle.lfi_model.specs.declared.item.ItemKind.TheVariants.{End};
 ghost use Rattle.lfi_model.specs.declared.connection.Progress.{Progress};
 ghost use Rattle.lfi_model.specs.declared.connection.Progress.TheVariants.{Going, Ended};
 ghost use Rattle.lfi_model.specs.Items.{item_of, reason_of, fault_by_cause, share_of};
@@ -17,11 +17,12 @@ use crate::coming::Coming;
 use crate::modules::{Modules, OpenModule};
 use crate::shared::Shared;
 use lfi_frame::{Feed, FrameFault, Got, Step};
-use lfi_model::{Cause, Progress};
+use lfi_model::{Cause, Item, ItemKind, Progress, Reason};
 use lfi_module::{Extent, ModuleNumber, PageSize, WordCount};
-use lfi_queues::{Item, ItemKind, PutPass, Reason};
+use lfi_queues::PutPass;
 use page_buf::OpenPage;
 use std::alloc::Global;
+use std::sync::Wait;
 
 /// What a turn did.
 #[derive(Clone, Copy, Debug, PartialEq, Eq)]
@@ -64,7 +65,7 @@ fn reason_of(fault: FrameFault) -> Reason
 pub struct Receiver {
     alloc: Global,
     feed: Feed,
-    pass: PutPass,
+    pub(crate) pass: PutPass<Item>,
     modules: Modules,
     /// Whether an Open has come: the first alone can claim its module.
     opened: bool,
@@ -83,7 +84,7 @@ impl Receiver {
     ghost use Rattle.lfi_stage.specs.Receivers.{pass_of, claimed_by, cause_of, hand_of, fault_of, strays_at, made_by, cause_after, Agrees, Awaits, IsUnopened, Holds, StandsFor, IsOver, IsDuePage, IsFinished, due_of, AfterEnd};
 
     /// A receiver of which no byte has come, with its pass.
-    pub(crate) fn new(alloc: Global, pass: PutPass) -> Receiver
+    pub(crate) fn new(alloc: Global, pass: PutPass<Item>) -> Receiver
         requires { pass.items ≡ [] }
         ensures stands { StandsFor result [] }
         ensures pass { pass_of result ≡ pass }
@@ -105,10 +106,10 @@ impl Receiver {
     }
 
     /// Puts what is in hand, or keeps it there where the intake refuses it.
-    fn put_hand(&mut self, shared: &mut Shared) -> ReceiverTurn
+    fn put_hand<R: Wait>(&mut self, rt: &R, shared: &Shared) -> ReceiverTurn
         requires held { IsSome self.old.hand }
-        requires part { self.old.pass.queue ≡ shared.old.intake.queue }
-        ensures puts { PutsAsTold result self.old.pass self.new.pass shared.old.intake shared.new.intake }
+        requires part { self.old.pass.queue ≡ shared.now.intake }
+        ensures puts { PutsAsTold result self.old.pass self.new.pass }
         ensures once { (result ≡ turn.Put) ⊎ (result ≡ turn.Blocked) }
         ensures made { made_by self.new ≡ made_by self.old }
         ensures hand { IsSome self.new.hand ↔ (result ≡ turn.Blocked) }
@@ -118,7 +119,7 @@ impl Receiver {
         let Some(item) = self.hand.take() else {
             return ReceiverTurn::More;
         };
-        match shared.intake.put(&mut self.pass, item) {
+        match shared.intake.put(rt, &mut self.pass, item) {
             Ok(()) => ReceiverTurn::Put,
             Err(item) => {
                 self.hand = Some(item);
@@ -361,23 +362,23 @@ impl Receiver {
     /// One turn: it puts the item in hand, or an End that is due; or it goes on in the bytes of
     /// the piece, up to the end of a header or a payload, and puts the item that came of them.
     /// It answers how many bytes it used, and what it did. Give it what it didn't use again.
-    pub fn turn(&mut self, shared: &mut Shared, piece: &[u8]) -> (usize, ReceiverTurn)
-        requires { (pass_of self.old).queue ≡ (intake_of shared.old).queue }
+    pub fn turn<R: Wait>(&mut self, rt: &R, shared: &Shared, piece: &[u8]) -> (usize, ReceiverTurn)
+        requires { (pass_of self.old).queue ≡ intake_of shared.now }
         ensures used { result.0 ≤ length piece.now }
         ensures stands { (bytes : List ℕ) → StandsFor self.old bytes → StandsFor self.new (bytes ++ take result.0 piece.now) }
         ensures over { (bytes : List ℕ) → StandsFor self.old bytes → cause_of self.old ≡ None → IsOver (cause_of self.new) (bytes ++ take result.0 piece.now) }
         ensures moves { (bytes : List ℕ) → StandsFor self.old bytes → hand_of self.old ≡ None → cause_of self.old ≡ None → piece.now ≢ [] → 0 < result.0 }
-        ensures puts { PutsAsTold result.1 (pass_of self.old) (pass_of self.new) (intake_of shared.old) (intake_of shared.new) }
+        ensures puts { PutsAsTold result.1 (pass_of self.old) (pass_of self.new) }
         ensures hand { IsSome (hand_of self.new) ↔ (result.1 ≡ turn.Blocked) }
         ensures finished { result.1 ≡ turn.Finished → IsFinished self.new }
         ensures ended { IsSome (cause_of self.old) → AfterEnd self.old self.new result.0 result.1 }
     {
         if self.hand.is_some() {
-            return (0, self.put_hand(shared));
+            return (0, self.put_hand(rt, shared));
         }
         if self.cause.is_some() {
             return if self.end_next() {
-                (0, self.put_hand(shared))
+                (0, self.put_hand(rt, shared))
             } else {
                 (0, ReceiverTurn::Finished)
             };
@@ -386,7 +387,7 @@ impl Receiver {
         if stray {
             (used, ReceiverTurn::Stray)
         } else if self.hand.is_some() {
-            (used, self.put_hand(shared))
+            (used, self.put_hand(rt, shared))
         } else {
             (used, ReceiverTurn::More)
         }

@@ -1,9 +1,10 @@
 //! What all parts of a stage share.
 
+use lfi_model::Item;
 use lfi_queues::Intake;
 
 /// What all parts of a stage share.
 #[derive(Drop)]
 pub struct Shared {
-    pub(crate) intake: Intake,
+    pub(crate) intake: Intake<Item>,
 }

@@ -4,15 +4,17 @@ ghost use Rattle.std.specs.Prelude.{◌≡◌, ◌≢◌, ℕ, ◌+◌, ◌<◌,
 ghost use Rattle.lfi_queues.specs.Passes.{IsSamePass, new_pass};
 ghost use Rattle.lfi_stage.specs.Stages.{HasHeard, IsLoaded};
 ghost use Rattle.lfi_stage.specs.Shares.{intake_of};
-ghost use Rattle.lfi_stage.specs.Receivers.{pass_of, cause_of, hand_of, StandsFor};
+ghost use Rattle.lfi_stage.specs.Receivers.{pass_of, cause_of, StandsFor, IsOver};
 ghost use Rattle.lfi_stage.specs.Verified.{pass_of as take_pass_of, Handled};
 
 use crate::receiver::Receiver;
-use crate::settle::{Report, drain, settle};
+use crate::settle::{Report, settle};
 use crate::shared::Shared;
 use crate::verifier::Verifier;
+use lfi_model::Item;
 use lfi_queues::{Intake, PutPass, TakePass};
 use std::alloc::{AllocError, Global};
+use std::sync::Wait;
 
 /// The parts of a stage.
 #[derive(Drop)]
@@ -42,11 +44,15 @@ impl Stage {
     }
 
     /// The stage of an intake with these passes.
-    fn of(alloc: Global, intake: Intake, put: PutPass, take: TakePass) -> Result<Stage, AllocError>
-        requires counts { (intake.queue.putters ≡ 1) × (intake.queue.takers ≡ 1) }
-        requires empty { intake.held ≡ [] }
-        requires put { put ≡ new_pass intake.queue 0 }
-        requires take { take ≡ new_pass intake.queue 0 }
+    fn of(
+        alloc: Global,
+        intake: Intake<Item>,
+        put: PutPass<Item>,
+        take: TakePass<Item>,
+    ) -> Result<Stage, AllocError>
+        requires counts { (intake.putters ≡ 1) × (intake.takers ≡ 1) }
+        requires put { put ≡ new_pass intake 0 }
+        requires take { take ≡ new_pass intake 0 }
         ensures { IfOk result IsNew }
     {
         let verifier = Verifier::new(alloc, take)?;
@@ -62,67 +68,86 @@ impl Stage {
     }
 }
 
-/// Hands a text to the receiver in pieces of `most` bytes or fewer, up to its end or a fault. The
-/// verifier takes each item as soon as it is put.
-fn hear(
+/// One turn of the receiver on the next piece of the text, of `most` bytes or fewer, and one of the
+/// verifier: how many bytes were used.
+fn hear_once<R: Wait>(
+    rt: &R,
     receiver: &mut Receiver,
     verifier: &mut Verifier,
-    shared: &mut Shared,
+    shared: &Shared,
+    left: &[u8],
+    most: usize,
+) -> usize
+    requires running { cause_of receiver.old ≡ None }
+    requires put { (pass_of receiver.old).queue ≡ intake_of shared.now }
+    requires take { (take_pass_of verifier.old).queue ≡ intake_of shared.now }
+    ensures used { result ≤ length left.now }
+    ensures stands { (bytes : List ℕ) → StandsFor receiver.old bytes → StandsFor receiver.new (bytes ++ take result left.now) }
+    ensures over { (bytes : List ℕ) → StandsFor receiver.old bytes → IsOver (cause_of receiver.new) (bytes ++ take result left.now) }
+    ensures handled { Handled verifier.old → Handled verifier.new }
+    ensures put { IsSamePass (pass_of receiver.old) (pass_of receiver.new) }
+    ensures take { IsSamePass (take_pass_of verifier.old) (take_pass_of verifier.new) }
+{
+    let count = most.min(left.len());
+    let (used, _) = receiver.turn(rt, shared, &left[..count]);
+    verifier.turn(rt, shared);
+    used
+}
+
+/// Hands a text to the receiver in pieces of `most` bytes or fewer, up to its end or a fault, and
+/// turns the verifier as often.
+fn hear<R: Wait>(
+    rt: &R,
+    receiver: &mut Receiver,
+    verifier: &mut Verifier,
+    shared: &Shared,
     text: &[u8],
     most: usize,
 )
-    requires some { 1 ≤ most }
     requires fresh { StandsFor receiver.old [] }
-    requires empty_handed { hand_of receiver.old ≡ None }
     requires running { cause_of receiver.old ≡ None }
-    requires put { (pass_of receiver.old).queue ≡ (intake_of shared.old).queue }
-    requires take { (take_pass_of verifier.old).queue ≡ (intake_of shared.old).queue }
-    requires empty { (intake_of shared.old).held ≡ [] }
-    requires all { (pass_of receiver.old).items ≡ (take_pass_of verifier.old).items }
+    requires put { (pass_of receiver.old).queue ≡ intake_of shared.now }
+    requires take { (take_pass_of verifier.old).queue ≡ intake_of shared.now }
     requires handled { Handled verifier.old }
     ensures heard { HasHeard receiver.new text.now }
     ensures put { IsSamePass (pass_of receiver.old) (pass_of receiver.new) }
     ensures take { IsSamePass (take_pass_of verifier.old) (take_pass_of verifier.new) }
-    ensures queue { (intake_of shared.new).queue ≡ (intake_of shared.old).queue }
-    ensures empty { (intake_of shared.new).held ≡ [] }
-    ensures all { (pass_of receiver.new).items ≡ (take_pass_of verifier.new).items }
     ensures handled { Handled verifier.new }
 {
     let mut used = 0;
-    while used < text.len() && !receiver.is_over() {
-        let end = used + most.min(text.len() - used);
-        let (count, _) = receiver.turn(shared, &text[used..end]);
-        used += count;
-        drain(verifier, shared);
+    for _ in rt.forever() {
+        if used == text.len() || receiver.is_over() {
+            return;
+        }
+        used += hear_once(rt, receiver, verifier, shared, &text[used..], most);
     }
+    unreachable!()
 }
 
 /// What became of a text that one receiver heard and one verifier took.
-fn load_by(
+fn load_by<R: Wait>(
+    rt: &R,
     alloc: Global,
     mut receiver: Receiver,
     mut verifier: Verifier,
-    mut shared: Shared,
+    shared: Shared,
     text: &[u8],
     most: usize,
 ) -> Result<Report, AllocError>
-    requires some { 1 ≤ most }
-    requires one { ((intake_of shared).queue.putters ≡ 1) × ((intake_of shared).queue.takers ≡ 1) }
+    requires one { ((intake_of shared).putters ≡ 1) × ((intake_of shared).takers ≡ 1) }
     requires fresh { StandsFor receiver [] }
-    requires empty_handed { hand_of receiver ≡ None }
     requires running { cause_of receiver ≡ None }
-    requires put { pass_of receiver ≡ new_pass (intake_of shared).queue 0 }
-    requires take { take_pass_of verifier ≡ new_pass (intake_of shared).queue 0 }
-    requires empty { (intake_of shared).held ≡ [] }
+    requires put { pass_of receiver ≡ new_pass (intake_of shared) 0 }
+    requires take { take_pass_of verifier ≡ new_pass (intake_of shared) 0 }
     requires handled { Handled verifier }
     ensures { IfOk result (λ report. IsLoaded text.now report) }
 {
     let mut receivers = Vec::new(alloc);
     let mut verifiers = Vec::new(alloc);
-    hear(&mut receiver, &mut verifier, &mut shared, text, most);
+    hear(rt, &mut receiver, &mut verifier, &shared, text, most);
     receivers.push(receiver)?;
     verifiers.push(verifier)?;
-    Ok(settle(receivers, verifiers, shared))
+    Ok(settle(rt, receivers, verifiers, shared))
 }
 
 /// Loads the modules of one connection's whole text, on one thread.
@@ -131,10 +156,10 @@ fn load_by(
 ///
 /// `AllocError` where there is no memory for the stage; no memory for a page is told in the
 /// report.
-pub fn load(alloc: Global, text: &[u8]) -> Result<Report, AllocError>
+pub fn load<R: Wait>(rt: &R, alloc: Global, text: &[u8]) -> Result<Report, AllocError>
     ensures { IfOk result (λ report. IsLoaded text.now report) }
 {
-    load_in_pieces(alloc, text, usize::MAX)
+    load_in_pieces(rt, alloc, text, usize::MAX)
 }
 
 /// Loads the modules of one connection's text that is handed over in pieces of `most` bytes, at
@@ -144,14 +169,19 @@ pub fn load(alloc: Global, text: &[u8]) -> Result<Report, AllocError>
 ///
 /// `AllocError` where there is no memory for the stage; no memory for a page is told in the
 /// report.
-pub fn load_in_pieces(alloc: Global, text: &[u8], most: usize) -> Result<Report, AllocError>
+pub fn load_in_pieces<R: Wait>(
+    rt: &R,
+    alloc: Global,
+    text: &[u8],
+    most: usize,
+) -> Result<Report, AllocError>
     requires some { 1 ≤ most }
     ensures { IfOk result (λ report. IsLoaded text.now report) }
 {
     let mut stage = Stage::new(alloc, 1, 1)?;
     match (stage.receivers.pop(), stage.verifiers.pop()) {
         (Some(receiver), Some(verifier)) => {
-            load_by(alloc, receiver, verifier, stage.shared, text, most)
+            load_by(rt, alloc, receiver, verifier, stage.shared, text, most)
         }
         _ => unreachable!(),
     }

@@ -1,26 +1,22 @@
-//! The verifier, which judges the pages of modules and places them.
+//! The verifier, which judges items and places them.
 
 ghost use Rattle.std.specs.Prelude.{◌≡◌, ◌≢◌, ℕ, ◌+◌, ◌<◌, ◌≤◌, ◌==◌, ◌↔◌, List, [], ◌∷◌, ◌++◌, Option, Some, None, IfSome, IfNone, IfOk, get_or, length, if◌then◌else◌};
-ghost use Rattle.a64_word.specs.Words.{words_of};
-ghost use Rattle.lfi_rules.specs.Faults.{FirstFault};
 ghost use Rattle.lfi_module.specs.Numbers.{module_count, most_words};
-ghost use Rattle.lfi_image.specs.Built.{due, with_placed};
-ghost use Rattle.lfi_queues.specs.Items.{ItemView, IsItem};
-ghost use Rattle.lfi_queues.specs.declared.item.ItemKind.TheVariants.{Open, Page, End};
+ghost use Rattle.lfi_model.specs.Item.{ItemView, IsItem};
 ghost use Rattle.lfi_model.specs.Modules.{IsModule};
 ghost use Rattle.lfi_stage.specs.Shares.{intake_of};
 
-use crate::report::{ModuleReport, report_of};
 use crate::shared::Shared;
-use judged_page::JudgedPage;
-use lfi_image::{Builder, Places};
-use lfi_module::{Extent, ModuleNumber, WordCount};
-use lfi_queues::{Item, ItemKind, Reason, TakePass};
-use lfi_rules::Fault;
-use page_buf::SealedPage;
+use lfi_image::Places;
+use lfi_model::Item;
+use lfi_module::{ModuleNumber, WordCount};
+use lfi_place::placing::after;
+use lfi_place::{ModuleReport, Placing, report_of};
+use lfi_queues::{TakePass, Taken};
 use std::alloc::{AllocError, Global};
 use std::array;
 use std::marker::Model;
+use std::sync::Wait;
 
 /// What a turn did.
 #[derive(Clone, Copy, Debug, PartialEq, Eq)]
@@ -29,78 +25,8 @@ pub enum VerifierTurn {
     Worked,
     /// The intake was empty.
     Idle,
-}
-
-/// How a module ended: why, and how many pages of it had come.
-#[derive(Clone, Copy, Debug, PartialEq, Eq)]
-pub(crate) struct Ended {
-    pub(crate) reason: Reason,
-    pub(crate) pages: u32,
-}
-
-/// Judges a page of the length due and places it, unless it brings a fault, which is the answer.
-fn place(builder: &mut Builder, page: SealedPage) -> Option<Fault>
-    requires { length (words_of page) ≡ due builder.old }
-    ensures first { FirstFault (builder.old.placed ++ words_of page) builder.old.words result }
-    ensures placed { IfNone result (builder.new ≡ with_placed builder.old (words_of page)) }
-    ensures refused { IfSome result (λ _. builder.new ≡ builder.old) }
-{
-    let page = JudgedPage::judge(page, builder.placed(), builder.words());
-    match builder.append(page) {
-        Ok(()) => None,
-        Err((fault, _)) => Some(fault),
-    }
-}
-
-/// A module whose Open has come.
-#[derive(Drop)]
-pub(crate) struct Placing {
-    /// Its words in all.
-    pub(crate) words: WordCount,
-    /// What is placed of it.
-    pub(crate) builder: Builder,
-    /// Its first fault.
-    pub(crate) fault: Option<Fault>,
-    /// Its End, once that has come.
-    pub(crate) ended: Option<Ended>,
-}
-
-impl Placing {
-    ghost use Rattle.lfi_stage.specs.Verifiers.{IsPlacing};
-
-    /// A module of which nothing but its Open has come, with the memory for its pages.
-    fn new(places: Places, module: ModuleNumber, words: WordCount, entry: u32) -> Placing
-        requires words { words ≤ places }
-        requires entry { entry < words }
-        ensures { (first : ItemView) → first.«module» ≡ «module» → first.words ≡ words → first.kind ≡ Open entry → IsPlacing «module» result (first ∷ []) }
-    {
-        Placing {
-            words,
-            builder: Builder::in_places(places, Extent::of(words, entry), module),
-            fault: None,
-            ended: None,
-        }
-    }
-
-    /// The next page: it is placed, unless it or one before it brings a fault.
-    fn page(&mut self, page: SealedPage)
-        ensures { (m : ℕ) (taken : List ItemView) (item : ItemView) → IsPlacing m self.old taken → IsModule (taken ++ item ∷ []) → IsItem item → item.kind ≡ Page page → IsPlacing m self.new (taken ++ item ∷ []) }
-    {
-        if self.fault.is_some() {
-            return;
-        }
-        if page.len_words() != self.builder.due() as usize {
-            return;
-        }
-        self.fault = place(&mut self.builder, page);
-    }
-
-    /// The End.
-    fn end(&mut self, ended: Ended)
-        ensures { (m : ℕ) (taken : List ItemView) (item : ItemView) → IsPlacing m self.old taken → IsModule (taken ++ item ∷ []) → item.kind ≡ End ended.reason → item.ordinal ≡ ended.pages + 1 → IsPlacing m self.new (taken ++ item ∷ []) }
-    {
-        self.ended = Some(ended);
-    }
+    /// The intake asks for another turn.
+    Again,
 }
 
 /// Memory for the pages of each module.
@@ -125,7 +51,7 @@ pub(crate) struct Placings {
 impl Model for Placings {
     ghost use Rattle.std.specs.Prelude.{List, Option, Some, None, ◌≡◌, ◌<◌, ℕ, length, get_or};
     ghost use Rattle.lfi_module.specs.Numbers.{module_count, most_words};
-    ghost use Rattle.lfi_stage.specs.declared.verifier.Placing.{Placing};
+    ghost use Rattle.lfi_place.specs.declared.placing.Placing.{Placing};
 
     ghost Value = { List (Option Placing) };
 
@@ -135,9 +61,10 @@ impl Model for Placings {
 }
 
 impl Placings {
-    ghost use Rattle.lfi_stage.specs.Verifiers.{placing_at, HandledBy, HandledAll};
-    ghost use Rattle.lfi_stage.specs.Tells.{Tells, HasEnd};
-    ghost use Rattle.lfi_stage.specs.declared.report.ModuleReport.{ModuleReport};
+    ghost use Rattle.lfi_place.specs.Placed.{HandledBy};
+    ghost use Rattle.lfi_stage.specs.Verifiers.{placing_at, HandledAll};
+    ghost use Rattle.lfi_place.specs.Tells.{Tells, HasEnd};
+    ghost use Rattle.lfi_place.specs.declared.report.ModuleReport.{ModuleReport};
     ghost use Rattle.std.specs.Prelude.{slice_get};
 
     /// No Open has come, and the memory for all modules is reserved.
@@ -151,12 +78,12 @@ impl Placings {
     }
 
     /// Handles one more item.
-    fn handle(&mut self, item: Item)
+    pub(crate) fn handle(&mut self, item: Item)
         ensures { (taken : List ItemView) → HandledAll self.old taken → HandledAll self.new (taken ++ item ∷ []) }
     {
         let module = item.module.index();
         let before = self.placings[module].take();
-        self.placings[module] = after(&mut self.spare[module], before, item);
+        self.placings[module] = after(&mut self.spare[module], item.module, before, item.judge());
     }
 
     /// What became of each module.
@@ -167,59 +94,25 @@ impl Placings {
     }
 }
 
-ghost use Rattle.lfi_stage.specs.Verifiers.{HandledBy, HandledAll};
-
-/// One item of a module, which was so before: what it is then. Its Open takes the memory that is
-/// reserved for it.
-fn after(spare: &mut Option<Places>, before: Option<Placing>, item: Item) -> Option<Placing>
-    requires spare { before ≡ None → spare.old ≡ Some most_words }
-    ensures spare { result ≡ None → spare.new ≡ Some most_words }
-    ensures handled { (m : ℕ) (taken : List ItemView) → item.«module» ≡ m → HandledBy m before taken → IsModule (taken ++ item ∷ []) → HandledBy m result (taken ++ item ∷ []) }
-{
-    let Item {
-        module,
-        ordinal,
-        words,
-        kind,
-    } = item;
-    match (before, kind) {
-        (None, ItemKind::Open { entry }) => match spare.take() {
-            Some(places) => Some(Placing::new(places, module, words, entry)),
-            None => unreachable!(),
-        },
-        (Some(mut placing), ItemKind::Page(page)) => {
-            placing.page(page);
-            Some(placing)
-        }
-        (Some(mut placing), ItemKind::End(reason)) => {
-            placing.end(Ended {
-                reason,
-                pages: ordinal - 1,
-            });
-            Some(placing)
-        }
-        (before, _) => before,
-    }
-}
-
 /// The verifier of a stage.
 #[derive(Drop)]
 pub struct Verifier {
-    pass: TakePass,
-    placings: Placings,
+    pub(crate) pass: TakePass<Item>,
+    pub(crate) placings: Placings,
 }
 
 impl Verifier {
+    ghost use Rattle.lfi_place.specs.Placed.{HandledBy};
     ghost use Rattle.lfi_stage.specs.Verified.{pass_of, Handled};
     ghost use Rattle.lfi_stage.specs.Turns.{TakesAsTold};
     ghost use Rattle.lfi_stage.specs.Verifiers.{placing_at};
-    ghost use Rattle.lfi_stage.specs.Tells.{Tells, HasEnd};
-    ghost use Rattle.lfi_stage.specs.declared.report.ModuleReport.{ModuleReport};
+    ghost use Rattle.lfi_place.specs.Tells.{Tells, HasEnd};
+    ghost use Rattle.lfi_place.specs.declared.report.ModuleReport.{ModuleReport};
     ghost use Rattle.std.specs.Prelude.{slice_get};
 
     /// A verifier that has taken nothing, with its pass. The memory for the pages of all modules
     /// is reserved.
-    pub(crate) fn new(alloc: Global, pass: TakePass) -> Result<Verifier, AllocError>
+    pub(crate) fn new(alloc: Global, pass: TakePass<Item>) -> Result<Verifier, AllocError>
         requires { pass.items ≡ [] }
         ensures { IfOk result (λ verifier. Handled verifier × (pass_of verifier ≡ pass)) }
     {
@@ -231,17 +124,18 @@ impl Verifier {
 
     /// One turn: it takes an item, judges it where it is a page, and places it. It takes no
     /// memory.
-    pub fn turn(&mut self, shared: &mut Shared) -> VerifierTurn
-        requires { (pass_of self.old).queue ≡ (intake_of shared.old).queue }
-        ensures takes { TakesAsTold result (pass_of self.old) (pass_of self.new) (intake_of shared.old) (intake_of shared.new) }
+    pub fn turn<R: Wait>(&mut self, rt: &R, shared: &Shared) -> VerifierTurn
+        requires { (pass_of self.old).queue ≡ intake_of shared.now }
+        ensures takes { TakesAsTold result (pass_of self.old) (pass_of self.new) }
         ensures handled { Handled self.old → Handled self.new }
     {
-        match shared.intake.take(&mut self.pass) {
-            Some(item) => {
+        match shared.intake.take(rt, &mut self.pass) {
+            Taken::Item(item) => {
                 self.placings.handle(item);
                 VerifierTurn::Worked
             }
-            None => VerifierTurn::Idle,
+            Taken::Empty => VerifierTurn::Idle,
+            Taken::Again => VerifierTurn::Again,
         }
     }
 

@@ -16,6 +16,7 @@ fn main(rt: HostRuntime) -> ExitCode {
         Ok(words) => {
             let mut disk = SystemDisk::new(&rt);
             run_words(
+                &rt,
                 rt.alloc(),
                 &mut disk,
                 &words,

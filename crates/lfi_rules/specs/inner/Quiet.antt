@@ -1,4 +1,4 @@
--- What the quick look at a word tells.
+-- What is told of a word without decoding it.
 use Rattle.std.specs.Prelude.{◌≡◌, ℕ, ◌==◌, true, false}
 use Rattle.a64_word.specs.declared.instruction.Instruction.{Instruction}
 use Rattle.a64_word.specs.Encoding.{Spells}

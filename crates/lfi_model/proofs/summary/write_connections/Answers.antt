@@ -1,6 +1,6 @@
-use Rattle.std.proofs.Common.{rules, None, take, get_or, ◌++◌}
+use Rattle.std.proofs.Common.{rules, None}
 use Rattle.std.proofs.Output.{has_written_append, has_written_of_eq}
-use Rattle.lfi_model.specs.Texts.{connection_line, lines_from}
+use Rattle.lfi_model.specs.Texts.{connection_line}
 use Rattle.lfi_model.proofs.Lines.{lines_more}
 use Rattle.lfi_model.proofs.summary.write_connections.Goals as goal
 

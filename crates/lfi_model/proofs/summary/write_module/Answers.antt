@@ -1,6 +1,5 @@
-use Rattle.std.proofs.Common.{◌≡◌, ◌++◌, ◌∙◌, sym, rules, append_assoc, codes, decimal}
+use Rattle.std.proofs.Common.{◌∙◌, sym, append_assoc}
 use Rattle.std.proofs.Output.{has_written_of_eq}
-use Rattle.lfi_model.specs.Texts.{outcome_text}
 use Rattle.lfi_model.proofs.Lines.{claimed_line}
 use Rattle.lfi_model.proofs.summary.write_module.Goals as goal
 

@@ -1,6 +1,6 @@
-use Rattle.std.proofs.Common.{rules, take, get_or, ◌++◌}
+use Rattle.std.proofs.Common.{rules}
 use Rattle.std.proofs.Output.{has_written_append, has_written_of_eq}
-use Rattle.lfi_model.specs.Texts.{module_line, lines_from}
+use Rattle.lfi_model.specs.Texts.{module_line}
 use Rattle.lfi_model.specs.declared.outcome.Outcome.TheVariants.{Unused}
 use Rattle.lfi_model.proofs.Lines.{lines_more}
 use Rattle.lfi_model.proofs.summary.write_modules.Goals as goal

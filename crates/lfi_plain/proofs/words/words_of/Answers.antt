@@ -1,7 +1,8 @@
 use Rattle.std.proofs.Common.{◌*◌, ◌<◌, ◌≤◌, ◌++◌, ◌∷◌, [], ap, sym, ◌∙◌, take, length, arith, refl}
 use Rattle.std.proofs.lemmas.List.{take_more, take_all}
 use Rattle.a64_word.specs.Words.{words_of}
-use Rattle.a64_word.proofs.WordLaws.{words_at, words_count}
+use Rattle.a64_word.proofs.WordLaws.{words_count}
+use Rattle.lfi_plain.proofs.Spelled.{words_at}
 use Rattle.lfi_plain.proofs.words.words_of.Goals as goal
 
 pub loop-i-preserved : goal.loop-i-preserved

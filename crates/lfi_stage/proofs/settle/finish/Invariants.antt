@@ -1,19 +1,17 @@
-use Rattle.std.proofs.Common.{◌≡◌, ◌++◌, ℕ, List, [], Some, false}
-use Rattle.lfi_stage.specs.Receivers.{StandsFor, claimed_by, cause_after, due_of}
+use Rattle.std.proofs.Common.{◌≡◌, ℕ, List, Some, false}
+use Rattle.lfi_queues.specs.Passes.{IsSamePass}
+use Rattle.lfi_stage.specs.Receivers.{StandsFor, claimed_by, cause_after}
 use Rattle.lfi_stage.specs.Verified.{Handled}
 use Rattle.lfi_stage.proofs.settle.finish.Given as goal
 
-abbrev pub invariant-loop-verifier : goal.invariant-loop-verifier
-invariant-loop-verifier l = record {
+abbrev pub invariant-loop : goal.invariant-loop
+invariant-loop g l = record {
+  can_next : (goal.iterator-loop g).can_next l.iterator';
+  is_finite : (goal.iterator-loop g).is_finite l.iterator';
   stands : (bytes : List ℕ) → StandsFor l.fn.receiver bytes → StandsFor l.receiver bytes;
   cause : l.receiver.cause ≡ Some (cause_after l.fn.receiver.cause false);
   claimed : (m : ℕ) → claimed_by l.receiver m ≡ claimed_by l.fn.receiver m;
   handled : Handled l.fn.verifier → Handled l.verifier;
-  all : l.fn.receiver.pass.items ≡ l.fn.verifier.pass.items ++ l.fn.shared.intake.held → l.receiver.pass.items ≡ l.verifier.pass.items;
-  empty : l.shared.intake.held ≡ [];
-  put : l.receiver.pass.queue ≡ l.shared.intake.queue;
-  take : l.verifier.pass.queue ≡ l.shared.intake.queue;
+  put : IsSamePass l.fn.receiver.pass l.receiver.pass;
+  take : IsSamePass l.fn.verifier.pass l.verifier.pass;
 }
-
-abbrev pub decreases-loop-verifier : goal.decreases-loop-verifier
-decreases-loop-verifier l = due_of l.receiver

@@ -1,29 +1,20 @@
 use Rattle.std.proofs.Common.{rules, ◌≡◌, ◌∙◌, ◌∷◌, [], List, ℕ, ap, sym, subst}
 use Rattle.std.specs.Prelude.{slice_get}
-use Rattle.lfi_queues.specs.Kept.{Kept}
-use Rattle.lfi_stage.specs.Reports.{puts_of, takes_of, AreParts, Reports}
-use Rattle.lfi_stage.proofs.Loading.{kept_one, parts_one, stands_one}
+use Rattle.lfi_stage.specs.Reports.{AreParts, Reports}
+use Rattle.lfi_stage.proofs.Loading.{parts_one, stands_one}
 use Rattle.lfi_stage.proofs.stage.load_by.Goals as goal
 
-pub settle-requires-clause-kept : goal.settle-requires-clause-kept
-settle-requires-clause-kept c =
-    let r : c.push.new.self.items ≡ c.hear.new.receiver ∷ [] = search rules in
-    let v : c.push-2.new.self.items ≡ c.hear.new.verifier ∷ [] = search rules in
-    subst (λ l. Kept (puts_of l) (takes_of c.push-2.new.self.items) c.hear.new.shared.intake.held) (sym r)
-    (subst (λ l. Kept (puts_of (c.hear.new.receiver ∷ [])) (takes_of l) c.hear.new.shared.intake.held) (sym v)
-    (kept_one c.hear.new.receiver c.hear.new.verifier c.hear.ensures.all c.hear.new.shared.intake.held c.hear.ensures.empty))
-
 pub settle-requires-clause-parts : goal.settle-requires-clause-parts
-settle-requires-clause-parts c =
+settle-requires-clause-parts g c =
     let r : c.push.new.self.items ≡ c.hear.new.receiver ∷ [] = search rules in
     let v : c.push-2.new.self.items ≡ c.hear.new.verifier ∷ [] = search rules in
-    subst (λ l. AreParts c.hear.new.shared.intake l c.push-2.new.self.items) (sym r)
-    (subst (λ l. AreParts c.hear.new.shared.intake (c.hear.new.receiver ∷ []) l) (sym v)
-    (parts_one c.hear.new.receiver c.hear.new.verifier c.args.receiver.pass c.args.verifier.pass c.args.shared.intake c.hear.new.shared.intake
-    c.requires.put c.requires.take c.hear.ensures.put c.hear.ensures.take c.hear.ensures.queue c.requires.one c.hear.ensures.handled))
+    subst (λ l. AreParts c.args.shared.intake l c.push-2.new.self.items) (sym r)
+    (subst (λ l. AreParts c.args.shared.intake (c.hear.new.receiver ∷ []) l) (sym v)
+    (parts_one c.hear.new.receiver c.hear.new.verifier c.args.receiver.pass c.args.verifier.pass c.args.shared.intake
+    c.requires.put c.requires.take c.hear.ensures.put c.hear.ensures.take c.requires.one c.hear.ensures.handled))
 
 pub returns : goal.returns
-returns c =
+returns g c =
     let r : c.push.new.self.items ≡ c.hear.new.receiver ∷ [] = search rules in
     let heard : List ℕ = c.hear.ensures.heard.heard in
     record {

@@ -1,5 +1,5 @@
 use Rattle.std.proofs.Common.{rules, ◌≡◌, ◌∙◌, ◌+◌, Some, sym, subst, ap}
-use Rattle.lfi_queues.specs.declared.item.ItemKind.TheVariants.{End}
+use Rattle.lfi_model.specs.declared.item.ItemKind.TheVariants.{End}
 use Rattle.lfi_model.specs.Items.{item_of}
 use Rattle.lfi_stage.specs.declared.modules.OpenModule.{OpenModule}
 use Rattle.lfi_stage.specs.Receivers.{StandsFor}

@@ -2,7 +2,7 @@ use Rattle.std.proofs.Common.{rules, ◌<◌, ◌≡◌, ◌∙◌, ◌∷◌, [
 use Rattle.std.specs.Prelude.{not, ◌&&◌, nat_le}
 use Rattle.lfi_module.specs.Numbers.{module_count, page_words}
 use Rattle.lfi_frame.specs.Streams.{open_message}
-use Rattle.lfi_queues.specs.declared.item.ItemKind.TheVariants.{Open}
+use Rattle.lfi_model.specs.declared.item.ItemKind.TheVariants.{Open}
 use Rattle.lfi_model.specs.Items.{item_of}
 use Rattle.lfi_stage.specs.declared.receiver.Receiver.{Receiver}
 use Rattle.lfi_stage.specs.Receivers.{Holds}

@@ -5,41 +5,41 @@ use Rattle.lfi_stage.proofs.Standing.{put_on, not_over}
 use Rattle.lfi_stage.proofs.receiver.Receiver.turn.Goals as goal
 
 pub returns-then-is_some-clause-stands : goal.returns-then-is_some-clause-stands
-returns-then-is_some-clause-stands c = λ bytes stands.
+returns-then-is_some-clause-stands g c = λ bytes stands.
     let q = c.put_hand.new.self in
     subst (λ l. StandsFor q l) (sym (append-nil bytes)) (subst (λ z. StandsFor z bytes) (sym c.put_hand.ensures.rest) (put_on c.args.self.now q.pass q.hand bytes c.put_hand.ensures.made stands))
 
 pub returns-then-end_next-clause-stands : goal.returns-then-end_next-clause-stands
-returns-then-end_next-clause-stands c = λ bytes stands.
+returns-then-end_next-clause-stands g c = λ bytes stands.
     let q = c.put_hand-then-end_next.new.self in
     let r = c.end_next.new.self in
     subst (λ l. StandsFor q l) (sym (append-nil bytes))
     (subst (λ z. StandsFor z bytes) (sym c.put_hand-then-end_next.ensures.rest) (put_on r q.pass q.hand bytes c.put_hand-then-end_next.ensures.made (c.end_next.ensures.stands bytes stands)))
 
 pub returns-then-is_some-3-clause-stands : goal.returns-then-is_some-3-clause-stands
-returns-then-is_some-3-clause-stands c = λ bytes stands.
+returns-then-is_some-3-clause-stands g c = λ bytes stands.
     let q = c.put_hand-then-is_some-3.new.self in
     subst (λ z. StandsFor z (bytes ++ take c.read-used.result.0 c.args.piece.now)) (sym c.put_hand-then-is_some-3.ensures.rest)
     (put_on c.read-used.new.self q.pass q.hand (bytes ++ take c.read-used.result.0 c.args.piece.now) c.put_hand-then-is_some-3.ensures.made (c.read-used.ensures.stands bytes stands))
 
 pub returns-then-stray-clause-moves : goal.returns-then-stray-clause-moves
-returns-then-stray-clause-moves c = λ bytes stands free running some. c.read-used.ensures.moves bytes stands some
+returns-then-stray-clause-moves g c = λ bytes stands free running some. c.read-used.ensures.moves bytes stands some
 
 pub returns-then-is_some-3-clause-moves : goal.returns-then-is_some-3-clause-moves
-returns-then-is_some-3-clause-moves c = λ bytes stands free running some. c.read-used.ensures.moves bytes stands some
+returns-then-is_some-3-clause-moves g c = λ bytes stands free running some. c.read-used.ensures.moves bytes stands some
 
 pub returns-else-is_some-3-clause-moves : goal.returns-else-is_some-3-clause-moves
-returns-else-is_some-3-clause-moves c = λ bytes stands free running some. c.read-used.ensures.moves bytes stands some
+returns-else-is_some-3-clause-moves g c = λ bytes stands free running some. c.read-used.ensures.moves bytes stands some
 
 pub returns-then-is_some-clause-over : goal.returns-then-is_some-clause-over
-returns-then-is_some-clause-over c = λ bytes stands running. not_over _ _ (ap (λ z. z.cause) c.put_hand.ensures.rest ∙ running)
+returns-then-is_some-clause-over g c = λ bytes stands running. not_over _ _ (ap (λ z. z.cause) c.put_hand.ensures.rest ∙ running)
 
 pub returns-then-is_some-3-clause-over : goal.returns-then-is_some-3-clause-over
-returns-then-is_some-3-clause-over c = λ bytes stands running.
+returns-then-is_some-3-clause-over g c = λ bytes stands running.
     subst (λ k. IsOver k (bytes ++ take c.read-used.result.0 c.args.piece.now)) (sym (ap (λ z. z.cause) c.put_hand-then-is_some-3.ensures.rest)) (c.read-used.ensures.over bytes stands)
 
 pub returns-then-stray-clause-over : goal.returns-then-stray-clause-over
-returns-then-stray-clause-over c = λ bytes stands running. c.read-used.ensures.over bytes stands
+returns-then-stray-clause-over g c = λ bytes stands running. c.read-used.ensures.over bytes stands
 
 pub returns-else-is_some-3-clause-over : goal.returns-else-is_some-3-clause-over
-returns-else-is_some-3-clause-over c = λ bytes stands running. c.read-used.ensures.over bytes stands
+returns-else-is_some-3-clause-over g c = λ bytes stands running. c.read-used.ensures.over bytes stands

@@ -9,11 +9,9 @@ returns c = record {
   verifiers = search rules;
   putters = c.requires.counts.0;
   takers = c.requires.counts.1;
-  empty = c.requires.empty;
   put = c.new-2.ensures.pass ∙ c.requires.put;
   take = c.in_ok-verifier.ensures.1 ∙ c.requires.take;
   stands = c.new-2.ensures.stands;
-  empty_handed = c.new-2.ensures.empty_handed;
   running = c.new-2.ensures.running;
   handled = c.in_ok-verifier.ensures.0;
 }

@@ -1,11 +1,12 @@
 use Rattle.std.proofs.Common.{ℕ, List, None, subst, sym, get_or, arith}
 use Rattle.std.proofs.lemmas.Option.{slice_get-get_or}
-use Rattle.lfi_queues.specs.Items.{ItemView}
+use Rattle.lfi_model.specs.Item.{ItemView}
 use Rattle.lfi_model.specs.declared.outcome.Outcome.TheVariants.{Unused}
-use Rattle.lfi_stage.specs.declared.report.ImageState.TheVariants.{Absent}
-use Rattle.lfi_stage.specs.declared.report.ModuleReport.{ModuleReport}
-use Rattle.lfi_stage.specs.Verifiers.{HandledBy, placing_at}
-use Rattle.lfi_stage.specs.Tells.{Tells, HasEnd}
+use Rattle.lfi_place.specs.declared.report.ImageState.TheVariants.{Absent}
+use Rattle.lfi_place.specs.declared.report.ModuleReport.{ModuleReport}
+use Rattle.lfi_place.specs.Placed.{HandledBy}
+use Rattle.lfi_stage.specs.Verifiers.{placing_at}
+use Rattle.lfi_place.specs.Tells.{Tells, HasEnd}
 use Rattle.lfi_stage.proofs.verifier.Placings.into_reports.Goals as goal
 
 pub returns : goal.returns

@@ -1,0 +1,110 @@
+//! The runtime of the tests, and images of words.
+
+ghost use Rattle.std.specs.Prelude.{⊤};
+
+use a64_machine::{Answer, Data, Machine, Runtime};
+use a64_registers::Registers;
+use judged_page::JudgedPage;
+use lfi_image::{Builder, CompleteImage};
+use lfi_module::{Extent, ModuleNumber, WordCount};
+use page_buf::SealedPage;
+use std::alloc::Global;
+use std::test::Fail;
+
+/// Ends at entry 0 with the low byte of x0, and answers every other with 2^64 - 1 in x0.
+#[derive(Drop)]
+pub struct Host;
+
+impl Runtime for Host {
+    ghost answers = { λ _ _ _ _ _ _ _. ⊤ };
+
+    fn call(&mut self, entry: u32, registers: &Registers, _slot: &mut Data) -> Answer {
+        if entry == 0 {
+            return Answer::End((registers.x[0] % 256) as u8);
+        }
+        let mut next = *registers;
+        next.x[0] = u64::MAX;
+        Answer::Resume(next)
+    }
+}
+
+/// Answers registers with x22 at 2^32, which aren't lawful.
+#[derive(Drop)]
+pub struct Wide;
+
+impl Runtime for Wide {
+    ghost answers = { λ _ _ _ _ _ _ _. ⊤ };
+
+    fn call(&mut self, _entry: u32, registers: &Registers, _slot: &mut Data) -> Answer {
+        let mut next = *registers;
+        next.x[22] = 1 << 32;
+        Answer::Resume(next)
+    }
+}
+
+/// Writes a byte where it may, and goes on.
+#[derive(Drop)]
+pub struct Writer {
+    /// The byte of the code was refused.
+    pub code_refused: bool,
+    /// The byte above the slot was refused.
+    pub above_refused: bool,
+    /// The byte of the data was written.
+    pub written: bool,
+}
+
+impl Runtime for Writer {
+    ghost answers = { λ _ _ _ _ _ _ _. ⊤ };
+
+    fn call(&mut self, _entry: u32, registers: &Registers, slot: &mut Data) -> Answer {
+        let code = slot.write(0x1_0001_0000, 7);
+        let word = slot.write(0x1_8000_0000, 7);
+        let above = slot.write(0x2_0000_0000, 7);
+        self.code_refused = code.is_err();
+        self.above_refused = above.is_err();
+        self.written = word.is_ok();
+        Answer::Resume(*registers)
+    }
+}
+
+/// The image of these words, one page of them, in slot 0 from word 0.
+pub fn image(alloc: Global, words: &[u32]) -> Result<CompleteImage, Fail> {
+    let mut code = Vec::new(alloc);
+    for word in words {
+        for byte in word.to_le_bytes() {
+            code.push(byte)?;
+        }
+    }
+    if code.is_empty() || code.len() > 4096 || code.len() % 4 != 0 {
+        return Err(Fail::from("the code is no page"));
+    }
+    let Some(count) = WordCount::new((code.len() / 4) as u32) else {
+        return Err(Fail::from("no module has so many words"));
+    };
+    let Some(extent) = Extent::new(count, 0) else {
+        return Err(Fail::from("the entry is no word of the module"));
+    };
+    let mut builder = Builder::new(alloc, extent, ModuleNumber::at(0))?;
+    let page = SealedPage::of(alloc, &code)?;
+    if page.len_words() != builder.due() as usize {
+        return Err(Fail::from("the page has not the words due"));
+    }
+    let page = JudgedPage::judge(page, builder.placed(), builder.words());
+    if builder.append(page).is_err() {
+        return Err(Fail::from("the code breaks a rule"));
+    }
+    match builder.finish() {
+        Ok(image) => Ok(image),
+        Err(_) => Err(Fail::from("words are missing")),
+    }
+}
+
+/// A machine of these words, at the registers of the start.
+pub fn started(alloc: Global, words: &[u32]) -> Result<Machine, Fail> {
+    let image = image(alloc, words)?;
+    let registers = a64_machine::start_registers(&image);
+    match Machine::new(alloc, image, registers) {
+        Ok(machine) => Ok(machine),
+        Err(_) => Err(Fail::from("the machine was refused")),
+    }
+}

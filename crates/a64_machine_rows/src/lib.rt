@@ -1,0 +1,7 @@
+//! Tables of runs.
+#![tactic(auto)]
+
+#[cfg(test)]
+mod host;
+#[cfg(test)]
+mod runs;

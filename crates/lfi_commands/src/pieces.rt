@@ -1,0 +1,181 @@
+//! Code that is judged piece by piece, as it is read.
+
+ghost use Rattle.std.specs.Prelude.{◌≡◌, ◌≢◌, ◌+◌, ◌*◌, ◌/◌, ◌%◌, ◌<◌, ◌≤◌, ℕ, List, [], ◌++◌, length, IfOk, IfErr, IfSome, OnOk, IsTrue};
+ghost use Rattle.std.specs.Io.KnownBytes.{Consumes, IsAtEnd};
+ghost use Rattle.lfi_module.specs.Numbers.{most_words};
+ghost use Rattle.lfi_commands.specs.Checking.{Checks};
+
+use crate::code::Code;
+use crate::commands::CommandFault;
+use crate::verdict::Verdict;
+use a64_word::WORD_BYTES;
+use lfi_rules::{Fault, Need, fault_after, judge};
+use std::alloc::Global;
+use std::io::{self, Read};
+
+/// How many bytes are read at once.
+const PIECE_BYTES: usize = 65_536;
+
+/// A module of which a beginning has been judged.
+#[derive(Clone, Copy)]
+struct Beginning {
+    /// How many words the whole module has.
+    words: u32,
+    /// How many of them have been judged.
+    judged: u32,
+    /// The first fault so far.
+    fault: Option<Fault>,
+    /// What the last word judged leaves open, where there is no fault.
+    tail: Need,
+}
+
+ghost use Rattle.lfi_commands.specs.inner.Pieces.{Begins, IsWholeModule, verdict_of};
+
+/// What a failed read says.
+fn fault_of_read(error: io::Error) -> CommandFault
+    ensures { result ≢ CommandFault.NotWritten }
+{
+    match error.kind() {
+        io::ErrorKind::OutOfMemory => CommandFault::NoMemory,
+        _ => CommandFault::NotRead,
+    }
+}
+
+impl Beginning {
+    /// That of a module of so many words, none of which has been judged.
+    fn none(words: u32) -> Beginning
+        requires some { 1 ≤ words }
+        requires most { words ≤ most_words }
+        ensures begins { Begins result [] }
+        ensures words { result.words ≡ words }
+    {
+        Beginning {
+            words,
+            judged: 0,
+            fault: None,
+            tail: Need::Nothing,
+        }
+    }
+
+    /// One piece more: whole words, at least one, and no more than are to come.
+    fn with(self, piece: &[u8]) -> Beginning
+        requires some { 0 < length piece.now }
+        requires whole { length piece.now % 4 ≡ 0 }
+        requires room { 4 * self.judged + length piece.now ≤ 4 * self.words }
+        requires most { self.words ≤ most_words }
+        ensures begins { (bytes : List ℕ) → Begins self bytes → Begins result (bytes ++ piece.now) }
+        ensures judged { 4 * result.judged ≡ 4 * self.judged + length piece.now }
+        ensures words { result.words ≡ self.words }
+    {
+        let judged = self.judged + (piece.len() / WORD_BYTES) as u32;
+        if self.fault.is_some() {
+            return Beginning { judged, ..self };
+        }
+        let Some(code) = Code::new(piece) else {
+            unreachable!();
+        };
+        let verdict = judge(&code, self.judged, self.words);
+        Beginning {
+            words: self.words,
+            judged,
+            fault: fault_after(self.words, self.tail, &verdict, code.len_words()),
+            tail: verdict.tail,
+        }
+    }
+}
+
+/// A buffer of so many bytes.
+fn buffer(alloc: Global, size: usize) -> Result<Vec<u8>, CommandFault>
+    ensures size { IfOk result (λ buffer. length buffer.items ≡ size) }
+    ensures fault { IfErr result (λ fault. fault ≡ CommandFault.NoMemory) }
+{
+    match Vec::from_elem(alloc, 0u8, size) {
+        Ok(buffer) => Ok(buffer),
+        Err(_) => Err(CommandFault::NoMemory),
+    }
+}
+
+/// Reads the next piece of a module, and judges it.
+fn next_piece<R: Read>(
+    reader: &mut R,
+    piece: &mut [u8],
+    beginning: Beginning,
+) -> Result<Beginning, CommandFault>
+    requires some { 0 < length piece.old }
+    requires whole { length piece.old % 4 ≡ 0 }
+    requires room { 4 * beginning.judged + length piece.old ≤ 4 * beginning.words }
+    requires most { beginning.words ≤ most_words }
+    ensures read { OnOk result (Consumes (R.remaining reader.old) (R.remaining reader.new) piece.new) }
+    ensures begins { IfOk result (λ next. (bytes : List ℕ) → Begins beginning bytes → Begins next (bytes ++ piece.new)) }
+    ensures judged { IfOk result (λ next. 4 * next.judged ≡ 4 * beginning.judged + length piece.old) }
+    ensures words { IfOk result (λ next. next.words ≡ beginning.words) }
+    ensures fault { IfErr result (λ fault. fault ≢ CommandFault.NotWritten) }
+{
+    match reader.read_exact(piece) {
+        Ok(()) => Ok(beginning.with(piece)),
+        Err(error) => Err(fault_of_read(error)),
+    }
+}
+
+/// Reads all words of a module, and judges them.
+fn judge_words<R: Read>(
+    reader: &mut R,
+    buffer: &mut [u8],
+    words: u32,
+) -> Result<Beginning, CommandFault>
+    requires buffer { 4 ≤ length buffer.old }
+    requires whole { length buffer.old % 4 ≡ 0 }
+    requires some { 1 ≤ words }
+    requires most { words ≤ most_words }
+    ensures begins { IfOk result (λ all. IsWholeModule (R.remaining reader.old) (R.remaining reader.new) all words) }
+    ensures fault { IfErr result (λ fault. fault ≢ CommandFault.NotWritten) }
+{
+    let mut beginning = Beginning::none(words);
+    while beginning.judged < words {
+        let left = (words - beginning.judged) as usize * WORD_BYTES;
+        let count = left.min(buffer.len());
+        beginning = next_piece(reader, &mut buffer[..count], beginning)?;
+    }
+    Ok(beginning)
+}
+
+/// Whether a reader has no byte left.
+fn is_at_end<R: Read + Drop>(alloc: Global, reader: R) -> Result<bool, CommandFault>
+    ensures end { IfOk result (λ end. IsTrue end → IsAtEnd (R.remaining reader)) }
+    ensures fault { IfErr result (λ fault. fault ≢ CommandFault.NotWritten) }
+{
+    let mut rest = Vec::new(alloc);
+    match reader.take(1).read_to_end(&mut rest) {
+        Ok(_) => Ok(rest.is_empty()),
+        Err(error) => Err(fault_of_read(error)),
+    }
+}
+
+/// The verdict on a module of so many words, by its first fault.
+fn verdict_of(fault: Option<Fault>, words: u32) -> Verdict
+    ensures { result ≡ verdict_of fault words }
+{
+    match fault {
+        Some(fault) => Verdict::Refused(fault),
+        None => Verdict::Lawful { words },
+    }
+}
+
+/// Judges the code that a reader has left, which is to be so many words, up to its end.
+pub fn judge_pieces<R: Read + Drop>(
+    alloc: Global,
+    mut reader: R,
+    words: u32,
+) -> Result<Verdict, CommandFault>
+    requires some { 1 ≤ words }
+    requires most { words ≤ most_words }
+    ensures verdict { IfOk result (λ verdict. IfSome (R.remaining reader) (λ bytes. Checks bytes verdict)) }
+    ensures fault { IfErr result (λ fault. fault ≢ CommandFault.NotWritten) }
+{
+    let mut buffer = buffer(alloc, PIECE_BYTES)?;
+    let all = judge_words(&mut reader, &mut buffer, words)?;
+    if !is_at_end(alloc, reader)? {
+        return Err(CommandFault::NotRead);
+    }
+    Ok(verdict_of(all.fault, words))
+}

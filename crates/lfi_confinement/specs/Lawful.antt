@@ -1,0 +1,31 @@
+-- Lawful registers and lawful code: docs/DEFINITIONS.md, "Slots and registers".
+use Rattle.std.specs.Prelude.{◌≡◌, ℕ, ◌+◌, ◌^◌, ◌<◌, ◌≤◌, length}
+use Rattle.lfi_module.specs.Numbers.{module_count}
+use Rattle.lfi_rules.specs.Registers as registers
+use Rattle.lfi_rules.specs.Faults.{Lawful}
+use Rattle.a64_registers.specs.declared.registers.Registers.{Registers}
+use Rattle.a64_registers.specs.Registers.{x_at}
+use Rattle.lfi_confinement.specs.Slots.{Code, InSlot, slot_size}
+
+-- how far sp may be from the slot
+abbrev pub stack_reach : ℕ
+stack_reach = 512
+
+-- The registers are lawful in the slot that begins at `from`.
+pub record Held (from : ℕ) (r : Registers) : Type 0 where
+  pub count : length r.x ≡ 31
+  pub base : x_at r registers.base ≡ from
+  pub first_address : InSlot from (x_at r registers.first_address)
+  pub second_address : InSlot from (x_at r registers.second_address)
+  pub third_address : InSlot from (x_at r registers.third_address)
+  pub link : InSlot from (x_at r registers.link)
+  pub offset : x_at r registers.offset < 2 ^ 32
+  pub stack_low : from ≤ r.sp + stack_reach
+  pub stack_high : r.sp < from + slot_size + stack_reach
+  pub pc : InSlot from r.pc
+  pub flags : r.nzcv < 16
+
+-- Its words are lawful, and it is in one of the 16 slots.
+pub record IsLawfulCode (c : Code) : Type 0 where
+  pub slot : c.slot < module_count
+  pub words : Lawful c.words

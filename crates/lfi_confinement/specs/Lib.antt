@@ -1,0 +1,6 @@
+pub mod Slots
+pub mod Lawful
+pub mod Moves
+pub mod Runs
+pub mod Loop
+pub mod inner

@@ -1,0 +1,48 @@
+-- What holds of the registers at each word of lawful code: they are lawful, but that the word before it may have left one need
+-- open, which the word at pc meets.
+use Rattle.std.specs.Prelude.{◌≡◌, ℕ, ◌+◌, ◌<◌, ◌≤◌, ◌^◌, length, IsTrue, ⊤}
+use Rattle.a64_word.specs.declared.instruction.Instruction.{Instruction}
+use Rattle.lfi_rules.specs.declared.needs.Need.{Need}
+use Rattle.lfi_rules.specs.declared.needs.Need.TheVariants.{Nothing, Call, Guard, Probe}
+use Rattle.lfi_rules.specs.Needs.{meets_of}
+use Rattle.lfi_rules.specs.Registers as registers
+use Rattle.a64_registers.specs.declared.registers.Registers.{Registers}
+use Rattle.a64_registers.specs.Registers.{x_at}
+use Rattle.lfi_confinement.specs.Slots.{Code, base, InSlot, slot_size, entry_address, entry_count}
+use Rattle.lfi_confinement.specs.Lawful.{stack_reach}
+use Rattle.lfi_confinement.specs.Moves.{Fetches}
+
+-- x30 is an entry before a call of the runtime, anything before its guard, and in the slot elsewhere.
+abbrev pub IsLinkFor : (from : ℕ) → Need → (value : ℕ) → Type 0
+IsLinkFor from Nothing value = InSlot from value
+IsLinkFor from Call value = (j : ℕ) × (j < entry_count) × (value ≡ entry_address j)
+IsLinkFor from Guard value = ⊤
+IsLinkFor from Probe value = InSlot from value
+
+-- how far sp may be from the slot: before a probe, by an immediate of 12 bits more
+abbrev pub reach_for : Need → ℕ
+reach_for Probe = 4607
+reach_for need = stack_reach
+
+pub record IsStackFor (from : ℕ) (need : Need) (sp : ℕ) : Type 0 where
+  pub low : from ≤ sp + reach_for need
+  pub high : sp < from + slot_size + reach_for need
+
+-- The registers are lawful but for a need.
+pub record HeldFor (from : ℕ) (need : Need) (r : Registers) : Type 0 where
+  pub count : length r.x ≡ 31
+  pub base : x_at r registers.base ≡ from
+  pub first_address : InSlot from (x_at r registers.first_address)
+  pub second_address : InSlot from (x_at r registers.second_address)
+  pub third_address : InSlot from (x_at r registers.third_address)
+  pub link : IsLinkFor from need (x_at r registers.link)
+  pub offset : x_at r registers.offset < 2 ^ 32
+  pub stack : IsStackFor from need r.sp
+  pub pc : InSlot from r.pc
+  pub flags : r.nzcv < 16
+
+-- The registers are lawful but for one need, and the instruction at pc, if there is one, meets it.
+pub record IsSafe (c : Code) (r : Registers) : Type 0 where
+  pub need : Need
+  pub held : HeldFor (base c) need r
+  pub met : (i : Instruction) → Fetches c r.pc i → IsTrue (meets_of i need)

@@ -1,0 +1,3 @@
+pub mod Come
+pub mod Hands
+pub mod Delivers

@@ -1,0 +1,27 @@
+-- What contracts see of an item, and what its type keeps. (docs/DEFINITIONS.md, "Items")
+use Rattle.std.specs.Prelude.{◌≡◌, ℕ, ◌+◌, ◌-◌, ◌<◌, ◌≤◌, length}
+use Rattle.lfi_module.specs.Numbers.{module_count, most_words, page_words}
+use Rattle.lfi_module.specs.Pages.{page_count, words_in_page, bytes_in_page}
+use Rattle.lfi_model.specs.declared.item.ItemKind.{ItemKind}
+use Rattle.lfi_model.specs.declared.item.ItemKind.TheVariants.{Open, Page, End}
+
+-- one of the numbered items of a module of so many words
+pub record ItemView : Type 0 where
+  pub «module» : ℕ
+  pub ordinal : ℕ
+  pub words : ℕ
+  pub kind : ItemKind
+
+-- The Open has ordinal 0, and it alone; a page has the words due, at least one.
+abbrev pub KindFits : (words ordinal : ℕ) → ItemKind → Type 0
+KindFits words ordinal (Open entry) = (ordinal ≡ 0) × (entry < words)
+KindFits words ordinal (Page bytes) = (0 < ordinal) × (length bytes ≡ bytes_in_page page_words words (ordinal - 1)) × (0 < words_in_page page_words words (ordinal - 1))
+KindFits words ordinal (End reason) = 0 < ordinal
+
+-- what every item keeps
+pub record IsItem (item : ItemView) : Type 0 where
+  pub module_in_range : item.«module» < module_count
+  pub some_words : 0 < item.words
+  pub words_in_range : item.words ≤ most_words
+  pub ordinal_in_range : item.ordinal ≤ page_count page_words most_words + 1
+  pub kind_fits : KindFits item.words item.ordinal item.kind

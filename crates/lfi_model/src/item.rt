@@ -1,0 +1,57 @@
+//! Items, into which a receiver turns the messages of its connection.
+
+ghost use Rattle.std.specs.Prelude.{◌≡◌, ◌<◌, ◌≤◌};
+
+use lfi_frame::FrameFault;
+use lfi_module::{ModuleNumber, WordCount};
+use page_buf::SealedPage;
+use std::marker::Model;
+
+/// Why a module ended.
+#[derive(Clone, Copy, Debug, PartialEq, Eq)]
+pub enum Reason {
+    /// Its connection closed it.
+    Close,
+    /// Its connection came to this fault while the module was open.
+    Lost(FrameFault),
+    /// This page, by its index, wasn't the one due, or hadn't its length.
+    PageFault(u32),
+    /// There was no memory for a page.
+    NoMemory,
+}
+
+/// What an item brings.
+#[derive(Drop)]
+pub enum ItemKind {
+    /// The module's opening, with the word where its code is entered.
+    Open { entry: u32 },
+    /// The next page of its code.
+    Page(SealedPage),
+    /// Its end: nothing follows.
+    End(Reason),
+}
+
+/// One of the numbered items of a module. Its type keeps that ordinal 0 is the Open alone, with an
+/// entry below the words, that no ordinal is above 4,097, and that a page has exactly the words due
+/// (docs/DEFINITIONS.md, "Items").
+#[derive(Drop)]
+pub struct Item {
+    /// The module.
+    pub module: ModuleNumber,
+    /// The item's place among those of its module: 0 the Open, then the pages, then the End.
+    pub ordinal: u32,
+    /// How many words the whole module has.
+    pub words: WordCount,
+    /// What it brings.
+    pub kind: ItemKind,
+}
+
+impl Model for Item {
+    ghost use Rattle.lfi_model.specs.Item.{ItemView, IsItem};
+
+    ghost Value = { ItemView };
+
+    ghost view = { λ i. record { «module» = i.«module»; ordinal = i.ordinal; words = i.words; kind = i.kind } };
+
+    ghost invariant = { λ i. IsItem (record { «module» = i.«module»; ordinal = i.ordinal; words = i.words; kind = i.kind }) };
+}

@@ -1,0 +1,108 @@
+//! A module's sequencer: it takes judged items from the module's lane, places them in order, and
+//! tells the board how the module ends.
+
+ghost use Rattle.std.specs.Prelude.{◌≡◌, ◌+◌, [], ◌∷◌, ◌++◌, IfOk};
+ghost use Rattle.lfi_queues.specs.Passes.{IsSamePass};
+ghost use Rattle.lfi_board.specs.Known.{board_id, sequencer_board, module_of};
+ghost use Rattle.lfi_place.specs.declared.sequencer.SequencerTurn.TheVariants.{Worked, Idle};
+
+use crate::sequence::{Sequence, Told};
+use lfi_board::{Board, SequencerSeat};
+use lfi_model::Judged;
+use lfi_module::ModuleNumber;
+use lfi_queues::{Lane, TakePass};
+use std::alloc::{AllocError, Global};
+use std::sync::Wait;
+
+/// What a turn did.
+#[derive(Clone, Copy, Debug, PartialEq, Eq)]
+pub enum SequencerTurn {
+    /// It took an item.
+    Worked,
+    /// The lane was empty.
+    Idle,
+}
+
+/// The sequencer of a module.
+#[derive(Drop)]
+pub struct Sequencer {
+    pub(crate) pass: TakePass<Judged>,
+    pub(crate) seat: SequencerSeat,
+    pub(crate) sequence: Sequence,
+}
+
+impl Sequencer {
+    ghost use Rattle.lfi_place.specs.Turns.{lane_pass_of, seat_of, sequence_of, told_of_sequencer, IsSequenced, LaneTaken, TellsBoard};
+
+    /// The sequencer of a module, with its pass of the module's lane and its seat of the board. No
+    /// item has come. The memory for the module's pages is reserved, and so is a place for each
+    /// item.
+    ///
+    /// # Errors
+    ///
+    /// `AllocError` where memory is refused.
+    pub fn new(
+        alloc: Global,
+        module: ModuleNumber,
+        pass: TakePass<Judged>,
+        seat: SequencerSeat,
+    ) -> Result<Sequencer, AllocError>
+        requires fresh { pass.items ≡ [] }
+        ensures pass { IfOk result (λ s. lane_pass_of s ≡ pass) }
+        ensures seat { IfOk result (λ s. seat_of s ≡ seat) }
+        ensures module { IfOk result (λ s. (sequence_of s).«module» ≡ «module») }
+        ensures sequenced { IfOk result IsSequenced }
+    {
+        let sequence = Sequence::new(alloc, module)?;
+        Ok(Sequencer {
+            pass,
+            seat,
+            sequence,
+        })
+    }
+
+    /// Tells the board what is to be told, where nothing was told before.
+    fn tell(&mut self, board: &Board, before: Told)
+        requires { sequencer_board self.old.seat ≡ board_id board.now }
+        ensures tells { TellsBoard before (told_of_sequencer self.new) self.old.seat self.new.seat }
+        ensures board { (sequencer_board self.new.seat ≡ sequencer_board self.old.seat) × (module_of self.new.seat ≡ module_of self.old.seat) }
+        ensures rest { self.new ≡ record self.old { seat = self.new.seat } }
+    {
+        match before {
+            Told::Nothing => match self.sequence.told() {
+                Told::Nothing => {}
+                Told::Refused => {
+                    board.refuse(&mut self.seat);
+                }
+                Told::Finished => {
+                    board.finish(&mut self.seat);
+                }
+            },
+            Told::Refused => {}
+            Told::Finished => {}
+        }
+    }
+
+    /// One turn: takes one judged item from the lane, and places all that has come without a gap
+    /// then. Where that brings the first fault, it refuses the module on the board; where it brings
+    /// the End of a module without a fault, it finishes it there.
+    pub fn turn<R: Wait>(&mut self, rt: &R, lane: &Lane<Judged>, board: &Board) -> SequencerTurn
+        requires lane { (lane_pass_of self.old).queue ≡ lane.now }
+        requires board { sequencer_board (seat_of self.old) ≡ board_id board.now }
+        ensures takes { LaneTaken result (lane_pass_of self.old) (lane_pass_of self.new) }
+        ensures tie { IsSequenced self.old → IsSequenced self.new }
+        ensures tells { TellsBoard (told_of_sequencer self.old) (told_of_sequencer self.new) (seat_of self.old) (seat_of self.new) }
+        ensures board { (sequencer_board (seat_of self.new) ≡ sequencer_board (seat_of self.old)) × (module_of (seat_of self.new) ≡ module_of (seat_of self.old)) }
+        ensures module { (sequence_of self.new).«module» ≡ (sequence_of self.old).«module» }
+    {
+        match lane.take(rt, &mut self.pass) {
+            Some(item) => {
+                let before = self.sequence.told();
+                self.sequence.handle(item);
+                self.tell(board, before);
+                SequencerTurn::Worked
+            }
+            None => SequencerTurn::Idle,
+        }
+    }
+}

@@ -1,0 +1,130 @@
+//! A verifier: it takes items from the intake, judges them, and hands them on to the lanes of their
+//! modules.
+
+ghost use Rattle.std.specs.Prelude.{◌≡◌, ◌<◌, ◌+◌, ℕ, List, [], ◌∷◌, ◌++◌, length, Option, Some, None, slice_get, option_map};
+ghost use Rattle.lfi_module.specs.Numbers.{module_count};
+ghost use Rattle.lfi_model.specs.Item.{ItemView};
+ghost use Rattle.lfi_queues.specs.Passes.{IsSamePass, PassView, QueueId};
+ghost use Rattle.lfi_place.specs.declared.verifier.VerifierTurn.TheVariants as turn;
+
+use lfi_model::{Item, Judged};
+use lfi_module::ModuleNumber;
+use lfi_queues::{Intake, Lane, PutPass, TakePass, Taken};
+use std::sync::Wait;
+
+/// What a verifier tells of before and after it judges an item.
+pub trait Gate {
+    /// The item of this module with this ordinal is about to be judged.
+    fn before(&self, module: ModuleNumber, ordinal: u32);
+
+    /// It was judged.
+    fn after(&self, module: ModuleNumber, ordinal: u32);
+}
+
+/// A gate that does nothing.
+#[derive(Clone, Copy)]
+pub struct OpenGate;
+
+impl Gate for OpenGate {
+    fn before(&self, _module: ModuleNumber, _ordinal: u32) {}
+
+    fn after(&self, _module: ModuleNumber, _ordinal: u32) {}
+}
+
+/// What a turn did.
+#[derive(Clone, Copy, Debug, PartialEq, Eq)]
+pub enum VerifierTurn {
+    /// It put an item in its module's lane.
+    Worked,
+    /// The intake was empty.
+    Idle,
+    /// The intake asks for another turn.
+    Again,
+    /// The lane was full, and the item stays in hand.
+    Blocked,
+}
+
+/// A verifier: its pass of the intake, its passes of the lanes by their modules, and the item in its
+/// hand.
+#[derive(Drop)]
+pub struct Verifier {
+    pub(crate) pass: TakePass<Item>,
+    pub(crate) lanes: Vec<PutPass<Judged>>,
+    pub(crate) hand: Option<Judged>,
+    ghost all: { length lanes.items ≡ module_count },
+}
+
+/// Judges an item, between the gate's two calls.
+fn judged<G: Gate>(gate: &G, item: Item) -> Judged
+    ensures { result ≡ item }
+{
+    let (module, ordinal) = (item.module, item.ordinal);
+    gate.before(module, ordinal);
+    let judged = item.judge();
+    gate.after(module, ordinal);
+    judged
+}
+
+impl Verifier {
+    ghost use Rattle.lfi_place.specs.Handed.{take_pass_of, lane_puts_of, hand_of, HandsOn, WithLast, SameLanes, AreLanes, ByHand, AsTold};
+
+    /// A verifier with its pass of the intake and its passes of the lanes, one a module. Nothing is
+    /// in its hand.
+    pub fn new(pass: TakePass<Item>, lanes: Vec<PutPass<Judged>>) -> Verifier
+        requires { length lanes.items ≡ module_count }
+        ensures pass { take_pass_of result ≡ pass }
+        ensures lanes { lane_puts_of result ≡ lanes.items }
+        ensures empty_handed { hand_of result ≡ None }
+    {
+        Verifier {
+            pass,
+            lanes,
+            hand: None,
+        }
+    }
+
+    /// Puts an item in the lane of its module, or holds it.
+    fn put<R: Wait>(&mut self, rt: &R, lanes: &[Lane<Judged>], item: Judged) -> VerifierTurn
+        requires lanes { AreLanes lanes.now (lane_puts_of self.old) }
+        requires empty { self.old.hand ≡ None }
+        ensures tie { (took : List ItemView) → WithLast took self.old item → HandsOn took self.new }
+        ensures did { ByHand result item (hand_of self.new) }
+        ensures pass { self.new.pass ≡ self.old.pass }
+        ensures same { SameLanes (lane_puts_of self.old) (lane_puts_of self.new) }
+    {
+        let module = item.module.index();
+        match lanes[module].put(rt, &mut self.lanes[module], item) {
+            Ok(()) => VerifierTurn::Worked,
+            Err(back) => {
+                self.hand = Some(back);
+                VerifierTurn::Blocked
+            }
+        }
+    }
+
+    /// One turn: puts the item in hand, or takes one from the intake, judges it where it is a page,
+    /// and puts it in its module's lane. It takes no memory.
+    pub fn turn<R: Wait, G: Gate>(
+        &mut self,
+        rt: &R,
+        intake: &Intake<Item>,
+        lanes: &[Lane<Judged>],
+        gate: &G,
+    ) -> VerifierTurn
+        requires intake { (take_pass_of self.old).queue ≡ intake.now }
+        requires lanes { AreLanes lanes.now (lane_puts_of self.old) }
+        ensures tie { HandsOn (take_pass_of self.old).items self.old → HandsOn (take_pass_of self.new).items self.new }
+        ensures did { AsTold result (hand_of self.old) (hand_of self.new) (take_pass_of self.old) (take_pass_of self.new) }
+        ensures same { SameLanes (lane_puts_of self.old) (lane_puts_of self.new) }
+        ensures pass { IsSamePass (take_pass_of self.old) (take_pass_of self.new) }
+    {
+        match self.hand.take() {
+            Some(held) => self.put(rt, lanes, held),
+            None => match intake.take(rt, &mut self.pass) {
+                Taken::Item(item) => self.put(rt, lanes, judged(gate, item)),
+                Taken::Empty => VerifierTurn::Idle,
+                Taken::Again => VerifierTurn::Again,
+            },
+        }
+    }
+}

@@ -1,0 +1,105 @@
+//! What the tests share: the items of a module of three pages, 1,024 words, 1,024 and one.
+
+use lfi_model::{Item, ItemKind, Judged, Reason};
+use lfi_module::{Extent, ModuleNumber, PageSize, WordCount};
+use page_buf::SealedPage;
+use std::alloc::Global;
+use std::test::Fail;
+
+/// How many words the module has.
+pub const WORDS: u32 = 2049;
+
+/// NOP.
+const NOP: u32 = 0xD503_201F;
+
+/// SVC #0, which isn't in the profile.
+pub const UNKNOWN: u32 = 0xD400_0001;
+
+/// What an item of the module brings.
+#[derive(Clone, Copy, Debug, PartialEq, Eq)]
+pub enum Part {
+    /// The Open, with entry 7.
+    Open,
+    /// A page of NOPs, by its index, with this word at its end.
+    Page(u32, u32),
+    /// The End after so many pages.
+    End(u32, Reason),
+}
+
+/// ADD X0, X0, #number, for a number below 4,096.
+pub fn mark(number: u32) -> u32 {
+    0x9100_0000 | (number & 0xFFF) << 10
+}
+
+/// The module, which is number 3.
+pub fn module() -> ModuleNumber {
+    ModuleNumber::at(3)
+}
+
+/// The code of a page of the module: NOPs and this word.
+fn code(alloc: Global, words: WordCount, index: u32, last: u32) -> Result<Vec<u8>, Fail> {
+    let bytes = words.bytes_in_page(PageSize::PROFILE, index) as usize;
+    let mut code = Vec::new(alloc);
+    for _ in 1..bytes / 4 {
+        code.extend_from_slice(&NOP.to_le_bytes())?;
+    }
+    code.extend_from_slice(&last.to_le_bytes())?;
+    Ok(code)
+}
+
+/// A page's item.
+fn page(words: WordCount, index: u32, page: SealedPage) -> Result<Item, Fail> {
+    let bytes = page.bytes().len();
+    if index > 4095 || !words.is_due(PageSize::PROFILE, index, index, bytes) {
+        return Err(Fail::from("no page of the module"));
+    }
+    Ok(Item {
+        module: module(),
+        ordinal: index + 1,
+        words,
+        kind: ItemKind::Page(page),
+    })
+}
+
+/// An End's item.
+fn end(words: WordCount, pages: u32, reason: Reason) -> Result<Item, Fail> {
+    if pages > 4096 {
+        return Err(Fail::from("no module has so many pages"));
+    }
+    Ok(Item {
+        module: module(),
+        ordinal: pages + 1,
+        words,
+        kind: ItemKind::End(reason),
+    })
+}
+
+/// The item of this part, in a module of so many words.
+pub fn item_of(alloc: Global, words: WordCount, part: Part) -> Result<Item, Fail> {
+    match part {
+        Part::Open => {
+            let extent = Extent::new(words, 7).ok_or("no word 7")?;
+            Ok(Item {
+                module: module(),
+                ordinal: 0,
+                words: extent.words(),
+                kind: ItemKind::Open {
+                    entry: extent.entry(),
+                },
+            })
+        }
+        Part::Page(index, last) => {
+            let code = code(alloc, words, index, last)?;
+            if code.is_empty() || code.len() > 4096 || code.len() % 4 != 0 {
+                return Err(Fail::from("the code is no page"));
+            }
+            page(words, index, SealedPage::of(alloc, code.as_slice())?)
+        }
+        Part::End(pages, reason) => end(words, pages, reason),
+    }
+}
+
+/// The judged item of this part.
+pub fn judged(alloc: Global, part: Part) -> Result<Judged, Fail> {
+    Ok(item_of(alloc, WordCount::of(WORDS), part)?.judge())
+}

@@ -1,0 +1,108 @@
+//! Sequencers: what they take from their lanes, what they tell the board, and memory that is
+//! refused.
+
+ghost use Rattle.std.specs.Prelude.{◌≡◌, IfOk};
+ghost use Rattle.lfi_board.specs.Known.{board_id, board_of, sequencer_board};
+ghost use Rattle.lfi_board.specs.Rows.{NewReceivers};
+ghost use Rattle.lfi_place.specs.Turns.{lane_pass_of, seat_of};
+
+use crate::items::{Part, UNKNOWN, judged, mark, module};
+use lfi_board::{Board, Claim, Phase, ReceiverSeat};
+use lfi_model::{Judged, Reason};
+use lfi_place::{Sequencer, SequencerTurn};
+use lfi_queues::{Lane, PutPass};
+use std::alloc::Global;
+use std::sync::Wait;
+use std::test::Fail;
+
+/// A sequencer with its lane and its board, on which its module is claimed.
+#[derive(Drop)]
+struct Row {
+    board: Board,
+    seat: ReceiverSeat,
+    lane: Lane<Judged>,
+    put: PutPass<Judged>,
+    sequencer: Sequencer,
+    ghost seats: { (board_of seat ≡ board_id board) × (sequencer_board (seat_of sequencer) ≡ board_id board) },
+    ghost passes: { (put.queue ≡ lane) × ((lane_pass_of sequencer).queue ≡ lane) },
+}
+
+/// The seat of a new board's one receiver.
+fn receiver(board: &Board, mut row: [Option<ReceiverSeat>; 8]) -> Result<ReceiverSeat, Fail>
+    requires { NewReceivers (board_id board.now) 1 1 row }
+    ensures { IfOk result (λ seat. board_of seat ≡ board_id board.now) }
+{
+    let _ = board;
+    Ok(row[0].take().ok_or("no seat")?)
+}
+
+impl Row {
+    fn new(alloc: Global) -> Result<Row, Fail> {
+        let (board, mut seats) = Board::new(alloc, 1, 1)?;
+        let mut seat = receiver(&board, seats.receivers)?;
+        if board.claim(&mut seat, module()) != Claim::Mine {
+            return Err(Fail::from("the module is free"));
+        }
+        let (lane, mut puts, mut takes) = Lane::new(alloc, 1, 1)?;
+        let put = puts.swap_remove(0);
+        let take = takes.swap_remove(0);
+        let of = seats.sequencers.swap_remove(3);
+        let sequencer = Sequencer::new(alloc, module(), take, of)?;
+        Ok(Row {
+            board,
+            seat,
+            lane,
+            put,
+            sequencer,
+        })
+    }
+
+    /// Puts an item in the lane, and turns the sequencer: the module's phase then.
+    fn phase_after<R: Wait + AllocGlobal>(&mut self, rt: &R, part: Part) -> Result<Phase, Fail> {
+        let item = judged(rt.alloc(), part)?;
+        if self.lane.put(rt, &mut self.put, item).is_err() {
+            return Err(Fail::from("the lane is full"));
+        }
+        if self.turn(rt) != SequencerTurn::Worked {
+            return Err(Fail::from("the item isn't taken"));
+        }
+        Ok(self.board.look(&mut self.seat, module()))
+    }
+
+    fn turn<R: Wait>(&mut self, rt: &R) -> SequencerTurn {
+        self.sequencer.turn(rt, &self.lane, &self.board)
+    }
+}
+
+#[test]
+fn the_last_item_of_a_lawful_module_ends_it(rt: HostRuntime) -> Result<(), Fail> {
+    let mut row = Row::new(rt.alloc())?;
+    assert!(rt; row.turn(&rt) == SequencerTurn::Idle);
+    for part in [
+        Part::End(3, Reason::Close),
+        Part::Page(2, mark(3)),
+        Part::Page(0, mark(1)),
+        Part::Open,
+    ] {
+        assert_eq!(rt; row.phase_after(&rt, part)?, Phase::Open, "{part:?}");
+    }
+    assert_eq!(rt; row.phase_after(&rt, Part::Page(1, mark(2)))?, Phase::Done);
+    assert!(rt; row.turn(&rt) == SequencerTurn::Idle);
+    Ok(())
+}
+
+#[test]
+fn the_first_fault_refuses_a_module(rt: HostRuntime) -> Result<(), Fail> {
+    let mut row = Row::new(rt.alloc())?;
+    for part in [Part::Page(1, UNKNOWN), Part::Open] {
+        assert_eq!(rt; row.phase_after(&rt, part)?, Phase::Open, "{part:?}");
+    }
+    for part in [
+        Part::Page(0, mark(1)),
+        Part::Page(2, mark(3)),
+        Part::End(3, Reason::Close),
+    ] {
+        assert_eq!(rt; row.phase_after(&rt, part)?, Phase::Refused, "{part:?}");
+    }
+    Ok(())
+}

@@ -1,0 +1,145 @@
+//! The rules asked one by one of what a word decodes to: slow, and without the pass.
+
+use a64_effects::{Address, Form, address_of, target, writes};
+use a64_word::{BranchKind, IndexExtend, Instruction, Width, decode};
+use lfi_rules::{Fault, Need, Rule, meets, opens};
+
+/// The rules that an instruction keeps by itself, in the order of their numbers.
+const RULES: [Rule; 8] = [
+    Rule::AccessConfined,
+    Rule::BaseKept,
+    Rule::AddressGuarded,
+    Rule::LinkGuarded,
+    Rule::OffsetNarrow,
+    Rule::StackBounded,
+    Rule::TargetInside,
+    Rule::BranchBounded,
+];
+
+/// Whether an access is confined.
+fn is_confined(address: &Address) -> bool {
+    let base = address.base.number();
+    match address.form {
+        Form::Offset => matches!(base, 18 | 21 | 23 | 24 | 31),
+        Form::PreIndex | Form::PostIndex => base == 31,
+        Form::Index { extend, scaled, .. } => {
+            base == 21 && extend == IndexExtend::Uxtw && !scaled
+        }
+    }
+}
+
+/// Whether an access changes sp.
+fn is_indexed(instruction: &Instruction) -> bool {
+    match address_of(instruction) {
+        Some(address) => matches!(address.form, Form::PreIndex | Form::PostIndex),
+        None => false,
+    }
+}
+
+/// Whether a word is ADD Xd, X21, Wm, UXTW #0.
+fn is_guard(word: u32) -> bool {
+    word & 0xFFE0FFE0 == 0x8B2042A0
+}
+
+/// Whether an instruction is BL or BLR.
+fn links(instruction: &Instruction) -> bool {
+    match instruction {
+        Instruction::Branch(branch) => branch.link,
+        Instruction::BranchRegister(branch) => branch.kind == BranchKind::Blr,
+        _ => false,
+    }
+}
+
+/// Whether a branch to a register is bounded.
+fn is_bounded(instruction: &Instruction) -> bool {
+    match instruction {
+        Instruction::BranchRegister(branch) => match branch.rn.number() {
+            30 => true,
+            18 | 23 | 24 => branch.kind != BranchKind::Ret,
+            _ => false,
+        },
+        _ => true,
+    }
+}
+
+/// Whether a word, which spells an instruction, keeps one of the rules at a place of n words.
+fn keeps(word: u32, instruction: &Instruction, rule: Rule, place: u32, n: u32) -> bool {
+    let written = writes(instruction);
+    let guard = is_guard(word);
+    let opened = opens(instruction);
+    match rule {
+        Rule::AccessConfined => match address_of(instruction) {
+            Some(address) => is_confined(&address),
+            None => true,
+        },
+        Rule::BaseKept => written.register(21) == None,
+        Rule::AddressGuarded => {
+            guard
+                || written.register(18) == None
+                    && written.register(23) == None
+                    && written.register(24) == None
+        }
+        Rule::LinkGuarded => {
+            guard
+                || written.register(30) == None
+                || links(instruction)
+                || opened == Need::Call
+                || opened == Need::Guard
+        }
+        Rule::OffsetNarrow => written.register(22) != Some(Width::X),
+        Rule::StackBounded => {
+            guard
+                || written.sp() == None
+                || word == 0x8B3662BF
+                || opened == Need::Probe
+                || is_indexed(instruction)
+        }
+        Rule::TargetInside => match target(instruction, place) {
+            Some(place) => 0 <= place && place < i64::from(n),
+            None => true,
+        },
+        Rule::BranchBounded => is_bounded(instruction),
+        _ => true,
+    }
+}
+
+/// The rule with the least number that a word breaks at a place of n words, where `need` is to be met; and what it opens.
+pub fn rule_of(word: u32, need: Need, place: u32, n: u32) -> (Option<Rule>, Need) {
+    let Some(instruction) = decode(word) else {
+        return (Some(Rule::Spelled), Need::Nothing);
+    };
+    let opened = opens(&instruction);
+    for rule in RULES {
+        if !keeps(word, &instruction, rule, place, n) {
+            return (Some(rule), opened);
+        }
+    }
+    if meets(&instruction, need) {
+        (None, opened)
+    } else {
+        (Some(Rule::NeedMet), opened)
+    }
+}
+
+/// The first fault of a module, word by word.
+pub fn fault_word_by_word(words: &[u32]) -> Option<Fault> {
+    let n = words.len().min(4_194_304) as u32;
+    let mut need = Need::Nothing;
+    let mut place = 0u32;
+    for word in words {
+        let (rule, opened) = rule_of(*word, need, place, n);
+        if let Some(rule) = rule {
+            return Some(Fault { word: place, rule });
+        }
+        need = opened;
+        place = place.saturating_add(1);
+    }
+    if need == Need::Nothing {
+        None
+    } else {
+        Some(Fault {
+            word: n.saturating_sub(1),
+            rule: Rule::NeedMet,
+        })
+    }
+}

@@ -1,0 +1,18 @@
+use Rattle.std.proofs.Common.{◌≡◌, ◌-◌, ◌<◌, ℕ, List, Some, Option, sym, subst}
+use Rattle.lfi_model.specs.Item.{ItemView}
+use Rattle.lfi_queues.specs.Passes.{QueueId, PassView, after_rest, with_first}
+use Rattle.lfi_queues.proofs.Rest.{item_count, rest_smaller}
+use Rattle.lfi_stage.proofs.settle.drain.Goals as goal
+
+pub loop-item-smaller : goal.loop-item-smaller
+loop-item-smaller g c =
+    let q : QueueId = c.args.intake.now in
+    let i = c.loop-item.invariant in
+    let x : ItemView = c.in-Some.item in
+    let takes : c.rest.new.takes ≡ with_first c.loop-item.takes (λ p. after_rest p (Some x)) = c.in-Some.ensures.takes in
+    let puts : c.rest.new.puts ≡ c.loop-item.puts = c.in-Some.ensures.puts in
+    let kept = c.in-Some.ensures.kept in
+    let was : ℕ = item_count c.loop-item.puts - item_count c.loop-item.takes in
+    subst (λ (t : List (Option (PassView ItemView))). item_count c.rest.new.puts - item_count t < was) (sym takes)
+    (subst (λ (p : List (Option (PassView ItemView))). item_count p - item_count (with_first c.loop-item.takes (λ z. after_rest z (Some x))) < was) (sym puts)
+    (rest_smaller q q.takers c.loop-item.puts c.loop-item.takes x kept.0 kept.2.0 c.requires.takers i.takes kept.1 kept.2.1))

@@ -1,0 +1,12 @@
+use Rattle.std.proofs.Common.{◌≤◌, ◌++◌, length-take, subst, arith}
+use Rattle.std.proofs.lemmas.List.{take-take}
+use Rattle.lfi_stage.specs.Receivers.{IsOver}
+use Rattle.lfi_stage.proofs.stage.hear_once.Goals as goal
+
+pub returns-clause-over : goal.returns-clause-over
+returns-clause-over g c = λ bytes stands.
+    let used = c.turn-used.result.0 in
+    let count = c.min-count.result in
+    let within = c.turn-used.ensures.used in
+    let less : used ≤ count = (let l = length-take count c.args.left.now in omega arith) in
+    subst (λ l. IsOver c.turn-used.new.self.cause (bytes ++ l)) (take-take used count c.args.left.now less) (c.turn-used.ensures.over bytes stands c.requires.running)

@@ -1,9 +1,0 @@
-use Rattle.std.proofs.Common.{◌≡◌, ◌∙◌, ap, [], refl}
-use Rattle.lfi_stage.proofs.Placings.{just_opened}
-use Rattle.lfi_stage.proofs.verifier.Placing.new.Goals as goal
-
-pub returns : goal.returns
-returns c = λ first number words is.
-    let built : c.in_places.result ≡ record { words = c.args.words; entry = c.args.entry; slot = c.args.«module»; placed = [] } =
-    c.in_places.ensures ∙ ap (λ e. record { words = e.words; entry = e.entry; slot = c.args.«module»; placed = [] }) c.of.ensures in
-    just_opened c.args.«module» _ first c.args.entry number words is refl refl built
