@@ -161,4 +161,3 @@ come_by (suc fuel) taken xs enough coming = look taken xs coming (first_of taken
 -- of any items some list has come
 pub some_come : (taken : List ItemView) → (xs : List ItemView) × Come taken xs
 some_come taken = come_by (top taken) taken [] (omega arith) (coming_none taken)
-
