@@ -1,0 +1,5 @@
+pub mod Books
+pub mod Events
+pub mod Claims
+pub mod Holding
+pub mod Standing

@@ -1,0 +1,521 @@
+//! The receiver, which turns the bytes of one connection into items.
+
+ghost use Rattle.std.specs.Prelude.{◌≡◌, ◌≢◌, ℕ, ◌+◌, ◌-◌, ◌<◌, ◌≤◌, ◌==◌, ◌%◌, ◌^◌, ◌⊎◌, min, ◌↔◌, List, [], ◌∷◌, ◌++◌, length, take, drop, true, false, Some, None, is_some, IsSome, IsNone, IsTrue, option_to_list, if◌then◌else◌, flat_map, ◌||◌, ◌&&◌, not, nat_le};
+ghost use Rattle.lfi_module.specs.Numbers.{page_bytes};
+ghost use Rattle.lfi_board.specs.Known.{board_id, board_of, known_by};
+ghost use Rattle.lfi_board.specs.Calls.{Saw, number_of};
+ghost use Rattle.lfi_receive.specs.Claims.{is_mine};
+ghost use Rattle.lfi_receive.specs.Seats.{KeepsClaims};
+ghost use Rattle.lfi_frame.specs.Feeds.{FeedStands, feed_fault};
+ghost use Rattle.lfi_frame.specs.declared.fault.FrameFault.{FrameFault};
+ghost use Rattle.lfi_frame.specs.Streams.{Message, open_message, page_message, close_message, rest_of, short, unfinished, spelling, IsMessage};
+ghost use Rattle.lfi_model.specs.declared.item.ItemKind.TheVariants.{End};
+ghost use Rattle.lfi_model.specs.declared.connection.Progress.{Progress};
+ghost use Rattle.lfi_model.specs.declared.connection.Progress.TheVariants.{Going, Ended};
+ghost use Rattle.lfi_model.specs.Items.{item_of, reason_of, fault_by_cause, share_of};
+ghost use Rattle.lfi_receive.specs.Places.{progress_at, IsPossible};
+
+use crate::coming::Coming;
+use crate::modules::{Modules, OpenModule};
+use crate::seat::OwnSeat;
+use lfi_board::{Board, Claim, Phase, ReceiverSeat};
+use lfi_frame::{Feed, FrameFault, Got, Step};
+use lfi_model::{Cause, Item, ItemKind, Progress, Reason};
+use lfi_module::{Extent, ModuleNumber, PageSize};
+use lfi_queues::{Intake, PutPass};
+use page_buf::OpenPage;
+use std::alloc::Global;
+use std::sync::Wait;
+
+/// What a turn did.
+#[derive(Clone, Copy, Debug, PartialEq, Eq)]
+pub enum ReceiverTurn {
+    /// It used bytes, and no item came of them; or it was given none.
+    More,
+    /// It put an item.
+    Put,
+    /// It used a header that is a stray.
+    Stray,
+    /// The intake refused the item, which stays in hand.
+    Blocked,
+    /// The input has ended, and all its items are put.
+    Finished,
+}
+
+/// What a page's header brought.
+#[derive(Clone, Copy, PartialEq, Eq)]
+enum Begun {
+    /// It is a stray.
+    Stray,
+    /// Its payload is kept or passed over.
+    Awaited,
+    /// There is no memory for its payload.
+    Starved,
+}
+
+/// The End of a module that is open when its connection ends with a fault.
+fn reason_of(fault: FrameFault) -> Reason
+    ensures { result ≡ reason_of fault }
+{
+    match fault {
+        FrameFault::NoMemory => Reason::NoMemory,
+        fault => Reason::Lost(fault),
+    }
+}
+
+/// The receiver of one connection.
+#[derive(Drop)]
+pub struct Receiver {
+    alloc: Global,
+    feed: Feed,
+    pass: PutPass<Item>,
+    seat: OwnSeat,
+    modules: Modules,
+    coming: Option<Coming>,
+    /// The item that is to be put next.
+    hand: Option<Item>,
+    cause: Option<Cause>,
+    fault: Option<FrameFault>,
+    strays: u64,
+}
+
+impl Receiver {
+    ghost use Rattle.lfi_receive.specs.declared.receiver.Begun.TheVariants as begun;
+    ghost use Rattle.lfi_receive.specs.declared.receiver.ReceiverTurn.TheVariants as turn;
+    ghost use Rattle.lfi_receive.specs.Turns.{PutsAsTold, CountsAsTold, is_finished};
+    ghost use Rattle.lfi_receive.specs.inner.Holding.{made_by, knows, Agrees, Holds, KnowsClaims};
+    ghost use Rattle.lfi_receive.specs.Receivers.{pass_of, seat_of, claimed_by, cause_of, hand_of, fault_of, strays_at, cause_after, StandsFor, IsOver, IsDuePage, IsFinished, due_of, AfterEnd};
+
+    /// A receiver of which no byte has come, with its pass of the intake and its seat at the board,
+    /// neither of which was used.
+    pub fn new(alloc: Global, pass: PutPass<Item>, seat: ReceiverSeat) -> Receiver
+        requires pass { pass.items ≡ [] }
+        requires unclaimed { (known_by seat).claimed ≡ [] }
+        requires running { (known_by seat).ended ≡ false }
+        ensures stands { StandsFor result [] }
+        ensures pass { pass_of result ≡ pass }
+        ensures seat { seat_of result ≡ seat }
+        ensures empty_handed { hand_of result ≡ None }
+        ensures running { cause_of result ≡ None }
+    {
+        Receiver {
+            alloc,
+            feed: Feed::new(),
+            pass,
+            seat: OwnSeat { seat, told: false },
+            modules: Modules::new(),
+            coming: None,
+            hand: None,
+            cause: None,
+            fault: None,
+            strays: 0,
+        }
+    }
+
+    /// Puts what is in hand, or keeps it there where the intake refuses it.
+    fn put_hand<R: Wait>(&mut self, rt: &R, intake: &Intake<Item>) -> ReceiverTurn
+        requires held { IsSome self.old.hand }
+        requires part { self.old.pass.queue ≡ intake.now }
+        ensures puts { PutsAsTold result self.old.pass self.new.pass }
+        ensures once { (result ≡ turn.Put) ⊎ (result ≡ turn.Blocked) }
+        ensures made { made_by self.new ≡ made_by self.old }
+        ensures hand { IsSome self.new.hand ↔ (result ≡ turn.Blocked) }
+        ensures due { result ≡ turn.Put → due_of self.new + 1 ≡ due_of self.old }
+        ensures rest { self.new ≡ record self.old { pass = self.new.pass; hand = self.new.hand } }
+    {
+        let Some(item) = self.hand.take() else {
+            return ReceiverTurn::More;
+        };
+        match intake.put(rt, &mut self.pass, item) {
+            Ok(()) => ReceiverTurn::Put,
+            Err(item) => {
+                self.hand = Some(item);
+                ReceiverTurn::Blocked
+            }
+        }
+    }
+
+    /// Counts a stray.
+    fn stray(&mut self)
+        ensures { self.new ≡ record self.old { strays = min (self.old.strays + 1) (2 ^ 64 - 1) } }
+    {
+        self.strays = self.strays.saturating_add(1);
+    }
+
+    /// The End of an open module comes into the hand.
+    fn end_module(&mut self, ended: OpenModule, reason: Reason)
+        requires free { self.old.hand ≡ None }
+        requires possible { IsPossible (Going ended.words ended.pages) }
+        ensures hand { self.new.hand ≡ Some (item_of ended.number (ended.pages + 1) ended.words (End reason)) }
+        ensures modules { (m : ℕ) → progress_at self.new.modules m ≡ (if m == ended.number then Ended else progress_at self.old.modules m) }
+        ensures rest { self.new ≡ record self.old { modules = self.new.modules; hand = self.new.hand } }
+    {
+        self.modules.set(ended.number, Progress::Ended);
+        self.hand = Some(Item {
+            module: ended.number,
+            ordinal: ended.pages + 1,
+            words: ended.words,
+            kind: ItemKind::End(reason),
+        });
+    }
+
+    /// An Open: it claims its module, where the board has it free; else it is a stray, which the
+    /// answer tells.
+    fn open(&mut self, board: &Board, module: ModuleNumber, extent: Extent) -> bool
+        requires free { self.old.hand ≡ None }
+        requires board { board_of self.old.seat.seat ≡ board_id board.now }
+        ensures holds { (messages : List Message) → Holds self.old messages [] → Holds self.new (messages ++ open_message «module» extent.words extent.entry ∷ []) [] }
+        ensures hand { IsTrue result → self.new.hand ≡ None }
+        ensures board { board_of self.new.seat.seat ≡ board_of self.old.seat.seat }
+        ensures ended { (knows self.new).ended ≡ (knows self.old).ended }
+        ensures strays { self.new.strays ≡ (if result then min (self.old.strays + 1) (2 ^ 64 - 1) else self.old.strays) }
+        ensures rest { self.new ≡ record self.old { modules = self.new.modules; seat = self.new.seat; hand = self.new.hand; strays = self.new.strays } }
+    {
+        match self.seat.claim(board, module) {
+            Claim::Taken => {
+                self.stray();
+                true
+            }
+            Claim::Mine => {
+                let words = extent.words();
+                self.modules
+                    .set(module, Progress::Going { words, pages: 0 });
+                self.hand = Some(Item {
+                    module,
+                    ordinal: 0,
+                    words,
+                    kind: ItemKind::Open {
+                        entry: extent.entry(),
+                    },
+                });
+                false
+            }
+        }
+    }
+
+    /// A Close: it ends its module where that is open; else it is a stray, which the answer tells.
+    fn close(&mut self, module: ModuleNumber) -> bool
+        requires { self.old.hand ≡ None }
+        ensures holds { (messages : List Message) → Holds self.old messages [] → Holds self.new (messages ++ close_message «module» ∷ []) [] }
+        ensures hand { IsTrue result → self.new.hand ≡ None }
+        ensures strays { self.new.strays ≡ (if result then min (self.old.strays + 1) (2 ^ 64 - 1) else self.old.strays) }
+        ensures rest { self.new ≡ record self.old { modules = self.new.modules; hand = self.new.hand; strays = self.new.strays } }
+    {
+        match self.modules.at(module) {
+            Progress::Going { words, pages } => {
+                let open = OpenModule {
+                    number: module,
+                    words,
+                    pages,
+                };
+                self.end_module(open, Reason::Close);
+                false
+            }
+            _ => {
+                self.stray();
+                true
+            }
+        }
+    }
+
+    /// The header of page `index` with `len` payload bytes: it is the one due of an open module
+    /// and its payload is awaited, or it ends its module; or it is a stray.
+    fn page(&mut self, module: ModuleNumber, index: u32, len: u32) -> Begun
+        requires free { self.old.hand ≡ None }
+        requires in_range { (0 < len) × (len ≤ page_bytes) × (len % 4 ≡ 0) }
+        ensures agrees { (messages : List Message) → Holds self.old messages [] → Agrees self.new.modules (made_by self.new) self.new.strays messages (unfinished «module» index len) }
+        ensures holds { result ≢ begun.Starved → (messages : List Message) (rest : List ℕ) → Holds self.old messages [] → rest_of rest ≡ unfinished «module» index len → drop 12 rest ≡ [] → Holds self.new messages rest }
+        ensures claims { (messages : List Message) → Holds self.old messages [] → KnowsClaims (knows self.new) self.new.modules messages }
+        ensures starved { result ≡ begun.Starved → (messages : List Message) → Holds self.old messages [] → IsDuePage (share_of (claimed_by self.new «module») «module» messages short).progress index len }
+        ensures hand { result ≡ begun.Stray → self.new.hand ≡ None }
+        ensures stray { result ≡ begun.Stray → self.new.strays ≡ min (self.old.strays + 1) (2 ^ 64 - 1) }
+        ensures strays { result ≢ begun.Stray → self.new.strays ≡ self.old.strays }
+        ensures rest { self.new ≡ record self.old { modules = self.new.modules; coming = self.new.coming; hand = self.new.hand; strays = self.new.strays } }
+    {
+        let Progress::Going { words, pages } = self.modules.at(module) else {
+            self.stray();
+            return Begun::Stray;
+        };
+        let ended = OpenModule {
+            number: module,
+            words,
+            pages,
+        };
+        if !words.is_due(PageSize::PROFILE, pages, index, len as usize) {
+            self.end_module(ended, Reason::PageFault(index));
+            return Begun::Awaited;
+        }
+        match OpenPage::new(self.alloc) {
+            Ok(page) => {
+                self.coming = Some(Coming {
+                    module,
+                    words,
+                    pages,
+                    left: len,
+                    page,
+                });
+                Begun::Awaited
+            }
+            Err(_) => Begun::Starved,
+        }
+    }
+
+    /// Payload bytes of the page whose header came last.
+    fn payload(&mut self, bytes: &[u8])
+        requires free { self.old.hand ≡ None }
+        ensures goes_on { (messages : List Message) (rest : List ℕ) (m index len : ℕ) → Holds self.old messages rest → rest_of rest ≡ unfinished m index len → rest_of (rest ++ bytes.now) ≡ unfinished m index len
+            → Holds self.new messages (rest ++ bytes.now) }
+        ensures ends { (messages : List Message) (rest : List ℕ) (m index len : ℕ) → Holds self.old messages rest → rest_of rest ≡ unfinished m index len → length (drop 12 rest ++ bytes.now) ≡ len
+            → Holds self.new (messages ++ page_message m index (drop 12 rest ++ bytes.now) ∷ []) [] }
+        ensures rest { self.new ≡ record self.old { modules = self.new.modules; coming = self.new.coming; hand = self.new.hand } }
+    {
+        let Some(coming) = self.coming.take() else {
+            return;
+        };
+        let module = coming.module;
+        let progress = Progress::Going {
+            words: coming.words,
+            pages: coming.pages + 1,
+        };
+        match coming.add(bytes) {
+            Ok(item) => {
+                self.modules.set(module, progress);
+                self.hand = Some(item);
+            }
+            Err(coming) => {
+                self.coming = Some(coming);
+            }
+        }
+    }
+
+    /// Goes on in the bytes, up to the end of a header or a payload: how many it used, and
+    /// whether they are a stray.
+    fn read(&mut self, board: &Board, piece: &[u8]) -> (usize, bool)
+        requires free { self.old.hand ≡ None }
+        requires running { self.old.cause ≡ None }
+        requires board { board_of self.old.seat.seat ≡ board_id board.now }
+        ensures used { result.0 ≤ length piece.now }
+        ensures stands { (bytes : List ℕ) → StandsFor self.old bytes → StandsFor self.new (bytes ++ take result.0 piece.now) }
+        ensures over { (bytes : List ℕ) → StandsFor self.old bytes → IsOver (claimed_by self.new) self.new.cause (bytes ++ take result.0 piece.now) }
+        ensures moves { (bytes : List ℕ) → StandsFor self.old bytes → piece.now ≢ [] → 0 < result.0 }
+        ensures pass { self.new.pass ≡ self.old.pass }
+        ensures stray { IsTrue result.1 → self.new.hand ≡ None }
+        ensures board { board_of self.new.seat.seat ≡ board_of self.old.seat.seat }
+        ensures ended { (knows self.new).ended ≡ (knows self.old).ended }
+        ensures strays { self.new.strays ≡ (if result.1 then min (self.old.strays + 1) (2 ^ 64 - 1) else self.old.strays) }
+    {
+        match self.feed.feed(piece) {
+            Ok(Step { used, got }) => match got {
+                Got::More => (used, false),
+                Got::Open { module, extent } => (used, self.open(board, module, extent)),
+                Got::Page { module, index, len } => (used, self.begin(module, index, len)),
+                Got::Payload { .. } => {
+                    self.payload(&piece[..used]);
+                    (used, false)
+                }
+                Got::Close { module } => (used, self.close(module)),
+            },
+            Err((used, fault)) => {
+                self.fault = Some(fault);
+                self.cause = Some(Cause::End);
+                (used, false)
+            }
+        }
+    }
+
+    /// The header of a page; where there is no memory for its payload the input is over. The
+    /// answer tells whether it is a stray.
+    fn begin(&mut self, module: ModuleNumber, index: u32, len: u32) -> bool
+        requires free { self.old.hand ≡ None }
+        requires running { self.old.cause ≡ None }
+        requires in_range { (0 < len) × (len ≤ page_bytes) × (len % 4 ≡ 0) }
+        ensures stands { (messages : List Message) (rest : List ℕ) → Holds self.old messages [] → FeedStands self.old.feed messages rest → feed_fault self.old.feed ≡ None
+            → length rest ≡ 12 → rest_of rest ≡ unfinished «module» index len → StandsFor self.new (flat_map spelling messages ++ rest) }
+        ensures over { (messages : List Message) (rest : List ℕ) → Holds self.old messages [] → FeedStands self.old.feed messages rest → length rest ≡ 12 → rest_of rest ≡ unfinished «module» index len
+            → IsOver (claimed_by self.new) self.new.cause (flat_map spelling messages ++ rest) }
+        ensures pass { self.new.pass ≡ self.old.pass }
+        ensures stray { IsTrue result → self.new.hand ≡ None }
+        ensures seat { self.new.seat ≡ self.old.seat }
+        ensures strays { self.new.strays ≡ (if result then min (self.old.strays + 1) (2 ^ 64 - 1) else self.old.strays) }
+    {
+        match self.page(module, index, len) {
+            Begun::Stray => true,
+            Begun::Awaited => false,
+            Begun::Starved => {
+                self.feed.stop(FrameFault::NoMemory);
+                self.fault = Some(FrameFault::NoMemory);
+                self.cause = Some(Cause::Starved);
+                false
+            }
+        }
+    }
+
+    /// The End that is due next comes into the hand, if there is one.
+    fn end_next(&mut self) -> bool
+        requires free { self.old.hand ≡ None }
+        requires ended { IsSome self.old.cause }
+        ensures stands { (bytes : List ℕ) → StandsFor self.old bytes → StandsFor self.new bytes }
+        ensures pass { self.new.pass ≡ self.old.pass }
+        ensures some { IsTrue result ↔ IsSome self.new.hand }
+        ensures due { due_of self.new ≡ due_of self.old }
+        ensures seat { self.new.seat ≡ self.old.seat }
+        ensures cause { self.new.cause ≡ self.old.cause }
+        ensures strays { self.new.strays ≡ self.old.strays }
+        ensures none { result ≡ false → (self.new ≡ self.old) × IsFinished self.old }
+    {
+        let Some(fault) = self.fault else {
+            return false;
+        };
+        match self.modules.first_going() {
+            Some(open) => {
+                self.end_module(open, reason_of(fault));
+                true
+            }
+            None => false,
+        }
+    }
+
+    /// Puts the End that is due next; where none is, the receiver is finished, and tells it.
+    fn turn_ended<R: Wait>(&mut self, rt: &R, board: &Board, intake: &Intake<Item>) -> ReceiverTurn
+        requires free { self.old.hand ≡ None }
+        requires ended { IsSome self.old.cause }
+        requires part { self.old.pass.queue ≡ intake.now }
+        requires board { board_of self.old.seat.seat ≡ board_id board.now }
+        ensures stands { (bytes : List ℕ) → StandsFor self.old bytes → StandsFor self.new bytes }
+        ensures puts { PutsAsTold result self.old.pass self.new.pass }
+        ensures counts { self.new.strays ≡ self.old.strays }
+        ensures hand { IsSome self.new.hand ↔ (result ≡ turn.Blocked) }
+        ensures finished { result ≡ turn.Finished → IsFinished self.new }
+        ensures after { AfterEnd self.old self.new 0 result }
+        ensures board { board_of self.new.seat.seat ≡ board_of self.old.seat.seat }
+        ensures told { (knows self.new).ended ≡ (if is_finished result then true else (knows self.old).ended) }
+    {
+        if self.end_next() {
+            return self.put_hand(rt, intake);
+        }
+        self.seat.tell_end(board);
+        ReceiverTurn::Finished
+    }
+
+    /// One turn: it puts the item in hand, or an End that is due; or it goes on in the bytes of
+    /// the piece, up to the end of a header or a payload, and puts the item that came of them. At
+    /// an Open it claims the module on the board; once it is finished it tells the board, once.
+    /// It answers how many bytes it used, and what it did. Give it what it didn't use again.
+    pub fn turn<R: Wait>(
+        &mut self,
+        rt: &R,
+        board: &Board,
+        intake: &Intake<Item>,
+        piece: &[u8],
+    ) -> (usize, ReceiverTurn)
+        requires part { (pass_of self.old).queue ≡ intake.now }
+        requires board { board_of (seat_of self.old) ≡ board_id board.now }
+        ensures used { result.0 ≤ length piece.now }
+        ensures stands { (bytes : List ℕ) → StandsFor self.old bytes → StandsFor self.new (bytes ++ take result.0 piece.now) }
+        ensures over { (bytes : List ℕ) → StandsFor self.old bytes → cause_of self.old ≡ None → IsOver (claimed_by self.new) (cause_of self.new) (bytes ++ take result.0 piece.now) }
+        ensures moves { (bytes : List ℕ) → StandsFor self.old bytes → hand_of self.old ≡ None → cause_of self.old ≡ None → piece.now ≢ [] → 0 < result.0 }
+        ensures held { IsSome (hand_of self.old) → result.0 ≡ 0 }
+        ensures puts { PutsAsTold result.1 (pass_of self.old) (pass_of self.new) }
+        ensures strays { CountsAsTold result.1 (strays_at self.old) (strays_at self.new) }
+        ensures hand { IsSome (hand_of self.new) ↔ (result.1 ≡ turn.Blocked) }
+        ensures finished { result.1 ≡ turn.Finished → IsFinished self.new }
+        ensures ended { IsSome (cause_of self.old) → AfterEnd self.old self.new result.0 result.1 }
+        ensures told { (known_by (seat_of self.new)).ended ≡ (if is_finished result.1 then true else (known_by (seat_of self.old)).ended) }
+        ensures board { board_of (seat_of self.new) ≡ board_of (seat_of self.old) }
+    {
+        if self.hand.is_some() {
+            return (0, self.put_hand(rt, intake));
+        }
+        if self.cause.is_some() {
+            return (0, self.turn_ended(rt, board, intake));
+        }
+        let (used, stray) = self.read(board, piece);
+        if stray {
+            (used, ReceiverTurn::Stray)
+        } else if self.hand.is_some() {
+            (used, self.put_hand(rt, intake))
+        } else {
+            (used, ReceiverTurn::More)
+        }
+    }
+
+    /// The phase of a module, as its seat sees it now.
+    pub fn look(&mut self, board: &Board, module: ModuleNumber) -> Phase
+        requires board { board_of (seat_of self.old) ≡ board_id board.now }
+        ensures board { board_of (seat_of self.new) ≡ board_of (seat_of self.old) }
+        ensures saw { Saw (known_by (seat_of self.old)) (known_by (seat_of self.new)) «module» (number_of result) }
+        ensures stands { (bytes : List ℕ) → StandsFor self.old bytes → StandsFor self.new bytes }
+        ensures pass { pass_of self.new ≡ pass_of self.old }
+        ensures hand { hand_of self.new ≡ hand_of self.old }
+        ensures cause { cause_of self.new ≡ cause_of self.old }
+        ensures fault { fault_of self.new ≡ fault_of self.old }
+        ensures strays { strays_at self.new ≡ strays_at self.old }
+        ensures due { due_of self.new ≡ due_of self.old }
+    {
+        board.look(&mut self.seat.seat, module)
+    }
+
+    /// Tells the end of the input, or that a read of it failed. A second call, or one after a
+    /// fault, changes nothing.
+    pub fn end(&mut self, failed: bool)
+        ensures stands { (bytes : List ℕ) → StandsFor self.old bytes → StandsFor self.new bytes }
+        ensures ended { cause_of self.new ≡ Some (cause_after (cause_of self.old) failed) }
+        ensures again { IsSome (cause_of self.old) → self.new ≡ self.old }
+        ensures pass { pass_of self.new ≡ pass_of self.old }
+        ensures hand { hand_of self.new ≡ hand_of self.old }
+        ensures seat { seat_of self.new ≡ seat_of self.old }
+        ensures strays { strays_at self.new ≡ strays_at self.old }
+    {
+        if self.cause.is_some() {
+            return;
+        }
+        let unfinished = self.feed.end().is_err();
+        let going = self.modules.first_going().is_some();
+        let (cause, fault) = ended_by(failed, unfinished, going);
+        self.fault = fault;
+        self.cause = Some(cause);
+    }
+
+    /// Whether its input has ended, or come to a fault.
+    pub fn is_over(&self) -> bool
+        ensures { result ≡ is_some (cause_of self.now) }
+    {
+        self.cause.is_some()
+    }
+
+    /// The connection's fault, once it has come to one.
+    pub fn fault(&self) -> Option<FrameFault>
+        ensures { result ≡ fault_of self.now }
+    {
+        self.fault
+    }
+
+    /// How many strays have come; it stays at the greatest number.
+    pub fn strays(&self) -> u64
+        ensures { result ≡ strays_at self.now }
+    {
+        self.strays
+    }
+
+    /// Its pass and its seat, for who settles what all receivers have put.
+    pub fn into_parts(self) -> (PutPass<Item>, ReceiverSeat)
+        ensures pass { result.0 ≡ pass_of self }
+        ensures seat { result.1 ≡ seat_of self }
+    {
+        (self.pass, self.seat.seat)
+    }
+}
+
+/// What the end of the input means, where a message or a module may be left open.
+fn ended_by(failed: bool, unfinished: bool, going: bool) -> (Cause, Option<FrameFault>)
+    ensures cause { result.0 ≡ (if failed then Cause.Failed else Cause.End) }
+    ensures fault { result.1 ≡ fault_by_cause result.0 (unfinished || going) }
+{
+    if failed {
+        (Cause::Failed, Some(FrameFault::ReadFailed))
+    } else if unfinished || going {
+        (Cause::End, Some(FrameFault::Ended))
+    } else {
+        (Cause::End, None)
+    }
+}
