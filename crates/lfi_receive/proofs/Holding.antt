@@ -320,36 +320,3 @@ pub undue_agrees : (r : Receiver) (new : List Progress) (ms : List Message) (k n
     → Agrees new (r.pass.items ++ item_of k (p + 1) n (End (PageFault index)) ∷ []) r.strays ms (unfinished k index len)
 undue_agrees r new ms k n p index len free was undue at holds =
     subst (λ l. Agrees new l r.strays ms (unfinished k index len)) (sym (made_one r (item_of k (p + 1) n (End (PageFault index))) free)) (header_undue r.modules new (made_by r) r.strays ms k n p index len holds.agrees was undue at)
-
--- a module that isn't claimed gets no items
-idle_items_step : (m : ℕ) (s : Share) (message : Message) → (after_message false m s Unclaimed message).items ≡ s.items
-idle_items_step m s (open_message k words entry) = refl
-idle_items_step m s (page_message k index payload) = refl
-idle_items_step m s (close_message k) = refl
-
-idle_items_fold : (m : ℕ) (ms : List Message) (s : Share) → s.progress ≡ Unclaimed → (fold (λ t message. after_message false m t t.progress message) s ms).items ≡ s.items
-idle_items_fold m [] s e = refl
-idle_items_fold m (message ∷ ms) s e =
-    let q : (after_message false m s s.progress message).progress ≡ Unclaimed = ap (λ q. (after_message false m s q message).progress) e ∙ idle_step m s message ∙ e in
-    idle_items_fold m ms (after_message false m s s.progress message) q ∙ ap (λ q. (after_message false m s q message).items) e ∙ idle_items_step m s message
-
-idle_rest : (m : ℕ) (s : Share) (rest : Rest) → s.progress ≡ Unclaimed → ((after_rest m s rest).items ≡ s.items) × ((after_rest m s rest).progress ≡ Unclaimed)
-idle_rest m s short e = (refl, e)
-idle_rest m s (faulty fault) e = (refl, e)
-idle_rest m s whole e = (refl, e)
-idle_rest m s (unfinished k index len) e = by (k == m)
-  where
-    here : (after_header m s s.progress index len) ≡ with_stray s
-    here = ap (λ q. after_header m s q index len) e
-
-    by : (b : Bool) → ((if b then after_header m s s.progress index len else s).items ≡ s.items) × ((if b then after_header m s s.progress index len else s).progress ≡ Unclaimed)
-    by true = (ap (λ z. z.items) here, ap (λ z. z.progress) here ∙ e)
-    by false = (refl, e)
-
-pub idle_items : (ms : List Message) (rest : List ℕ) (cause : Cause) (claimed : ℕ → Bool) (m : ℕ) → claimed m ≡ false → items_of ms rest cause claimed m ≡ []
-idle_items ms rest cause claimed m none =
-    let s : Share = fold (λ t message. after_message false m t t.progress message) nothing_yet (filter (is_of m) ms) in
-    let p : s.progress ≡ Unclaimed = idle_fold m (filter (is_of m) ms) nothing_yet refl in
-    let r = idle_rest m s (rest_of rest) p in
-    ap (λ b. (share_of b m ms (rest_of rest)).items ++ ends_of m (share_of b m ms (rest_of rest)).progress (connection_fault ms rest cause claimed)) none
-    ∙ (λ i. (r.0 ∙ idle_items_fold m (filter (is_of m) ms) nothing_yet refl) i ++ ends_of m (r.1 i) (connection_fault ms rest cause claimed))

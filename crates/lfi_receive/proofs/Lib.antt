@@ -3,3 +3,4 @@ pub mod Events
 pub mod Claims
 pub mod Holding
 pub mod Standing
+pub mod Finished

@@ -1,6 +1,3 @@
-pub mod Books
-pub mod Events
-pub mod Holding
-pub mod Standing
 pub mod Loading
+pub mod Holders
 pub mod Settling

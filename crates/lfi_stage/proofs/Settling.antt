@@ -1,39 +1,42 @@
 -- What a put and a take after each other do, and what is kept of one pass of each kind.
-use Rattle.std.proofs.Common.{rules, arith, ◌≡◌, ℕ, ◌+◌, ◌-◌, ◌^◌, ◌<◌, ◌≤◌, zero, suc, List, [], ◌∷◌, ◌++◌, length, length-append, length-take, take, drop, get_or, min, Option, Some, None, IsSome, false, option_to_list, refl, sym, ◌∙◌, ap, subst}
-use Rattle.std.proofs.lemmas.List.{take-take}
+use Rattle.std.proofs.Common.{rules, arith, ◌≡◌, ℕ, ◌+◌, ◌-◌, ◌^◌, ◌<◌, ◌≤◌, ◌⊎◌, zero, suc, List, [], ◌∷◌, ◌++◌, length, length-append, length-take, take, drop, get_or, min, Bool, true, false, Option, Some, None, IsSome, refl, sym, ◌∙◌, ap, subst, inl, inr}
+use Rattle.std.proofs.lemmas.List.{append-nil, take-take}
 use Rattle.std.specs.Prelude.{sum, slice_get, slice_index, MatchOption}
 use Rattle.std.specs.Option.{option_map_or}
 use Rattle.lfi_frame.specs.declared.fault.FrameFault.{FrameFault}
 use Rattle.lfi_frame.specs.Streams.{Message, Cut}
-use Rattle.lfi_frame.proofs.Cuts.{only}
 use Rattle.lfi_queues.specs.Kept.{Kept}
-use Rattle.lfi_queues.specs.Passes.{QueueId, pass_at, items_at, IsPass, AreAllPasses}
+use Rattle.lfi_queues.specs.Passes.{QueueId, PassView, IsSamePass, pass_at, items_at, IsPass, AreAllPasses}
 use Rattle.lfi_queues.proofs.Shares.{one_taker, only_part}
-use Rattle.lfi_model.specs.Items.{ItemsOf, items_of, connection_fault, strays_of}
-use Rattle.lfi_model.specs.Modules.{of, IsModule}
-use Rattle.lfi_model.proofs.Numbered.{items_numbered, items_end}
-use Rattle.lfi_stage.specs.declared.verifier.Verifier.{Verifier}
-use Rattle.lfi_place.specs.declared.report.ModuleReport.{ModuleReport}
-use Rattle.lfi_stage.specs.declared.settle.Report.{Report}
-use Rattle.lfi_stage.specs.Claims.{claims_in}
-use Rattle.lfi_stage.specs.Verified.{Handled}
-use Rattle.lfi_place.specs.Placed.{HandledBy}
-use Rattle.lfi_stage.specs.Verifiers.{placing_at}
-use Rattle.lfi_place.specs.Tells.{Tells, HasEnd}
-use Rattle.lfi_stage.specs.Reports.{AreParts, Reports}
-use Rattle.lfi_stage.proofs.Books.{numbered}
-use Rattle.lfi_stage.proofs.Holding.{idle_items}
-use Rattle.std.proofs.lemmas.List.{append-nil}
 use Rattle.lfi_model.specs.Item.{ItemView}
-use Rattle.lfi_queues.specs.Passes.{PassView, IsSamePass}
-use Rattle.lfi_stage.specs.declared.receiver.ReceiverTurn.{ReceiverTurn}
-use Rattle.lfi_stage.specs.declared.receiver.ReceiverTurn.TheVariants as turn
+use Rattle.lfi_model.specs.Items.{ItemsOf, items_of, modules}
+use Rattle.lfi_model.specs.Modules.{of, IsModule, Member}
+use Rattle.lfi_model.proofs.Numbered.{items_numbered, items_end}
 use Rattle.lfi_model.specs.declared.connection.Cause.{Cause}
-use Rattle.lfi_stage.specs.declared.receiver.Receiver.{Receiver}
+use Rattle.lfi_board.specs.Hands.{Follows}
+use Rattle.lfi_board.specs.Known.{known_by}
+use Rattle.lfi_delivery.proofs.Made.{idle_items}
+use Rattle.lfi_place.specs.declared.report.ModuleReport.{ModuleReport}
+use Rattle.lfi_place.specs.Placed.{HandledBy}
+use Rattle.lfi_place.specs.Tells.{Tells, HasEnd}
+use Rattle.lfi_receive.specs.declared.receiver.Receiver.{Receiver}
+use Rattle.lfi_receive.specs.declared.receiver.ReceiverTurn.{ReceiverTurn}
+use Rattle.lfi_receive.specs.declared.receiver.ReceiverTurn.TheVariants as turn
+use Rattle.lfi_receive.specs.Claims.{is_mine, is_opened}
+use Rattle.lfi_receive.specs.Receivers.{StandsFor, IsFinished, seat_of, claimed_by, cause_after}
+use Rattle.lfi_receive.specs.Turns.{PutsAsTold}
+use Rattle.lfi_receive.proofs.Books.{numbered}
+use Rattle.lfi_receive.proofs.Finished.{asked_in, finished_items}
+use Rattle.lfi_stage.specs.declared.verifier.Verifier.{Verifier}
 use Rattle.lfi_stage.specs.declared.verifier.VerifierTurn.{VerifierTurn}
 use Rattle.lfi_stage.specs.declared.verifier.VerifierTurn.TheVariants.{Worked, Idle, Again}
-use Rattle.lfi_stage.specs.Receivers.{StandsFor, StandsBy, Ends, IsFinished, claimed_by, cause_after}
-use Rattle.lfi_stage.specs.Turns.{PutsAsTold, TakesAsTold}
+use Rattle.lfi_stage.specs.declared.shared.Shared.{Shared}
+use Rattle.lfi_stage.specs.declared.settle.Report.{Report}
+use Rattle.lfi_stage.specs.Verified.{Handled}
+use Rattle.lfi_stage.specs.Verifiers.{placing_at}
+use Rattle.lfi_stage.specs.Turns.{TakesAsTold}
+use Rattle.lfi_stage.specs.Reports.{AreParts, Reports}
+use Rattle.lfi_stage.specs.inner.Settled.{IsSettled}
 
 -- a turn that used nothing
 pub stands_on : (r : Receiver) (bytes piece : List ℕ) (n : ℕ) → n ≡ 0 → StandsFor r (bytes ++ take n piece) → StandsFor r bytes
@@ -47,89 +50,91 @@ only_one xs [] x e l = e
 only_one xs (y ∷ []) x e l = absurd (let k = ap length e in omega arith)
 only_one xs (y ∷ z ∷ ys) x e l = absurd (let k = ap length e in let a = length-append ys (x ∷ []) in omega arith)
 
--- All that a receiver made has come to the verifier, and has been placed: that is what the report tells.
-module _ (r r' : Receiver) (v v' : Verifier) (intake : QueueId) (texts : ℕ → List ℕ) (report : Report)
-    (parts : AreParts intake (r ∷ []) (v ∷ []))
-    (stands : StandsFor r' (texts 0)) (finished : IsFinished r') (ended : r'.cause ≡ Some (cause_after r.cause false)) (same_claims : (m : ℕ) → claimed_by r' m ≡ claimed_by r m)
-    (handled : Handled v → Handled v') (arrived : v'.pass.items ≡ r'.pass.items)
-    (told : (m : ℕ) → m < 16 → (t : ModuleReport) × (slice_get report.modules m ≡ Some t) × ((items : List ItemView) → HandledBy m (placing_at v'.placings m) items → HasEnd items → Tells m t items))
-    (fault : get_or report.faults 0 None ≡ r'.fault) (no_fault : (c : ℕ) → 0 < c → get_or report.faults c None ≡ None) (strays : report.strays ≡ r'.strays) where
-  abbrev cause : Cause
-  cause = cause_after r.cause false
+-- A finished receiver's items have come to the verifier, and have been placed: that is what the report tells of it.
+pub settled_one : (r : Receiver) (v : Verifier) (text : List ℕ) (cause : Cause) (report : Report)
+    → StandsFor r text → IsFinished r → r.cause ≡ Some cause
+    → ((m : ℕ) → m < 16 → (is_mine (known_by (seat_of r)) m ≡ true) ⊎ Follows (known_by (seat_of r)).seen m 0)
+    → Handled v → v.pass.items ≡ r.pass.items
+    → ((m : ℕ) → m < 16 → (t : ModuleReport) × (slice_get report.modules m ≡ Some t) × ((items : List ItemView) → HandledBy m (placing_at v.placings m) items → HasEnd items → Tells m t items))
+    → get_or report.faults 0 None ≡ r.fault → ((c : ℕ) → 0 < c → get_or report.faults c None ≡ None) → report.strays ≡ r.strays
+    → IsSettled r text cause report
+settled_one r v text cause report stands finished ended holders handled arrived told fault no_fault strays = record {
+  strays = makes.0;
+  made = record {
+    messages = makes.1.messages;
+    rest = makes.1.rest;
+    cut = makes.1.cut;
+    items_are = makes.1.items_are;
+    fault_is = fault ∙ makes.1.fault_is;
+    strays_are = makes.1.strays_are;
+  };
+  told = tells;
+  no_fault = no_fault;
+  total = strays ∙ makes.2;
+  opened = λ messages rest cut m in_range is. claimed_where messages rest cut m is (holders m in_range);
+}
+  where
+    makes : (count : ℕ) × ItemsOf text cause (claimed_by r) (λ m. of m r.pass.items) r.fault count × (r.strays ≡ min count (2 ^ 64 - 1))
+    makes = finished_items r text cause stands finished ended
 
-  abbrev ms : List Message
-  ms = stands.messages
+    placed : (m : ℕ) → m < 16 → HandledBy m (placing_at v.placings m) (of m r.pass.items)
+    placed m in_range =
+        let i = makes.1 in
+        let numbers : IsModule (of m v.pass.items) = subst (λ l. IsModule l) (sym (ap (λ l. of m l) arrived ∙ i.items_are m in_range)) (items_numbered i.messages i.rest cause (claimed_by r) m) in
+        subst (λ l. HandledBy m (placing_at v.placings m) (of m l)) arrived (handled m numbers)
 
-  abbrev rest : List ℕ
-  rest = stands.rest
+    has_end : (m : ℕ) → m < 16 → HasEnd (of m r.pass.items)
+    has_end m in_range = let i = makes.1 in subst (λ l. HasEnd l) (sym (i.items_are m in_range)) (items_end i.messages i.rest cause (claimed_by r) m (numbered m in_range))
 
-  ends : Ends r' ms rest cause
-  ends = subst (λ o. StandsBy o r' ms rest) ended stands.stands
+    tells : (m : ℕ) → m < 16 → (t : ModuleReport) × (slice_get report.modules m ≡ Some t) × Tells m t (of m r.pass.items)
+    tells m in_range = let t = told m in_range in (t.0, t.1, t.2 (of m r.pass.items) (placed m in_range) (has_end m in_range))
 
-  claims : claimed_by r' ≡ claimed_by r
-  claims = λ i m. same_claims m i
+    claimed_where : (messages : List Message) (rest : List ℕ) → Cut text messages rest → (m : ℕ) → is_opened messages m ≡ true → (is_mine (known_by (seat_of r)) m ≡ true) ⊎ Follows (known_by (seat_of r)).seen m 0 → claimed_by r m ≡ true
+    claimed_where messages rest cut m is or = elim or [
+      | inl mine ↦ mine
+      | inr free ↦ absurd (let none = asked_in r text messages rest stands cut m free in let both : true ≡ false = sym is ∙ none in cc)
+    ]
 
-  abbrev items : ℕ → List ItemView
-  items = λ m. items_of ms rest cause (claimed_by r) m
+-- in the words of a report on all connections
+settled_all : (r q : Receiver) (text : List ℕ) (report : Report) → ((m : ℕ) → claimed_by q m ≡ claimed_by r m) → IsSettled q text (cause_after r.cause false) report → (texts : ℕ → List ℕ) → texts 0 ≡ text → Reports (r ∷ []) texts report
+settled_all r q text report same settled texts first = record {
+  items = λ c m. of m q.pass.items;
+  strays = settled.strays ∷ [];
+  made = λ c p e.
+      let f = the_first c p e in
+      subst (λ z. ItemsOf (texts c) (cause_after z.cause false) (claimed_by z) items (get_or report.faults c None) (slice_index (settled.strays ∷ []) c)) f.1
+      (subst (λ k. ItemsOf (texts k) (cause_after r.cause false) (claimed_by r) items (get_or report.faults k None) (slice_index (settled.strays ∷ []) k)) (sym f.0)
+      (subst (λ t. ItemsOf t (cause_after r.cause false) (claimed_by r) items (get_or report.faults 0 None) settled.strays) (sym first) (subst (λ (claims : ℕ → Bool). ItemsOf text (cause_after r.cause false) claims items (get_or report.faults 0 None) settled.strays) claims settled.made)));
+  opened = λ c p messages rest e cut m in_range is.
+      let f = the_first c p e in
+      (0, r, refl, sym (same m) ∙ settled.opened messages rest (subst (λ t. Cut t messages rest) (ap texts f.0 ∙ first) cut) m in_range is);
+  apart = λ c d m p s e g mine other. (the_first c p e).0 ∙ sym (the_first d s g).0;
+  claimed = λ m in_range c p e mine. settled.told m in_range;
+  unclaimed = λ m in_range none.
+      let t = settled.told m in_range in
+      let i = settled.made in
+      (t.0, t.1, subst (λ l. Tells m t.0 l) (i.items_are m in_range ∙ idle_items i.messages i.rest (cause_after r.cause false) (claimed_by q) m (same m ∙ none 0 r refl)) t.2);
+  no_fault = λ c none. settled.no_fault c (not_first c none);
+  counted = refl;
+  total = settled.total ∙ ap (λ n. min n (2 ^ 64 - 1)) (sum_one settled.strays);
+}
+  where
+    items : ℕ → List ItemView
+    items m = of m q.pass.items
 
-  made : (m : ℕ) → of m r'.pass.items ≡ items m
-  made m =
-      sym (append-nil (of m r'.pass.items))
-      ∙ (λ i. of m ((sym (append-nil r'.pass.items) ∙ ap (λ h. r'.pass.items ++ option_to_list h) (sym finished.empty_handed)) i) ++ sym (finished.none_due m) i)
-      ∙ ends.items m ∙ ap (λ c. items_of ms rest cause c m) claims
+    claims : claimed_by q ≡ claimed_by r
+    claims = λ i m. same m i
 
-  placed : (m : ℕ) → HandledBy m (placing_at v'.placings m) (items m)
-  placed m =
-      let same : of m v'.pass.items ≡ items m = ap (λ l. of m l) arrived ∙ made m in
-      subst (λ l. HandledBy m (placing_at v'.placings m) l) same
-      (handled (parts.handled 0 v refl) m (subst (λ l. IsModule l) (sym same) (items_numbered ms rest cause (claimed_by r) m)))
+    the_first : (c : ℕ) (p : Receiver) → slice_get (r ∷ []) c ≡ Some p → (c ≡ 0) × (r ≡ p)
+    the_first zero p e = (refl, cc)
+    the_first (suc c) p e = absurd (cc)
 
-  tells : (m : ℕ) → m < 16 → (t : ModuleReport) × (slice_get report.modules m ≡ Some t) × Tells m t (items m)
-  tells m in_range =
-      let t = told m in_range in
-      (t.0, t.1, t.2 (items m) (placed m) (items_end ms rest cause (claimed_by r) m (numbered m in_range)))
+    not_first : (c : ℕ) → slice_get (r ∷ []) c ≡ None → 0 < c
+    not_first zero e = absurd cc
+    not_first (suc c) e = omega arith
 
-  the_first : (c : ℕ) (q : Receiver) → slice_get (r ∷ []) c ≡ Some q → (c ≡ 0) × (r ≡ q)
-  the_first zero q e = (refl, cc)
-  the_first (suc c) q e = absurd (cc)
-
-  nothing_told : (m : ℕ) (t : ModuleReport) (l : List ItemView) → l ≡ [] → Tells m t l → Tells m t []
-  nothing_told m t l none p = subst (λ z. Tells m t z) none p
-
-  pub settled_one : Reports (r ∷ []) texts report
-  settled_one = record {
-    items = λ c m. items m;
-    strays = strays_of ms rest cause (claimed_by r) ∷ [];
-    made = λ c q e.
-        let f = the_first c q e in
-        subst (λ z. ItemsOf (texts c) (cause_after z.cause false) (claimed_by z) items (get_or report.faults c None) (slice_index (strays_of ms rest cause (claimed_by r) ∷ []) c)) f.1
-        (subst (λ k. ItemsOf (texts k) cause (claimed_by r) items (get_or report.faults k None) (slice_index (strays_of ms rest cause (claimed_by r) ∷ []) k)) (sym f.0) (record {
-          messages = ms;
-          rest = rest;
-          cut = stands.cut;
-          items_are = λ m h. refl;
-          fault_is = fault ∙ ends.fault ∙ ap (λ z. connection_fault ms rest cause z) claims;
-          strays_are = refl;
-        }));
-    claims = λ c q messages other e cut m.
-        let f = the_first c q e in
-        let one : ms ≡ messages = (only (texts 0) ms messages rest other stands.cut (subst (λ k. Cut (texts k) messages other) f.0 cut)).0 in
-        ap (λ z. claimed_by z m) (sym f.1) ∙ sym (same_claims m) ∙ ends.claims m ∙ ap (λ l. claims_in l m) one;
-    claimed = λ m in_range c q e mine. tells m in_range;
-    unclaimed = λ m in_range none.
-        let t = tells m in_range in
-        (t.0, t.1, nothing_told m t.0 (items m) (idle_items ms rest cause (claimed_by r) m (none 0 r refl)) t.2);
-    no_fault = λ c none. no_fault c (not_first c none);
-    counted = refl;
-    total = strays ∙ ends.strays ∙ ap (λ c. min (strays_of ms rest cause c) (2 ^ 64 - 1)) claims ∙ ap (λ n. min n (2 ^ 64 - 1)) (sum_one (strays_of ms rest cause (claimed_by r)));
-  }
-    where
-      not_first : (c : ℕ) → slice_get (r ∷ []) c ≡ None → 0 < c
-      not_first zero e = absurd cc
-      not_first (suc c) e = omega arith
-
-      sum_one : (n : ℕ) → n ≡ sum (n ∷ [])
-      sum_one n = search rules
+    sum_one : (n : ℕ) → n ≡ sum (n ∷ [])
+    sum_one n = search rules
 
 -- only the first place tells a fault
 pub first_alone : (f : Option FrameFault) (c : ℕ) → 0 < c → get_or (f ∷ None ∷ None ∷ None ∷ None ∷ None ∷ None ∷ None ∷ []) c None ≡ None
@@ -144,19 +149,15 @@ first_alone f (suc (suc (suc (suc (suc (suc (suc zero))))))) more = refl
 first_alone f (suc (suc (suc (suc (suc (suc (suc (suc c)))))))) more = refl
 
 -- in the words of `settle`
-pub settled : (rs rs' : List Receiver) (vs vs' : List Verifier) (r r' : Receiver) (v v' : Verifier) (intake : QueueId) (report : Report)
-    → rs ≡ rs' ++ r ∷ [] → vs ≡ vs' ++ v ∷ [] → intake.putters ≡ 1 → intake.takers ≡ 1 → AreParts intake rs vs
-    → ((bytes : List ℕ) → StandsFor r bytes → StandsFor r' bytes) → IsFinished r' → r'.cause ≡ Some (cause_after r.cause false) → ((m : ℕ) → claimed_by r' m ≡ claimed_by r m)
-    → (Handled v → Handled v') → v'.pass.items ≡ r'.pass.items
-    → ((m : ℕ) → m < 16 → (t : ModuleReport) × (slice_get report.modules m ≡ Some t) × ((items : List ItemView) → HandledBy m (placing_at v'.placings m) items → HasEnd items → Tells m t items))
-    → get_or report.faults 0 None ≡ r'.fault → ((c : ℕ) → 0 < c → get_or report.faults c None ≡ None) → report.strays ≡ r'.strays
-    → (texts : ℕ → List ℕ) → ((c : ℕ) (q : Receiver) → slice_get rs c ≡ Some q → StandsFor q (texts c)) → Reports rs texts report
-settled rs rs' vs vs' r r' v v' intake report last_r last_v one_r one_v parts stands finished ended claims handled arrived told fault no_fault strays texts all_stand =
-    let rs_is : rs ≡ r ∷ [] = only_one rs rs' r last_r (parts.receiver_count ∙ one_r) in
-    let vs_is : vs ≡ v ∷ [] = only_one vs vs' v last_v (parts.verifier_count ∙ one_v) in
-    let parts' : AreParts intake (r ∷ []) (v ∷ []) = subst (λ l. AreParts intake l (v ∷ [])) rs_is (subst (λ l. AreParts intake rs l) vs_is parts) in
-    let mine : StandsFor r (texts 0) = all_stand 0 r (ap (λ l. slice_get l 0) rs_is) in
-    subst (λ l. Reports l texts report) (sym rs_is) (settled_one r r' v v' intake texts report parts' (stands (texts 0) mine) finished ended claims handled arrived told fault no_fault strays)
+pub settled : (rs rs' : List Receiver) (r q : Receiver) (putters : ℕ) (report : Report)
+    → rs ≡ rs' ++ r ∷ [] → length rs ≡ 1
+    → ((bytes : List ℕ) → StandsFor r bytes → StandsFor q bytes) → IsFinished q → q.cause ≡ Some (cause_after r.cause false) → ((m : ℕ) → claimed_by q m ≡ claimed_by r m)
+    → ((text : List ℕ) (cause : Cause) → StandsFor q text → IsFinished q → q.cause ≡ Some cause → IsSettled q text cause report)
+    → (texts : ℕ → List ℕ) → ((c : ℕ) (p : Receiver) → slice_get rs c ≡ Some p → StandsFor p (texts c)) → Reports rs texts report
+settled rs rs' r q putters report last one stands finished ended same settles texts all_stand =
+    let is : rs ≡ r ∷ [] = only_one rs rs' r last one in
+    let mine : StandsFor r (texts 0) = all_stand 0 r (ap (λ l. slice_get l 0) is) in
+    subst (λ l. Reports l texts report) (sym is) (settled_all r q (texts 0) report same (settles (texts 0) (cause_after r.cause false) (stands (texts 0) mine) finished ended) texts refl)
 
 -- a turn leaves the pass that it was
 pub after_turn : (t : ReceiverTurn) (r q : PassView ItemView) → PutsAsTold t r q → IsSamePass r q

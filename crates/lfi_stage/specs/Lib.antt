@@ -1,11 +1,8 @@
-pub mod Places
-pub mod Coming
 pub mod Turns
-pub mod Receivers
 pub mod Shares
 pub mod Verifiers
 pub mod Verified
-pub mod Claims
 pub mod Reports
+pub mod inner
 pub mod Stages
 pub mod Summaries

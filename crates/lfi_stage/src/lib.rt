@@ -2,9 +2,6 @@
 //! and `settle` tells what became of each module.
 #![tactic(auto)]
 
-mod coming;
-pub mod modules;
-pub mod receiver;
 pub mod settle;
 pub mod shared;
 pub mod stage;

@@ -3,16 +3,19 @@
 ghost use Rattle.std.specs.Prelude.{◌≡◌, ◌≢◌, ℕ, ◌+◌, ◌<◌, ◌≤◌, List, [], ◌∷◌, ◌++◌, length, take, is_some, Some, None, IfOk, slice_get};
 ghost use Rattle.lfi_queues.specs.Passes.{IsSamePass, new_pass};
 ghost use Rattle.lfi_stage.specs.Stages.{HasHeard, IsLoaded};
-ghost use Rattle.lfi_stage.specs.Shares.{intake_of};
-ghost use Rattle.lfi_stage.specs.Receivers.{pass_of, cause_of, StandsFor, IsOver};
+ghost use Rattle.lfi_board.specs.Known.{board_id, board_receivers, board_of, known_by};
+ghost use Rattle.lfi_board.specs.Rows.{IsNewReceiver};
+ghost use Rattle.lfi_stage.specs.Shares.{intake_of, board_at};
+ghost use Rattle.lfi_receive.specs.Receivers.{pass_of, seat_of, cause_of, claimed_by, StandsFor, IsOver};
 ghost use Rattle.lfi_stage.specs.Verified.{pass_of as take_pass_of, Handled};
 
-use crate::receiver::Receiver;
 use crate::settle::{Report, settle};
 use crate::shared::Shared;
 use crate::verifier::Verifier;
+use lfi_board::{Board, ReceiverSeat};
 use lfi_model::Item;
 use lfi_queues::{Intake, PutPass, TakePass};
+use lfi_receive::Receiver;
 use std::alloc::{AllocError, Global};
 use std::sync::Wait;
 
@@ -37,33 +40,38 @@ impl Stage {
         ensures { IfOk result IsNew }
     {
         let (intake, mut puts, mut takes) = Intake::new(alloc, receivers, verifiers)?;
-        match (puts.pop(), takes.pop()) {
-            (Some(put), Some(take)) => Self::of(alloc, intake, put, take),
+        let (board, mut seats) = Board::new(alloc, receivers, 0)?;
+        match (puts.pop(), takes.pop(), seats.receivers[0].take()) {
+            (Some(put), Some(take), Some(seat)) => {
+                Self::of(alloc, Shared { board, intake }, put, take, seat)
+            }
             _ => unreachable!(),
         }
     }
 
-    /// The stage of an intake with these passes.
+    /// The stage of an intake and a board with these passes and this seat.
     fn of(
         alloc: Global,
-        intake: Intake<Item>,
+        shared: Shared,
         put: PutPass<Item>,
         take: TakePass<Item>,
+        seat: ReceiverSeat,
     ) -> Result<Stage, AllocError>
-        requires counts { (intake.putters ≡ 1) × (intake.takers ≡ 1) }
-        requires put { put ≡ new_pass intake 0 }
-        requires take { take ≡ new_pass intake 0 }
+        requires counts { ((intake_of shared).putters ≡ 1) × ((intake_of shared).takers ≡ 1) × (board_receivers (board_at shared) ≡ 1) }
+        requires put { put ≡ new_pass (intake_of shared) 0 }
+        requires take { take ≡ new_pass (intake_of shared) 0 }
+        requires seat { IsNewReceiver (board_id (board_at shared)) 1 seat }
         ensures { IfOk result IsNew }
     {
         let verifier = Verifier::new(alloc, take)?;
         let mut receivers = Vec::new(alloc);
         let mut verifiers = Vec::new(alloc);
-        receivers.push(Receiver::new(alloc, put))?;
+        receivers.push(Receiver::new(alloc, put, seat))?;
         verifiers.push(verifier)?;
         Ok(Stage {
             receivers,
             verifiers,
-            shared: Shared { intake },
+            shared,
         })
     }
 }
@@ -80,16 +88,18 @@ fn hear_once<R: Wait>(
 ) -> usize
     requires running { cause_of receiver.old ≡ None }
     requires put { (pass_of receiver.old).queue ≡ intake_of shared.now }
+    requires seat { board_of (seat_of receiver.old) ≡ board_id (board_at shared.now) }
     requires take { (take_pass_of verifier.old).queue ≡ intake_of shared.now }
     ensures used { result ≤ length left.now }
     ensures stands { (bytes : List ℕ) → StandsFor receiver.old bytes → StandsFor receiver.new (bytes ++ take result left.now) }
-    ensures over { (bytes : List ℕ) → StandsFor receiver.old bytes → IsOver (cause_of receiver.new) (bytes ++ take result left.now) }
+    ensures over { (bytes : List ℕ) → StandsFor receiver.old bytes → IsOver (claimed_by receiver.new) (cause_of receiver.new) (bytes ++ take result left.now) }
     ensures handled { Handled verifier.old → Handled verifier.new }
     ensures put { IsSamePass (pass_of receiver.old) (pass_of receiver.new) }
+    ensures seat { board_of (seat_of receiver.new) ≡ board_of (seat_of receiver.old) }
     ensures take { IsSamePass (take_pass_of verifier.old) (take_pass_of verifier.new) }
 {
     let count = most.min(left.len());
-    let (used, _) = receiver.turn(rt, shared, &left[..count]);
+    let (used, _) = receiver.turn(rt, &shared.board, &shared.intake, &left[..count]);
     verifier.turn(rt, shared);
     used
 }
@@ -107,10 +117,12 @@ fn hear<R: Wait>(
     requires fresh { StandsFor receiver.old [] }
     requires running { cause_of receiver.old ≡ None }
     requires put { (pass_of receiver.old).queue ≡ intake_of shared.now }
+    requires seat { board_of (seat_of receiver.old) ≡ board_id (board_at shared.now) }
     requires take { (take_pass_of verifier.old).queue ≡ intake_of shared.now }
     requires handled { Handled verifier.old }
     ensures heard { HasHeard receiver.new text.now }
     ensures put { IsSamePass (pass_of receiver.old) (pass_of receiver.new) }
+    ensures seat { board_of (seat_of receiver.new) ≡ board_of (seat_of receiver.old) }
     ensures take { IsSamePass (take_pass_of verifier.old) (take_pass_of verifier.new) }
     ensures handled { Handled verifier.new }
 {
@@ -134,7 +146,8 @@ fn load_by<R: Wait>(
     text: &[u8],
     most: usize,
 ) -> Result<Report, AllocError>
-    requires one { ((intake_of shared).putters ≡ 1) × ((intake_of shared).takers ≡ 1) }
+    requires one { ((intake_of shared).putters ≡ 1) × ((intake_of shared).takers ≡ 1) × (board_receivers (board_at shared) ≡ 1) }
+    requires seat { board_of (seat_of receiver) ≡ board_id (board_at shared) }
     requires fresh { StandsFor receiver [] }
     requires running { cause_of receiver ≡ None }
     requires put { pass_of receiver ≡ new_pass (intake_of shared) 0 }

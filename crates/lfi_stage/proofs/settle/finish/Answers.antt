@@ -1,4 +1,6 @@
 use Rattle.std.proofs.Common.{◌∙◌, ap, refl}
+use Rattle.lfi_board.specs.Known.{board_of, known_by}
+use Rattle.lfi_receive.specs.Claims.{is_mine}
 use Rattle.lfi_stage.proofs.Settling.{same_pass, kept_pass}
 use Rattle.lfi_stage.proofs.settle.finish.Goals as goal
 
@@ -8,9 +10,10 @@ loop-init g c = record {
   is_finite = tt;
   stands = c.end.ensures.stands;
   cause = c.end.ensures.ended;
-  claimed = λ m. ap (λ f. f m) c.end.ensures.claimed;
+  claimed = λ m. ap (λ z. is_mine (known_by z) m) c.end.ensures.seat;
   handled = λ h. h;
   put = kept_pass _ _ c.end.ensures.pass;
+  seat = ap board_of c.end.ensures.seat;
   take = kept_pass _ _ refl;
 }
 
@@ -26,6 +29,7 @@ loop-preserved g c =
       claimed = λ m. on.claimed m ∙ i.claimed m;
       handled = λ h. on.handled (i.handled h);
       put = same_pass _ _ _ i.put on.put;
+      seat = on.seat ∙ i.seat;
       take = same_pass _ _ _ i.take on.take;
     }
 

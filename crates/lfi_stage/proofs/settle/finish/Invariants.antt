@@ -1,6 +1,7 @@
 use Rattle.std.proofs.Common.{◌≡◌, ℕ, List, Some, false}
 use Rattle.lfi_queues.specs.Passes.{IsSamePass}
-use Rattle.lfi_stage.specs.Receivers.{StandsFor, claimed_by, cause_after}
+use Rattle.lfi_receive.specs.Receivers.{StandsFor, claimed_by, cause_after, seat_of}
+use Rattle.lfi_board.specs.Known.{board_of}
 use Rattle.lfi_stage.specs.Verified.{Handled}
 use Rattle.lfi_stage.proofs.settle.finish.Given as goal
 
@@ -13,5 +14,6 @@ invariant-loop g l = record {
   claimed : (m : ℕ) → claimed_by l.receiver m ≡ claimed_by l.fn.receiver m;
   handled : Handled l.fn.verifier → Handled l.verifier;
   put : IsSamePass l.fn.receiver.pass l.receiver.pass;
+  seat : board_of (seat_of l.receiver) ≡ board_of (seat_of l.fn.receiver);
   take : IsSamePass l.fn.verifier.pass l.verifier.pass;
 }

@@ -1,6 +1,6 @@
-use Rattle.std.proofs.Common.{rules, ◌≡◌, ◌-◌, true, length, length-drop, length-take, drop, take, ap, subst, arith}
+use Rattle.std.proofs.Common.{rules, ◌≡◌, ◌∙◌, ◌-◌, true, length, length-drop, length-take, drop, take, ap, subst, arith}
 use Rattle.std.specs.Prelude.{is_some}
-use Rattle.lfi_stage.specs.Receivers.{StandsFor, IsOver}
+use Rattle.lfi_receive.specs.Receivers.{StandsFor, IsOver, claimed_by}
 use Rattle.lfi_stage.proofs.Loading.{heard_by}
 use Rattle.lfi_stage.proofs.Settling.{same_pass, take_piece}
 use Rattle.lfi_stage.proofs.stage.hear.Goals.{then-used-text-via-then-used-text, then-used-text-via-else-used-text+then-is_over}
@@ -21,8 +21,9 @@ loop-preserved g c =
       is_finite = tt;
       within = omega arith;
       stands = subst (λ l. StandsFor c.hear_once-used.new.receiver l) more (on.stands (take used text) i.stands);
-      over = subst (λ l. IsOver c.hear_once-used.new.receiver.cause l) more (on.over (take used text) i.stands);
+      over = subst (λ l. IsOver (claimed_by c.hear_once-used.new.receiver) c.hear_once-used.new.receiver.cause l) more (on.over (take used text) i.stands);
       put = same_pass _ _ _ i.put on.put;
+      seat = on.seat ∙ i.seat;
       take = same_pass _ _ _ i.take on.take;
       handled = on.handled i.handled;
     }

@@ -8,10 +8,10 @@ pub settle-requires-clause-parts : goal.settle-requires-clause-parts
 settle-requires-clause-parts g c =
     let r : c.push.new.self.items ≡ c.hear.new.receiver ∷ [] = search rules in
     let v : c.push-2.new.self.items ≡ c.hear.new.verifier ∷ [] = search rules in
-    subst (λ l. AreParts c.args.shared.intake l c.push-2.new.self.items) (sym r)
-    (subst (λ l. AreParts c.args.shared.intake (c.hear.new.receiver ∷ []) l) (sym v)
-    (parts_one c.hear.new.receiver c.hear.new.verifier c.args.receiver.pass c.args.verifier.pass c.args.shared.intake
-    c.requires.put c.requires.take c.hear.ensures.put c.hear.ensures.take c.requires.one c.hear.ensures.handled))
+    subst (λ l. AreParts c.args.shared l c.push-2.new.self.items) (sym r)
+    (subst (λ l. AreParts c.args.shared (c.hear.new.receiver ∷ []) l) (sym v)
+    (parts_one c.hear.new.receiver c.hear.new.verifier c.args.receiver.pass c.args.verifier.pass c.args.shared
+    c.requires.put c.requires.take c.hear.ensures.put c.hear.ensures.take c.requires.one (c.hear.ensures.seat ∙ c.requires.seat) c.hear.ensures.handled))
 
 pub returns : goal.returns
 returns g c =
