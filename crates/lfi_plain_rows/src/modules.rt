@@ -1,7 +1,7 @@
 //! Modules of one page and of two, lawful and not.
 
-use crate::build::{NOP, RET, Text, one_word, stream, told};
-use crate::stage::loaded;
+use crate::build::{NOP, RET, Text, one_word, stream};
+use crate::stage::both_tell;
 use lfi_model::Cause;
 use lfi_plain::report_on;
 use std::alloc::{AllocError, Global};
@@ -45,10 +45,7 @@ fn one_word_modules(rt: HostRuntime) -> Result<(), Fail> {
         (MOVE_STACK, "module 0: refused, word 0 rule 10\nstrays 0\n"),
     ] {
         let text = one_word(rt.alloc(), 0, word)?;
-        let report = told(rt.alloc(), text.bytes.as_slice(), Cause::End, &[0])?;
-        assert_eq!(rt; report.as_str(), want, "word {word:#x}");
-        let staged = loaded(&rt, text.bytes.as_slice())?;
-        assert_eq!(rt; staged.as_str(), want, "word {word:#x}");
+        assert!(rt; both_tell(&rt, &text, &[0], want)?, "word {word:#x}");
     }
     Ok(())
 }
@@ -76,8 +73,7 @@ fn two_page_modules(rt: HostRuntime) -> Result<(), Fail> {
         ),
     ] {
         let text = two_pages(rt.alloc(), at, word, last)?;
-        let report = told(rt.alloc(), text.bytes.as_slice(), Cause::End, &[0])?;
-        assert_eq!(rt; report.as_str(), want, "word {at} is {word:#x}");
+        assert!(rt; both_tell(&rt, &text, &[0], want)?, "word {at} is {word:#x}");
     }
     Ok(())
 }
@@ -90,11 +86,8 @@ fn closed_early(rt: HostRuntime) -> Result<(), Fail> {
     text.open(0, 1025)?;
     text.page(0, 0, &words)?;
     text.close(0)?;
-    let report = told(rt.alloc(), text.bytes.as_slice(), Cause::End, &[0])?;
-    assert_eq!(rt;
-        report.as_str(),
-        "module 0: incomplete, 1 of 2 pages\nstrays 0\n"
-    );
+    let want = "module 0: incomplete, 1 of 2 pages\nstrays 0\n";
+    assert!(rt; both_tell(&rt, &text, &[0], want)?);
     Ok(())
 }
 

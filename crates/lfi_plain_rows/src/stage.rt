@@ -29,12 +29,10 @@ fn loaded_in_pieces(
 }
 
 /// The text of the plain program's report on one connection, of which at most the first message
-/// is an Open: its module is claimed, where it has at most 1,024 words.
+/// is an Open: its module is claimed.
 fn plainly(alloc: Global, bytes: &[u8]) -> Result<String, AllocError> {
     match bytes {
-        [1, _, module, _, a, b, c, d, ..] if u32::from_le_bytes([*a, *b, *c, *d]) <= 1024 => {
-            told(alloc, bytes, Cause::End, &[u16::from(*module)])
-        }
+        [1, _, module, ..] => told(alloc, bytes, Cause::End, &[u16::from(*module)]),
         _ => told(alloc, bytes, Cause::End, &[]),
     }
 }
@@ -144,18 +142,36 @@ fn modules_of_one_page(rt: HostRuntime) -> Result<(), Fail> {
     Ok(())
 }
 
+/// Whether the stage and the plain program, for which these modules are claimed, both tell this of
+/// a text.
+pub fn both_tell(
+    rt: &(impl Wait + AllocGlobal),
+    text: &Text,
+    modules: &[u16],
+    want: &str,
+) -> Result<bool, AllocError> {
+    let plain = told(rt.alloc(), text.bytes.as_slice(), Cause::End, modules)?;
+    let staged = loaded(rt, text.bytes.as_slice())?;
+    Ok(plain.as_str() == want && staged.as_str() == want)
+}
+
 #[test]
-fn more_than_one_page_is_not_claimed(rt: HostRuntime) -> Result<(), Fail> {
-    let mut text = Text::new(rt.alloc());
-    text.open(3, 1025)?;
-    text.close(3)?;
-    let report = loaded(&rt, text.bytes.as_slice())?;
-    assert_eq!(rt; report.as_str(), "strays 2\n");
+fn opened_and_closed(rt: HostRuntime) -> Result<(), Fail> {
+    for (words, want) in [
+        (1, "module 3: incomplete, 0 of 1 pages\nstrays 0\n"),
+        (1025, "module 3: incomplete, 0 of 2 pages\nstrays 0\n"),
+        (4194304, "module 3: incomplete, 0 of 4096 pages\nstrays 0\n"),
+    ] {
+        let mut text = Text::new(rt.alloc());
+        text.open(3, words)?;
+        text.close(3)?;
+        assert!(rt; both_tell(&rt, &text, &[3], want)?, "{words} words");
+    }
     Ok(())
 }
 
 #[test]
-fn only_the_first_open_claims(rt: HostRuntime) -> Result<(), Fail> {
+fn two_modules_in_turns(rt: HostRuntime) -> Result<(), Fail> {
     let mut text = Text::new(rt.alloc());
     text.open(3, 1)?;
     text.open(4, 1)?;
@@ -163,21 +179,37 @@ fn only_the_first_open_claims(rt: HostRuntime) -> Result<(), Fail> {
     text.page(3, 0, &[RET])?;
     text.close(4)?;
     text.close(3)?;
-    let report = loaded(&rt, text.bytes.as_slice())?;
-    assert_eq!(rt; report.as_str(), "module 3: complete, 1 words\nstrays 3\n");
+    let want = "module 3: complete, 1 words\nmodule 4: complete, 1 words\nstrays 0\n";
+    assert!(rt; both_tell(&rt, &text, &[3, 4], want)?);
     Ok(())
 }
 
 #[test]
-fn closed_before_its_page(rt: HostRuntime) -> Result<(), Fail> {
+fn all_modules_open_at_the_end(rt: HostRuntime) -> Result<(), Fail> {
     let mut text = Text::new(rt.alloc());
-    text.open(3, 1)?;
-    text.close(3)?;
+    let mut want = String::new(rt.alloc());
+    for module in 0..16u16 {
+        text.open(module, 1)?;
+        let line = format!(in rt.alloc(); "module {module}: lost, fault 9\n")?;
+        want.push_str(line.as_str())?;
+    }
+    want.push_str("connection 0: fault 9\nstrays 0\n")?;
+    let all = [0, 1, 2, 3, 4, 5, 6, 7, 8, 9, 10, 11, 12, 13, 14, 15];
+    assert!(rt; both_tell(&rt, &text, &all, want.as_str())?);
+    Ok(())
+}
+
+#[test]
+fn sixty_six_full_pages(rt: HostRuntime) -> Result<(), Fail> {
+    let words = [NOP; 1024];
+    let mut text = Text::new(rt.alloc());
+    text.open(9, 67584)?;
+    for index in 0..66 {
+        text.page(9, index, &words)?;
+    }
+    text.close(9)?;
     let report = loaded(&rt, text.bytes.as_slice())?;
-    assert_eq!(rt;
-        report.as_str(),
-        "module 3: incomplete, 0 of 1 pages\nstrays 0\n"
-    );
+    assert_eq!(rt; report.as_str(), "module 9: complete, 67584 words\nstrays 0\n");
     Ok(())
 }
 
@@ -185,13 +217,9 @@ fn closed_before_its_page(rt: HostRuntime) -> Result<(), Fail> {
 fn another_module_opened_before(rt: HostRuntime) -> Result<(), Fail> {
     let mut text = Text::new(rt.alloc());
     text.open(1, 1)?;
-    text.open(0, 1)?;
-    text.page(0, 0, &[RET])?;
-    text.close(0)?;
-    let report = loaded(&rt, text.bytes.as_slice())?;
-    assert_eq!(rt;
-        report.as_str(),
-        "module 1: lost, fault 9\nconnection 0: fault 9\nstrays 3\n"
-    );
+    text.bytes
+        .extend_from_slice(one_word(rt.alloc(), 0, RET)?.bytes.as_slice())?;
+    let want = "module 0: complete, 1 words\nmodule 1: lost, fault 9\nconnection 0: fault 9\nstrays 0\n";
+    assert!(rt; both_tell(&rt, &text, &[0, 1], want)?);
     Ok(())
 }

@@ -1,7 +1,7 @@
 //! Strays, page faults, and streams for which not every module is claimed.
 
 use crate::build::{NOP, RET, Text, one_word, stream, told};
-use crate::stage::loaded;
+use crate::stage::{both_tell, loaded};
 use lfi_model::Cause;
 use lfi_plain::report_on;
 use std::test::Fail;
@@ -16,11 +16,6 @@ fn another_module_claimed(rt: HostRuntime) -> Result<(), Fail> {
     assert_eq!(rt;
         report.as_str(),
         "module 1: lost, fault 9\nconnection 0: fault 9\nstrays 3\n"
-    );
-    let report = told(rt.alloc(), text.bytes.as_slice(), Cause::End, &[0, 1])?;
-    assert_eq!(rt;
-        report.as_str(),
-        "module 0: complete, 1 words\nmodule 1: lost, fault 9\nconnection 0: fault 9\nstrays 0\n"
     );
     Ok(())
 }
@@ -40,10 +35,8 @@ fn opened_again(rt: HostRuntime) -> Result<(), Fail> {
     let mut text = one_word(rt.alloc(), 0, RET)?;
     text.open(0, 1)?;
     text.close(0)?;
-    let report = told(rt.alloc(), text.bytes.as_slice(), Cause::End, &[0])?;
-    assert_eq!(rt; report.as_str(), "module 0: complete, 1 words\nstrays 2\n");
-    let staged = loaded(&rt, text.bytes.as_slice())?;
-    assert_eq!(rt; staged.as_str(), report.as_str());
+    let want = "module 0: complete, 1 words\nstrays 2\n";
+    assert!(rt; both_tell(&rt, &text, &[0], want)?);
     Ok(())
 }
 
@@ -57,10 +50,7 @@ fn pages_that_are_not_due(rt: HostRuntime) -> Result<(), Fail> {
         text.open(0, words)?;
         text.page(0, index, &[RET])?;
         text.close(0)?;
-        let report = told(rt.alloc(), text.bytes.as_slice(), Cause::End, &[0])?;
-        assert_eq!(rt; report.as_str(), want, "page {index} of {words} words");
-        let staged = loaded(&rt, text.bytes.as_slice())?;
-        assert_eq!(rt; staged.as_str(), want, "page {index} of {words} words");
+        assert!(rt; both_tell(&rt, &text, &[0], want)?, "page {index} of {words} words");
     }
     Ok(())
 }
@@ -73,20 +63,14 @@ fn page_zero_again(rt: HostRuntime) -> Result<(), Fail> {
     text.page(5, 0, &words)?;
     text.page(5, 0, &words)?;
     text.close(5)?;
-    let report = told(rt.alloc(), text.bytes.as_slice(), Cause::End, &[5])?;
-    assert_eq!(rt;
-        report.as_str(),
-        "module 5: page fault, index 0\nstrays 1\n"
-    );
+    let want = "module 5: page fault, index 0\nstrays 1\n";
+    assert!(rt; both_tell(&rt, &text, &[5], want)?);
     let mut text = Text::new(rt.alloc());
     text.open(5, 2048)?;
     text.page(5, 0, &words)?;
     text.close(5)?;
-    let report = told(rt.alloc(), text.bytes.as_slice(), Cause::End, &[5])?;
-    assert_eq!(rt;
-        report.as_str(),
-        "module 5: incomplete, 1 of 2 pages\nstrays 0\n"
-    );
+    let want = "module 5: incomplete, 1 of 2 pages\nstrays 0\n";
+    assert!(rt; both_tell(&rt, &text, &[5], want)?);
     Ok(())
 }
 
