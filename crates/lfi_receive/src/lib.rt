@@ -3,9 +3,12 @@
 #![tactic(auto)]
 
 mod coming;
+pub mod input;
 pub mod laws;
 pub mod modules;
+mod pulling;
 pub mod receiver;
 mod seat;
 
+pub use input::Input;
 pub use receiver::{Receiver, ReceiverTurn};

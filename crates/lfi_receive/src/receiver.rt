@@ -476,6 +476,13 @@ impl Receiver {
         self.cause = Some(cause);
     }
 
+    /// Whether its next turn uses no bytes: an item is in its hand, or its input is over.
+    pub(crate) fn needs_no_bytes(&self) -> bool
+        ensures { result ≡ (is_some (hand_of self.now) || is_some (cause_of self.now)) }
+    {
+        self.hand.is_some() || self.cause.is_some()
+    }
+
     /// Whether its input has ended, or come to a fault.
     pub fn is_over(&self) -> bool
         ensures { result ≡ is_some (cause_of self.now) }

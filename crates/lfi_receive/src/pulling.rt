@@ -1,0 +1,65 @@
+//! A receiver's turn over the input of its connection.
+
+ghost use Rattle.std.specs.Prelude.{◌≡◌, ℕ, List, ◌↔◌, Some, None, IsSome, true, if◌then◌else◌};
+ghost use Rattle.std.specs.Io.KnownBytes.{Keeps};
+ghost use Rattle.lfi_board.specs.Known.{board_id, board_of, known_by};
+ghost use Rattle.lfi_receive.specs.Turns.{PutsAsTold, CountsAsTold, is_finished};
+ghost use Rattle.lfi_receive.specs.Receivers.{pass_of, seat_of, cause_of, hand_of, strays_at, StandsFor, IsFinished, AfterEnd};
+ghost use Rattle.lfi_receive.specs.Inputs.{unread_of, left_of};
+ghost use Rattle.lfi_receive.specs.Pulls.{EndsAt, IsPulled};
+ghost use Rattle.lfi_receive.specs.inner.Fetches.{IsFetched};
+ghost use Rattle.lfi_receive.specs.declared.receiver.ReceiverTurn.TheVariants as turn;
+
+use crate::input::Input;
+use crate::receiver::{Receiver, ReceiverTurn};
+use lfi_board::Board;
+use lfi_model::Item;
+use lfi_queues::Intake;
+use std::io::Read;
+use std::sync::Wait;
+
+impl Receiver {
+    /// Reads once, where a turn needs bytes and none are left to use, and tells the end of the
+    /// input, or that the read failed.
+    fn fetch<R: Read + Drop>(&mut self, input: &mut Input<R>)
+        ensures keeps { Keeps (left_of R.remaining input.old) (left_of R.remaining input.new) }
+        ensures fetched { IsFetched self.old self.new (left_of R.remaining input.new) }
+    {
+        if self.needs_no_bytes() {
+            return;
+        }
+        match input.fill() {
+            Ok(true) => {}
+            Ok(false) => self.end(false),
+            Err(_) => self.end(true),
+        }
+    }
+
+    /// One turn over the input: `turn` over at most 4,096 bytes that were read before, with one
+    /// read where none are left. A read of no bytes is the end of the input, and any read that
+    /// fails is the fault ReadFailed. With an item in hand, or once the input is over, nothing is
+    /// read.
+    pub fn pull<S: Wait, R: Read + Drop>(
+        &mut self,
+        rt: &S,
+        board: &Board,
+        intake: &Intake<Item>,
+        input: &mut Input<R>,
+    ) -> ReceiverTurn
+        requires part { (pass_of self.old).queue ≡ intake.now }
+        requires board { board_of (seat_of self.old) ≡ board_id board.now }
+        ensures pulled { IsPulled self.old self.new (left_of R.remaining input.old) (left_of R.remaining input.new) }
+        ensures puts { PutsAsTold result (pass_of self.old) (pass_of self.new) }
+        ensures strays { CountsAsTold result (strays_at self.old) (strays_at self.new) }
+        ensures hand { IsSome (hand_of self.new) ↔ (result ≡ turn.Blocked) }
+        ensures finished { result ≡ turn.Finished → IsFinished self.new }
+        ensures ended { IsSome (cause_of self.old) → AfterEnd self.old self.new 0 result }
+        ensures told { (known_by (seat_of self.new)).ended ≡ (if is_finished result then true else (known_by (seat_of self.old)).ended) }
+        ensures board { board_of (seat_of self.new) ≡ board_of (seat_of self.old) }
+    {
+        self.fetch(input);
+        let (used, did) = self.turn(rt, board, intake, input.unread());
+        input.use_up(used);
+        did
+    }
+}
