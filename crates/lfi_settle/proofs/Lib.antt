@@ -1,0 +1,4 @@
+pub mod Places
+pub mod Last
+pub mod Carrying
+pub mod Glue
