@@ -41,7 +41,7 @@ row_long : (lanes : List QueueId) (k : ℕ) → length (new_row lanes k) ≡ len
 row_long [] k = refl
 row_long (lane ∷ lanes) k = ap suc (row_long lanes k)
 
-row_pass : (lanes : List QueueId) (k m : ℕ) (lane : QueueId) → slice_get lanes m ≡ Some lane → slice_get (new_row lanes k) m ≡ Some (new_pass lane k)
+pub row_pass : (lanes : List QueueId) (k m : ℕ) (lane : QueueId) → slice_get lanes m ≡ Some lane → slice_get (new_row lanes k) m ≡ Some (new_pass lane k)
 row_pass [] k m lane at = absurd (none-some lane at)
 row_pass (first ∷ lanes) k zero lane at = ap (λ o. option_map (λ l. new_pass l k) o) at
 row_pass (first ∷ lanes) k (suc m) lane at = row_pass lanes k m lane at

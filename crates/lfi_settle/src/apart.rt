@@ -3,19 +3,19 @@
 ghost use Rattle.std.specs.Prelude.{◌≤◌, length};
 ghost use Rattle.lfi_settle.specs.inner.Rows.{AreApart};
 
-use crate::slots::{empty, set};
-use lfi_model::{CONNECTIONS, Item, Judged};
+use crate::slots::{VERIFIERS, empty, set};
+use lfi_model::{Item, Judged};
 use lfi_place::Verifier;
 use lfi_queues::{PutPass, TakePass};
 
 /// The pieces of verifiers, by the verifiers' numbers.
 pub(crate) struct Apart {
     /// Their passes of the intake.
-    pub(crate) takes: [Option<TakePass<Item>>; CONNECTIONS],
+    pub(crate) takes: [Option<TakePass<Item>>; VERIFIERS],
     /// Their passes of the lanes, by the lanes' numbers.
-    pub(crate) rows: [Option<Vec<PutPass<Judged>>>; CONNECTIONS],
+    pub(crate) rows: [Option<Vec<PutPass<Judged>>>; VERIFIERS],
     /// What is in their hands.
-    pub(crate) hands: [Option<Judged>; CONNECTIONS],
+    pub(crate) hands: [Option<Judged>; VERIFIERS],
 }
 
 /// Takes verifiers to pieces.

@@ -8,7 +8,8 @@ ghost use Rattle.lfi_settle.specs.Settled.{HaveHandled, SettlesBut, Settles};
 ghost use Rattle.lfi_settle.specs.inner.Rows.{held_by, HasMore};
 ghost use Rattle.lfi_place.specs.declared.sequence.Sequence.{Sequence};
 
-use lfi_model::{CONNECTIONS, Item, Judged};
+use crate::slots::VERIFIERS;
+use lfi_model::{Item, Judged};
 use lfi_module::ModuleNumber;
 use lfi_place::Sequence;
 use lfi_queues::{Intake, PutPass, TakePass};
@@ -34,12 +35,12 @@ fn carry(sequences: &mut [Option<Sequence>; ModuleNumber::COUNT], item: Judged)
 
 /// Brings what is in hands to the sequences.
 pub(crate) fn carry_hands(
-    hands: &mut [Option<Judged>; CONNECTIONS],
+    hands: &mut [Option<Judged>; VERIFIERS],
     sequences: &mut [Option<Sequence>; ModuleNumber::COUNT],
 )
     ensures { (takes : ℕ → List ItemView) → SettlesBut takes (held_by hands.old) sequences.old → Settles takes sequences.new }
 {
-    for number in 0..CONNECTIONS {
+    for number in 0..VERIFIERS {
         match hands[number].take() {
             Some(held) => carry(sequences, held),
             None => {}

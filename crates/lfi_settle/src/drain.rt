@@ -11,8 +11,8 @@ ghost use Rattle.lfi_place.specs.declared.sequencer.Sequencer.{Sequencer};
 ghost use Rattle.lfi_place.specs.Turns.{lane_pass_of};
 ghost use Rattle.lfi_settle.specs.inner.Rows.{passes_in, row_of, Popped, last_of, last_items, lane_items, DrainedTo, AreRowsOf};
 
-use crate::slots::{empty, set};
-use lfi_model::{CONNECTIONS, Judged};
+use crate::slots::{VERIFIERS, empty, set};
+use lfi_model::Judged;
 use lfi_module::ModuleNumber;
 use lfi_place::{Sequence, Sequencer};
 use lfi_queues::{Lane, PutPass, TakePass};
@@ -31,12 +31,12 @@ fn last_pass(row: &mut Option<Vec<PutPass<Judged>>>) -> Option<PutPass<Judged>>
 
 /// Takes the last pass out of each row.
 fn gather(
-    rows: &mut [Option<Vec<PutPass<Judged>>>; CONNECTIONS],
-) -> [Option<PutPass<Judged>>; CONNECTIONS]
+    rows: &mut [Option<Vec<PutPass<Judged>>>; VERIFIERS],
+) -> [Option<PutPass<Judged>>; VERIFIERS]
     ensures { (k : ℕ) → Popped (row_of rows.old k) (pass_at result k) (row_of rows.new k) }
 {
     let mut puts = empty();
-    for number in 0..CONNECTIONS {
+    for number in 0..VERIFIERS {
         puts[number] = last_pass(&mut rows[number]);
     }
     puts
@@ -68,7 +68,7 @@ fn drain_lane<R: Wait>(
 fn drain_one<R: Wait>(
     rt: &R,
     lane: &Lane<Judged>,
-    rows: &mut [Option<Vec<PutPass<Judged>>>; CONNECTIONS],
+    rows: &mut [Option<Vec<PutPass<Judged>>>; VERIFIERS],
     sequencer: Sequencer,
 ) -> Sequence
     requires takers { lane.now.takers ≡ 1 }
@@ -88,7 +88,7 @@ fn drain_one<R: Wait>(
 pub(crate) fn drain_lanes<R: Wait>(
     rt: &R,
     lanes: &[Lane<Judged>],
-    rows: &mut [Option<Vec<PutPass<Judged>>>; CONNECTIONS],
+    rows: &mut [Option<Vec<PutPass<Judged>>>; VERIFIERS],
     mut sequencers: Vec<Sequencer>,
 ) -> [Option<Sequence>; ModuleNumber::COUNT]
     requires lanes { length lanes.now ≡ module_count }
