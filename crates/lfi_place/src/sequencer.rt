@@ -105,4 +105,18 @@ impl Sequencer {
             None => SequencerTurn::Idle,
         }
     }
+
+    /// Its pass of its lane, its seat, and what it holds.
+    pub fn into_parts(self) -> (TakePass<Judged>, SequencerSeat, Sequence)
+        ensures pass { result.0 ≡ lane_pass_of self }
+        ensures seat { result.1 ≡ seat_of self }
+        ensures sequence { result.2 ≡ sequence_of self }
+    {
+        let Sequencer {
+            pass,
+            seat,
+            sequence,
+        } = self;
+        (pass, seat, sequence)
+    }
 }

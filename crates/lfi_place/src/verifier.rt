@@ -127,4 +127,14 @@ impl Verifier {
             },
         }
     }
+
+    /// Its pass of the intake, its passes of the lanes, and the item in its hand.
+    pub fn into_parts(self) -> (TakePass<Item>, Vec<PutPass<Judged>>, Option<Judged>)
+        ensures pass { result.0 ≡ take_pass_of self }
+        ensures lanes { result.1.items ≡ lane_puts_of self }
+        ensures hand { result.2 ≡ hand_of self }
+    {
+        let Verifier { pass, lanes, hand } = self;
+        (pass, lanes, hand)
+    }
 }
