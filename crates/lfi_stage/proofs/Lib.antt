@@ -1,3 +1,4 @@
-pub mod Loading
+pub mod Each
 pub mod Holders
-pub mod Settling
+pub mod Finishes
+pub mod Seats

@@ -1,8 +1,5 @@
-pub mod Turns
 pub mod Shares
-pub mod Verifiers
-pub mod Verified
+pub mod Parts
 pub mod Reports
 pub mod inner
-pub mod Stages
 pub mod Summaries

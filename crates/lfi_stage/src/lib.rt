@@ -1,8 +1,14 @@
-//! The stage: receivers turn the bytes of connections into items, verifiers judge and place them,
-//! and `settle` tells what became of each module.
+//! The stage: its parts, made together, turned on one thread, and settled. Receivers turn the bytes
+//! of connections into items, verifiers judge them, sequencers place them, and `settle` tells what
+//! became of each module.
 #![tactic(auto)]
 
+mod apart;
+mod claims;
+mod finishing;
 pub mod settle;
 pub mod shared;
-pub mod stage;
-pub mod verifier;
+mod telling;
+mod turning;
+
+pub use shared::Shared;

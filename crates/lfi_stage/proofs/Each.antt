@@ -1,0 +1,13 @@
+-- Something that is so of each element of a list stays so where one is replaced.
+use Rattle.std.proofs.Common.{◌≡◌, ℕ, zero, suc, List, [], ◌∷◌, Some, None, subst, slice_get}
+use Rattle.std.proofs.Math.ListN.{set}
+
+pub set_each : {A : Type 0} (P : ℕ → A → Type 0) (xs : List A) (i : ℕ) (x : A) → ((k : ℕ) (y : A) → slice_get xs k ≡ Some y → P k y) → P i x → (k : ℕ) (y : A) → slice_get (set xs i x) k ≡ Some y → P k y
+set_each P [] i x each is k y at = each k y at
+set_each P (z ∷ xs) zero x each is zero y at = subst (λ w. P 0 w) (some_same x y at) is
+  where
+    some_same : {A : Type 0} (a b : A) → Some a ≡ Some b → a ≡ b
+    some_same a b e = cc
+set_each P (z ∷ xs) zero x each is (suc k) y at = each (suc k) y at
+set_each P (z ∷ xs) (suc i) x each is zero y at = each zero y at
+set_each P (z ∷ xs) (suc i) x each is (suc k) y at = set_each (λ j w. P (suc j) w) xs i x (λ j w e. each (suc j) w e) is k y at
