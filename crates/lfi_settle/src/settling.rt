@@ -4,7 +4,7 @@ ghost use Rattle.std.specs.Prelude.{◌≡◌, ℕ, List, []};
 ghost use Rattle.lfi_model.specs.Item.{ItemView};
 ghost use Rattle.lfi_queues.specs.Kept.{Kept};
 ghost use Rattle.lfi_queues.specs.Passes.{AreAllPasses, items_at};
-ghost use Rattle.lfi_settle.specs.Parts.{AreParts};
+ghost use Rattle.lfi_settle.specs.Parts.{AreWorkers};
 ghost use Rattle.lfi_settle.specs.Settled.{Settles};
 
 use crate::apart::{Apart, take_apart};
@@ -27,7 +27,7 @@ pub fn bring_all<R: Wait>(
     verifiers: Vec<Verifier>,
     sequencers: Vec<Sequencer>,
 ) -> [Option<Sequence>; ModuleNumber::COUNT]
-    requires parts { AreParts intake.now lanes.now verifiers.items sequencers.items }
+    requires parts { AreWorkers intake.now lanes.now verifiers.items sequencers.items }
     requires puts { AreAllPasses intake.now intake.now.putters puts.old }
     ensures puts { puts.new ≡ puts.old }
     ensures settles { (takes : ℕ → List ItemView) × Kept (items_at puts.old) takes [] × Settles takes result }
