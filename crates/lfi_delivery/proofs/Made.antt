@@ -73,7 +73,7 @@ module _ (count : ℕ) (puts takes : ℕ → List ItemView) (lane_puts lane_take
   ]
     where
       by : (b : Bool) → claimed d m ≡ b → d < count → claimed d m ≡ false
-      by true e inside = absurd (other (apart d c m inside within e mine))
+      by true e inside = absurd (other (apart d c m inside within in_range e mine))
       by false e inside = e
 
   pub all_made : (c : ℕ) → AreApart count claimed → c < count → claimed c m ≡ true → IsPermutation (items c m) (lane_takes m 0)

@@ -30,7 +30,7 @@ with_held held v o w = if v == w then o else held w
 
 -- No module is claimed by two of the connections.
 abbrev pub AreApart : (count : ℕ) (claimed : ℕ → ℕ → Bool) → Type 0
-AreApart count claimed = (c d m : ℕ) → c < count → d < count → claimed c m ≡ true → claimed d m ≡ true → c ≡ d
+AreApart count claimed = (c d m : ℕ) → c < count → d < count → m < module_count → claimed c m ≡ true → claimed d m ≡ true → c ≡ d
 
 -- What each of the receivers put is what its text makes, with its cause and the modules that it claimed.
 pub record Makes (count : ℕ) (puts : ℕ → List ItemView) (texts : ℕ → List ℕ) (causes : ℕ → Cause) (claimed : ℕ → ℕ → Bool) (items : ℕ → ℕ → List ItemView) (faults : ℕ → Option FrameFault) (strays : ℕ → ℕ) : Type 0 where

@@ -1,5 +1,5 @@
 -- Something that is so of each element of a list stays so where one is replaced.
-use Rattle.std.proofs.Common.{◌≡◌, ℕ, zero, suc, List, [], ◌∷◌, Some, None, subst, slice_get}
+use Rattle.std.proofs.Common.{◌≡◌, ℕ, zero, suc, ◌≢◌, ◌<◌, List, [], ◌∷◌, Some, None, length, refl, ap, subst, slice_get, arith}
 use Rattle.std.proofs.Math.ListN.{set}
 
 pub set_each : {A : Type 0} (P : ℕ → A → Type 0) (xs : List A) (i : ℕ) (x : A) → ((k : ℕ) (y : A) → slice_get xs k ≡ Some y → P k y) → P i x → (k : ℕ) (y : A) → slice_get (set xs i x) k ≡ Some y → P k y
@@ -11,3 +11,15 @@ set_each P (z ∷ xs) zero x each is zero y at = subst (λ w. P 0 w) (some_same 
 set_each P (z ∷ xs) zero x each is (suc k) y at = each (suc k) y at
 set_each P (z ∷ xs) (suc i) x each is zero y at = each zero y at
 set_each P (z ∷ xs) (suc i) x each is (suc k) y at = set_each (λ j w. P (suc j) w) xs i x (λ j w e. each (suc j) w e) is k y at
+
+pub set_same : {A : Type 0} (xs : List A) (i : ℕ) (x : A) → i < length xs → slice_get (set xs i x) i ≡ Some x
+set_same [] i x within = absurd (omega arith)
+set_same (z ∷ xs) zero x within = refl
+set_same (z ∷ xs) (suc i) x within = set_same xs i x (omega arith)
+
+pub set_other : {A : Type 0} (xs : List A) (i k : ℕ) (x : A) → k ≢ i → slice_get (set xs i x) k ≡ slice_get xs k
+set_other [] i k x apart = refl
+set_other (z ∷ xs) zero zero x apart = absurd (apart refl)
+set_other (z ∷ xs) zero (suc k) x apart = refl
+set_other (z ∷ xs) (suc i) zero x apart = refl
+set_other (z ∷ xs) (suc i) (suc k) x apart = set_other xs i k x (λ e. apart (ap suc e))

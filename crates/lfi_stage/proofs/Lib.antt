@@ -2,3 +2,4 @@ pub mod Each
 pub mod Holders
 pub mod Finishes
 pub mod Seats
+pub mod Settling

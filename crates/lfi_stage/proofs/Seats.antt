@@ -3,23 +3,23 @@ use Rattle.std.proofs.Common.{◌≡◌, ◌≢◌, ℕ, zero, suc, ◌+◌, ◌
 use Rattle.std.specs.Prelude.{slice_index_or}
 use Rattle.std.specs.Option.{option_map}
 use Rattle.std.proofs.lemmas.Bool.Decides.{eqb_tells}
-use Rattle.atomic_table.specs.Seated.{TableId}
 use Rattle.lfi_board.specs.Hands.{Follows, times}
-use Rattle.lfi_board.specs.Known.{board_of, known_by}
+use Rattle.lfi_board.specs.Known.{board_id, board_of, known_by}
+use Rattle.lfi_board.specs.declared.board.Board.{Board}
 use Rattle.lfi_board.specs.Rows.{Row, AllOn, MayFollow, IsHolder, claims_in, claims_at, present}
 use Rattle.lfi_board.specs.declared.seats.ReceiverSeat.{ReceiverSeat}
 use Rattle.lfi_receive.specs.declared.receiver.Receiver.{Receiver}
 use Rattle.lfi_receive.specs.Receivers.{seat_of, claimed_by}
 
 -- each is of the board, and there are as many as receivers
-pub all_on : (z : TableId) (seats : Row) (rs : List Receiver) → ((c : ℕ) → slice_index_or seats c None ≡ option_map seat_of (slice_get rs c)) → ((c : ℕ) (r : Receiver) → slice_get rs c ≡ Some r → board_of (seat_of r) ≡ z) → AllOn z seats × (present seats ≡ length rs)
-all_on z [] [] are on = (tt, refl)
-all_on z [] (r ∷ rs) are on = absurd (let first = are 0 in cc)
-all_on z (None ∷ seats) [] are on = all_on z seats [] (λ c. are (suc c)) on
-all_on z (Some t ∷ seats) [] are on = absurd (let first = are 0 in cc)
-all_on z (None ∷ seats) (r ∷ rs) are on = absurd (let first = are 0 in cc)
-all_on z (Some t ∷ seats) (r ∷ rs) are on =
-    let rest = all_on z seats rs (λ c. are (suc c)) (λ c q at. on (suc c) q at) in
+pub all_on : (b : Board) (seats : Row) (rs : List Receiver) → ((c : ℕ) → slice_index_or seats c None ≡ option_map seat_of (slice_get rs c)) → ((c : ℕ) (r : Receiver) → slice_get rs c ≡ Some r → board_of (seat_of r) ≡ board_id b) → AllOn (board_id b) seats × (present seats ≡ length rs)
+all_on b [] [] are on = (tt, refl)
+all_on b [] (r ∷ rs) are on = absurd (let first = are 0 in cc)
+all_on b (None ∷ seats) [] are on = all_on b seats [] (λ c. are (suc c)) on
+all_on b (Some t ∷ seats) [] are on = absurd (let first = are 0 in cc)
+all_on b (None ∷ seats) (r ∷ rs) are on = absurd (let first = are 0 in cc)
+all_on b (Some t ∷ seats) (r ∷ rs) are on =
+    let rest = all_on b seats rs (λ c. are (suc c)) (λ c q at. on (suc c) q at) in
     let first : t ≡ seat_of r = some_same t (seat_of r) (are 0) in
     ((ap board_of first ∙ on 0 r refl, rest.0), (let count = rest.1 in omega arith))
   where

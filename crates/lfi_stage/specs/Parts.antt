@@ -7,7 +7,7 @@ use Rattle.lfi_place.specs.declared.verifier.Verifier.{Verifier}
 use Rattle.lfi_place.specs.Turns.{seat_of as sequencer_seat_of}
 use Rattle.lfi_receive.specs.declared.receiver.Receiver.{Receiver}
 use Rattle.lfi_receive.specs.Receivers.{pass_of, seat_of}
-use Rattle.lfi_settle.specs.Parts.{AreParts}
+use Rattle.lfi_settle.specs.Parts.{AreWorkers}
 use Rattle.lfi_stage.specs.declared.shared.Shared.{Shared}
 use Rattle.lfi_stage.specs.Shares.{intake_of, board_at, lanes_of}
 
@@ -18,7 +18,7 @@ pub record IsReceiver (shared : Shared) (c : ℕ) (r : Receiver) : Type 0 where
 
 -- These are all verifiers and sequencers of the stage.
 pub record AreOthers (shared : Shared) (verifiers : List Verifier) (sequencers : List Sequencer) : Type 0 where
-  pub parts : AreParts (intake_of shared) (lanes_of shared) verifiers sequencers
+  pub workers : AreWorkers (intake_of shared) (lanes_of shared) verifiers sequencers
   pub seats : (m : ℕ) (s : Sequencer) → slice_get sequencers m ≡ Some s → sequencer_board (sequencer_seat_of s) ≡ board_id (board_at shared)
 
 -- These are all its receivers: 8 at the most, as many as put to its intake and as its board has.

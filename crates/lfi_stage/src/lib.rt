@@ -8,7 +8,9 @@ mod claims;
 mod finishing;
 pub mod settle;
 pub mod shared;
+pub mod stage;
 mod telling;
 mod turning;
 
 pub use shared::Shared;
+pub use stage::Stage;

@@ -1,5 +1,4 @@
-use Rattle.std.proofs.Common.{◌≡◌, ◌∙◌, ap, subst, refl}
-use Rattle.lfi_stage.proofs.Finishes.{some_cause}
+use Rattle.std.proofs.Common.{◌≡◌, ◌∙◌}
 use Rattle.lfi_stage.proofs.finishing.finish.Goals as goal
 
 pub returns-then-finish_once-clause-finished : goal.returns-then-finish_once-clause-finished
@@ -24,5 +23,5 @@ loop-preserved g c =
       cause = on.cause ∙ i.cause;
       claimed = λ m. on.claimed m ∙ i.claimed m;
       is = λ k is. on.is k (i.is k is);
-      others = c.turn_others.ensures;
+      others = c.turn_others.ensures.are;
     }
