@@ -23,3 +23,16 @@ set_other (z ∷ xs) zero zero x apart = absurd (apart refl)
 set_other (z ∷ xs) zero (suc k) x apart = refl
 set_other (z ∷ xs) (suc i) zero x apart = refl
 set_other (z ∷ xs) (suc i) (suc k) x apart = set_other xs i k x (λ e. apart (ap suc e))
+
+-- the same of two lists
+pub set_both : {A B : Type 0} (P : ℕ → A → B → Type 0) (xs : List A) (ys : List B) (i : ℕ) (x : A) (y : B) → ((k : ℕ) (a : A) (b : B) → slice_get xs k ≡ Some a → slice_get ys k ≡ Some b → P k a b) → P i x y
+    → (k : ℕ) (a : A) (b : B) → slice_get (set xs i x) k ≡ Some a → slice_get (set ys i y) k ≡ Some b → P k a b
+set_both P [] ys i x y each is k a b at by = absurd cc
+set_both P (z ∷ xs) [] i x y each is k a b at by = absurd cc
+set_both P (z ∷ xs) (w ∷ ys) zero x y each is zero a b at by = subst (λ v. P 0 a v) (some_same y b by) (subst (λ v. P 0 v y) (some_same x a at) is)
+  where
+    some_same : {A : Type 0} (a b : A) → Some a ≡ Some b → a ≡ b
+    some_same a b e = cc
+set_both P (z ∷ xs) (w ∷ ys) zero x y each is (suc k) a b at by = each (suc k) a b at by
+set_both P (z ∷ xs) (w ∷ ys) (suc i) x y each is zero a b at by = each zero a b at by
+set_both P (z ∷ xs) (w ∷ ys) (suc i) x y each is (suc k) a b at by = set_both (λ j v u. P (suc j) v u) xs ys i x y (λ j v u e f. each (suc j) v u e f) is k a b at by

@@ -3,3 +3,4 @@ pub mod Holders
 pub mod Finishes
 pub mod Seats
 pub mod Settling
+pub mod Heard

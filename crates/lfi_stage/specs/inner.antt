@@ -1,2 +1,3 @@
 pub mod Finished
 pub mod Apart
+pub mod Hearing

@@ -6,6 +6,7 @@
 mod apart;
 mod claims;
 mod finishing;
+pub mod load;
 pub mod settle;
 pub mod shared;
 pub mod stage;

@@ -1,0 +1,19 @@
+use Rattle.std.proofs.Common.{◌≡◌, ◌∙◌, ◌++◌, None, Some, sym}
+use Rattle.std.specs.Prelude.{is_some, Option}
+use Rattle.std.proofs.KnownBytes.{Consumes-trans}
+use Rattle.lfi_model.specs.declared.connection.Cause.{Cause}
+use Rattle.lfi_receive.specs.Inputs.{left_of}
+use Rattle.lfi_stage.proofs.Heard.{not_some}
+use Rattle.lfi_stage.proofs.load.pull_one.Goals as goal
+
+pub returns-clause-hearing : goal.returns-clause-hearing
+returns-clause-hearing g c = λ text hearing.
+    let pulled = c.pull.ensures.pulled in
+    let remaining = g.R.Read.remaining in
+    let running : c.args.receiver.now.cause ≡ None = not_some c.args.receiver.now.cause (sym c.is_over.ensures ∙ c.if-is_over.false) in
+    record {
+      heard = hearing.heard ++ pulled.used;
+      stands = pulled.stands hearing.heard hearing.stands;
+      consumes = Consumes-trans (Some text) (left_of remaining c.args.input.now) (left_of remaining c.pull.new.input) hearing.heard pulled.used hearing.consumes pulled.consumes;
+      ends = pulled.over hearing.heard hearing.stands running;
+    }
