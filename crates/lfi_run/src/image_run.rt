@@ -8,7 +8,7 @@ use lfi_image::ImageFault;
 use std::fmt;
 
 /// What comes of an image file that is run.
-#[derive(Clone, Copy, PartialEq, Eq, Debug)]
+#[derive(Clone, Copy)]
 pub enum ImageRun {
     /// There is no image.
     Refused(ImageFault),

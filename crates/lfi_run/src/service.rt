@@ -4,7 +4,7 @@ ghost use Rattle.std.specs.Prelude.{◌≡◌};
 ghost use Rattle.lfi_run.specs.Serving.{service_of};
 
 /// What is done at a call.
-#[derive(Clone, Copy, PartialEq, Eq, Debug)]
+#[derive(Clone, Copy)]
 pub enum Service {
     /// The run ends, with the low byte of x0 as its status.
     Finish,
