@@ -4,7 +4,9 @@ use crate::devices::FullWriter;
 use crate::runs::{ONE_RET_IMAGE, Run, assert_runs, begin, run_line, run_over};
 use lfi_commands::{Ending, Errors, SystemDisk};
 use std::alloc::{AllocError, Global};
-use std::fs;
+use std::fs::{self, Files};
+use std::process::Abort;
+use std::sync::Wait;
 use std::test::Fail;
 
 /// The file of an image: LFI1, so many words, entry 0, profile 1, base 2^32, the words. Words that are 0 are left out.
@@ -28,7 +30,7 @@ fn image_file(alloc: Global, words: &[u32]) -> Result<Vec<u8>, AllocError> {
 #[derive(Clone, Copy)]
 struct Row {
     words: [u32; 8],
-    steps: &'static str,
+    line: &'static str,
     status: u8,
     out: &'static str,
     err: &'static str,
@@ -38,7 +40,7 @@ const ROWS: [Row; 13] = [
     // SUB SP, SP, #16; STR X0, [SP]
     Row {
         words: [0xD10043FF, 0xF90003E0, 0, 0, 0, 0, 0, 0],
-        steps: "1000",
+        line: "lfiload run images.tmp/one.img --steps 1000",
         status: 1,
         out: "",
         err: "halt 3 at 0x0000000100010008 after 2 steps\n",
@@ -46,7 +48,7 @@ const ROWS: [Row; 13] = [
     // B to word 2; LDR X30, [X21, #8]; BLR X30
     Row {
         words: [0x14000002, 0xF94006BE, 0xD63F03C0, 0, 0, 0, 0, 0],
-        steps: "1000",
+        line: "lfiload run images.tmp/one.img --steps 1000",
         status: 1,
         out: "",
         err: "halt 3 at 0x0000000100000000 after 2 steps\n",
@@ -54,7 +56,7 @@ const ROWS: [Row; 13] = [
     // MOVZ W22, #1, LSL #16; ADD SP, X21, X22; LDR X0, [SP], #-256; B to the word before
     Row {
         words: [0x52A00036, 0x8B3662BF, 0xF85007E0, 0x17FFFFFF, 0, 0, 0, 0],
-        steps: "1000",
+        line: "lfiload run images.tmp/one.img --steps 1000",
         status: 1,
         out: "",
         err: "halt 2 at 0x000000010000ff00 after 4 steps\n",
@@ -62,7 +64,7 @@ const ROWS: [Row; 13] = [
     // MOVZ X0, #7; LDR X30, [X21]; BLR X30
     Row {
         words: [0xD28000E0, 0xF94002BE, 0xD63F03C0, 0, 0, 0, 0, 0],
-        steps: "1000",
+        line: "lfiload run images.tmp/one.img --steps 1000",
         status: 0,
         out: "",
         err: "halt 5 status 7 after 2 steps\n",
@@ -70,7 +72,7 @@ const ROWS: [Row; 13] = [
     // SUB SP, SP, #0; STR X0, [SP]
     Row {
         words: [0xD10003FF, 0xF90003E0, 0, 0, 0, 0, 0, 0],
-        steps: "1000",
+        line: "lfiload run images.tmp/one.img --steps 1000",
         status: 1,
         out: "",
         err: "halt 2 at 0x0000000200000000 after 1 steps\n",
@@ -78,7 +80,7 @@ const ROWS: [Row; 13] = [
     // MOVN W1, #0; LDR X0, [X21, W1, UXTW]
     Row {
         words: [0x12800001, 0xF8614AA0, 0, 0, 0, 0, 0, 0],
-        steps: "1000",
+        line: "lfiload run images.tmp/one.img --steps 1000",
         status: 1,
         out: "",
         err: "halt 2 at 0x0000000200000000 after 1 steps\n",
@@ -86,28 +88,28 @@ const ROWS: [Row; 13] = [
     // B to itself, no step of it, one, nine, and the most that may be asked for before BRK
     Row {
         words: [0x14000000, 0, 0, 0, 0, 0, 0, 0],
-        steps: "0",
+        line: "lfiload run images.tmp/one.img --steps 0",
         status: 0,
         out: "",
         err: "halt 1 after 0 steps\n",
     },
     Row {
         words: [0x14000000, 0, 0, 0, 0, 0, 0, 0],
-        steps: "1",
+        line: "lfiload run images.tmp/one.img --steps 1",
         status: 0,
         out: "",
         err: "halt 1 after 1 steps\n",
     },
     Row {
         words: [0x14000000, 0, 0, 0, 0, 0, 0, 0],
-        steps: "9",
+        line: "lfiload run images.tmp/one.img --steps 9",
         status: 0,
         out: "",
         err: "halt 1 after 9 steps\n",
     },
     Row {
         words: [0xD4200000, 0, 0, 0, 0, 0, 0, 0],
-        steps: "1000000000",
+        line: "lfiload run images.tmp/one.img --steps 1000000000",
         status: 0,
         out: "",
         err: "halt 4 at 0x0000000100010000 after 0 steps\n",
@@ -115,7 +117,7 @@ const ROWS: [Row; 13] = [
     // MOVZ X0, #72; entry 1; MOVZ X0, #105; entry 1; entry 0
     Row {
         words: HELLO,
-        steps: "1000",
+        line: "lfiload run images.tmp/one.img --steps 1000",
         status: 0,
         out: "Hi",
         err: "halt 5 status 105 after 7 steps\n",
@@ -123,7 +125,7 @@ const ROWS: [Row; 13] = [
     // Entry 2; entry 0
     Row {
         words: [0xF9400ABE, 0xD63F03C0, 0xF94002BE, 0xD63F03C0, 0, 0, 0, 0],
-        steps: "1000",
+        line: "lfiload run images.tmp/one.img --steps 1000",
         status: 0,
         out: "",
         err: "halt 5 status 255 after 3 steps\n",
@@ -131,7 +133,7 @@ const ROWS: [Row; 13] = [
     // SVC #0
     Row {
         words: [0xD4000001, 0, 0, 0, 0, 0, 0, 0],
-        steps: "1000",
+        line: "lfiload run images.tmp/one.img --steps 1000",
         status: 1,
         out: "",
         err: "image refused, fault 7, word 0 rule 1\n",
@@ -143,20 +145,24 @@ const HELLO: [u32; 8] = [
     0xD2800900, 0xF94006BE, 0xD63F03C0, 0xD2800D20, 0xF94006BE, 0xD63F03C0, 0xF94002BE, 0xD63F03C0,
 ];
 
-#[test]
-fn images_that_run(rt: HostRuntime) -> Result<(), Fail> {
-    begin(&rt, "images.tmp")?;
-    for row in ROWS {
-        let steps = row.steps;
+/// Runs the image of each row's words, and compares.
+fn assert_rows<R: Files + AllocGlobal + Abort + Wait>(rt: &R, rows: &[Row]) -> Result<(), Fail> {
+    for row in rows {
         let expected = row.err;
         let file = image_file(rt.alloc(), row.words.as_slice())?;
-        fs::write(&rt, "images.tmp/one.img", file.as_slice())?;
-        let line = format!(in rt.alloc(); "lfiload run images.tmp/one.img --steps {steps}")?;
-        let ran = run_line(&rt, line.as_str())?;
+        fs::write(rt, "images.tmp/one.img", file.as_slice())?;
+        let ran = run_line(rt, row.line)?;
         assert!(rt; ran.status == row.status, "{expected}");
         assert!(rt; ran.out.as_slice() == row.out.as_bytes(), "{expected}");
         assert!(rt; ran.err.as_slice() == row.err.as_bytes(), "{expected}");
     }
+    Ok(())
+}
+
+#[test]
+fn images_that_run(rt: HostRuntime) -> Result<(), Fail> {
+    begin(&rt, "images.tmp")?;
+    assert_rows(&rt, ROWS.as_slice())?;
     fs::remove_dir_all(&rt, "images.tmp")?;
     Ok(())
 }
@@ -195,7 +201,7 @@ const BROKEN: [Broken; 4] = [
 #[test]
 fn headers_that_are_refused(rt: HostRuntime) -> Result<(), Fail> {
     begin(&rt, "broken.tmp")?;
-    for broken in BROKEN {
+    for broken in &BROKEN {
         let expected = broken.err;
         let mut file = ONE_RET_IMAGE;
         if broken.at < 28 {
