@@ -1,5 +1,5 @@
 -- Where the parser finds no fault in the words, the command's required value is there.
-use Rattle.std.proofs.Common.{◌≡◌, ◌⊎◌, ◌&&◌, ◌||◌, ℕ, Bool, true, false, not, cond, zero, suc, List, [], ◌∷◌, ◌++◌, length, fold, drop, Option, Some, None, is_some, refl, sym, subst, inl, inr, true≢false, codes, find}
+use Rattle.std.proofs.Common.{◌≡◌, ◌∙◌, ◌⊎◌, ◌&&◌, ◌||◌, ℕ, ap, arith, slice_index, Bool, true, false, not, cond, zero, suc, List, [], ◌∷◌, ◌++◌, length, fold, drop, Option, Some, None, is_some, refl, sym, subst, inl, inr, true≢false, codes, find}
 use Rattle.std.specs.Prelude.{⊤, encode_utf8, slice_get, nat_lt, option_map, option_and_then}
 use Rattle.std.specs.Option.{option_map_or}
 use Rattle.std.specs.Str.{bytes_eq, chars}
@@ -13,10 +13,19 @@ use Rattle.clap.specs.Walk.{Held, Outcome, done, waits, plain, refused, Row, Rul
 use Rattle.clap.specs.Simple.{App, Shape, argument_words, names_of, built, entered, label_of, rows_at, subcommand_of}
 use Rattle.clap.specs.Faults.{bundle_fault, bundle_step_fault, check_fault, defaults_fault, entered_fault, fault_of, flag_word_fault, flags_fault, level_fault, long_fault, option_fault, other_fault, positional_fault, react_fault, settle_fault, short_fault, step_fault, stray_fault, turn_fault, use_fault, walk_fault, word_fault}
 use Rattle.clap.specs.declared.parser.matches.ValueSource.{ValueSource}
-use Rattle.clap.specs.declared.parser.matches.ValueSource.TheVariants.{DefaultValue, CommandLine}
+use Rattle.clap.specs.declared.parser.matches.ValueSource.TheVariants.{CommandLine}
 use Rattle.clap.specs.declared.builder.action.ArgAction.TheVariants.{Set, Help}
+use Rattle.std.proofs.lemmas.Slice.Eq.{bytes_eq-Decides}
+use Rattle.clap.specs.Facts.{parser_of_value}
+use Rattle.clap.specs.Faults.{action_fault, repeat_fault}
+use Rattle.clap.specs.Kinds.{value_kinds, values_kinds}
+use Rattle.clap.specs.Values.{IsUnsignedIn, read_as, reading_of, refused_kind}
+use Rattle.clap.specs.ValueTests.{accepts}
+use Rattle.clap.specs.Walk.{one_of, row_text}
+use Rattle.clap.proofs.ValueTestLemmas.{accepts-Accepts}
 use Rattle.clap.specs.declared.builder.value_parser.Reading.{Reading}
-use Rattle.lfi_command_line.specs.CommandLine.{lfiload_app}
+use Rattle.clap.specs.declared.builder.value_parser.Reading.TheVariants.{AsWritten}
+use Rattle.lfi_command_line.specs.CommandLine.{lfiload_app, steps_parser}
 
 -- ---- lists
 
@@ -58,27 +67,47 @@ both_none (k ∷ ks) b e = absurd (not_none k ks e)
 
 -- ---- rows with values
 
+-- the text is a number of steps
+abbrev pub IsCount : Text → Type 0
+IsCount text = IsUnsignedIn 0 1000000000 text
+
 abbrev Full : Row → Type 0
-Full r = IsCons r.values
+Full r = IsCons r.values × (r.id ≡ codes "steps" → Each IsCount r.values × (r.reading ≡ AsWritten))
+
+-- the argument for a number of steps tests it
+abbrev Tests : Rule → Type 0
+Tests a = a.id ≡ codes "steps" → a.parser ≡ Some steps_parser
 
 -- a use of the argument without a value is a fault, or makes no row
 abbrev Fine : Rule → Type 0
-Fine a = ((action_of a ≡ Set) × (nat_lt 0 (unwrap_or_range a.range).start_inclusive ≡ true)) ⊎ (action_of a ≡ Help)
+Fine a = ((action_of a ≡ Set) × (nat_lt 0 (unwrap_or_range a.range).start_inclusive ≡ true) × Tests a) ⊎ (action_of a ≡ Help)
 
-at_full : (id : Text) (change : Row → List Row) (missing rows : List Row) → ((r : Row) → Full r → Each Full (change r)) → Each Full missing → Each Full rows
+-- the argument has no default
+abbrev Bare : Rule → Type 0
+Bare a = a.defaults ≡ []
+
+at_full : (id : Text) (change : Row → List Row) (missing rows : List Row) → ((r : Row) → r.id ≡ id → Full r → Each Full (change r)) → Each Full missing → Each Full rows
     → Each Full (at_row id change missing rows)
 at_full id change missing [] changed added full = added
-at_full id change missing (r ∷ rs) changed added full = go (bytes_eq r.id id) (at_full id change missing rs changed added full.1)
+at_full id change missing (r ∷ rs) changed added full = go (bytes_eq r.id id) refl (at_full id change missing rs changed added full.1)
   where
-    go : (b : Bool) → Each Full (at_row id change missing rs) → Each Full (cond b (change r ++ rs) (r ∷ at_row id change missing rs))
-    go true later = joined_each Full (change r) rs (changed r full.0) full.1
-    go false later = (full.0, later)
+    go : (b : Bool) → bytes_eq r.id id ≡ b → Each Full (at_row id change missing rs) → Each Full (cond b (change r ++ rs) (r ∷ at_row id change missing rs))
+    go true same later = joined_each Full (change r) rs (changed r ((bytes_eq-Decides r.id id).0 same) full.0) full.1
+    go false same later = (full.0, later)
 
 without_full : (id : Text) (rows : List Row) → Each Full rows → Each Full (without id rows)
-without_full id rows full = at_full id (λ _. []) [] rows (λ r some. tt) tt full
+without_full id rows full = at_full id (λ _. []) [] rows (λ r same some. tt) tt full
 
-with_full : (id : Text) (how : Reading) (s : ValueSource) (values : List Text) (rows : List Row) → IsCons values → Each Full rows → Each Full (with_values id how s values rows)
-with_full id how s values rows some full = at_full id (more_values s values) _ rows (λ r has. (longer r.values values has, tt)) (some, tt) full
+-- values of this argument, read so, are numbers of steps where it is the one for them
+abbrev Counts : Text → List Text → Reading → Type 0
+Counts id values how = id ≡ codes "steps" → Each IsCount values × (how ≡ AsWritten)
+
+with_full : (id : Text) (how : Reading) (s : ValueSource) (values : List Text) (rows : List Row) → IsCons values → Counts id values how → Each Full rows
+    → Each Full (with_values id how s values rows)
+with_full id how s values rows some counts full =
+    at_full id (more_values s values) _ rows
+    (λ r same has. ((longer r.values values has.0, λ e. (joined_each IsCount r.values values (has.1 e).0 (counts (sym same ∙ e)).0, (has.1 e).1)), tt))
+    ((some, counts), tt) full
 
 -- what a use of so many values is told, past the test for none
 abbrev in_range : ℕ → ℕ → Kinds
@@ -92,14 +121,33 @@ no_values least most above none = go (nat_lt 0 least) above none
     go true e h = not_none _ _ h
     go false e h = absurd (true≢false (sym e))
 
-set_full : (again : Bool) (a : Rule) (values : List Text) (rows : List Row) → nat_lt 0 (unwrap_or_range a.range).start_inclusive ≡ true → use_fault again a values rows ≡ []
-    → Each Full rows → Each Full (used_as Set a.id (reading_by a) (values_or_missing a values) rows)
-set_full again a [] rows least none full = absurd (no_values _ (most_values a) least (both_none (range_kinds _ (most_values a) 0) _ none).0)
-set_full again a (v ∷ vs) rows least none full = with_full a.id (reading_by a) CommandLine (v ∷ vs) (without a.id rows) tt (without_full a.id rows full)
+counted : (b : Bool) (values : List Text) → values_kinds b steps_parser values ≡ [] → Each IsCount values
+counted b [] none = tt
+counted b (v ∷ vs) none =
+    let parts = both_none (value_kinds b steps_parser v) _ none in
+    (one (accepts b steps_parser v) refl parts.0, counted b vs parts.1)
+  where
+    one : (passes : Bool) → accepts b steps_parser v ≡ passes → cond passes [] (refused_kind steps_parser ∷ []) ≡ [] → IsCount v
+    one true is e = accepts-Accepts b steps_parser v is
+    one false is e = absurd (not_none _ _ e)
+
+set_full : (again : Bool) (a : Rule) (values : List Text) (rows : List Row) → action_of a ≡ Set → nat_lt 0 (unwrap_or_range a.range).start_inclusive ≡ true → Tests a
+    → use_fault again a values rows ≡ [] → Each Full rows → Each Full (used_as Set a.id (reading_by a) (values_or_missing a values) rows)
+set_full again a [] rows set least tests none full = absurd (no_values _ (most_values a) least (both_none (range_kinds _ (most_values a) 0) _ none).0)
+set_full again a (v ∷ vs) rows set least tests none full =
+    let acted = (both_none (range_kinds (unwrap_or_range a.range).start_inclusive (most_values a) (length (v ∷ vs))) _ none).1 in
+    let as_set = subst (λ x. action_fault x again a (v ∷ vs) rows ≡ []) set acted in
+    let passed = (both_none (repeat_fault again a.id rows) _ as_set).1 in
+    with_full a.id (reading_by a) CommandLine (v ∷ vs) (without a.id rows) tt
+    (λ e. (
+      counted a.ignore_case (v ∷ vs) (subst (λ p. values_kinds a.ignore_case (parser_of_value p) (v ∷ vs) ≡ []) (tests e) passed),
+      ap (λ p. reading_of (parser_of_value p)) (tests e),
+    ))
+    (without_full a.id rows full)
 
 used_full : (again : Bool) (a : Rule) (values : List Text) (rows : List Row) → Fine a → use_fault again a values rows ≡ [] → Each Full rows → Each Full (used a values rows)
 used_full again a values rows (inl set) none full =
-    subst (λ x. Each Full (used_as x a.id (reading_by a) (values_or_missing a values) rows)) (sym set.0) (set_full again a values rows set.1 none full)
+    subst (λ x. Each Full (used_as x a.id (reading_by a) (values_or_missing a values) rows)) (sym set.0) (set_full again a values rows set.0 set.1 set.2 none full)
 used_full again a values rows (inr help) none full = subst (λ x. Each Full (used_as x a.id (reading_by a) (values_or_missing a values) rows)) (sym help) full
 
 -- ---- the walk over the words
@@ -247,20 +295,16 @@ module _ (s : Shape) (fine : Each Fine s.rules) where
       let parts = both_none (turn_fault s [] w word) _ none in
       walk_full (walked s.rules [] w word) rest parts.1 (turn_full w word parts.0 full)
 
-default_full : (rows : List Row) (a : Rule) → Each Full rows → Each Full (with_default rows a)
-default_full rows a full = go (has_row a.id rows)
+default_full : (rows : List Row) (a : Rule) → Bare a → Each Full rows → Each Full (with_default rows a)
+default_full rows a bare full = subst (λ defaults. Each Full (if has_row a.id rows then rows else default_rows a.id (reading_by a) defaults rows)) (sym bare) (go (has_row a.id rows))
   where
-    given : (defaults : List Text) → Each Full (default_rows a.id (reading_by a) defaults rows)
-    given [] = full
-    given (v ∷ vs) = with_full a.id (reading_by a) DefaultValue (v ∷ vs) rows tt full
-
-    go : (b : Bool) → Each Full (cond b rows (default_rows a.id (reading_by a) a.defaults rows))
+    go : (b : Bool) → Each Full (cond b rows rows)
     go true = full
-    go false = given a.defaults
+    go false = full
 
-defaults_full : (rows : List Row) (c : List Rule) → Each Full rows → Each Full (fold with_default rows c)
-defaults_full rows [] full = full
-defaults_full rows (a ∷ rest) full = defaults_full (with_default rows a) rest (default_full rows a full)
+defaults_full : (rows : List Row) (c : List Rule) → Each Bare c → Each Full rows → Each Full (fold with_default rows c)
+defaults_full rows [] bare full = full
+defaults_full rows (a ∷ rest) bare full = defaults_full (with_default rows a) rest bare.1 (default_full rows a bare.0 full)
 
 first_given : (id : Text) (rows : List Row) → Each Full rows → is_given id rows ≡ true → is_some (first_of id rows) ≡ true
 first_given id rows full given = go (find (λ r. bytes_eq r.id id) rows) (holds_first Full _ rows full) given
@@ -271,30 +315,77 @@ first_given id rows full given = go (find (λ r. bytes_eq r.id id) rows) (holds_
 
     go : (o : Option Row) → Holds Full o → option_map_or (λ r. explicit_source r.source) o false ≡ true → is_some (option_and_then (λ r. slice_get r.values 0) o) ≡ true
     go None is e = absurd (true≢false (sym e))
-    go (Some r) is e = valued r.values is
+    go (Some r) is e = valued r.values is.0
+
+found_passes : {X : Type 0} (p : X → Bool) (xs : List X) → Holds (λ x. p x ≡ true) (find p xs)
+found_passes p [] = tt
+found_passes p (x ∷ xs) = go (p x) refl (found_passes p xs)
+  where
+    go : (b : Bool) → p x ≡ b → Holds (λ x. p x ≡ true) (find p xs) → Holds (λ x. p x ≡ true) (cond b (Some x) (find p xs))
+    go true is later = is
+    go false is later = later
+
+-- the first value of the argument for a number of steps, as it is read
+abbrev pub GivesCount : List Row → Type 0
+GivesCount rows = (text : Text) × (first_of (codes "steps") rows ≡ Some text) × (one_of (codes "steps") rows ≡ Some text) × IsCount text
+
+abbrev Gives : Option Row → Type 0
+Gives o = (text : Text) × (option_and_then (λ r. slice_get r.values 0) o ≡ Some text) × (option_and_then row_text o ≡ Some text) × IsCount text
+
+count_given : (rows : List Row) → Each Full rows → is_given (codes "steps") rows ≡ true → GivesCount rows
+count_given rows full given = go (find (λ r. bytes_eq r.id (codes "steps")) rows) (holds_first Full _ rows full) (found_passes (λ r. bytes_eq r.id (codes "steps")) rows) given
+  where
+    valued : (how : Reading) (values : List Text) → IsCons values → Each IsCount values → how ≡ AsWritten
+        → (text : Text) × (slice_get values 0 ≡ Some text) × (option_map (read_as how) (slice_get values 0) ≡ Some text) × IsCount text
+    valued how [] some each is = absurd some
+    valued how (v ∷ vs) some each is = (v, refl, ap (λ h. Some (read_as h v)) is, each.0)
+
+    go : (o : Option Row) → Holds Full o → Holds (λ r. bytes_eq r.id (codes "steps") ≡ true) o → option_map_or (λ r. explicit_source r.source) o false ≡ true → Gives o
+    go None is same e = absurd (true≢false (sym e))
+    go (Some r) is same e =
+        let counts = is.1 ((bytes_eq-Decides r.id (codes "steps")).0 same) in
+        valued r.reading r.values is.0 counts.0 counts.1
 
 -- what holds after the last check, where a level has no fault
-level_given : (s : Shape) (id : Text) (words : List Text) → Each Fine s.rules → ((rows : List Row) → check_fault s rows false ≡ [] → is_given id rows ≡ true)
-    → level_fault s [] nothing_held words false [] ≡ [] → is_some (first_of id (rows_at s words).1) ≡ true
-level_given s id words fine checked none =
+level_full : (s : Shape) (words : List Text) → Each Fine s.rules → Each Bare s.rules → level_fault s [] nothing_held words false [] ≡ []
+    → Each Full (rows_at s words).1 × (check_fault s (rows_at s words).1 false ≡ [])
+level_full s words fine bare none =
     let end = (walk s.rules [] nothing_held words).held in
     let walk_then = both_none (walk_fault s [] (walk_from nothing_held) words) _ none in
     let settle_then = both_none (settle_fault s.rules s.args_override_self end) _ walk_then.1 in
     let check_then = both_none (defaults_fault (settled s.rules end).rows s.rules) (check_fault s (finished s.rules end) false) settle_then.1 in
     let full = walk_full s fine (walk_from nothing_held) words walk_then.0 tt in
     let settled_all = settled_full s.rules s.args_override_self fine end settle_then.0 full in
-    first_given id (finished s.rules end) (defaults_full (settled s.rules end).rows s.rules settled_all) (checked (finished s.rules end) check_then.1)
+    (defaults_full (settled s.rules end).rows s.rules bare settled_all, check_then.1)
 
 -- ---- the program's command
 
--- the words name one of the two subcommands, and give it its value
+-- the words name one of the three subcommands, and give it its values
+abbrev pub AsksCheck : Text × List Row → Type 0
+AsksCheck p = (p.0 ≡ codes "check") × (is_some (first_of (codes "FILE") p.1) ≡ true)
+
+abbrev pub AsksLoad : Text × List Row → Type 0
+AsksLoad p = (p.0 ≡ codes "load") × (is_some (first_of (codes "STREAM") p.1) ≡ true)
+
+abbrev pub AsksRun : Text × List Row → Type 0
+AsksRun p = (p.0 ≡ codes "run") × (is_some (first_of (codes "IMAGE") p.1) ≡ true) × GivesCount p.1
+
 abbrev pub Asks : Option (Text × List Row) → Type 0
 Asks None = ⊥
-Asks (Some p) = ((p.0 ≡ codes "check") × (is_some (first_of (codes "FILE") p.1) ≡ true)) ⊎ ((p.0 ≡ codes "load") × (is_some (first_of (codes "STREAM") p.1) ≡ true))
+Asks (Some p) = AsksCheck p ⊎ (AsksLoad p ⊎ AsksRun p)
 
 given_from : (b : Bool) → check_kinds false false (not b || false) ≡ [] → b ≡ true
 given_from true e = refl
 given_from false e = absurd (not_none _ _ e)
+
+given_both : (a b : Bool) → check_kinds false false (not a || (not b || false)) ≡ [] → (a ≡ true) × (b ≡ true)
+given_both true true e = (refl, refl)
+given_both true false e = absurd (not_none _ _ e)
+given_both false b e = absurd (not_none _ _ e)
+
+-- an argument of another name
+other : (id : Text) (k : ℕ) {X : Type 0} → slice_index id 0 ≡ k → (k ≡ 115 → ⊥) → id ≡ codes "steps" → X
+other id k first differs e = absurd (differs (sym first ∙ ap (λ t. slice_index t 0) e))
 
 abbrev whole : App
 whole = built lfiload_app
@@ -309,24 +400,41 @@ check_shape = head_or whole.top whole.subs
 abbrev load_shape : Shape
 load_shape = head_or whole.top (drop 1 whole.subs)
 
+abbrev run_shape : Shape
+run_shape = head_or whole.top (drop 2 whole.subs)
+
 check_given : (words : List Text) → level_fault check_shape [] nothing_held words false [] ≡ [] → is_some (first_of (codes "FILE") (rows_at check_shape words).1) ≡ true
-check_given words none = level_given check_shape (codes "FILE") words (inl (refl, refl), (inr refl, tt)) (λ rows e. given_from (is_given (codes "FILE") rows) e) none
+check_given words none =
+    let all = level_full check_shape words (inl (refl, refl, other (codes "FILE") 70 refl (λ e. omega (arith, e))), (inr refl, tt)) (refl, (refl, tt)) none in
+    first_given (codes "FILE") _ all.0 (given_from (is_given (codes "FILE") (rows_at check_shape words).1) all.1)
 
 load_given : (words : List Text) → level_fault load_shape [] nothing_held words false [] ≡ [] → is_some (first_of (codes "STREAM") (rows_at load_shape words).1) ≡ true
-load_given words none = level_given load_shape (codes "STREAM") words (inl (refl, refl), (inl (refl, refl), (inr refl, tt))) (λ rows e. given_from (is_given (codes "STREAM") rows) e) none
+load_given words none =
+    let all = level_full load_shape words (inl (refl, refl, other (codes "out") 111 refl (λ e. omega (arith, e))), (inl (refl, refl, other (codes "STREAM") 83 refl (λ e. omega (arith, e))), (inr refl, tt)))
+    (refl, (refl, (refl, tt))) none in
+    first_given (codes "STREAM") _ all.0 (given_from (is_given (codes "STREAM") (rows_at load_shape words).1) all.1)
 
-abbrev chosen : Bool → Bool → Option Shape
-chosen first second = cond first (Some check_shape) (cond second (Some load_shape) None)
+run_given : (words : List Text) → level_fault run_shape [] nothing_held words false [] ≡ []
+    → (is_some (first_of (codes "IMAGE") (rows_at run_shape words).1) ≡ true) × GivesCount (rows_at run_shape words).1
+run_given words none =
+    let all = level_full run_shape words (inl (refl, refl, λ e. refl), (inl (refl, refl, other (codes "IMAGE") 73 refl (λ e. omega (arith, e))), (inr refl, tt)))
+    (refl, (refl, (refl, tt))) none in
+    let both = given_both (is_given (codes "steps") (rows_at run_shape words).1) (is_given (codes "IMAGE") (rows_at run_shape words).1) all.1 in
+    (first_given (codes "IMAGE") _ all.0 both.1, count_given _ all.0 both.0)
+
+abbrev chosen : Bool → Bool → Bool → Option Shape
+chosen first second third = cond first (Some check_shape) (cond second (Some load_shape) (cond third (Some run_shape) None))
 
 subcommand_asks : (stop : Option (Text × List Text)) → is_some (entered whole stop) ≡ true → entered_fault whole stop ≡ [] → Asks (entered whole stop)
 subcommand_asks None some none = absurd (true≢false (sym some))
-subcommand_asks (Some p) some none = go (answers_to p.0 (label_of check_shape)) (answers_to p.0 (label_of load_shape)) some none
+subcommand_asks (Some p) some none = go (answers_to p.0 (label_of check_shape)) (answers_to p.0 (label_of load_shape)) (answers_to p.0 (label_of run_shape)) some none
   where
-    go : (first second : Bool) → is_some (option_map (λ s. rows_at s p.1) (chosen first second)) ≡ true
-        → option_map_or (λ s. level_fault s [] nothing_held p.1 false []) (chosen first second) [] ≡ [] → Asks (option_map (λ s. rows_at s p.1) (chosen first second))
-    go true second has e = inl (refl, check_given p.1 e)
-    go false true has e = inr (refl, load_given p.1 e)
-    go false false has e = absurd (true≢false (sym has))
+    go : (first second third : Bool) → is_some (option_map (λ s. rows_at s p.1) (chosen first second third)) ≡ true
+        → option_map_or (λ s. level_fault s [] nothing_held p.1 false []) (chosen first second third) [] ≡ [] → Asks (option_map (λ s. rows_at s p.1) (chosen first second third))
+    go true second third has e = inl (refl, check_given p.1 e)
+    go false true third has e = inr (inl (refl, load_given p.1 e))
+    go false false true has e = let given = run_given p.1 e in inr (inr (refl, given.0, given.1))
+    go false false false has e = absurd (true≢false (sym has))
 
 needed : (has : Bool) (rows : List Row) → check_fault whole.top rows has ≡ [] → has ≡ true
 needed true rows e = refl

@@ -1,14 +1,17 @@
 -- The command line: the program's command as the parser sees it, and what its words ask for.
-use Rattle.std.specs.Prelude.{◌≡◌, ⊤, Bool, List, [], codes, Option, Some, true, false, option_map, option_and_then}
+use Rattle.std.specs.Prelude.{◌≡◌, ⊤, ℕ, ◌≤◌, Bool, List, [], codes, Option, Some, true, false, option_map, option_and_then}
 use Rattle.clap.specs.Words.{App, IsAmong, Row, Rule, Text, app_of, fault_of, first_of, kind_of, new_app, new_rule, subcommand_of, with_rule, with_subcommand}
+use Rattle.std.specs.Str.Parse.{IsNumeral, digits_value, without_leading_plus}
 use Rattle.clap.specs.Simple.{on_top}
+use Rattle.clap.specs.declared.builder.value_parser.ValueParser.{ValueParser}
+use Rattle.clap.specs.declared.builder.value_parser.ValueParser.TheVariants.{Unsigned}
 use Rattle.clap.specs.declared.builder.command.Command.{Command}
 use Rattle.clap.specs.declared.builder.command.Command.TheViews.{out-Command}
 use Rattle.clap.specs.declared.error.Error.{Error}
 use Rattle.clap.specs.declared.error.kind.ErrorKind.{ErrorKind}
 use Rattle.clap.specs.declared.error.kind.ErrorKind.TheVariants as kind
 use Rattle.lfi_command_line.specs.declared.command_line.Line.{Line}
-use Rattle.lfi_command_line.specs.declared.command_line.Line.TheVariants.{Check, Load}
+use Rattle.lfi_command_line.specs.declared.command_line.Line.TheVariants.{Check, Load, Run}
 use Rattle.lfi_command_line.specs.declared.command_line.LineFault.{LineFault}
 use Rattle.lfi_command_line.specs.declared.command_line.LineFault.TheVariants.{NoMemory, Help, Wrong}
 
@@ -28,11 +31,23 @@ check_app = with_rule (new_app (codes "check")) (required_rule (codes "FILE"))
 abbrev pub load_app : App
 load_app = with_rule (with_rule (new_app (codes "load")) out_rule) (required_rule (codes "STREAM"))
 
--- the program: one of the two has to be there, and `help` is none
+-- what a number of steps has to be: 0 to 1,000,000,000
+abbrev pub steps_parser : ValueParser
+steps_parser = Unsigned 0 1000000000
+
+-- `--steps N`
+abbrev pub steps_rule : Rule
+steps_rule = record (new_rule (codes "steps")) { long = Some (codes "steps"); value_names = 1; required = true; parser = Some steps_parser }
+
+-- `run IMAGE --steps N`
+abbrev pub run_app : App
+run_app = with_rule (with_rule (new_app (codes "run")) steps_rule) (required_rule (codes "IMAGE"))
+
+-- the program: one of the three has to be there, and `help` is none
 abbrev pub lfiload_app : App
-lfiload_app = with_subcommand (with_subcommand
+lfiload_app = with_subcommand (with_subcommand (with_subcommand
     (on_top (λ s. record s { subcommand_required = true; disable_help_subcommand = true }) (new_app (codes "lfiload")))
-    check_app.top) load_app.top
+    check_app.top) load_app.top) run_app.top
 
 -- the parser's command is the one described, and none of its arguments is global
 abbrev pub Makes : App → Command → Type 0
@@ -50,11 +65,18 @@ name_in words = option_map (λ p. p.0) (asked words)
 abbrev pub value_in : List Text → Text → Option Text
 value_in words id = option_and_then (λ p. first_of id p.1) (asked words)
 
+-- the text is a number of at most 1,000,000,000 in decimal digits, perhaps with a plus before them
+abbrev pub IsStepCount : Text → ℕ → Type 0
+IsStepCount text steps =
+    IsNumeral 10 (without_leading_plus text) × (steps ≡ digits_value 10 (without_leading_plus text)) × (steps ≤ 1000000000)
+
 -- the words ask for this line, and nothing is wrong with them
 abbrev pub IsLine : List Text → Line → Type 0
 IsLine words (Check file) = (fault_of lfiload_app words ≡ []) × (name_in words ≡ Some (codes "check")) × (value_in words (codes "FILE") ≡ Some file.now)
 IsLine words (Load out stream) = (fault_of lfiload_app words ≡ []) × (name_in words ≡ Some (codes "load"))
     × (value_in words (codes "out") ≡ option_map (λ s. s.now) out) × (value_in words (codes "STREAM") ≡ Some stream.now)
+IsLine words (Run image steps) = (fault_of lfiload_app words ≡ []) × (name_in words ≡ Some (codes "run")) × (value_in words (codes "IMAGE") ≡ Some image.now)
+    × ((text : Text) × (value_in words (codes "steps") ≡ Some text) × IsStepCount text steps)
 
 -- a wish for help, which is no mistake
 abbrev pub is_help : ErrorKind → Bool

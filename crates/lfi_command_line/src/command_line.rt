@@ -2,9 +2,10 @@
 
 ghost use Rattle.std.specs.Prelude.{◌≡◌, IfOk, IfErr, map, string_bytes, false};
 ghost use Rattle.clap.specs.Words.{app_of, fault_of};
-ghost use Rattle.lfi_command_line.specs.CommandLine.{Makes, IsLine, IsLineFault, fault_from, check_app, load_app, lfiload_app};
+ghost use Rattle.lfi_command_line.specs.CommandLine.{Makes, IsLine, IsLineFault, fault_from, check_app, load_app, run_app, lfiload_app};
 
 use crate::help;
+use clap::builder::ValueParser;
 use clap::error::ErrorKind;
 use clap::{Arg, ArgMatches, Command, Error};
 use std::alloc::{AllocError, AllocFailed, Global};
@@ -21,6 +22,11 @@ pub enum Line<'a> {
     Load {
         out: Option<&'a str>,
         stream: &'a str,
+    },
+    /// To run the image in a file for at most so many steps, 0 to 1,000,000,000.
+    Run {
+        image: &'a str,
+        steps: u64,
     },
 }
 
@@ -91,6 +97,29 @@ fn load_command<'a>(alloc: Global) -> Result<Command<'a>, AllocError>
         .arg(stream)
 }
 
+/// The most steps that `run` is asked for.
+const MOST_STEPS: u64 = 1_000_000_000;
+
+/// The command `run` and its words.
+fn run_command<'a>(alloc: Global) -> Result<Command<'a>, AllocError>
+    ensures { IfOk result (Makes run_app) }
+{
+    let steps = Arg::new(alloc, "steps")
+        .long("steps")
+        .value_name("N")
+        .help("how many steps it may take, 0 to 1000000000")
+        .required(true)
+        .value_parser(ValueParser::Unsigned(0, MOST_STEPS));
+    let image = Arg::new(alloc, "IMAGE")
+        .help("the file of an image, as load --out writes it")
+        .required(true);
+    Command::new(alloc, "run")
+        .about("Runs an image in a simulated machine")
+        .after_help(help::RUN)
+        .arg(steps)?
+        .arg(image)
+}
+
 /// The program's command, with its subcommands.
 fn command<'a>(alloc: Global) -> Result<Command<'a>, AllocError>
     ensures { IfOk result (Makes lfiload_app) }
@@ -101,7 +130,8 @@ fn command<'a>(alloc: Global) -> Result<Command<'a>, AllocError>
         .subcommand_required(true)
         .disable_help_subcommand(true)
         .subcommand(check_command(alloc)?)?
-        .subcommand(load_command(alloc)?)
+        .subcommand(load_command(alloc)?)?
+        .subcommand(run_command(alloc)?)
 }
 
 /// Parses the words of the command line, of which the first is the program's name.
@@ -116,6 +146,12 @@ pub fn read_line<'a>(alloc: Global, words: &'a [String]) -> Result<Line<'a>, Lin
     if let Some(check) = matches.subcommand_matches("check") {
         return Ok(Line::Check {
             file: check.get_str("FILE").unwrap(),
+        });
+    }
+    if let Some(run) = matches.subcommand_matches("run") {
+        return Ok(Line::Run {
+            image: run.get_str("IMAGE").unwrap(),
+            steps: run.get_one::<u64>("steps").unwrap(),
         });
     }
     let load = matches.subcommand_matches("load").unwrap();

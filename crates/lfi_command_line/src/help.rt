@@ -3,6 +3,7 @@
 /// Of the program: the exit statuses.
 pub const PROGRAM: &str = "Exit status:
   0  check: the code is lawful. load: each module is complete or unused, and no connection has a fault.
+     run: the run ended with a status, at BRK, or when all steps were used.
   1  It isn't so: the printed lines say why.
   2  The words of the command line are wrong.
   3  A device failed, or memory was refused: a line on the standard error says which.";
@@ -36,3 +37,25 @@ On the standard error:
   lfiload: cannot read PATH   The stream can't be read; nothing is loaded (status 3).
   lfiload: cannot write PATH  An image can't be written (status 3).
   lfiload: no memory          There was no memory to load it (status 3).";
+
+/// Of `run`: its lines.
+pub const RUN: &str =
+    "The code starts at its entry with the base of its slot in x18, x21, x23, x24 and x30, the end of its slot in sp,
+and 0 in all other registers. Calls of the runtime: entry 0 ends the run with the low byte of x0 as its status;
+entry 1 writes the low byte of x0 to the standard output; every other sets all bits of x0.
+
+Prints one line on the standard error:
+  halt 1 after N steps            All steps were used (status 0).
+  halt 2 at ADDRESS after N steps The byte at ADDRESS may not be accessed so (status 1).
+  halt 3 at ADDRESS after N steps No word of the code begins at pc, which is ADDRESS (status 1).
+  halt 4 at ADDRESS after N steps BRK, at ADDRESS (status 0).
+  halt 5 status S after N steps   The code ended the run with S; 255 where its output can't be written (status 0).
+  halt 6 after N steps            The runtime answered registers that aren't lawful (status 1).
+  halt 7 after N steps            There was no memory for a byte that is written (status 3).
+  image refused, fault F          There is no image: 1 it doesn't begin with LFI1, 2 its profile, 3 its counts, 4 its base,
+                                  5 it is cut, 6 bytes follow it (status 1), 8 no memory, 9 a read failed (status 3).
+  image refused, fault 7, word K rule R  Its code breaks a rule (status 1).
+  lfiload: cannot read PATH       The file can't be opened (status 3).
+  lfiload: no memory              There was no memory for the machine (status 3).
+
+Example: lfiload run module-00.img --steps 1000";

@@ -1,5 +1,10 @@
 -- How a run ends, by what it found. (this project's profile: docs/DEFINITIONS.md, "The program")
 use Rattle.std.specs.Prelude.{ℕ}
+use Rattle.lfi_image.specs.declared.fault.ImageFault.TheVariants as image_fault
+use Rattle.slot_access.specs.declared.halt.Halt.{Halt}
+use Rattle.slot_access.specs.declared.halt.Halt.TheVariants as halts
+use Rattle.lfi_run.specs.declared.image_run.ImageRun.{ImageRun}
+use Rattle.lfi_run.specs.declared.image_run.ImageRun.TheVariants as image_run
 use Rattle.lfi_stage.specs.declared.settle.Report.{Report}
 use Rattle.lfi_commands.specs.declared.verdict.Verdict.{Verdict}
 use Rattle.lfi_commands.specs.declared.verdict.Verdict.TheVariants.{Lawful, Refused, BadLength}
@@ -27,3 +32,20 @@ EndsBy report Well = IsWell (summary_of report)
 EndsBy report NotWell = ¬ (IsWell (summary_of report))
 EndsBy report WrongWords = ⊥
 EndsBy report Failed = ⊥
+
+-- by why the run of an image ended
+abbrev pub ending_of_halt : Halt → Ending
+ending_of_halt halts.StepsUsed = Well
+ending_of_halt (halts.NoAccess address) = NotWell
+ending_of_halt (halts.NoFetch pc) = NotWell
+ending_of_halt (halts.Breakpoint pc) = Well
+ending_of_halt (halts.Ended status) = Well
+ending_of_halt halts.UnlawfulAnswer = NotWell
+ending_of_halt halts.NoMemory = Failed
+
+-- by what came of an image's file
+abbrev pub ending_of_run : ImageRun → Ending
+ending_of_run (image_run.Refused image_fault.NoMemory) = Failed
+ending_of_run (image_run.Refused image_fault.Device) = Failed
+ending_of_run (image_run.Refused fault) = NotWell
+ending_of_run (image_run.Ended halt steps) = ending_of_halt halt

@@ -6,7 +6,7 @@ use Rattle.lfi_place.specs.declared.report.ModuleReport.{ModuleReport}
 use Rattle.lfi_stage.specs.declared.settle.Report.{Report}
 use Rattle.lfi_stage.specs.Stages.{IsLoaded}
 use Rattle.lfi_command_line.specs.declared.command_line.Line.{Line}
-use Rattle.lfi_command_line.specs.declared.command_line.Line.TheVariants.{Check, Load}
+use Rattle.lfi_command_line.specs.declared.command_line.Line.TheVariants.{Check, Load, Run}
 use Rattle.lfi_command_line.specs.CommandLine.{IsLine, AsksHelp, AreWrong}
 use Rattle.lfi_commands.specs.declared.verdict.Verdict.{Verdict}
 use Rattle.lfi_commands.specs.declared.ending.Ending.{Ending}
@@ -14,10 +14,13 @@ use Rattle.lfi_commands.specs.declared.ending.Ending.TheVariants.{Well, NotWell,
 use Rattle.lfi_commands.specs.declared.failure.Failure.{Failure}
 use Rattle.lfi_commands.specs.declared.failure.Failure.TheVariants.{CannotRead, CannotWrite, NoMemory}
 use Rattle.lfi_commands.specs.Checking.{Checks, verdict_text}
-use Rattle.lfi_commands.specs.Endings.{ending_of, EndsBy}
+use Rattle.lfi_commands.specs.Endings.{ending_of, ending_of_run, EndsBy}
 use Rattle.lfi_commands.specs.Failures.{failure_line, Told}
 use Rattle.lfi_commands.specs.Images.{images_in, WritesImages}
 use Rattle.lfi_model.specs.Texts.{summary_text}
+use Rattle.lfi_run.specs.declared.image_run.ImageRun.{ImageRun}
+use Rattle.lfi_run.specs.Runs.{CameOf}
+use Rattle.lfi_run.specs.Texts.{run_text}
 use Rattle.lfi_stage.specs.Summaries.{summary_of}
 
 -- Of code that has these bytes, where they are known, one verdict was found; its line was written, and it gives the ending.
@@ -60,15 +63,31 @@ pub record FindsReport (bytes folder : Option (List ℕ)) (old new : Left) (endi
   pub images : WritesImages (folder_or_none folder) (asked_images folder report.modules) old.put new.put new.is_lost old.errors new.errors all
   pub ends : EndsLoad report all ending
 
+-- the ending of a run of an image: by what came of it, where that was told
+abbrev pub EndsRun : (is_lost : Bool) → ImageRun → Ending → Type 0
+EndsRun true run ending = ending ≡ Failed
+EndsRun false run ending = ending ≡ ending_of_run run
+
+-- A file that has these bytes, where they are known, was run as an image for at most so many steps; one thing came of it, its
+-- line was told, and it gives the ending.
+pub record FindsRun (bytes : Option (List ℕ)) (steps : ℕ) (out_old out_new : Option (List ℕ)) (is_lost : Bool) (errors_old errors_new : Option (List ℕ)) (ending : Ending) : Type 0 where
+  pub run : ImageRun
+  pub came : CameOf bytes steps out_old out_new run
+  pub told : Told is_lost errors_old errors_new (run_text run ++ codes "\n")
+  pub ends : EndsRun is_lost run ending
+
 -- What the line asks for was carried out, with this ending.
 abbrev pub CarriesOut : Line → (List ℕ → Option (List ℕ)) → (old new : Left) → Ending → Type 0
 CarriesOut (Check file) file_at old new ending = FindsVerdict (file_at file.now) old.out new.out ending × (new.put ≡ old.put) × (new.errors ≡ old.errors)
 CarriesOut (Load folder stream) file_at old new ending = FindsReport (file_at stream.now) (option_map (λ s. s.now) folder) old new ending
+CarriesOut (Run image steps) file_at old new ending =
+    FindsRun (file_at image.now) steps old.out new.out new.is_lost old.errors new.errors ending × (new.put ≡ old.put)
 
 -- the file that the line wants to be read
 abbrev pub input_of : Line → List ℕ
 input_of (Check file) = file.now
 input_of (Load folder stream) = stream.now
+input_of (Run image steps) = image.now
 
 -- The words ask for a line, and it was carried out.
 abbrev pub CarriesOutWords : List (List ℕ) → (List ℕ → Option (List ℕ)) → (old new : Left) → Ending → Type 0

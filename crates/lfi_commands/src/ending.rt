@@ -1,15 +1,18 @@
 //! How a run of the program ends.
 
 ghost use Rattle.std.specs.Prelude.{◌≡◌};
-ghost use Rattle.lfi_commands.specs.Endings.{number_of, ending_of, EndsBy};
+ghost use Rattle.lfi_commands.specs.Endings.{number_of, ending_of, ending_of_run, EndsBy};
 
 use crate::verdict::Verdict;
+use lfi_image::ImageFault;
+use lfi_run::{Halt, ImageRun};
 use lfi_stage::settle::Report;
 
 /// How a run of the program ends.
 #[derive(Clone, Copy, PartialEq, Eq, Debug)]
 pub enum Ending {
-    /// The code is lawful; or each module is complete or unused and no connection has a fault; or help was asked for.
+    /// The code is lawful; or each module is complete or unused and no connection has a fault; or an image ran until it ended
+    /// with a status, came to BRK or used all steps; or help was asked for.
     Well,
     /// It isn't so: the printed lines say why.
     NotWell,
@@ -51,6 +54,23 @@ impl Ending {
             Ending::Well
         } else {
             Ending::NotWell
+        }
+    }
+
+    /// The ending that the run of an image gives.
+    pub fn of_run(run: &ImageRun) -> Ending
+        ensures { result ≡ ending_of_run run.now }
+    {
+        match run {
+            ImageRun::Refused(fault) => match fault {
+                ImageFault::NoMemory | ImageFault::Device => Ending::Failed,
+                _ => Ending::NotWell,
+            },
+            ImageRun::Ended { halt, .. } => match halt {
+                Halt::StepsUsed | Halt::Breakpoint(_) | Halt::Ended(_) => Ending::Well,
+                Halt::NoAccess(_) | Halt::NoFetch(_) | Halt::UnlawfulAnswer => Ending::NotWell,
+                Halt::NoMemory => Ending::Failed,
+            },
         }
     }
 }

@@ -1,6 +1,6 @@
 //! Where the program tells what went wrong.
 
-ghost use Rattle.std.specs.Prelude.{◌≡◌, false, true, IfSome};
+ghost use Rattle.std.specs.Prelude.{◌≡◌, ◌++◌, false, true, IfSome, codes};
 ghost use Rattle.lfi_commands.specs.Errors.{is_lost_of, writer_of};
 ghost use Rattle.lfi_commands.specs.Failures.{failure_line, Told};
 
@@ -59,6 +59,16 @@ impl<W: Write> Errors<W> {
         ensures lost { is_lost_of self.old ≡ true → is_lost_of self.new ≡ true }
     {
         if write!(self.writer, "{text}").is_err() {
+            self.is_lost = true;
+        }
+    }
+
+    /// Writes a text as a line.
+    pub fn write_line<T: Display + Drop>(&mut self, text: T)
+        ensures told { IfSome (T.output text) (λ bytes. Told (is_lost_of self.new) (W.contents (writer_of self.old)) (W.contents (writer_of self.new)) (bytes ++ codes "\n")) }
+        ensures lost { is_lost_of self.old ≡ true → is_lost_of self.new ≡ true }
+    {
+        if writeln!(self.writer, "{text}").is_err() {
             self.is_lost = true;
         }
     }

@@ -1,4 +1,4 @@
-//! The commands of `lfiload`: `check` and `load` over any reader and writer, their texts, failures and
+//! The commands of `lfiload`: `check`, `load` and `run` over any reader and writer, their texts, failures and
 //! exit statuses, and the files that they read and write.
 #![tactic(auto)]
 

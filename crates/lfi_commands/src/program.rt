@@ -5,7 +5,7 @@ ghost use Rattle.lfi_command_line.specs.CommandLine.{IsLineFault};
 ghost use Rattle.lfi_commands.specs.Errors.{is_lost_of, writer_of};
 ghost use Rattle.lfi_commands.specs.Failures.{FailsOn, TellsRead};
 ghost use Rattle.lfi_commands.specs.Images.{WritesImages};
-ghost use Rattle.lfi_commands.specs.Runs.{asked_images, folder_or_none, left, input_of, FindsVerdict, FindsReport, CarriesOut, Runs};
+ghost use Rattle.lfi_commands.specs.Runs.{asked_images, folder_or_none, left, input_of, FindsVerdict, FindsReport, FindsRun, CarriesOut, Runs};
 
 use crate::commands::{check_file, load};
 use crate::disk::Disk;
@@ -15,6 +15,7 @@ use crate::failure::{Failure, OUTPUT};
 use crate::images::write_images;
 use lfi_command_line::{Line, LineFault, read_line};
 use lfi_place::ModuleReport;
+use lfi_run::run_image;
 use std::alloc::Global;
 use std::io::Write;
 use std::sync::Wait;
@@ -96,6 +97,29 @@ fn run_load<S: Wait, D: Disk, O: Write, E: Write>(
     }
 }
 
+/// Runs the image in a file for at most so many steps, and tells what comes of it.
+fn run_run<D: Disk, O: Write, E: Write>(
+    alloc: Global,
+    disk: &D,
+    path: &str,
+    steps: u64,
+    out: &mut O,
+    errors: &mut Errors<E>,
+) -> Result<Ending, Failure>
+    ensures found { IfOk result (FindsRun (D.file_at disk.now path.now) steps (O.contents out.old) (O.contents out.new)
+        (is_lost_of errors.new) (E.contents (writer_of errors.old)) (E.contents (writer_of errors.new))) }
+    ensures failure { IfErr result (FailsOn path.now) }
+    ensures errors { OnErr result (errors.new ≡ errors.old) }
+{
+    let mut reader = open(alloc, disk, path)?;
+    let run = run_image(alloc, &mut reader, steps, out)?;
+    errors.write_line(run);
+    if !errors.is_lost() {
+        return Ok(Ending::of_run(&run));
+    }
+    Ok(Ending::Failed)
+}
+
 /// Carries out what the program is asked for.
 fn run<S: Wait, D: Disk, O: Write, E: Write>(
     rt: &S,
@@ -118,6 +142,7 @@ fn run<S: Wait, D: Disk, O: Write, E: Write>(
             out: folder,
             stream,
         } => run_load(rt, alloc, disk, folder, stream, out, errors),
+        Line::Run { image, steps } => run_run(alloc, disk, image, steps, out, errors),
     }
 }
 

@@ -31,8 +31,8 @@ impl<'a> Read for SlowReader<'a> {
 
 /// Takes `left` bytes more, and then fails.
 #[derive(Drop)]
-struct FullWriter {
-    left: usize,
+pub struct FullWriter {
+    pub left: usize,
 }
 
 impl Write for FullWriter {

@@ -8,6 +8,8 @@ mod devices;
 #[cfg(test)]
 mod disks;
 #[cfg(test)]
+mod images;
+#[cfg(test)]
 mod loads;
 #[cfg(test)]
 mod runs;

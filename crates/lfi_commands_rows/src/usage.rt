@@ -3,13 +3,20 @@
 use crate::runs::run_line;
 use std::test::Fail;
 
-const WRONG: [&str; 8] = [
+const WRONG: [&str; 15] = [
     "lfiload",
     "lfiload check",
     "lfiload check a b",
     "lfiload check --out images a",
     "lfiload load",
     "lfiload load --out images",
+    "lfiload run",
+    "lfiload run a",
+    "lfiload run --steps 5",
+    "lfiload run a --steps",
+    "lfiload run a --steps 1000000001",
+    "lfiload run a --steps=-1",
+    "lfiload run a --steps x",
     "lfiload help",
     "lfiload unknown a",
 ];
@@ -32,7 +39,7 @@ struct Help {
     text: &'static str,
 }
 
-const HELPS: [Help; 3] = [
+const HELPS: [Help; 4] = [
     Help {
         line: "lfiload --help",
         text: "Exit status:",
@@ -44,6 +51,10 @@ const HELPS: [Help; 3] = [
     Help {
         line: "lfiload load --help",
         text: "module M: page fault, index I",
+    },
+    Help {
+        line: "lfiload run --help",
+        text: "lfiload run module-00.img --steps 1000",
     },
 ];
 

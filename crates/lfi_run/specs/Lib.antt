@@ -1,0 +1,4 @@
+pub mod Serving
+pub mod Runs
+pub mod Texts
+pub mod inner

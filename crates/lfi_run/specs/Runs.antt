@@ -1,0 +1,40 @@
+-- What comes of an image file that is run. (this project's profile: docs/DEFINITIONS.md, "The program")
+use Rattle.std.specs.Prelude.{◌≡◌, ◌↔◌, ◌≤◌, ◌⊎◌, ℕ, List, Option, IfSome}
+use Rattle.std.specs.Io.KnownBytes.{Keeps}
+use Rattle.sparse_memory.specs.Kept.{byte_at}
+use Rattle.lfi_image.specs.Image.{Image, IsImage, FileOf}
+use Rattle.lfi_image.specs.Reading.{IsFault}
+use Rattle.slot_access.specs.declared.halt.Halt.{Halt}
+use Rattle.slot_access.specs.declared.halt.Halt.TheVariants.{StepsUsed, Ended as EndedWith}
+use Rattle.a64_machine.specs.Starts.{start_of}
+use Rattle.a64_machine.specs.Runs.{Config, IsConfined, RanThenHalts}
+use Rattle.lfi_run.specs.declared.image_run.ImageRun.{ImageRun}
+use Rattle.lfi_run.specs.declared.image_run.ImageRun.TheVariants.{Refused, Ended}
+use Rattle.lfi_run.specs.Serving.{serves}
+
+-- All that was printed is in the output, and the halt that is told is that of the run; or it could not be written, and an end
+-- with the status 255 is told.
+abbrev pub IsWritten : (printed out : Option (List ℕ)) → (halt told : Halt) → Type 0
+IsWritten printed out halt told = (Keeps printed out × (told ≡ halt)) ⊎ (told ≡ EndedWith 255)
+
+-- A machine was made of the image, at the registers of its start and with no byte written, from which no run escapes. It ran for
+-- so many steps with the program's runtime, and then halted.
+pub record RunsImage (image : Image) (steps : ℕ) (old new : Option (List ℕ)) (told : Halt) (count : ℕ) : Type 0 where
+  pub start : Config
+  pub registers : start.registers ≡ start_of image
+  pub placed : start.owned.image ≡ image
+  pub unwritten : (offset : ℕ) → byte_at start.owned.kept offset ≡ 0
+  pub confined : IsConfined start
+  pub last : Config
+  pub halt : Halt
+  pub printed : Option (List ℕ)
+  pub ran : RanThenHalts serves start old halt count last printed
+  pub within : count ≤ steps
+  pub used : (halt ≡ StepsUsed) ↔ (count ≡ steps)
+  pub written : IsWritten printed new halt told
+
+-- Of a file with these bytes, where they are known: it has a fault, and nothing is printed; or it is an image's, which runs.
+abbrev pub CameOf : (bytes : Option (List ℕ)) → (steps : ℕ) → (old new : Option (List ℕ)) → ImageRun → Type 0
+CameOf bytes steps old new (Refused fault) = IfSome bytes (λ xs. IsFault xs fault) × (new ≡ old)
+CameOf bytes steps old new (Ended halt count) =
+    (image : Image) × IsImage image × IfSome bytes (λ xs. FileOf image xs) × RunsImage image steps old new halt count

@@ -1,0 +1,35 @@
+-- What is told of an image file that was run. (this project's profile: docs/DEFINITIONS.md, "The program")
+use Rattle.std.specs.Prelude.{ℕ, ◌-◌, List, ◌++◌, length, codes, decimal, replicate, false}
+use Rattle.std.specs.Fmt.{digits}
+use Rattle.lfi_rules.specs.Texts.{fault_text}
+use Rattle.lfi_image.specs.Faults.{number_of}
+use Rattle.lfi_image.specs.declared.fault.ImageFault.{ImageFault}
+use Rattle.lfi_image.specs.declared.fault.ImageFault.TheVariants.{Unlawful}
+use Rattle.slot_access.specs.declared.halt.Halt.{Halt}
+use Rattle.slot_access.specs.declared.halt.Halt.TheVariants.{StepsUsed, NoAccess, NoFetch, Breakpoint, Ended as EndedWith, UnlawfulAnswer, NoMemory}
+use Rattle.lfi_run.specs.declared.image_run.ImageRun.{ImageRun}
+use Rattle.lfi_run.specs.declared.image_run.ImageRun.TheVariants.{Refused, Ended}
+
+-- an address: `0x` and its hexadecimal digits, with zeros before them up to 16
+abbrev pub address_text : ℕ → List ℕ
+address_text address = codes "0x" ++ replicate (16 - length (digits 16 false address)) 48 ++ digits 16 false address
+
+-- why a run ended
+abbrev pub halt_text : Halt → List ℕ
+halt_text StepsUsed = codes "halt 1"
+halt_text (NoAccess address) = codes "halt 2 at " ++ address_text address
+halt_text (NoFetch pc) = codes "halt 3 at " ++ address_text pc
+halt_text (Breakpoint pc) = codes "halt 4 at " ++ address_text pc
+halt_text (EndedWith status) = codes "halt 5 status " ++ decimal status
+halt_text UnlawfulAnswer = codes "halt 6"
+halt_text NoMemory = codes "halt 7"
+
+-- why there is no image
+abbrev pub refusal_text : ImageFault → List ℕ
+refusal_text (Unlawful fault) = codes "image refused, fault 7, " ++ fault_text fault
+refusal_text fault = codes "image refused, fault " ++ decimal (number_of fault)
+
+-- the line, without its end
+abbrev pub run_text : ImageRun → List ℕ
+run_text (Refused fault) = refusal_text fault
+run_text (Ended halt steps) = halt_text halt ++ codes " after " ++ decimal steps ++ codes " steps"
