@@ -121,6 +121,7 @@ impl Machine {
                 return (halt, count);
             }
         }
+        // What the type keeps is read here, for the clause `confined`.
         let _ = &self.slot;
         (Halt::StepsUsed, steps)
     }

@@ -7,6 +7,7 @@ ghost use Rattle.lfi_confinement.specs.Slots.{base, permission_at, is_permitted,
 ghost use Rattle.lfi_confinement.specs.Moves.{first_denied};
 ghost use Rattle.slot_memory.specs.Owned.{code, memory, fault_number, IsLocated};
 
+use crate::map::{CODE, ENTRIES, ENTRY, SLOT, TABLE};
 use a64_word::Size;
 use lfi_image::CompleteImage;
 use sparse_memory::SparseMemory;
@@ -48,12 +49,6 @@ pub fn bytes_of(size: Size) -> u32
         Size::Double => 8,
     }
 }
-
-const SLOT: u64 = 1 << 32;
-
-const TABLE: u64 = 4096;
-
-const CODE: u64 = 65536;
 
 /// The bytes of a slot, with the image that lies in it.
 ///
@@ -190,7 +185,7 @@ impl Data {
     {
         let at = u64::from(offset);
         if at < TABLE {
-            let entry = (1u64 << 40) + 16 * (at / 8);
+            let entry = ENTRIES + ENTRY * (at / 8);
             ((entry >> (8 * (at % 8))) & 0xFF) as u8
         } else if at < self.first {
             let place = at.saturating_sub(CODE) / 4;
