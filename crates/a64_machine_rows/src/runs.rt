@@ -1,7 +1,7 @@
 //! Runs from the registers of the start.
 
 use crate::host::{Host, Wide, Writer, image, started};
-use a64_machine::{Halt, Machine, StartFault, start_registers};
+use a64_machine::{DataFault, Halt, Machine, start_registers};
 use std::test::Fail;
 
 /// The first word's address in slot 0.
@@ -68,39 +68,64 @@ fn refuses_an_unlawful_answer(rt: HostRuntime) -> Result<(), Fail> {
 
 #[test]
 fn a_runtime_writes_data_alone(rt: HostRuntime) -> Result<(), Fail> {
-    let mut machine = started(rt.alloc(), &CALL)?;
+    // LDR X30, [X21, #8]; BLR X30
+    let mut machine = started(rt.alloc(), &[0xF94006BE, 0xD63F03C0])?;
     let mut writer = Writer {
-        code_refused: false,
-        above_refused: false,
-        written: false,
+        answers: [Ok(()); 4],
     };
     let (halt, count) = machine.run(2, &mut writer);
-    assert!(rt; halt == Halt::StepsUsed);
-    assert!(rt; count == 2);
-    assert!(rt; writer.written);
-    assert!(rt; writer.code_refused && writer.above_refused);
-    let slot = machine.slot();
-    assert!(rt; slot.read(0x1_8000_0000) == Some(7));
-    assert!(rt; slot.read(0x1_0000_1000).is_none());
+    assert!(rt; halt == Halt::StepsUsed && count == 2);
+    let [table, code, data, above] = writer.answers;
+    assert!(rt; table == Err(DataFault::NotWritable));
+    assert!(rt; code == table && above == table);
+    assert!(rt; data == Ok(()));
+    assert!(rt; machine.slot().read(0x1_FFFF_FFF0) == Some(7));
+    assert!(rt; machine.slot().read(0x1_0001_0000) == Some(0xBE));
     Ok(())
 }
 
 #[test]
-fn registers_one_past_their_range(rt: HostRuntime) -> Result<(), Fail> {
-    let lawful = start_registers(&image(rt.alloc(), &CALL)?);
-    let mut wide = lawful;
-    wide.x[22] = 1 << 32;
-    let mut low = lawful;
-    low.sp = 0x1_0000_0000 - 513;
-    let mut flags = lawful;
-    flags.nzcv = 16;
-    for (registers, fault) in [
-        (wide, StartFault::Offset),
-        (low, StartFault::Stack),
-        (flags, StartFault::Flags),
-    ] {
-        let image = image(rt.alloc(), &CALL)?;
-        assert!(rt; Machine::new(rt.alloc(), image, registers).err() == Some(fault));
-    }
+fn a_call_is_answered(rt: HostRuntime) -> Result<(), Fail> {
+    // LDR X30, [X21, #8]; BLR X30
+    let mut machine = started(rt.alloc(), &[0xF94006BE, 0xD63F03C0])?;
+    let (halt, count) = machine.run(1000, &mut Host);
+    assert!(rt; halt == Halt::NoFetch(CODE + 8));
+    assert!(rt; count == 2);
+    let registers = machine.registers();
+    assert!(rt; registers.x[0] == u64::MAX);
+    assert!(rt; registers.x[30] == CODE + 8);
+    Ok(())
+}
+
+#[test]
+fn loads_its_own_code(rt: HostRuntime) -> Result<(), Fail> {
+    // LDR X0, [SP], #-256; B #-4
+    let image = image(rt.alloc(), &[0xF85007E0, 0x17FFFFFF])?;
+    let mut registers = start_registers(&image);
+    registers.sp = CODE;
+    let Ok(mut machine) = Machine::new(rt.alloc(), image, registers) else {
+        return Err(Fail::from("the machine was refused"));
+    };
+    let (halt, count) = machine.run(1000, &mut Host);
+    assert!(rt; halt == Halt::NoAccess(0x1_0000_FF00));
+    assert!(rt; count == 2);
+    assert!(rt; machine.registers().x[0] == 0x17FF_FFFF_F850_07E0);
+    Ok(())
+}
+
+#[test]
+fn an_index_of_32_bits(rt: HostRuntime) -> Result<(), Fail> {
+    // LDR X0, [X21, W1, UXTW]
+    let image = image(rt.alloc(), &[0xF8614AA0])?;
+    let mut registers = start_registers(&image);
+    registers.x[1] = 0xFFFF_FFFF;
+    let Ok(mut machine) = Machine::new(rt.alloc(), image, registers) else {
+        return Err(Fail::from("the machine was refused"));
+    };
+    let (halt, count) = machine.run(1000, &mut Host);
+    assert!(rt; halt == Halt::NoAccess(0x2_0000_0000));
+    assert!(rt; count == 0);
+    let (halt, count) = machine.run(0, &mut Host);
+    assert!(rt; halt == Halt::StepsUsed && count == 0);
     Ok(())
 }
