@@ -1,7 +1,7 @@
 ghost use Rattle.std.specs.Prelude.{◌≡◌, ℕ, ◌+◌, ◌-◌, ◌*◌, ◌^◌, ◌<◌, ◌≤◌, true, false, Bool, length, SomeIff, IfOk, IfErr, OnOk, OnErr, IsErrOf, IsTrue, Some, None};
 ghost use Rattle.a64_word.specs.Operands.{size_code};
 ghost use Rattle.sparse_memory.specs.Bytes.{number_at};
-ghost use Rattle.sparse_memory.specs.Kept.{byte_at, AreKept, SameBytes, SamePages, WritesByte, WritesNumber};
+ghost use Rattle.sparse_memory.specs.Kept.{byte_at, AreKept, KeepsOnly, SameBytes, SamePages, WritesByte, WritesNumber};
 ghost use Rattle.lfi_image.specs.Image.{IsImage};
 ghost use Rattle.lfi_confinement.specs.Slots.{base, permission_at, is_permitted, byte_in};
 ghost use Rattle.lfi_confinement.specs.Moves.{first_denied};
@@ -219,6 +219,7 @@ impl Data {
         ensures not_writable { IsErrOf result DataFault.NotWritable → is_permitted true (permission_at (code self.old) at) ≡ false }
         ensures no_memory { IsErrOf result DataFault.NoMemory → is_permitted true (permission_at (code self.old) at) ≡ true }
         ensures unchanged { OnErr result (SameBytes self.old.kept self.new.kept) }
+        ensures only { KeepsOnly self.old.kept self.new.kept (at - base (code self.old)) 1 }
     {
         if !self.is_permitted(true, at) {
             return Err(DataFault::NotWritable);
@@ -275,6 +276,7 @@ impl Data {
         requires within { offset + bytes ≤ 2 ^ 32 }
         ensures ok { OnOk result (AreKept self.new.kept offset bytes) }
         ensures bytes { SameBytes self.old.kept self.new.kept }
+        ensures only { KeepsOnly self.old.kept self.new.kept offset bytes }
         ensures image { self.new.image ≡ self.old.image }
     {
         self.memory.keep(offset, bytes)
