@@ -63,12 +63,12 @@ impl Runtime for Writer {
     }
 }
 
-/// The image of these words, one page of them, in slot 0 from word 0.
+/// The image of these words in slot 0 from word 0.
 pub fn image(alloc: Global, words: &[u32]) -> Result<CompleteImage, Fail> {
     image_in(alloc, ModuleNumber::at(0), 0, words)
 }
 
-/// The image of these words, one page of them, in a slot and from a word.
+/// The image of these words in a slot and from a word.
 pub fn image_in(
     alloc: Global,
     slot: ModuleNumber,
@@ -81,8 +81,8 @@ pub fn image_in(
             code.push(byte)?;
         }
     }
-    if code.is_empty() || code.len() > 4096 || code.len() % 4 != 0 {
-        return Err(Fail::from("the code is no page"));
+    if code.len() > 16384 {
+        return Err(Fail::from("the code is too long"));
     }
     let Some(count) = WordCount::new((code.len() / 4) as u32) else {
         return Err(Fail::from("no module has so many words"));
@@ -91,7 +91,21 @@ pub fn image_in(
         return Err(Fail::from("the entry is no word of the module"));
     };
     let mut builder = Builder::new(alloc, extent, slot)?;
-    let page = SealedPage::of(alloc, &code)?;
+    for bytes in code.chunks(4096) {
+        append(alloc, &mut builder, bytes)?;
+    }
+    match builder.finish() {
+        Ok(image) => Ok(image),
+        Err(_) => Err(Fail::from("words are missing")),
+    }
+}
+
+/// Appends a page of these bytes.
+fn append(alloc: Global, builder: &mut Builder, bytes: &[u8]) -> Result<(), Fail> {
+    if bytes.is_empty() || bytes.len() > 4096 || bytes.len() % 4 != 0 {
+        return Err(Fail::from("the code is no page"));
+    }
+    let page = SealedPage::of(alloc, bytes)?;
     if page.len_words() != builder.due() as usize {
         return Err(Fail::from("the page has not the words due"));
     }
@@ -99,10 +113,7 @@ pub fn image_in(
     if builder.append(page).is_err() {
         return Err(Fail::from("the code breaks a rule"));
     }
-    match builder.finish() {
-        Ok(image) => Ok(image),
-        Err(_) => Err(Fail::from("words are missing")),
-    }
+    Ok(())
 }
 
 /// A machine of these words, at the registers of the start.

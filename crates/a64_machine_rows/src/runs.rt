@@ -1,7 +1,9 @@
 //! Runs from the registers of the start.
 
-use crate::host::{Host, Wide, Writer, image, started};
+use crate::host::{Host, Wide, Writer, image, image_in, started};
 use a64_machine::{DataFault, Halt, Machine, start_registers};
+use lfi_module::ModuleNumber;
+use std::alloc::Global;
 use std::test::Fail;
 
 /// The first word's address in slot 0.
@@ -127,5 +129,59 @@ fn an_index_of_32_bits(rt: HostRuntime) -> Result<(), Fail> {
     assert!(rt; count == 0);
     let (halt, count) = machine.run(0, &mut Host);
     assert!(rt; halt == Halt::StepsUsed && count == 0);
+    Ok(())
+}
+
+/// So many NOPs, but word 1 is B to word 2048, that one B to word 2050, and word 2049 B to word 1.
+fn jumps(alloc: Global, count: u32) -> Result<Vec<u32>, Fail> {
+    let mut words = Vec::new(alloc);
+    for place in 0..count {
+        words.push(match place {
+            1 => 0x140007FF,
+            2048 => 0x14000002,
+            2049 => 0x17FFF800,
+            _ => 0xD503201F,
+        })?;
+    }
+    Ok(words)
+}
+
+/// A run that begins on the last of three pages, goes to the first and back, and ends past the last word.
+#[test]
+fn goes_from_page_to_page(rt: HostRuntime) -> Result<(), Fail> {
+    let words = jumps(rt.alloc(), 2051)?;
+    let image = image_in(rt.alloc(), ModuleNumber::at(0), 2049, &words)?;
+    let registers = start_registers(&image);
+    let Ok(mut machine) = Machine::new(rt.alloc(), image, registers) else {
+        return Err(Fail::from("the machine was refused"));
+    };
+    let (halt, count) = machine.run(1000, &mut Host);
+    assert!(rt; halt == Halt::NoFetch(CODE + 4 * 2051));
+    assert!(rt; count == 4);
+    Ok(())
+}
+
+/// A run of two words, whichever allocation is refused: checks/refused_growth refuses each in turn.
+#[test]
+fn a_growth_is_refused(rt: HostRuntime) -> Result<(), Fail> {
+    // SUB SP, SP, #16; STR X0, [SP]
+    let image = image(rt.alloc(), &[0xD10043FF, 0xF90003E0])?;
+    let registers = start_registers(&image);
+    let mut machine = match Machine::new(rt.alloc(), image, registers) {
+        Ok(machine) => machine,
+        Err(fault) => {
+            println!(rt; "refused, {}", fault.number())?;
+            return Ok(());
+        }
+    };
+    let (halt, count) = machine.run(1000, &mut Host);
+    println!(rt; "halt {} after {count}", halt.number())?;
+    if halt == Halt::NoMemory {
+        assert!(rt; machine.registers().pc == CODE + 4);
+        assert!(rt; machine.registers().sp == 0x1_FFFF_FFF0);
+        let (halt, count) = machine.run(1000, &mut Host);
+        println!(rt; "halt {} after {count}", halt.number())?;
+    }
+    assert!(rt; machine.registers().pc == CODE + 8);
     Ok(())
 }
