@@ -106,11 +106,20 @@ fn is_right(alloc: Global, row: &Row) -> Result<bool, Fail> {
     Ok(halt == Halt::StepsUsed && count == 1 && same && moved)
 }
 
+/// The place of the first row that is wrong.
+fn first_wrong(alloc: Global, rows: &[Row]) -> Result<Option<usize>, Fail> {
+    for (place, row) in rows.iter().enumerate() {
+        if !is_right(alloc, row)? {
+            return Ok(Some(place));
+        }
+    }
+    Ok(None)
+}
+
 #[test]
 fn one_step_of_each_class(rt: HostRuntime) -> Result<(), Fail> {
-    for row in &ROWS {
-        assert!(rt; is_right(rt.alloc(), row)?, "{:#x}", row.0);
-    }
+    let wrong = first_wrong(rt.alloc(), &ROWS)?;
+    assert!(rt; wrong.is_none(), "row {wrong:?}");
     Ok(())
 }
 
