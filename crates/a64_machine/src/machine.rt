@@ -8,7 +8,6 @@ ghost use Rattle.slot_memory.specs.Owned.{code_of};
 ghost use Rattle.a64_machine.specs.Starts.{start_of, refusal_of};
 ghost use Rattle.a64_machine.specs.Runs.{Steps, IsConfined, RanThenHalts};
 
-use crate::decoded::decode_all;
 use crate::runtime::Runtime;
 use crate::start::{StartFault, refusal};
 use crate::step::step_on;
@@ -20,7 +19,8 @@ use slot_memory::Data;
 use std::alloc::Global;
 use std::marker::Model;
 
-/// A machine: an image in its slot, the bytes that were written, and registers from which no run escapes.
+/// A machine: an image in its slot, the bytes that were written, and registers from which no run escapes. Its words are
+/// decoded as far as a run has come, at places that are reserved for all of them.
 ///
 /// A contract sees it as its registers, its image and its bytes.
 #[derive(Drop)]
@@ -31,7 +31,7 @@ pub struct Machine {
 }
 
 impl Model for Machine {
-    ghost use Rattle.std.specs.Prelude.{length};
+    ghost use Rattle.std.specs.Prelude.{◌≤◌, length, vec_capacity};
     ghost use Rattle.lfi_image.specs.Image.{IsImage};
     ghost use Rattle.lfi_confinement.specs.inner.Invariant.{IsSafe};
     ghost use Rattle.slot_memory.specs.Owned.{code};
@@ -42,7 +42,7 @@ impl Model for Machine {
 
     ghost view = { λ m. record { registers = m.registers; owned = m.slot } };
 
-    ghost invariant = { λ m. IsImage m.slot.image × IsSafe (code m.slot) m.registers × AreDecoded m.instructions.items m.slot.image.words (length m.slot.image.words) };
+    ghost invariant = { λ m. IsImage m.slot.image × IsSafe (code m.slot) m.registers × AreDecoded m.instructions.items m.slot.image.words × (length m.slot.image.words ≤ vec_capacity m.instructions) };
 }
 
 impl Machine {
@@ -65,7 +65,8 @@ impl Machine {
         if let Some(fault) = refusal(image.slot().base(), &registers) {
             return Err(fault);
         }
-        let Ok(instructions) = decode_all(alloc, &image) else {
+        let count = image.words().number();
+        let Ok(instructions) = Vec::with_capacity(alloc, count as usize) else {
             return Err(StartFault::NoMemory);
         };
         match Data::new(alloc, image) {
@@ -102,7 +103,7 @@ impl Machine {
     {
         step_on(
             &mut self.slot,
-            &self.instructions,
+            &mut self.instructions,
             &mut self.registers,
             runtime,
         )
@@ -121,6 +122,7 @@ impl Machine {
                 return (halt, count);
             }
         }
+        // What the type keeps is read here, for the clause `confined`.
         let _ = &self.slot;
         (Halt::StepsUsed, steps)
     }

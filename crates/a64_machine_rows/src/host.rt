@@ -2,7 +2,7 @@
 
 ghost use Rattle.std.specs.Prelude.{⊤};
 
-use a64_machine::{Answer, Data, Machine, Runtime};
+use a64_machine::{Answer, Data, DataFault, Machine, Runtime};
 use a64_registers::Registers;
 use judged_page::JudgedPage;
 use lfi_image::{Builder, CompleteImage};
@@ -42,50 +42,70 @@ impl Runtime for Wide {
     }
 }
 
-/// Writes a byte where it may, and goes on.
+/// Writes a byte in the table, in the code, in the data and above the slot, and goes on.
 #[derive(Drop)]
 pub struct Writer {
-    /// The byte of the code was refused.
-    pub code_refused: bool,
-    /// The byte above the slot was refused.
-    pub above_refused: bool,
-    /// The byte of the data was written.
-    pub written: bool,
+    /// What each write answered.
+    pub answers: [Result<(), DataFault>; 4],
 }
 
 impl Runtime for Writer {
     ghost answers = { λ _ _ _ _ _ _ _. ⊤ };
 
     fn call(&mut self, _entry: u32, registers: &Registers, slot: &mut Data) -> Answer {
-        let code = slot.write(0x1_0001_0000, 7);
-        let word = slot.write(0x1_8000_0000, 7);
-        let above = slot.write(0x2_0000_0000, 7);
-        self.code_refused = code.is_err();
-        self.above_refused = above.is_err();
-        self.written = word.is_ok();
+        self.answers = [
+            slot.write(0x1_0000_0000, 7),
+            slot.write(0x1_0001_0000, 7),
+            slot.write(0x1_FFFF_FFF0, 7),
+            slot.write(0x2_0000_0000, 7),
+        ];
         Answer::Resume(*registers)
     }
 }
 
-/// The image of these words, one page of them, in slot 0 from word 0.
+/// The image of these words in slot 0 from word 0.
 pub fn image(alloc: Global, words: &[u32]) -> Result<CompleteImage, Fail> {
+    image_in(alloc, ModuleNumber::at(0), 0, words)
+}
+
+/// The image of these words in a slot and from a word.
+pub fn image_in(
+    alloc: Global,
+    slot: ModuleNumber,
+    entry: u32,
+    words: &[u32],
+) -> Result<CompleteImage, Fail> {
     let mut code = Vec::new(alloc);
     for word in words {
         for byte in word.to_le_bytes() {
             code.push(byte)?;
         }
     }
-    if code.is_empty() || code.len() > 4096 || code.len() % 4 != 0 {
-        return Err(Fail::from("the code is no page"));
+    if code.len() > 16384 {
+        return Err(Fail::from("the code is too long"));
     }
     let Some(count) = WordCount::new((code.len() / 4) as u32) else {
         return Err(Fail::from("no module has so many words"));
     };
-    let Some(extent) = Extent::new(count, 0) else {
+    let Some(extent) = Extent::new(count, entry) else {
         return Err(Fail::from("the entry is no word of the module"));
     };
-    let mut builder = Builder::new(alloc, extent, ModuleNumber::at(0))?;
-    let page = SealedPage::of(alloc, &code)?;
+    let mut builder = Builder::new(alloc, extent, slot)?;
+    for bytes in code.chunks(4096) {
+        append(alloc, &mut builder, bytes)?;
+    }
+    match builder.finish() {
+        Ok(image) => Ok(image),
+        Err(_) => Err(Fail::from("words are missing")),
+    }
+}
+
+/// Appends a page of these bytes.
+fn append(alloc: Global, builder: &mut Builder, bytes: &[u8]) -> Result<(), Fail> {
+    if bytes.is_empty() || bytes.len() > 4096 || bytes.len() % 4 != 0 {
+        return Err(Fail::from("the code is no page"));
+    }
+    let page = SealedPage::of(alloc, bytes)?;
     if page.len_words() != builder.due() as usize {
         return Err(Fail::from("the page has not the words due"));
     }
@@ -93,10 +113,7 @@ pub fn image(alloc: Global, words: &[u32]) -> Result<CompleteImage, Fail> {
     if builder.append(page).is_err() {
         return Err(Fail::from("the code breaks a rule"));
     }
-    match builder.finish() {
-        Ok(image) => Ok(image),
-        Err(_) => Err(Fail::from("words are missing")),
-    }
+    Ok(())
 }
 
 /// A machine of these words, at the registers of the start.

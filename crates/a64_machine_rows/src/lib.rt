@@ -2,6 +2,12 @@
 #![tactic(auto)]
 
 #[cfg(test)]
+mod accesses;
+#[cfg(test)]
+mod classes;
+#[cfg(test)]
+mod edges;
+#[cfg(test)]
 mod host;
 #[cfg(test)]
 mod runs;

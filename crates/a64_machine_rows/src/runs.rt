@@ -1,7 +1,9 @@
 //! Runs from the registers of the start.
 
-use crate::host::{Host, Wide, Writer, image, started};
-use a64_machine::{Halt, Machine, StartFault, start_registers};
+use crate::host::{Host, Wide, Writer, image, image_in, started};
+use a64_machine::{DataFault, Halt, Machine, start_registers};
+use lfi_module::ModuleNumber;
+use std::alloc::Global;
 use std::test::Fail;
 
 /// The first word's address in slot 0.
@@ -68,39 +70,118 @@ fn refuses_an_unlawful_answer(rt: HostRuntime) -> Result<(), Fail> {
 
 #[test]
 fn a_runtime_writes_data_alone(rt: HostRuntime) -> Result<(), Fail> {
-    let mut machine = started(rt.alloc(), &CALL)?;
+    // LDR X30, [X21, #8]; BLR X30
+    let mut machine = started(rt.alloc(), &[0xF94006BE, 0xD63F03C0])?;
     let mut writer = Writer {
-        code_refused: false,
-        above_refused: false,
-        written: false,
+        answers: [Ok(()); 4],
     };
     let (halt, count) = machine.run(2, &mut writer);
-    assert!(rt; halt == Halt::StepsUsed);
-    assert!(rt; count == 2);
-    assert!(rt; writer.written);
-    assert!(rt; writer.code_refused && writer.above_refused);
-    let slot = machine.slot();
-    assert!(rt; slot.read(0x1_8000_0000) == Some(7));
-    assert!(rt; slot.read(0x1_0000_1000).is_none());
+    assert!(rt; halt == Halt::StepsUsed && count == 2);
+    let [table, code, data, above] = writer.answers;
+    assert!(rt; table == Err(DataFault::NotWritable));
+    assert!(rt; code == table && above == table);
+    assert!(rt; data == Ok(()));
+    assert!(rt; machine.slot().read(0x1_FFFF_FFF0) == Some(7));
+    assert!(rt; machine.slot().read(0x1_0001_0000) == Some(0xBE));
     Ok(())
 }
 
 #[test]
-fn registers_one_past_their_range(rt: HostRuntime) -> Result<(), Fail> {
-    let lawful = start_registers(&image(rt.alloc(), &CALL)?);
-    let mut wide = lawful;
-    wide.x[22] = 1 << 32;
-    let mut low = lawful;
-    low.sp = 0x1_0000_0000 - 513;
-    let mut flags = lawful;
-    flags.nzcv = 16;
-    for (registers, fault) in [
-        (wide, StartFault::Offset),
-        (low, StartFault::Stack),
-        (flags, StartFault::Flags),
-    ] {
-        let image = image(rt.alloc(), &CALL)?;
-        assert!(rt; Machine::new(rt.alloc(), image, registers).err() == Some(fault));
+fn a_call_is_answered(rt: HostRuntime) -> Result<(), Fail> {
+    // LDR X30, [X21, #8]; BLR X30
+    let mut machine = started(rt.alloc(), &[0xF94006BE, 0xD63F03C0])?;
+    let (halt, count) = machine.run(1000, &mut Host);
+    assert!(rt; halt == Halt::NoFetch(CODE + 8));
+    assert!(rt; count == 2);
+    let registers = machine.registers();
+    assert!(rt; registers.x[0] == u64::MAX);
+    assert!(rt; registers.x[30] == CODE + 8);
+    Ok(())
+}
+
+#[test]
+fn loads_its_own_code(rt: HostRuntime) -> Result<(), Fail> {
+    // LDR X0, [SP], #-256; B #-4
+    let image = image(rt.alloc(), &[0xF85007E0, 0x17FFFFFF])?;
+    let mut registers = start_registers(&image);
+    registers.sp = CODE;
+    let Ok(mut machine) = Machine::new(rt.alloc(), image, registers) else {
+        return Err(Fail::from("the machine was refused"));
+    };
+    let (halt, count) = machine.run(1000, &mut Host);
+    assert!(rt; halt == Halt::NoAccess(0x1_0000_FF00));
+    assert!(rt; count == 2);
+    assert!(rt; machine.registers().x[0] == 0x17FF_FFFF_F850_07E0);
+    Ok(())
+}
+
+#[test]
+fn an_index_of_32_bits(rt: HostRuntime) -> Result<(), Fail> {
+    // LDR X0, [X21, W1, UXTW]
+    let image = image(rt.alloc(), &[0xF8614AA0])?;
+    let mut registers = start_registers(&image);
+    registers.x[1] = 0xFFFF_FFFF;
+    let Ok(mut machine) = Machine::new(rt.alloc(), image, registers) else {
+        return Err(Fail::from("the machine was refused"));
+    };
+    let (halt, count) = machine.run(1000, &mut Host);
+    assert!(rt; halt == Halt::NoAccess(0x2_0000_0000));
+    assert!(rt; count == 0);
+    let (halt, count) = machine.run(0, &mut Host);
+    assert!(rt; halt == Halt::StepsUsed && count == 0);
+    Ok(())
+}
+
+/// So many NOPs, but word 1 is B to word 2048, that one B to word 2050, and word 2049 B to word 1.
+fn jumps(alloc: Global, count: u32) -> Result<Vec<u32>, Fail> {
+    let mut words = Vec::new(alloc);
+    for place in 0..count {
+        words.push(match place {
+            1 => 0x140007FF,
+            2048 => 0x14000002,
+            2049 => 0x17FFF800,
+            _ => 0xD503201F,
+        })?;
     }
+    Ok(words)
+}
+
+/// A run that begins on the last of three pages, goes to the first and back, and ends past the last word.
+#[test]
+fn goes_from_page_to_page(rt: HostRuntime) -> Result<(), Fail> {
+    let words = jumps(rt.alloc(), 2051)?;
+    let image = image_in(rt.alloc(), ModuleNumber::at(0), 2049, &words)?;
+    let registers = start_registers(&image);
+    let Ok(mut machine) = Machine::new(rt.alloc(), image, registers) else {
+        return Err(Fail::from("the machine was refused"));
+    };
+    let (halt, count) = machine.run(1000, &mut Host);
+    assert!(rt; halt == Halt::NoFetch(CODE + 4 * 2051));
+    assert!(rt; count == 4);
+    Ok(())
+}
+
+/// A run of two words, whichever allocation is refused: checks/refused_growth refuses each in turn.
+#[test]
+fn a_growth_is_refused(rt: HostRuntime) -> Result<(), Fail> {
+    // SUB SP, SP, #16; STR X0, [SP]
+    let image = image(rt.alloc(), &[0xD10043FF, 0xF90003E0])?;
+    let registers = start_registers(&image);
+    let mut machine = match Machine::new(rt.alloc(), image, registers) {
+        Ok(machine) => machine,
+        Err(fault) => {
+            println!(rt; "refused, {}", fault.number())?;
+            return Ok(());
+        }
+    };
+    let (halt, count) = machine.run(1000, &mut Host);
+    println!(rt; "halt {} after {count}", halt.number())?;
+    if halt == Halt::NoMemory {
+        assert!(rt; machine.registers().pc == CODE + 4);
+        assert!(rt; machine.registers().sp == 0x1_FFFF_FFF0);
+        let (halt, count) = machine.run(1000, &mut Host);
+        println!(rt; "halt {} after {count}", halt.number())?;
+    }
+    assert!(rt; machine.registers().pc == CODE + 8);
     Ok(())
 }

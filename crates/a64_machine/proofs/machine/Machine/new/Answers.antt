@@ -1,4 +1,5 @@
-use Rattle.std.proofs.Common.{◌≡◌, ℕ, length, None, sym, ap, ◌∙◌, subst}
+use Rattle.std.proofs.Common.{◌≡◌, ◌≤◌, ℕ, List, length, None, sym, ap, ◌∙◌, subst, arith, vec_capacity}
+use Rattle.a64_word.specs.declared.instruction.Instruction.{Instruction}
 use Rattle.lfi_module.specs.Numbers.{base_of}
 use Rattle.lfi_image.specs.Image.{Image, IsImage}
 use Rattle.lfi_confinement.specs.Slots.{base}
@@ -7,6 +8,7 @@ use Rattle.lfi_confinement.proofs.Confinement.{safe_start}
 use Rattle.slot_memory.specs.Owned.{code, code_of}
 use Rattle.a64_machine.specs.Starts.{refusal_of}
 use Rattle.a64_machine.specs.inner.Decoded.{AreDecoded}
+use Rattle.a64_machine.proofs.Decoding.{decoded_none}
 use Rattle.a64_machine.proofs.Starting.{held_of}
 use Rattle.a64_machine.proofs.Stepping.{confined_from}
 use Rattle.a64_machine.proofs.machine.Machine.new.Goals as goal
@@ -23,9 +25,10 @@ invariant_of-result c =
     let none : refusal_of c.base.result c.args.registers ≡ None = sym c.refusal.ensures.first ∙ c.in_default.is in
     let held : Held (base (code_of c.args.image)) c.args.registers = subst (λ (b : ℕ). Held b c.args.registers) from (held_of c.base.result c.args.registers c.refusal.ensures.all none) in
     let same = sym c.in-Ok-new.ensures.image in (
-      subst IsImage same c.decode_all.ensures.lawful,
+      subst IsImage same c.words.ensures.lawful,
       safe_start (code c.in-Ok-new.slot) c.args.registers (subst (λ (m : Image). Held (base (code_of m)) c.args.registers) same held),
-      subst (λ (m : Image). AreDecoded c.in-Ok.instructions.items m.words (length m.words)) same c.in-Ok.ensures.decoded,
+      subst (λ (xs : List Instruction). AreDecoded xs c.in-Ok-new.slot.image.words) (sym c.in-Ok.ensures.items) (decoded_none c.in-Ok-new.slot.image.words),
+      subst (λ (m : Image). length m.words ≤ vec_capacity c.in-Ok.instructions) same (omega (arith, c.in-Ok.ensures.capacity, c.words.ensures.count, c.number-count.ensures.value)),
     )
 
 pub returns-in-Ok-new-clause-confined : goal.returns-in-Ok-new-clause-confined
@@ -34,5 +37,5 @@ returns-in-Ok-new-clause-confined c =
     let none : refusal_of c.base.result c.args.registers ≡ None = sym c.refusal.ensures.first ∙ c.in_default.is in
     let held : Held (base (code_of c.args.image)) c.args.registers = subst (λ (b : ℕ). Held b c.args.registers) from (held_of c.base.result c.args.registers c.refusal.ensures.all none) in
     let same = sym c.in-Ok-new.ensures.image in
-    confined_from (record { registers = c.args.registers; owned = c.in-Ok-new.slot }) (subst IsImage same c.decode_all.ensures.lawful)
+    confined_from (record { registers = c.args.registers; owned = c.in-Ok-new.slot }) (subst IsImage same c.words.ensures.lawful)
     (safe_start (code c.in-Ok-new.slot) c.args.registers (subst (λ (m : Image). Held (base (code_of m)) c.args.registers) same held))
