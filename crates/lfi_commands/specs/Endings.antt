@@ -1,5 +1,6 @@
 -- How a run ends, by what it found. (this project's profile: docs/DEFINITIONS.md, "The program")
-use Rattle.std.specs.Prelude.{ℕ}
+use Rattle.std.specs.Prelude.{◌≡◌, ℕ, Some, slice_get}
+use Rattle.lfi_frame.specs.declared.fault.FrameFault.TheVariants.{ReadFailed}
 use Rattle.lfi_image.specs.declared.fault.ImageFault.TheVariants as image_fault
 use Rattle.slot_access.specs.declared.halt.Halt.{Halt}
 use Rattle.slot_access.specs.declared.halt.Halt.TheVariants as halts
@@ -26,13 +27,16 @@ ending_of (Lawful n) = Well
 ending_of (Refused fault) = NotWell
 ending_of BadLength = NotWell
 
+-- a read of some connection failed
+abbrev pub IsReadFailed : Report → Type 0
+IsReadFailed report = (c : ℕ) × (slice_get report.faults c ≡ Some (Some ReadFailed))
+
 -- by a report
 abbrev pub EndsBy : Report → Ending → Type 0
 EndsBy report Well = IsWell (summary_of report)
-EndsBy report NotWell = ¬ (IsWell (summary_of report))
+EndsBy report NotWell = (¬ (IsWell (summary_of report))) × (¬ (IsReadFailed report))
 EndsBy report WrongWords = ⊥
-EndsBy report Failed = ⊥
-
+EndsBy report Failed = IsReadFailed report
 -- by why the run of an image ended
 abbrev pub ending_of_halt : Halt → Ending
 ending_of_halt halts.StepsUsed = Well

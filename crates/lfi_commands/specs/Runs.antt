@@ -57,7 +57,7 @@ left out put is_lost errors = record { out = out; put = put; is_lost = is_lost; 
 -- Of a stream that has these bytes, where they are known, one report was found; its text was written, its images were put into the folder, and it gives the ending.
 pub record FindsReport (bytes folder : Option (List ℕ)) (old new : Left) (ending : Ending) : Type 0 where
   pub report : Report
-  pub loaded : IfSome bytes (λ xs. IsLoaded xs report)
+  pub loaded : IfSome bytes (λ xs. IsLoaded 1 (λ c. xs) report)
   pub written : Appends old.out new.out (summary_text (summary_of report))
   pub all : Bool
   pub images : WritesImages (folder_or_none folder) (asked_images folder report.modules) old.put new.put new.is_lost old.errors new.errors all

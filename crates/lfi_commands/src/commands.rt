@@ -1,8 +1,10 @@
 //! The commands, over any reader and writer.
 
-ghost use Rattle.std.specs.Prelude.{◌≡◌, ◌≢◌, ◌≤◌, ◌++◌, IfOk, IfErr, IfSome, codes};
+ghost use Rattle.std.specs.Prelude.{◌≡◌, ◌≢◌, ◌≤◌, ◌++◌, [], ◌∷◌, IfOk, IfErr, IfSome, codes};
 ghost use Rattle.lfi_module.specs.Numbers.{most_words};
 ghost use Rattle.std.specs.Io.KnownBytes.{Appends};
+ghost use Rattle.lfi_receive.specs.Inputs.{left_of};
+ghost use Rattle.lfi_receive.specs.declared.input.Input.{Input};
 ghost use Rattle.lfi_stage.specs.Stages.{IsLoaded};
 ghost use Rattle.lfi_commands.specs.Checking.{Checks, verdict_text};
 ghost use Rattle.lfi_model.specs.Texts.{summary_text};
@@ -12,9 +14,11 @@ use crate::code::MOST_BYTES;
 use crate::pieces::judge_pieces;
 use crate::verdict::{Verdict, judge_code};
 use a64_word::WORD_BYTES;
+use lfi_place::OpenGate;
+use lfi_receive::Input;
+use lfi_stage::load::load_all;
 use lfi_stage::settle::Report;
-use lfi_stage::stage;
-use std::alloc::Global;
+use std::alloc::{AllocError, Global};
 use std::io::{self, Read, Write};
 use std::sync::Wait;
 
@@ -112,23 +116,47 @@ pub fn check_file<R: Read + Drop, W: Write>(
     }
 }
 
-/// Loads the modules of the stream that a reader has left, up to its end, and writes the report.
+/// How many verifiers there are. All parts are turned on one thread, where more gain nothing.
+const VERIFIERS: usize = 1;
+
+/// The input of the one reader.
+fn one_input<R: Read + Drop>(alloc: Global, reader: R) -> Result<Vec<Input<R>>, AllocError>
+    ensures one { IfOk result (λ inputs. (input : Input R) × (inputs.items ≡ input ∷ []) × (left_of R.remaining input ≡ R.remaining reader)) }
+{
+    let mut inputs = Vec::new(alloc);
+    inputs.push(Input::new(alloc, reader)?)?;
+    Ok(inputs)
+}
+
+/// What became of the modules of the stream that a reader has left, up to its end.
+fn loaded<S: Wait, R: Read + Drop>(
+    rt: &S,
+    alloc: Global,
+    reader: R,
+) -> Result<Report, AllocError>
+    ensures { IfOk result (λ report. IfSome (R.remaining reader) (λ bytes. IsLoaded 1 (λ c. bytes) report)) }
+{
+    let inputs = one_input(alloc, reader)?;
+    load_all(rt, alloc, inputs, VERIFIERS, &OpenGate)
+}
+
+/// Loads the modules of the stream that a reader has left, up to its end or a read that fails, which
+/// is then the connection's fault, and writes the report.
 ///
 /// # Errors
 ///
-/// Where a read or a write fails, or there is no memory for the stream or the stage.
+/// Where the write fails, or there is no memory for the stage.
 pub fn load<S: Wait, R: Read + Drop, W: Write>(
     rt: &S,
     alloc: Global,
     reader: R,
     writer: &mut W,
 ) -> Result<Report, CommandFault>
-    ensures report { IfOk result (λ report. IfSome (R.remaining reader) (λ bytes. IsLoaded bytes report)) }
+    ensures report { IfOk result (λ report. IfSome (R.remaining reader) (λ bytes. IsLoaded 1 (λ c. bytes) report)) }
     ensures written { IfOk result (λ report. Appends (W.contents writer.old) (W.contents writer.new) (summary_text (summary_of report))) }
     ensures unwritten { IfErr result (λ fault. fault ≢ CommandFault.NotWritten → writer.new ≡ writer.old) }
 {
-    let bytes = read_all(alloc, reader)?;
-    let Ok(report) = stage::load(rt, alloc, &bytes) else {
+    let Ok(report) = loaded(rt, alloc, reader) else {
         return Err(CommandFault::NoMemory);
     };
     let summary = report.summary();

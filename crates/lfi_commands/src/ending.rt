@@ -1,9 +1,10 @@
 //! How a run of the program ends.
 
-ghost use Rattle.std.specs.Prelude.{◌≡◌};
-ghost use Rattle.lfi_commands.specs.Endings.{number_of, ending_of, ending_of_run, EndsBy};
+ghost use Rattle.std.specs.Prelude.{◌≡◌, false, IsTrue};
+ghost use Rattle.lfi_commands.specs.Endings.{number_of, ending_of, ending_of_run, EndsBy, IsReadFailed};
 
 use crate::verdict::Verdict;
+use lfi_frame::FrameFault;
 use lfi_image::ImageFault;
 use lfi_run::{Halt, ImageRun};
 use lfi_stage::settle::Report;
@@ -20,6 +21,19 @@ pub enum Ending {
     WrongWords,
     /// A device failed, or memory was refused.
     Failed,
+}
+
+/// Whether a read of some connection failed.
+fn is_read_failed(report: &Report) -> bool
+    ensures failed { IsTrue result → IsReadFailed report.now }
+    ensures none { result ≡ false → ¬ (IsReadFailed report.now) }
+{
+    for fault in &report.faults {
+        if *fault == Some(FrameFault::ReadFailed) {
+            return true;
+        }
+    }
+    false
 }
 
 impl Ending {
@@ -46,12 +60,14 @@ impl Ending {
     }
 
     /// The ending that a report gives: well exactly where each module is whole or was not claimed, and no connection
-    /// came to a fault.
+    /// came to a fault; failed where a read of a connection failed.
     pub fn of_report(report: &Report) -> Ending
         ensures { EndsBy report.now result }
     {
         if report.summary().is_well() {
             Ending::Well
+        } else if is_read_failed(report) {
+            Ending::Failed
         } else {
             Ending::NotWell
         }

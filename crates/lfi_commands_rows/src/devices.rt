@@ -133,15 +133,36 @@ fn reads_that_fail(rt: HostRuntime) -> Result<(), Fail> {
         let verdict = check(rt.alloc(), code, &mut out);
         assert!(rt; verdict == Err(CommandFault::NotRead), "{left}");
     }
+    assert!(rt; out.is_empty());
+    Ok(())
+}
+
+/// What is told of the stream, where a read fails after so many bytes.
+fn told_after(left: usize) -> &'static str {
+    if left < 12 {
+        "connection 0: fault 10\nstrays 0\n"
+    } else if left < 40 {
+        "module 0: lost, fault 10\nconnection 0: fault 10\nstrays 0\n"
+    } else {
+        "module 0: complete, 1 words\nconnection 0: fault 10\nstrays 0\n"
+    }
+}
+
+#[test]
+fn a_stream_whose_reads_fail(rt: HostRuntime) -> Result<(), Fail> {
     for left in 0..=ONE_RET.len() {
+        let mut out = Vec::new(rt.alloc());
         let stream = SlowReader {
             bytes: ONE_RET.as_slice(),
             left,
         };
-        let report = load(&rt, rt.alloc(), stream, &mut out);
-        assert!(rt; report.err() == Some(CommandFault::NotRead), "{left}");
+        let ending = match load(&rt, rt.alloc(), stream, &mut out) {
+            Ok(report) => Some(Ending::of_report(&report)),
+            Err(_) => None,
+        };
+        assert!(rt; ending == Some(Ending::Failed), "{left}");
+        assert!(rt; out.as_slice() == told_after(left).as_bytes(), "{left}");
     }
-    assert!(rt; out.is_empty());
     Ok(())
 }
 

@@ -53,8 +53,8 @@ const RUNS: [Run; 8] = [
     Run {
         line: "lfiload load loaded.tmp/images",
         status: 3,
-        out: "",
-        err: "lfiload: cannot read loaded.tmp/images\n",
+        out: "connection 0: fault 10\nstrays 0\n",
+        err: "",
     },
 ];
 

@@ -4,6 +4,8 @@
 #[cfg(test)]
 mod build;
 #[cfg(test)]
+mod connections;
+#[cfg(test)]
 mod cuts;
 #[cfg(test)]
 mod modules;

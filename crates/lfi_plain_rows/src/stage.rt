@@ -1,19 +1,35 @@
 //! Streams through the stage, and through the plain program beside it.
 
-ghost use Rattle.std.specs.Prelude.{◌≤◌};
-
 use crate::build::{NOP, RET, Text, one_word, told};
 use crate::cuts::cut_short;
 use lfi_model::Cause;
-use lfi_stage::stage::{load, load_in_pieces};
+use lfi_place::OpenGate;
+use lfi_receive::Input;
+use lfi_stage::load::load_all;
 use std::alloc::{AllocError, Global};
+use std::io::{self, Read};
 use std::sync::Wait;
 use std::test::Fail;
 
+/// A text in memory, of which a read gives at most so many bytes.
+#[derive(Drop)]
+pub struct Pieces<'a> {
+    pub left: &'a [u8],
+    pub most: usize,
+}
+
+impl<'a> Read for Pieces<'a> {
+    fn read(&mut self, buf: &mut [u8]) -> io::Result<usize> {
+        let count = self.most.min(self.left.len()).min(buf.len());
+        buf[..count].copy_from_slice(&self.left[..count]);
+        self.left = &self.left[count..];
+        Ok(count)
+    }
+}
+
 /// The text of the stage's report on one connection.
 pub fn loaded(rt: &(impl Wait + AllocGlobal), bytes: &[u8]) -> Result<String, AllocError> {
-    let summary = load(rt, rt.alloc(), bytes)?.summary();
-    format!(in rt.alloc(); "{summary}")
+    loaded_in_pieces(rt, bytes, usize::MAX)
 }
 
 /// The text of the stage's report on one connection that comes in pieces of so many bytes.
@@ -21,10 +37,11 @@ fn loaded_in_pieces(
     rt: &(impl Wait + AllocGlobal),
     bytes: &[u8],
     most: usize,
-) -> Result<String, AllocError>
-    requires { 1 ≤ most }
-{
-    let summary = load_in_pieces(rt, rt.alloc(), bytes, most)?.summary();
+) -> Result<String, AllocError> {
+    let mut inputs = Vec::new(rt.alloc());
+    let pieces = Pieces { left: bytes, most };
+    inputs.push(Input::new(rt.alloc(), pieces)?)?;
+    let summary = load_all(rt, rt.alloc(), inputs, 1, &OpenGate)?.summary();
     format!(in rt.alloc(); "{summary}")
 }
 

@@ -15,6 +15,7 @@ use crate::stage::Stage;
 use crate::turning::turn_others;
 use lfi_place::Gate;
 use lfi_receive::{Input, Receiver};
+use std::alloc::{AllocError, Global};
 use std::io::Read;
 use std::sync::Wait;
 
@@ -109,4 +110,26 @@ fn load_by<S: Wait, R: Read + Drop, G: Gate>(
         shared,
     } = stage;
     settle(rt, receivers, verifiers, sequencers, shared)
+}
+
+/// Loads the modules of the streams that these inputs have, each up to its end, on one thread. The
+/// gate is told of each item before and after it is judged.
+///
+/// # Errors
+///
+/// `AllocError` where there is no memory for the stage; no memory for a page is told in the
+/// report.
+pub fn load_all<S: Wait, R: Read + Drop, G: Gate>(
+    rt: &S,
+    alloc: Global,
+    inputs: Vec<Input<R>>,
+    verifiers: usize,
+    gate: &G,
+) -> Result<Report, AllocError>
+    requires connections { (1 ≤ length inputs.items) × (length inputs.items ≤ 8) }
+    requires verifiers { (1 ≤ verifiers) × (verifiers ≤ 8) }
+    ensures { IfOk result (λ report. (texts : ℕ → List ℕ) → ((c : ℕ) (input : Input R) → slice_get inputs.items c ≡ Some input → left_of R.remaining input ≡ Some (texts c)) → IsLoaded (length inputs.items) texts report) }
+{
+    let stage = Stage::new(alloc, inputs.len(), verifiers)?;
+    Ok(load_by(rt, stage, inputs, gate))
 }
