@@ -6,6 +6,7 @@
 mod apart;
 mod claims;
 mod finishing;
+mod making;
 pub mod settle;
 pub mod shared;
 pub mod stage;
