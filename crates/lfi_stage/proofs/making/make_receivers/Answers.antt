@@ -1,7 +1,7 @@
-use Rattle.std.proofs.Common.{rules, ◌≡◌, ◌++◌, ◌∷◌, [], ◌∙◌, ℕ, None, Some, length, sym, ap, arith}
+use Rattle.std.proofs.Common.{◌≡◌, ◌++◌, ◌∷◌, [], ◌∙◌, ℕ, None, Some, length, sym, ap, arith}
 use Rattle.std.specs.Prelude.{slice_index_or}
 use Rattle.std.specs.Vec.Iter.{into_iter_items}
-use Rattle.std.proofs.lemmas.List.{length-set, get_or-set_other}
+use Rattle.std.proofs.lemmas.List.{length-set, get_or-set_other, get_or_read_under}
 use Rattle.lfi_stage.specs.inner.Made.{IsFreshOf}
 use Rattle.lfi_stage.proofs.Filling.{push_each, one_more, next_is, still_from}
 use Rattle.lfi_stage.proofs.making.make_receivers.Goals as goal
@@ -19,7 +19,13 @@ loop-pass-preserved c =
     let at : c.len-in-loop-pass.result ≡ n = c.len-in-loop-pass.ensures ∙ c.loop-pass.receivers.ok.0 in
     let grown : c.push.new.self.items ≡ rs ++ r ∷ [] = c.in_ok-push.ensures.items in
     let more = one_more rs c.push.new.self.items r grown in
-    let taken : slice_index_or c.loop-pass.seats n None ≡ Some c.unwrap-seat.result = search rules in
+    let taken : slice_index_or c.loop-pass.seats n None ≡ Some c.unwrap-seat.result =
+        ap (λ k. slice_index_or c.loop-pass.seats k None) (sym at)
+        ∙ sym (get_or_read_under c.loop-pass.seats c.len-in-loop-pass.result 8 c.index-seats-len.result None c.index-seats-len.is (let count = i.count in let less = step.1 in let few = c.requires.few in omega arith) (sym i.long))
+        ∙ c.index-seats-len.is
+        ∙ sym c.take.ensures.value
+        ∙ c.unwrap-seat.ensures
+    in
     record {
       count = (let count = i.count in let less = step.1 in omega arith);
       rest = still_from puts old new c.in-Some.pass n i.rest step.0 (length c.push.new.self.items) more;
