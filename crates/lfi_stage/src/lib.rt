@@ -7,6 +7,7 @@ mod apart;
 mod claims;
 mod finishing;
 pub mod load;
+mod making;
 pub mod settle;
 pub mod shared;
 pub mod stage;

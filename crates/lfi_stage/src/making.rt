@@ -1,0 +1,72 @@
+//! The parts of a new stage, by their numbers.
+
+ghost use Rattle.std.specs.Prelude.{◌≡◌, ℕ, ◌≤◌, [], length, Some, IfOk, slice_get};
+ghost use Rattle.lfi_module.specs.Numbers.{module_count};
+ghost use Rattle.lfi_model.specs.Item.{ItemView};
+ghost use Rattle.lfi_queues.specs.Passes.{PassView};
+ghost use Rattle.lfi_stage.specs.inner.Made.{AreUnused, AreUnusedSeats, AreRowsOf, AreFreshOf, AreVerifiersOf, AreSequencersOf};
+
+use lfi_board::{ReceiverSeat, SequencerSeat};
+use lfi_model::{CONNECTIONS, Item, Judged};
+use lfi_module::ModuleNumber;
+use lfi_place::{Sequencer, Verifier};
+use lfi_queues::{PutPass, TakePass};
+use lfi_receive::Receiver;
+use std::alloc::{AllocError, Global};
+
+/// A receiver for each of these passes, with the seat at the pass's place.
+pub(crate) fn make_receivers(
+    alloc: Global,
+    puts: Vec<PutPass<Item>>,
+    mut seats: [Option<ReceiverSeat>; CONNECTIONS],
+) -> Result<Vec<Receiver>, AllocError>
+    requires few { length puts.items ≤ 8 }
+    requires puts { AreUnused puts.items }
+    requires seats { AreUnusedSeats (length puts.items) seats }
+    ensures { IfOk result (λ made. AreFreshOf puts.items seats made.items) }
+{
+    let mut receivers = Vec::with_capacity(alloc, puts.len())?;
+    for pass in puts {
+        let seat = seats[receivers.len()].take().unwrap();
+        receivers.push(Receiver::new(alloc, pass, seat))?;
+    }
+    Ok(receivers)
+}
+
+/// A verifier for each of these passes, with the row at the pass's place.
+pub(crate) fn make_verifiers(
+    alloc: Global,
+    takes: Vec<TakePass<Item>>,
+    rows: Vec<Vec<PutPass<Judged>>>,
+) -> Result<Vec<Verifier>, AllocError>
+    requires { AreRowsOf (length takes.items) rows.items }
+    ensures { IfOk result (λ made. AreVerifiersOf takes.items rows.items made.items) }
+{
+    let mut verifiers = Vec::with_capacity(alloc, takes.len())?;
+    let mut rows = rows.into_iter();
+    for pass in takes {
+        verifiers.push(Verifier::new(pass, rows.next().unwrap()))?;
+    }
+    Ok(verifiers)
+}
+
+/// A sequencer for each module, with the pass and the seat at its place.
+pub(crate) fn make_sequencers(
+    alloc: Global,
+    takes: Vec<TakePass<Judged>>,
+    seats: Vec<SequencerSeat>,
+) -> Result<Vec<Sequencer>, AllocError>
+    requires count { length takes.items ≡ module_count }
+    requires seats { length seats.items ≡ module_count }
+    requires takes { AreUnused takes.items }
+    ensures { IfOk result (λ made. AreSequencersOf takes.items seats.items made.items) }
+{
+    let mut sequencers = Vec::with_capacity(alloc, ModuleNumber::COUNT)?;
+    let mut seats = seats.into_iter();
+    for pass in takes {
+        let module = ModuleNumber::at(sequencers.len());
+        let seat = seats.next().unwrap();
+        sequencers.push(Sequencer::new(alloc, module, pass, seat)?)?;
+    }
+    Ok(sequencers)
+}
