@@ -37,6 +37,7 @@ EndsBy report Well = IsWell (summary_of report)
 EndsBy report NotWell = (¬ (IsWell (summary_of report))) × (¬ (IsReadFailed report))
 EndsBy report WrongWords = ⊥
 EndsBy report Failed = IsReadFailed report
+
 -- by why the run of an image ended
 abbrev pub ending_of_halt : Halt → Ending
 ending_of_halt halts.StepsUsed = Well

@@ -129,11 +129,7 @@ fn one_input<R: Read + Drop>(alloc: Global, reader: R) -> Result<Vec<Input<R>>, 
 }
 
 /// What became of the modules of the stream that a reader has left, up to its end.
-fn loaded<S: Wait, R: Read + Drop>(
-    rt: &S,
-    alloc: Global,
-    reader: R,
-) -> Result<Report, AllocError>
+fn loaded<S: Wait, R: Read + Drop>(rt: &S, alloc: Global, reader: R) -> Result<Report, AllocError>
     ensures { IfOk result (λ report. IfSome (R.remaining reader) (λ bytes. IsLoaded 1 (λ c. bytes) report)) }
 {
     let inputs = one_input(alloc, reader)?;

@@ -98,7 +98,8 @@ fn one_that_is_cut_off_beside_others(rt: HostRuntime) -> Result<(), Fail> {
         bytes: Vec::from_slice(rt.alloc(), &whole.bytes[..30])?,
     })?;
     texts.push(Text::new(rt.alloc()))?;
-    let want = "module 0: lost, fault 9\nmodule 5: complete, 1 words\nconnection 1: fault 9\nstrays 0\n";
+    let want =
+        "module 0: lost, fault 9\nmodule 5: complete, 1 words\nconnection 1: fault 9\nstrays 0\n";
     let report = loaded_all(&rt, texts.as_slice(), 7, 3)?;
     assert_eq!(rt; report.as_str(), want);
     let mut streams = Vec::new(rt.alloc());

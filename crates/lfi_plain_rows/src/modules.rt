@@ -73,7 +73,10 @@ fn two_page_modules(rt: HostRuntime) -> Result<(), Fail> {
         ),
     ] {
         let text = two_pages(rt.alloc(), at, word, last)?;
-        assert!(rt; both_tell(&rt, &text, &[0], want)?, "word {at} is {word:#x}");
+        assert!(rt;
+            both_tell(&rt, &text, &[0], want)?,
+            "word {at} is {word:#x}"
+        );
     }
     Ok(())
 }

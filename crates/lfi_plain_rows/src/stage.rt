@@ -226,7 +226,10 @@ fn sixty_six_full_pages(rt: HostRuntime) -> Result<(), Fail> {
     }
     text.close(9)?;
     let report = loaded(&rt, text.bytes.as_slice())?;
-    assert_eq!(rt; report.as_str(), "module 9: complete, 67584 words\nstrays 0\n");
+    assert_eq!(rt;
+        report.as_str(),
+        "module 9: complete, 67584 words\nstrays 0\n"
+    );
     Ok(())
 }
 
@@ -236,7 +239,8 @@ fn another_module_opened_before(rt: HostRuntime) -> Result<(), Fail> {
     text.open(1, 1)?;
     text.bytes
         .extend_from_slice(one_word(rt.alloc(), 0, RET)?.bytes.as_slice())?;
-    let want = "module 0: complete, 1 words\nmodule 1: lost, fault 9\nconnection 0: fault 9\nstrays 0\n";
+    let want =
+        "module 0: complete, 1 words\nmodule 1: lost, fault 9\nconnection 0: fault 9\nstrays 0\n";
     assert!(rt; both_tell(&rt, &text, &[0, 1], want)?);
     Ok(())
 }

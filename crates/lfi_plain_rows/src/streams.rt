@@ -50,7 +50,10 @@ fn pages_that_are_not_due(rt: HostRuntime) -> Result<(), Fail> {
         text.open(0, words)?;
         text.page(0, index, &[RET])?;
         text.close(0)?;
-        assert!(rt; both_tell(&rt, &text, &[0], want)?, "page {index} of {words} words");
+        assert!(rt;
+            both_tell(&rt, &text, &[0], want)?,
+            "page {index} of {words} words"
+        );
     }
     Ok(())
 }

@@ -31,17 +31,20 @@ finished_items r bytes cause stands finished ended =
     let ends : Ends r stands.messages stands.rest cause = subst (λ o. StandsBy o r stands.messages stands.rest) ended stands.stands in
     let claims : claims_of r.modules ≡ claimed_by r = (λ i m. ends.opens.claims m i) in
     let made : (m : ℕ) → of m r.pass.items ≡ items_of stands.messages stands.rest cause (claimed_by r) m = (λ m.
-        sym (append-nil (of m r.pass.items))
-        ∙ (λ i. of m ((sym (append-nil r.pass.items) ∙ ap (λ h. r.pass.items ++ option_to_list h) (sym finished.empty_handed)) i) ++ sym (finished.none_due m) i)
-        ∙ ends.items m ∙ ap (λ c. items_of stands.messages stands.rest cause c m) claims) in
-    (strays_of stands.messages stands.rest cause (claimed_by r), record {
-      messages = stands.messages;
-      rest = stands.rest;
-      cut = stands.cut;
-      items_are = λ m in_range. made m;
-      fault_is = ends.fault ∙ ap (λ c. connection_fault stands.messages stands.rest cause c) claims;
-      strays_are = refl;
-    }, ends.strays ∙ ap (λ c. min (strays_of stands.messages stands.rest cause c) (2 ^ 64 - 1)) claims)
+    sym (append-nil (of m r.pass.items))
+    ∙ (λ i. of m ((sym (append-nil r.pass.items) ∙ ap (λ h. r.pass.items ++ option_to_list h) (sym finished.empty_handed)) i) ++ sym (finished.none_due m) i)
+    ∙ ends.items m ∙ ap (λ c. items_of stands.messages stands.rest cause c m) claims) in (
+      strays_of stands.messages stands.rest cause (claimed_by r),
+      record {
+        messages = stands.messages;
+        rest = stands.rest;
+        cut = stands.cut;
+        items_are = λ m in_range. made m;
+        fault_is = ends.fault ∙ ap (λ c. connection_fault stands.messages stands.rest cause c) claims;
+        strays_are = refl;
+      },
+      ends.strays ∙ ap (λ c. min (strays_of stands.messages stands.rest cause c) (2 ^ 64 - 1)) claims,
+    )
 
 -- what follows a header with a fault changes nothing
 ends_faulty : (r : Receiver) (messages : List Message) (rest more : List ℕ) (cause : Cause) (fault : FrameFault) → rest_of rest ≡ faulty fault → rest_of (rest ++ more) ≡ faulty fault → Ends r messages rest cause → Ends r messages (rest ++ more) cause

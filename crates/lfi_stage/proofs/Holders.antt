@@ -35,6 +35,7 @@ pub holder_same : (m : ℕ) (ss ts : Row) (holder : Option ℕ) → AreSame ss t
 holder_same m ss ts None same is = (follows_same m 0 ss ts same is.0, λ j. sym (same_at m ss ts same j) ∙ is.1 j)
 holder_same m ss ts (Some i) same is =
     let only = is.0 in
-    let at = is.1 in
-    ((sym (same_at m ss ts same i) ∙ only.0, λ j apart. sym (same_at m ss ts same j) ∙ only.1 j apart),
-      (at.0, at.1, at.2, follows_same m at.0 ss ts same at.3))
+    let at = is.1 in (
+      (sym (same_at m ss ts same i) ∙ only.0, λ j apart. sym (same_at m ss ts same j) ∙ only.1 j apart),
+      (at.0, at.1, at.2, follows_same m at.0 ss ts same at.3),
+    )

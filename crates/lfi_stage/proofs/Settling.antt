@@ -47,9 +47,12 @@ listed : (rs : List Receiver) (Q : ℕ → Receiver → ℕ → Type 0) → ((c 
 listed [] Q each = ([], refl, λ c r at. absurd cc, refl)
 listed (r ∷ rs) Q each =
     let first = each 0 r refl in
-    let rest = listed rs (λ c q n. Q (suc c) q n) (λ c q at. each (suc c) q at) in
-    (first.0 ∷ rest.0, (let long = rest.1 in omega arith), at_place first.0 rest.0 first.1 rest.2,
-      ap (λ n. min n most) (sum_by-cons strays_at r rs) ∙ capped (strays_at r) first.0 (sum_by strays_at rs) (sum rest.0) first.2 rest.3 ∙ sym (ap (λ n. min n most) (sum_by-cons (λ x. x) first.0 rest.0)))
+    let rest = listed rs (λ c q n. Q (suc c) q n) (λ c q at. each (suc c) q at) in (
+      first.0 ∷ rest.0,
+      (let long = rest.1 in omega arith),
+      at_place first.0 rest.0 first.1 rest.2,
+      ap (λ n. min n most) (sum_by-cons strays_at r rs) ∙ capped (strays_at r) first.0 (sum_by strays_at rs) (sum rest.0) first.2 rest.3 ∙ sym (ap (λ n. min n most) (sum_by-cons (λ x. x) first.0 rest.0)),
+    )
   where
     at_place : (n : ℕ) (ns : List ℕ) → Q 0 r n → ((c : ℕ) (q : Receiver) → slice_get rs c ≡ Some q → Q (suc c) q (slice_index ns c)) → (c : ℕ) (q : Receiver) → slice_get (r ∷ rs) c ≡ Some q → Q c q (slice_index (n ∷ ns) c)
     at_place n ns is later zero q at = subst (λ z. Q 0 z n) (some_same r q at) is
@@ -94,15 +97,18 @@ module _ (shared : Shared) (rs : List Receiver) (are : AreReceivers shared rs) (
     each : (c : ℕ) (r : Receiver) → slice_get rs c ≡ Some r → (n : ℕ) × Made c r n × (strays_at r ≡ min n most)
     each c r at =
         let told = stand c r at in
-        let f = finished_items r (texts c) (cause_after (cause_of r) false) told.0 told.1 (some_cause (cause_of r) told.1.ended) in
-        (f.0, record {
-          messages = f.1.messages;
-          rest = f.1.rest;
-          cut = f.1.cut;
-          items_are = λ m in_range. ap (λ l. of m l) (put_by c r at) ∙ f.1.items_are m in_range;
-          fault_is = faults c ∙ ap (λ o. option_map_or fault_of o None) at ∙ f.1.fault_is;
-          strays_are = f.1.strays_are;
-        }, f.2)
+        let f = finished_items r (texts c) (cause_after (cause_of r) false) told.0 told.1 (some_cause (cause_of r) told.1.ended) in (
+          f.0,
+          record {
+            messages = f.1.messages;
+            rest = f.1.rest;
+            cut = f.1.cut;
+            items_are = λ m in_range. ap (λ l. of m l) (put_by c r at) ∙ f.1.items_are m in_range;
+            fault_is = faults c ∙ ap (λ o. option_map_or fault_of o None) at ∙ f.1.fault_is;
+            strays_are = f.1.strays_are;
+          },
+          f.2,
+        )
 
     list : (ns : List ℕ) × (length ns ≡ length rs) × ((c : ℕ) (r : Receiver) → slice_get rs c ≡ Some r → Made c r (slice_index ns c)) × (min (sum_by strays_at rs) most ≡ min (sum ns) most)
     list = listed rs Made each

@@ -87,7 +87,13 @@ fn hear_all<S: Wait, R: Read + Drop, G: Gate>(
             return;
         }
         pull_each(rt, &mut stage.receivers, inputs, &stage.shared);
-        turn_others(rt, &mut stage.verifiers, &mut stage.sequencers, &stage.shared, gate);
+        turn_others(
+            rt,
+            &mut stage.verifiers,
+            &mut stage.sequencers,
+            &stage.shared,
+            gate,
+        );
     }
     unreachable!()
 }

@@ -72,4 +72,3 @@ pub record Ends (r : Receiver) (messages : List Message) (rest : List ℕ) (caus
 abbrev pub StandsBy : Option Cause → Receiver → List Message → List ℕ → Type 0
 StandsBy None r messages rest = Runs r messages rest
 StandsBy (Some cause) r messages rest = Ends r messages rest cause
-

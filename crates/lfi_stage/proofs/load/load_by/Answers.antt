@@ -17,19 +17,19 @@ returns g c = λ texts known.
     let rs = c.hear_all.new.stage.receivers.items in
     let ins = c.hear_all.new.inputs.items in
     let first : AreHearing remaining c.args.stage.receivers.items c.args.inputs.items texts = (λ k r input at there.
-        let fresh = new.fresh k r at in
-        record {
-          heard = [];
-          stands = fresh.stands;
-          consumes = subst (λ o. Consumes (Some (texts k)) o []) (sym (known k input there)) refl;
-          ends = subst (λ o. EndsAt (claimed_by r) o (left_of remaining input) []) (sym fresh.running) tt;
-        }) in
+    let fresh = new.fresh k r at in
+    record {
+      heard = [];
+      stands = fresh.stands;
+      consumes = subst (λ o. Consumes (Some (texts k)) o []) (sym (known k input there)) refl;
+      ends = subst (λ o. EndsAt (claimed_by r) o (left_of remaining input) []) (sym fresh.running) tt;
+    }) in
     let last : AreHearing remaining rs ins texts = c.hear_all.ensures.hearing texts first in
     let told = told_by rs (λ k r heard. IsHeard (claimed_by r) (cause_of r) heard (texts k) × StandsFor r heard) (λ k r at.
-        let input = some_at ins k (let within = slice_get_within rs k r at in let same = c.hear_all.ensures.inputs in omega arith) in
-        let h = last k r input.0 at input.1 in
-        let t = heard_of r (texts k) h.heard (left_of remaining input.0) h.stands h.consumes h.ends (c.hear_all.ensures.over k r at) in
-        (t.0, (t.1, t.2))) in
+    let input = some_at ins k (let within = slice_get_within rs k r at in let same = c.hear_all.ensures.inputs in omega arith) in
+    let h = last k r input.0 at input.1 in
+    let t = heard_of r (texts k) h.heard (left_of remaining input.0) h.stands h.consumes h.ends (c.hear_all.ensures.over k r at) in
+    (t.0, (t.1, t.2))) in
     record {
       receivers = rs;
       all = c.hear_all.ensures.count ∙ new.receiver_count;

@@ -9,5 +9,5 @@ returns g c = λ texts stand.
     let done = c.finish_all.ensures.finished in
     reports_before old new done texts c.settle_finished.result (c.finish_all.ensures.receivers.count ∙ sym c.requires.parts.receivers_are.count)
     (c.settle_finished.ensures texts (λ k q at.
-        let r = before old new done k q at in
-        (r.2.stands (texts k) (stand k r.0 r.1), r.2.finished)))
+    let r = before old new done k q at in
+    (r.2.stands (texts k) (stand k r.0 r.1), r.2.finished)))
