@@ -20,7 +20,10 @@ module _ {H G : Type 0} (answers : Answers H) (others : Answers G) (seen : H →
   leads_alike escape c d h k e = absurd e
 
   halts_alike : (halt : Halt) (move : Move) (c d : Config) (h k : H) → HaltsAt answers halt move c h d k → HaltsAt others halt move c (seen h) d (seen k)
-  halts_alike NoMemory move c d h k e = (e.0, ap seen e.1)
+  halts_alike NoMemory (go after offset bytes) c d h k e = (e.0, e.1, ap seen e.2)
+  halts_alike NoMemory (stop cause) c d h k e = (e.0, e.1, ap seen e.2)
+  halts_alike NoMemory (ask entry given) c d h k e = absurd e
+  halts_alike NoMemory escape c d h k e = absurd e
   halts_alike (Ended status) (ask entry given) c d h k e = (alike h entry given c.owned _ k d.owned e.0, e.1)
   halts_alike (Ended status) (stop cause) c d h k e = (e.0, e.1, ap seen e.2)
   halts_alike (Ended status) (go after offset bytes) c d h k e = absurd e
@@ -70,7 +73,10 @@ module _ {G : Type 0} where
   same_leads escape c d g k e = absurd e
 
   same_halts : (halt : Halt) (move : Move) (c d : Config) (g k : G) → HaltsAt unchanged halt move c g d k → k ≡ g
-  same_halts NoMemory move c d g k e = e.1
+  same_halts NoMemory (go after offset bytes) c d g k e = e.2
+  same_halts NoMemory (stop cause) c d g k e = e.2
+  same_halts NoMemory (ask entry given) c d g k e = absurd e
+  same_halts NoMemory escape c d g k e = absurd e
   same_halts (Ended status) (ask entry given) c d g k e = e.0
   same_halts (Ended status) (stop cause) c d g k e = e.2
   same_halts (Ended status) (go after offset bytes) c d g k e = absurd e
