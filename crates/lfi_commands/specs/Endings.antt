@@ -1,5 +1,6 @@
 -- How a run ends, by what it found. (this project's profile: docs/DEFINITIONS.md, "The program")
-use Rattle.std.specs.Prelude.{◌≡◌, ℕ, Some, slice_get}
+use Rattle.std.specs.Prelude.{◌≡◌, ℕ, List, Option, Some, slice_get}
+use Rattle.lfi_frame.specs.declared.fault.FrameFault.{FrameFault}
 use Rattle.lfi_frame.specs.declared.fault.FrameFault.TheVariants.{ReadFailed}
 use Rattle.lfi_image.specs.declared.fault.ImageFault.TheVariants as image_fault
 use Rattle.slot_access.specs.declared.halt.Halt.{Halt}
@@ -28,15 +29,15 @@ ending_of (Refused fault) = NotWell
 ending_of BadLength = NotWell
 
 -- a read of some connection failed
-abbrev pub IsReadFailed : Report → Type 0
-IsReadFailed report = (c : ℕ) × (slice_get report.faults c ≡ Some (Some ReadFailed))
+abbrev pub IsReadFailed : List (Option FrameFault) → Type 0
+IsReadFailed faults = (c : ℕ) × (slice_get faults c ≡ Some (Some ReadFailed))
 
 -- by a report
 abbrev pub EndsBy : Report → Ending → Type 0
 EndsBy report Well = IsWell (summary_of report)
-EndsBy report NotWell = (¬ (IsWell (summary_of report))) × (¬ (IsReadFailed report))
+EndsBy report NotWell = (¬ (IsWell (summary_of report))) × (¬ (IsReadFailed report.faults))
 EndsBy report WrongWords = ⊥
-EndsBy report Failed = IsReadFailed report
+EndsBy report Failed = IsReadFailed report.faults
 
 -- by why the run of an image ended
 abbrev pub ending_of_halt : Halt → Ending

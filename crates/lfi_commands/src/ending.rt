@@ -1,6 +1,7 @@
 //! How a run of the program ends.
 
-ghost use Rattle.std.specs.Prelude.{◌≡◌, false, IsTrue};
+ghost use Rattle.std.specs.Prelude.{◌≡◌, ◌≢◌, Some, false, IsTrue};
+ghost use Rattle.lfi_frame.specs.declared.fault.FrameFault.TheVariants.{ReadFailed};
 ghost use Rattle.lfi_commands.specs.Endings.{number_of, ending_of, ending_of_run, EndsBy, IsReadFailed};
 
 use crate::verdict::Verdict;
@@ -23,13 +24,24 @@ pub enum Ending {
     Failed,
 }
 
-/// Whether a read of some connection failed.
-fn is_read_failed(report: &Report) -> bool
-    ensures failed { IsTrue result → IsReadFailed report.now }
-    ensures none { result ≡ false → ¬ (IsReadFailed report.now) }
+/// Whether a fault is that of a read that failed.
+fn is_of_a_read(fault: Option<FrameFault>) -> bool
+    ensures read { IsTrue result → fault ≡ Some ReadFailed }
+    ensures other { result ≡ false → fault ≢ Some ReadFailed }
 {
-    for fault in &report.faults {
-        if *fault == Some(FrameFault::ReadFailed) {
+    match fault {
+        Some(FrameFault::ReadFailed) => true,
+        _ => false,
+    }
+}
+
+/// Whether a read of some connection failed.
+fn is_read_failed(faults: &[Option<FrameFault>]) -> bool
+    ensures failed { IsTrue result → IsReadFailed faults.now }
+    ensures none { result ≡ false → ¬ (IsReadFailed faults.now) }
+{
+    for number in 0..faults.len() {
+        if is_of_a_read(faults[number]) {
             return true;
         }
     }
@@ -66,7 +78,7 @@ impl Ending {
     {
         if report.summary().is_well() {
             Ending::Well
-        } else if is_read_failed(report) {
+        } else if is_read_failed(&report.faults) {
             Ending::Failed
         } else {
             Ending::NotWell
