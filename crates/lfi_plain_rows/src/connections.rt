@@ -1,6 +1,6 @@
 //! Several connections through the stage, and through the plain program beside it.
 
-ghost use Rattle.std.specs.Prelude.{◌≤◌, length};
+ghost use Rattle.std.specs.Prelude.{◌≤◌};
 
 use crate::build::{NOP, RET, Text, one_word, stream};
 use crate::stage::Pieces;
@@ -13,24 +13,24 @@ use std::alloc::{AllocError, Global};
 use std::sync::Wait;
 use std::test::Fail;
 
-/// The text of the stage's report on these connections, each of which comes in pieces of so many
-/// bytes.
+/// The text of the stage's report on these connections, of which it takes at most eight, each in
+/// pieces of so many bytes; nothing where there is none.
 fn loaded_all(
     rt: &(impl Wait + AllocGlobal),
     texts: &[Text],
     most: usize,
     verifiers: usize,
 ) -> Result<String, AllocError>
-    requires connections { (1 ≤ length texts.now) × (length texts.now ≤ 8) }
     requires verifiers { (1 ≤ verifiers) × (verifiers ≤ 8) }
 {
     let mut inputs = Vec::new(rt.alloc());
     for text in texts {
-        let pieces = Pieces {
-            left: text.bytes.as_slice(),
-            most,
-        };
-        inputs.push(Input::new(rt.alloc(), pieces)?)?;
+        let left = text.bytes.as_slice();
+        inputs.push(Input::new(rt.alloc(), Pieces { left, most })?)?;
+    }
+    inputs.truncate(8);
+    if inputs.is_empty() {
+        return Ok(String::new(rt.alloc()));
     }
     let summary = load_all(rt, rt.alloc(), inputs, verifiers, &OpenGate)?.summary();
     format!(in rt.alloc(); "{summary}")
@@ -91,12 +91,11 @@ fn two_streams_of_module_3(rt: HostRuntime) -> Result<(), Fail> {
 
 #[test]
 fn one_that_is_cut_off_beside_others(rt: HostRuntime) -> Result<(), Fail> {
-    let whole = one_word(rt.alloc(), 0, RET)?;
+    let mut cut = one_word(rt.alloc(), 0, RET)?;
+    cut.bytes.truncate(30);
     let mut texts = Vec::new(rt.alloc());
     texts.push(one_word(rt.alloc(), 5, RET)?)?;
-    texts.push(Text {
-        bytes: Vec::from_slice(rt.alloc(), &whole.bytes[..30])?,
-    })?;
+    texts.push(cut)?;
     texts.push(Text::new(rt.alloc()))?;
     let want =
         "module 0: lost, fault 9\nmodule 5: complete, 1 words\nconnection 1: fault 9\nstrays 0\n";
