@@ -106,6 +106,7 @@ fn one_that_is_cut_off_beside_others(rt: HostRuntime) -> Result<(), Fail> {
         let bytes = text.bytes.as_slice();
         streams.push(stream(rt.alloc(), bytes, Cause::End, &[module])?)?;
     }
+    assert_eq!(rt; streams.len(), 3);
     let plain = report_on(rt.alloc(), streams.as_slice())?.summary();
     let plain = format!(in rt.alloc(); "{plain}")?;
     assert_eq!(rt; plain.as_str(), want);
