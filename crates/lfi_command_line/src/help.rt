@@ -27,14 +27,15 @@ pub const LOAD: &str =
   module M: lost, fault F                 Its connection came to fault F while it was open.
   module M: page fault, index I           Page I wasn't the one due, or hadn't its length.
   module M: no memory                     There was no memory for it.
-  connection C: fault F                   Its stream has fault F: 1 to 7 a header, 8 no memory, 9 its end.
+  connection C: fault F                   Its stream has fault F: 1 to 7 a header, 8 no memory, 9 its end,
+                                          10 a read that failed.
   strays N                                N messages belonged to no open module of their connection.
-The status is 0 where each module is complete and no connection has a fault, else 1.
+The status is 0 where each module is complete and no connection has a fault, 3 where a read failed, else 1.
 
 With --out DIR, the image of each complete module M is written to DIR/module-MM.img, M in two digits.
 
 On the standard error:
-  lfiload: cannot read PATH   The stream can't be read; nothing is loaded (status 3).
+  lfiload: cannot read PATH   The stream can't be opened; nothing is loaded (status 3).
   lfiload: cannot write PATH  An image can't be written (status 3).
   lfiload: no memory          There was no memory to load it (status 3).";
 
