@@ -1,5 +1,5 @@
 -- Something that is so of each element of a list stays so where one is replaced.
-use Rattle.std.proofs.Common.{◌≡◌, ℕ, zero, suc, ◌≢◌, ◌<◌, List, [], ◌∷◌, Some, None, length, refl, ap, subst, slice_get, arith}
+use Rattle.std.proofs.Common.{◌≡◌, ℕ, zero, suc, ◌≢◌, ◌<◌, List, [], ◌∷◌, Some, length, refl, ap, subst, slice_get, arith}
 use Rattle.std.proofs.Math.ListN.{set}
 
 pub set_each : {A : Type 0} (P : ℕ → A → Type 0) (xs : List A) (i : ℕ) (x : A) → ((k : ℕ) (y : A) → slice_get xs k ≡ Some y → P k y) → P i x → (k : ℕ) (y : A) → slice_get (set xs i x) k ≡ Some y → P k y

@@ -1,5 +1,5 @@
 -- A stage of new parts, none of which has done anything.
-use Rattle.std.proofs.Common.{◌≡◌, ℕ, zero, suc, ◌+◌, ◌<◌, ◌≤◌, List, [], ◌∷◌, ◌++◌, Some, None, length, refl, sym, ◌∙◌, ap, subst, slice_get, arith}
+use Rattle.std.proofs.Common.{◌≡◌, ℕ, zero, suc, ◌<◌, ◌≤◌, List, [], ◌∷◌, Some, None, length, refl, sym, ◌∙◌, ap, subst, slice_get, arith}
 use Rattle.std.specs.Prelude.{slice_index_or}
 use Rattle.std.specs.Option.{option_map}
 use Rattle.std.specs.Global.{Vec}
@@ -11,14 +11,13 @@ use Rattle.lfi_queues.proofs.New.{new_length}
 use Rattle.lfi_board.specs.declared.board.Board.{Board}
 use Rattle.lfi_board.specs.declared.seats.ReceiverSeat.{ReceiverSeat}
 use Rattle.lfi_board.specs.declared.seats.SequencerSeat.{SequencerSeat}
-use Rattle.lfi_board.specs.Hands.{receiver_hand}
 use Rattle.lfi_board.specs.Known.{board_id, board_of, board_receivers, sequencer_board}
 use Rattle.lfi_board.specs.Rows.{Row, IsNewReceiver, NewReceivers, NewSequencers}
 use Rattle.lfi_place.specs.declared.lanes.Lanes.{Lanes}
 use Rattle.lfi_place.specs.declared.verifier.Verifier.{Verifier}
 use Rattle.lfi_place.specs.declared.sequencer.Sequencer.{Sequencer}
 use Rattle.lfi_place.specs.Handed.{take_pass_of, lane_puts_of}
-use Rattle.lfi_place.specs.Lanes.{new_row, row_at, AreRows, AreNewLanes}
+use Rattle.lfi_place.specs.Lanes.{new_row, AreRows, AreNewLanes}
 use Rattle.lfi_place.specs.Turns.{lane_pass_of, seat_of as sequencer_seat_of}
 use Rattle.lfi_place.proofs.Rows.{new_row_of_lanes}
 use Rattle.lfi_receive.specs.declared.receiver.Receiver.{Receiver}
@@ -29,7 +28,7 @@ use Rattle.lfi_settle.proofs.Kept.{new_verifier, new_sequencer}
 use Rattle.lfi_stage.specs.declared.shared.Shared.{Shared}
 use Rattle.lfi_stage.specs.Shares.{intake_of, board_at}
 use Rattle.lfi_stage.specs.Parts.{IsReceiver, AreReceivers}
-use Rattle.lfi_stage.specs.inner.Made.{AreUnused, IsUnusedSeat, AreUnusedSeats, AreRowsOf, AreFreshOf, AreVerifiersOf, AreSequencersOf}
+use Rattle.lfi_stage.specs.inner.Made.{AreUnused, AreUnusedSeats, AreRowsOf, AreFreshOf, AreVerifiersOf, AreSequencersOf}
 use Rattle.lfi_stage.proofs.Filling.{push_each}
 
 some_same : {A : Type 0} (a b : A) → Some a ≡ Some b → a ≡ b

@@ -1,12 +1,12 @@
 -- What has been heard, once the inputs are over.
-use Rattle.std.proofs.Common.{◌≡◌, ◌<◌, arith, length, ℕ, zero, suc, Bool, true, false, List, [], ◌∷◌, ◌++◌, Option, Some, None, IsSome, slice_get, refl, sym, ◌∙◌, ap, subst, inl, inr}
+use Rattle.std.proofs.Common.{◌≡◌, ◌<◌, arith, length, ℕ, zero, suc, false, List, [], ◌∷◌, ◌++◌, Option, Some, None, IsSome, slice_get, refl, sym, ◌∙◌, ap, subst, inl, inr}
 use Rattle.std.specs.Prelude.{is_some}
 use Rattle.std.specs.Io.KnownBytes.{Consumes, IsAtEnd}
 use Rattle.std.proofs.lemmas.List.{append-nil}
 use Rattle.lfi_model.specs.declared.connection.Cause.{Cause}
 use Rattle.lfi_model.specs.declared.connection.Cause.TheVariants as cause_kind
 use Rattle.lfi_receive.specs.declared.receiver.Receiver.{Receiver}
-use Rattle.lfi_receive.specs.Receivers.{StandsFor, IsFaulty, claimed_by, cause_of}
+use Rattle.lfi_receive.specs.Receivers.{StandsFor, claimed_by, cause_of}
 use Rattle.lfi_receive.specs.Pulls.{EndsAt}
 use Rattle.lfi_receive.proofs.Finished.{stands_faulty}
 use Rattle.lfi_stage.specs.Stages.{IsHeard}

@@ -1,10 +1,9 @@
 -- Finished receivers, taken apart, and what was told of the modules: together, one plain pass.
-use Rattle.std.proofs.Common.{◌≡◌, ◌≢◌, ◌<◌, ◌≤◌, ◌-◌, ◌+◌, ◌^◌, ℕ, zero, suc, Bool, List, [], ◌∷◌, Option, Some, None, IsSome, false, true, length, slice_get, get_or, min, sum_by, refl, sym, ◌∙◌, ap, subst, inl, inr, arith}
-use Rattle.std.specs.Prelude.{MatchOption, slice_index, slice_index_or, sum}
+use Rattle.std.proofs.Common.{◌≡◌, ◌<◌, ◌≤◌, ◌-◌, ◌+◌, ◌^◌, ℕ, zero, suc, Bool, List, [], ◌∷◌, Option, Some, None, false, true, length, slice_get, get_or, min, sum_by, refl, sym, ◌∙◌, ap, subst, arith}
+use Rattle.std.specs.Prelude.{MatchOption, slice_index, sum}
 use Rattle.std.specs.Option.{option_map, option_map_or}
 use Rattle.std.proofs.lemmas.Option.{slice_get_within}
 use Rattle.std.proofs.lemmas.List.Sums.{sum_by-cons}
-use Rattle.lfi_frame.specs.declared.fault.FrameFault.{FrameFault}
 use Rattle.lfi_frame.specs.Streams.{Message, Cut}
 use Rattle.lfi_model.specs.Item.{ItemView}
 use Rattle.lfi_model.specs.declared.connection.Cause.{Cause}
@@ -12,13 +11,10 @@ use Rattle.lfi_model.specs.declared.connection.Cause.TheVariants.{End}
 use Rattle.lfi_model.specs.Items.{ItemsOf}
 use Rattle.lfi_model.specs.Modules.{of}
 use Rattle.lfi_queues.specs.Kept.{Kept}
-use Rattle.lfi_queues.specs.Passes.{PassView, IsPass, AreAllPasses, pass_at, items_at}
-use Rattle.lfi_board.specs.Known.{board_id}
+use Rattle.lfi_queues.specs.Passes.{PassView, IsPass, AreAllPasses, items_at}
 use Rattle.lfi_board.specs.Rows.{Row, AllReceivers}
 use Rattle.lfi_delivery.specs.Delivers.{Makes, AreApart as AreClaimsApart}
 use Rattle.lfi_place.specs.declared.sequence.Sequence.{Sequence}
-use Rattle.lfi_place.specs.declared.report.ModuleReport.{ModuleReport}
-use Rattle.lfi_place.specs.Tells.{Tells}
 use Rattle.lfi_receive.specs.declared.receiver.Receiver.{Receiver}
 use Rattle.lfi_receive.specs.Claims.{is_opened}
 use Rattle.lfi_receive.specs.Receivers.{StandsFor, IsFinished, pass_of, seat_of, fault_of, strays_at, claimed_by, cause_of, cause_after}

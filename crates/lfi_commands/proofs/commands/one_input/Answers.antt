@@ -1,4 +1,4 @@
-use Rattle.std.proofs.Common.{rules, ◌≡◌, ◌∷◌, []}
+use Rattle.std.proofs.Common.{rules}
 use Rattle.lfi_commands.proofs.commands.one_input.Goals as goal
 
 pub returns : goal.returns

@@ -1,4 +1,4 @@
-use Rattle.std.proofs.Common.{◌≡◌, ◌∙◌}
+use Rattle.std.proofs.Common.{◌∙◌}
 use Rattle.lfi_stage.proofs.load.hear_all.Goals as goal
 
 pub loop-preserved : goal.loop-preserved

@@ -1,7 +1,6 @@
-use Rattle.std.proofs.Common.{◌≡◌, ◌∙◌, ◌<◌, ℕ, List, [], Some, None, Option, length, slice_get, refl, sym, ap, subst, arith}
+use Rattle.std.proofs.Common.{◌∙◌, [], Some, refl, sym, subst, arith}
 use Rattle.std.proofs.lemmas.Option.{slice_get_within}
 use Rattle.std.specs.Io.KnownBytes.{Consumes}
-use Rattle.lfi_receive.specs.declared.receiver.Receiver.{Receiver}
 use Rattle.lfi_receive.specs.Receivers.{StandsFor, cause_of, claimed_by}
 use Rattle.lfi_receive.specs.Inputs.{left_of}
 use Rattle.lfi_receive.specs.Pulls.{EndsAt}

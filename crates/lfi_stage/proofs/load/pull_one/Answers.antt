@@ -1,7 +1,5 @@
 use Rattle.std.proofs.Common.{◌≡◌, ◌∙◌, ◌++◌, None, Some, sym}
-use Rattle.std.specs.Prelude.{is_some, Option}
 use Rattle.std.proofs.KnownBytes.{Consumes-trans}
-use Rattle.lfi_model.specs.declared.connection.Cause.{Cause}
 use Rattle.lfi_receive.specs.Inputs.{left_of}
 use Rattle.lfi_stage.proofs.Heard.{not_some}
 use Rattle.lfi_stage.proofs.load.pull_one.Goals as goal

@@ -1,5 +1,4 @@
-use Rattle.std.proofs.Common.{◌≡◌, ◌∙◌, ap, length, arith}
-use Rattle.lfi_queues.specs.Passes.{new_passes}
+use Rattle.std.proofs.Common.{length, arith}
 use Rattle.lfi_stage.specs.declared.shared.Shared.{Shared}
 use Rattle.lfi_stage.proofs.Fresh.{count_of_new, unused_passes, unused_row, unused_seats, rows_of_new, made_count, receivers_made, verifiers_made, workers_made, sequencer_boards}
 use Rattle.lfi_stage.proofs.stage.Stage.new.Goals as goal
