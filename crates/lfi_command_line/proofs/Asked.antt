@@ -1,24 +1,28 @@
--- The subcommand that the parser met, by the words.
-use Rattle.std.proofs.Common.{◌≡◌, ◌∙◌, ◌⊎◌, ℕ, Bool, Result, Ok, Err, IfErr, IsErrAnd, true, false, List, Option, Some, None, is_some, refl, sym, ap, ap₂, subst, inl, inr, codes, arith, slice_index, option_map, Bor, true≢false}
-use Rattle.std.specs.Prelude.{option_and_then, unwrap_or, Box}
+-- The subcommand that the parser met, by the words, and the fault that it told.
+use Rattle.std.proofs.Common.{◌≡◌, ◌∙◌, ◌⊎◌, ℕ, Bool, Result, Ok, Err, IfErr, IsErrAnd, true, false, cond, suc, List, [], ◌∷◌, map, Option, Some, None, is_some, find, refl, sym, arith, ap, ap₂, subst, inl, inr, codes, option_map, unwrap_or, true≢false}
+use Rattle.std.specs.Prelude.{◌<◌, Box, length, option_and_then, slice_get}
 use Rattle.std.specs.Box.{box_value}
-use Rattle.clap.specs.Matches.{first_value, found_of, subcommand_name_of}
+use Rattle.std.specs.Str.{bytes_eq}
+use Rattle.std.proofs.lemmas.Slice.Eq.{bytes_eq-Decides}
+use Rattle.std.specs.Str.Parse.{ParsesUnsigned}
+use Rattle.clap.specs.Matches.{ReadsOne, subcommand_name_of}
 use Rattle.clap.specs.Simple.{subcommand_rows, subcommand_rows_of}
-use Rattle.clap.specs.Walk.{Row, Text, first_of, rows_of}
-use Rattle.clap.proofs.CallerLemmas.{some_of_text}
-use Rattle.clap.proofs.WalkLemmas.{first_value-rows}
+use Rattle.clap.specs.declared.builder.value_parser.Reading.{Reading}
+use Rattle.clap.specs.Values.{read_as}
+use Rattle.clap.specs.Walk.{Row, Text, all_of, first_of, one_of, row_text}
 use Rattle.clap.specs.declared.parser.matches.ArgMatches.{ArgMatches}
 use Rattle.clap.specs.declared.parser.matches.ArgMatches.TheViews.{out-ArgMatches, out-SubCommand}
 use Rattle.clap.specs.declared.parser.matches.SubCommand.{SubCommand}
-use Rattle.clap.specs.Words.{HasKind, IsAmong, fault_of, kind_of}
+use Rattle.clap.specs.Words.{HasKind, IsAmong, IsUnsignedIn, fault_of, kind_of}
 use Rattle.clap.specs.declared.error.Error.{Error}
 use Rattle.clap.specs.declared.error.kind.ErrorKind.{ErrorKind}
 use Rattle.clap.specs.declared.error.kind.ErrorKind.TheVariants as kind
-use Rattle.lfi_command_line.specs.declared.command_line.LineFault.{LineFault}
-use Rattle.lfi_command_line.specs.CommandLine.{IsLineFault, IsStepCount, fault_by, fault_from, is_help, lfiload_app}
-use Rattle.clap.specs.Matches.{ReadsOne}
-use Rattle.std.specs.Str.Parse.{ParsesUnsigned}
-use Rattle.lfi_command_line.proofs.Given.{Asks, GivesCount, IsCount}
+use Rattle.lfi_command_line.specs.declared.fault.LineFault.{LineFault}
+use Rattle.lfi_command_line.specs.declared.fault.LineFault.TheVariants.{NoMemory, Help, Wrong, TooManyStreams}
+use Rattle.lfi_command_line.specs.Apps.{lfiload_app}
+use Rattle.lfi_command_line.specs.CommandLine.{AreTakenFor, IsLineFault, IsNumber, IsNumberOr, fault_by, fault_from, is_help}
+use Rattle.lfi_command_line.specs.inner.Given.{IsFaultOfLoad, IsNumberGiven}
+use Rattle.lfi_command_line.proofs.Needs.{AllGive, Asks, picked}
 
 module _ {Z : Type 0} where
   named : (o : Option (Box SubCommand Z)) → option_map (λ p. p.0) (subcommand_rows o) ≡ option_map (λ b. (out-SubCommand (box_value b)).name.now) o
@@ -33,65 +37,51 @@ pub both_parts : (o : Option (Text × List Row)) (name : Text) (rows : List Row)
 both_parts None name rows first second = absurd (true≢false (ap is_some (sym first)))
 both_parts (Some p) name rows first second = ap₂ (λ n r. Some (n, r)) (ap (λ o. unwrap_or o p.0) first) (ap (λ o. unwrap_or o p.1) second)
 
--- a value that is read of the subcommand's matches is that which the words give
-pub value_read : (asked : Option (Text × List Row)) (name id : Text) (found : ArgMatches) (read : Option (Bor Text)) → asked ≡ Some (name, rows_of (found_of found))
-    → option_map (λ s. s.now) read ≡ first_value (found_of found) id → option_and_then (λ p. first_of id p.1) asked ≡ option_map (λ s. s.now) read
-value_read asked name id found read same is =
-    ap (option_and_then (λ p. first_of id p.1)) same ∙ sym (first_value-rows (found_of found) id) ∙ sym is
+pub some_same : {X : Type 0} {a b : X} → Some a ≡ Some b → a ≡ b
+some_same e = cc
 
--- names that begin with other letters
-apart : (xs ys : Text) (j k : ℕ) {X : Type 0} → slice_index xs 0 ≡ j → slice_index ys 0 ≡ k → (j ≡ k → ⊥) → xs ≡ ys → X
-apart xs ys j k first second differ e = absurd (differ (sym first ∙ ap (λ t. slice_index t 0) e ∙ second))
+pub map_length : {X Y : Type 0} (f : X → Y) (xs : List X) → length (map f xs) ≡ length xs
+map_length f [] = refl
+map_length f (x ∷ xs) = ap suc (map_length f xs)
 
--- `check` has its file
-pub file_given : (asked : Option (Text × List Row)) (rows : List Row) → Asks asked → asked ≡ Some (codes "check", rows) → is_some (first_of (codes "FILE") rows) ≡ true
-file_given asked rows asks same = elim (subst Asks same asks) [
-  | inl check ↦ check.1
-  | inr rest ↦ elim rest [
-    | inl load ↦ apart (codes "check") (codes "load") 99 108 refl refl (λ e. omega (arith, e)) load.0
-    | inr run ↦ apart (codes "check") (codes "run") 99 114 refl refl (λ e. omega (arith, e)) run.0
-  ]
-]
+-- nothing is read of an argument to which nothing is given
+none_of : (id : Text) (given : List Row) → first_of id given ≡ None → one_of id given ≡ None
+none_of id given none = go (find (λ r. bytes_eq r.id id) given) none
+  where
+    valued : (how : Reading) (values : List Text) → slice_get values 0 ≡ None → option_map (read_as how) (slice_get values 0) ≡ None
+    valued how values e = ap (option_map (read_as how)) e
 
--- `load` has its stream
-pub stream_given : (asked : Option (Text × List Row)) (rows : List Row) → Asks asked → asked ≡ Some (codes "load", rows) → is_some (first_of (codes "STREAM") rows) ≡ true
-stream_given asked rows asks same = elim (subst Asks same asks) [
-  | inl check ↦ apart (codes "load") (codes "check") 108 99 refl refl (λ e. omega (arith, e)) check.0
-  | inr rest ↦ elim rest [
-    | inl load ↦ load.1
-    | inr run ↦ apart (codes "load") (codes "run") 108 114 refl refl (λ e. omega (arith, e)) run.0
-  ]
-]
+    go : (o : Option Row) → option_and_then (λ r. slice_get r.values 0) o ≡ None → option_and_then row_text o ≡ None
+    go None e = refl
+    go (Some r) e = valued r.reading r.values e
 
--- `run` has its image and its number of steps
-pub image_given : (asked : Option (Text × List Row)) (rows : List Row) → Asks asked → asked ≡ Some (codes "run", rows)
-    → (is_some (first_of (codes "IMAGE") rows) ≡ true) × GivesCount rows
-image_given asked rows asks same = elim (subst Asks same asks) [
-  | inl check ↦ apart (codes "run") (codes "check") 114 99 refl refl (λ e. omega (arith, e)) check.0
-  | inr rest ↦ elim rest [
-    | inl load ↦ apart (codes "run") (codes "load") 114 108 refl refl (λ e. omega (arith, e)) load.0
-    | inr run ↦ (run.1, run.2)
-  ]
-]
+-- where something is given to an argument, all of it is a list that isn't empty
+pub all_given : (id : Text) (given : List Row) → is_some (first_of id given) ≡ true → (values : List Text) × (all_of id given ≡ Some values) × (0 < length values)
+all_given id given some = go (find (λ r. bytes_eq r.id id) given) some
+  where
+    valued : (values : List Text) → is_some (slice_get values 0) ≡ true → 0 < length values
+    valued [] e = absurd (true≢false (sym e))
+    valued (v ∷ vs) e = omega arith
 
--- where it is neither `check` nor `run`, it is `load`
-pub load_named : (asked : Option (Text × List Row)) → Asks asked → (option_map (λ p. p.0) asked ≡ Some (codes "check") → ⊥) → (option_map (λ p. p.0) asked ≡ Some (codes "run") → ⊥)
-    → option_map (λ p. p.0) asked ≡ Some (codes "load")
-load_named None asks not_check not_run = absurd asks
-load_named (Some p) (inl check) not_check not_run = absurd (not_check (ap Some check.0))
-load_named (Some p) (inr (inl load)) not_check not_run = ap Some load.0
-load_named (Some p) (inr (inr run)) not_check not_run = absurd (not_run (ap Some run.0))
+    go : (o : Option Row) → is_some (option_and_then (λ r. slice_get r.values 0) o) ≡ true → (values : List Text) × (option_map (λ r. r.values) o ≡ Some values) × (0 < length values)
+    go None e = absurd (true≢false (sym e))
+    go (Some r) e = (r.values, refl, valued r.values e)
 
--- what is read of a text that is a number of steps
-pub count_read : (E : Type 0) (G : List ℕ → Result ℕ E → Type 0) (text : Text) (r : Option ℕ) → ReadsOne G text r → ((u : List ℕ) (x : Result ℕ E) → G u x → ParsesUnsigned 64 10 u x) → IsCount text
-    → (n : ℕ) × (r ≡ Some n) × IsStepCount text n
-count_read E G text (Some n) read only count =
-    let parsed = only text (Ok n) read in
-    (n, refl, (count.0, parsed.1, rw parsed.1 count.3))
-count_read E G text None read only count = absurd (only text (Err read.0) read.1 (count.0, count.1))
+-- a number that is given is read as it is given
+pub number_read : {E : Type 0} (G : List ℕ → Result ℕ E → Type 0) (default least most : ℕ) (id : Text) (given : List Row) (r : Option ℕ) → IsNumberGiven least most id given
+    → (one_of id given ≡ None → r ≡ None) → ((t : List ℕ) → one_of id given ≡ Some t → ReadsOne G t r) → ((u : List ℕ) (x : Result ℕ E) → G u x → ParsesUnsigned 64 10 u x)
+    → IsNumberOr default least most (first_of id given) (unwrap_or r default)
+number_read {E} G default least most id given r is none some only = go (first_of id given) refl
+  where
+    read : (t : Text) (r : Option ℕ) → ReadsOne G t r → IsUnsignedIn least most t → IsNumber least most t (unwrap_or r default)
+    read t (Some n) reads number =
+        let parsed = only t (Ok n) reads in
+        (number.0, parsed.1, rw parsed.1 number.2, rw parsed.1 number.3)
+    read t None reads number = absurd (only t (Err reads.0) reads.1 (number.0, number.1))
 
-pub some_read : (read : Option (Bor Text)) (v : Option Text) → option_map (λ s. s.now) read ≡ v → is_some v ≡ true → is_some read ≡ true
-some_read read v same has = some_of_text (λ s. s.now) read v same has
+    go : (o : Option Text) → first_of id given ≡ o → IsNumberOr default least most o (unwrap_or r default)
+    go None at = rw (none (none_of id given at)) refl
+    go (Some t) at = let given' = is t at in read t r (some t given'.0) given'.1
 
 is_memory : ErrorKind → Bool
 is_memory kind.OutOfMemory = true
@@ -111,3 +101,33 @@ fault_of_kind words e _ same (inr among) = (among, ap is_help same)
 pub is_fault : {X : Type 0} (words : List Text) (r : Result X LineFault) (e : Error) → HasKind (fault_of lfiload_app words) e → IsErrAnd r (λ f. f ≡ fault_from e) → IfErr r (IsLineFault words)
 is_fault words (Ok x) e kinds is = absurd is
 is_fault words (Err f) e kinds is = subst (IsLineFault words) (sym is) (fault_of_kind words e (kind_of e) refl kinds)
+
+-- a number is read of what has to be given
+pub number_has : (default least most : ℕ) (o : Option Text) (n : ℕ) → is_some o ≡ true → IsNumberOr default least most o n → (text : Text) × (o ≡ Some text) × IsNumber least most text n
+number_has default least most None n some is = absurd (true≢false (sym some))
+number_has default least most (Some text) n some is = (text, refl, is)
+
+-- the one name that is left
+pub last_named : (p : Option (Text × List Row)) → Asks p → (option_map (λ p. p.0) p ≡ Some (codes "check") → ⊥) → (option_map (λ p. p.0) p ≡ Some (codes "load") → ⊥)
+    → (option_map (λ p. p.0) p ≡ Some (codes "serve") → ⊥) → option_map (λ p. p.0) p ≡ Some (codes "run")
+last_named None asks not_check not_load not_serve = absurd asks
+last_named (Some p) asks not_check not_load not_serve =
+    named (bytes_eq (codes "check") p.0) refl (bytes_eq (codes "load") p.0) refl (bytes_eq (codes "serve") p.0) refl (bytes_eq (codes "run") p.0) refl asks
+  where
+    same : (name : Text) → bytes_eq name p.0 ≡ true → Some p.0 ≡ Some name
+    same name is = ap Some (sym ((bytes_eq-Decides name p.0).0 is))
+
+    named : (first : Bool) → bytes_eq (codes "check") p.0 ≡ first → (second : Bool) → bytes_eq (codes "load") p.0 ≡ second → (third : Bool) → bytes_eq (codes "serve") p.0 ≡ third
+        → (fourth : Bool) → bytes_eq (codes "run") p.0 ≡ fourth → AllGive (picked first second third fourth) p.1 → Some p.0 ≡ Some (codes "run")
+    named true is second _ third _ fourth _ give = absurd (not_check (same (codes "check") is))
+    named false _ true is third _ fourth _ give = absurd (not_load (same (codes "load") is))
+    named false _ false _ true is fourth _ give = absurd (not_serve (same (codes "serve") is))
+    named false _ false _ false _ true is give = same (codes "run") is
+    named false _ false _ false _ false _ give = absurd give
+
+-- what is wrong with what is given to `load` is wrong with the words
+pub load_fault : (words : List Text) (given : List Row) (fault : LineFault) → AreTakenFor words (codes "load") given → IsFaultOfLoad given fault → IsLineFault words fault
+load_fault words given NoMemory taken is = tt
+load_fault words given TooManyStreams taken is = (given, is.0, taken, is.1, is.2)
+load_fault words given (Help error) taken is = absurd is
+load_fault words given (Wrong error) taken is = absurd is

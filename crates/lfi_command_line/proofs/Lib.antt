@@ -1,2 +1,4 @@
 mod Asked
-mod Given
+mod Making
+mod Needs
+mod Walked

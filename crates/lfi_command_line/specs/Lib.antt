@@ -1,1 +1,3 @@
+pub mod Apps
 pub mod CommandLine
+pub mod inner

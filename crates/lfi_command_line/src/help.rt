@@ -8,6 +8,24 @@ pub const PROGRAM: &str = "Exit status:
   2  The words of the command line are wrong.
   3  A device failed, or memory was refused: a line on the standard error says which.";
 
+/// Of `--verifiers`.
+pub const VERIFIERS: &str = "how many verifiers judge pages, 1 to 8; 2 where it isn't said";
+
+/// Of `--out`.
+pub const OUT: &str = "the folder that the images of complete modules are written to";
+
+/// Of the streams.
+pub const STREAM: &str = "1 to 8 files, each with one connection's bytes";
+
+/// Of `--socket`.
+pub const SOCKET: &str = "the path of the Unix socket to listen at; it is removed after the last connection came";
+
+/// Of `--connections`.
+pub const CONNECTIONS: &str = "how many connections are taken, 1 to 8";
+
+/// Of `--steps`.
+pub const STEPS: &str = "how many steps it may take, 0 to 1000000000";
+
 /// Of `check`: its lines.
 pub const CHECK: &str = "Prints one line:
   lawful, N words  The N words are a lawful module (status 0).
@@ -30,14 +48,33 @@ pub const LOAD: &str =
   connection C: fault F                   Its stream has fault F: 1 to 7 a header, 8 no memory, 9 its end,
                                           10 a read that failed.
   strays N                                N messages belonged to no open module of their connection.
-The status is 0 where each module is complete and no connection has a fault, 3 where a read failed, else 1.
+Each stream is a connection, numbered from 0 in the order of the words. The first that opens a module is the one
+that it is loaded from. The status is 0 where each module is complete and no connection has a fault, 3 where a read
+failed, else 1.
 
 With --out DIR, the image of each complete module M is written to DIR/module-MM.img, M in two digits.
 
 On the standard error:
-  lfiload: cannot read PATH   The stream can't be opened; nothing is loaded (status 3).
+  lfiload: cannot read PATH   The first stream that can't be opened; nothing is loaded (status 3).
   lfiload: cannot write PATH  An image can't be written (status 3).
-  lfiload: no memory          There was no memory to load it (status 3).";
+  lfiload: at most 8 streams  More were named (status 2).
+  lfiload: no memory          There was no memory to load them (status 3).
+
+Example: lfiload load --verifiers 4 --out images a.stream b.stream";
+
+/// Of `serve`: its lines.
+pub const SERVE: &str = "Takes C connections, numbers them from 0 as they come, and reads each by a thread of its own.
+Prints the report once all of them have ended, as load does, and writes images as load does. The report waits for each
+connection, also for one that sends nothing: a limit of time is the user's, as in `timeout 60 lfiload serve ..`.
+The status is load's; it is 3 as well where a connection could not be taken: that one has no messages.
+
+On the standard error:
+  module M refused            A connection's thread has seen that module M is refused; the report tells why.
+  lfiload: cannot listen      It can't listen at the path (status 3).
+  lfiload: cannot write PATH  An image can't be written (status 3).
+  lfiload: no memory          There was no memory, or a thread could not be started (status 3).
+
+Example: lfiload serve --socket /tmp/lfi.sock --connections 2 --verifiers 4 --out images";
 
 /// Of `run`: its lines.
 pub const RUN: &str =

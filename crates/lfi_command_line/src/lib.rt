@@ -1,7 +1,11 @@
 //! The command line of `lfiload`: what its words ask for, and what is wrong with them.
 #![tactic(auto)]
 
-mod command_line;
+mod commands;
+mod fault;
+mod given;
 mod help;
+mod line;
 
-pub use command_line::{Line, LineFault, read_line};
+pub use fault::LineFault;
+pub use line::{Line, read_line};

@@ -1,5 +1,5 @@
 -- What `lfiload` tells of a failure. (this project's profile: docs/DEFINITIONS.md, "The program")
-use Rattle.std.specs.Prelude.{◌≡◌, ⊤, ℕ, Bool, true, false, List, ◌++◌, Option, codes, string_bytes}
+use Rattle.std.specs.Prelude.{◌≡◌, ⊤, ℕ, Bool, true, false, List, ◌++◌, Option, Some, codes, slice_get, string_bytes}
 use Rattle.std.specs.List.{flat_map}
 use Rattle.std.specs.Io.KnownBytes.{Appends}
 use Rattle.lfi_commands.specs.declared.commands.CommandFault.{CommandFault}
@@ -39,11 +39,17 @@ TellsOf fault.NoMemory path failure = failure ≡ NoMemory
 TellsOf fault.NotRead path failure = TellsRead path failure
 TellsOf fault.NotWritten path failure = TellsWrite (codes "standard output") failure
 
--- it tells of a fault of a command whose input is the file at this path
-abbrev pub FailsOn : List ℕ → Failure → Type 0
-FailsOn path (CannotRead told) = string_bytes told ≡ path
-FailsOn path (CannotWrite told) = string_bytes told ≡ codes "standard output"
-FailsOn path NoMemory = ⊤
+-- it names one of these paths as one that can't be read, or tells that there was no memory
+abbrev pub TellsReadOfOne : List (List ℕ) → Failure → Type 0
+TellsReadOfOne paths (CannotRead told) = (c : ℕ) × (slice_get paths c ≡ Some (string_bytes told))
+TellsReadOfOne paths (CannotWrite told) = ⊥
+TellsReadOfOne paths NoMemory = ⊤
+
+-- it tells of a fault of a command whose inputs are the files at these paths
+abbrev pub FailsOn : List (List ℕ) → Failure → Type 0
+FailsOn paths (CannotRead told) = (c : ℕ) × (slice_get paths c ≡ Some (string_bytes told))
+FailsOn paths (CannotWrite told) = string_bytes told ≡ codes "standard output"
+FailsOn paths NoMemory = ⊤
 
 -- These lines were written to the errors, unless something is lost.
 abbrev pub Told : Bool → (old new : Option (List ℕ)) → List ℕ → Type 0

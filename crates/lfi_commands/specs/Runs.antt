@@ -1,13 +1,13 @@
 -- What a run of the program finds, writes and ends with. (this project's profile: docs/DEFINITIONS.md, "The program")
-use Rattle.std.specs.Prelude.{◌≡◌, ◌⊎◌, ℕ, Bool, true, false, List, [], ◌++◌, Option, Some, None, IfSome, codes, option_map, string_bytes, ⊤}
+use Rattle.std.specs.Prelude.{◌≡◌, ◌⊎◌, ℕ, Bool, true, false, List, [], ◌∷◌, ◌++◌, Option, Some, None, IfSome, codes, length, map, option_map, slice_get, string_bytes, ⊤}
 use Rattle.std.specs.Io.KnownBytes.{Appends}
 use Rattle.lfi_image.specs.Image.{Image}
 use Rattle.lfi_place.specs.declared.report.ModuleReport.{ModuleReport}
 use Rattle.lfi_stage.specs.declared.settle.Report.{Report}
 use Rattle.lfi_stage.specs.Stages.{IsLoaded}
-use Rattle.lfi_command_line.specs.declared.command_line.Line.{Line}
-use Rattle.lfi_command_line.specs.declared.command_line.Line.TheVariants.{Check, Load, Run}
-use Rattle.lfi_command_line.specs.CommandLine.{IsLine, AsksHelp, AreWrong}
+use Rattle.lfi_command_line.specs.declared.line.Line.{Line}
+use Rattle.lfi_command_line.specs.declared.line.Line.TheVariants.{Check, Load, Run}
+use Rattle.lfi_command_line.specs.CommandLine.{IsLine, AsksHelp, AreWrong, NameTooMany}
 use Rattle.lfi_commands.specs.declared.verdict.Verdict.{Verdict}
 use Rattle.lfi_commands.specs.declared.ending.Ending.{Ending}
 use Rattle.lfi_commands.specs.declared.ending.Ending.TheVariants.{Well, NotWell, WrongWords, Failed}
@@ -54,10 +54,14 @@ pub record Left : Type 0 where
 abbrev pub left : Option (List ℕ) → Option (List (List ℕ × List ℕ)) → Bool → Option (List ℕ) → Left
 left out put is_lost errors = record { out = out; put = put; is_lost = is_lost; errors = errors }
 
--- Of a stream that has these bytes, where they are known, one report was found; its text was written, its images were put into the folder, and it gives the ending.
-pub record FindsReport (bytes folder : Option (List ℕ)) (old new : Left) (ending : Ending) : Type 0 where
+-- these are the bytes of the streams, all of which are known
+abbrev pub AreKnown : List (Option (List ℕ)) → (ℕ → List ℕ) → Type 0
+AreKnown streams bytes = (c : ℕ) (stream : Option (List ℕ)) → slice_get streams c ≡ Some stream → stream ≡ Some (bytes c)
+
+-- Of streams that have these bytes, where they are known, one report was found; its text was written, its images were put into the folder, and it gives the ending.
+pub record FindsReport (streams : List (Option (List ℕ))) (folder : Option (List ℕ)) (old new : Left) (ending : Ending) : Type 0 where
   pub report : Report
-  pub loaded : IfSome bytes (λ xs. IsLoaded 1 (λ c. xs) report)
+  pub loaded : (bytes : ℕ → List ℕ) → AreKnown streams bytes → IsLoaded (length streams) bytes report
   pub written : Appends old.out new.out (summary_text (summary_of report))
   pub all : Bool
   pub images : WritesImages (folder_or_none folder) (asked_images folder report.modules) old.put new.put new.is_lost old.errors new.errors all
@@ -79,23 +83,23 @@ pub record FindsRun (bytes : Option (List ℕ)) (steps : ℕ) (out_old out_new :
 -- What the line asks for was carried out, with this ending.
 abbrev pub CarriesOut : Line → (List ℕ → Option (List ℕ)) → (old new : Left) → Ending → Type 0
 CarriesOut (Check file) file_at old new ending = FindsVerdict (file_at file.now) old.out new.out ending × (new.put ≡ old.put) × (new.errors ≡ old.errors)
-CarriesOut (Load folder stream) file_at old new ending = FindsReport (file_at stream.now) (option_map (λ s. s.now) folder) old new ending
+CarriesOut (Load verifiers folder streams) file_at old new ending = FindsReport (map (λ s. file_at s.now) streams.items) (option_map (λ s. s.now) folder) old new ending
 CarriesOut (Run image steps) file_at old new ending =
     FindsRun (file_at image.now) steps old.out new.out new.is_lost old.errors new.errors ending × (new.put ≡ old.put)
 
--- the file that the line wants to be read
-abbrev pub input_of : Line → List ℕ
-input_of (Check file) = file.now
-input_of (Load folder stream) = stream.now
-input_of (Run image steps) = image.now
+-- the files that the line wants to be read
+abbrev pub inputs_of : Line → List (List ℕ)
+inputs_of (Check file) = file.now ∷ []
+inputs_of (Load verifiers folder streams) = map (λ s. s.now) streams.items
+inputs_of (Run image steps) = image.now ∷ []
 
 -- The words ask for a line, and it was carried out.
 abbrev pub CarriesOutWords : List (List ℕ) → (List ℕ → Option (List ℕ)) → (old new : Left) → Ending → Type 0
 CarriesOutWords words file_at old new ending = (line : Line) × IsLine words line × CarriesOut line file_at old new ending
 
--- It names the file that the words want to be read, or the standard output, or tells that there was no memory.
+-- It names a file that the words want to be read, or the standard output, or tells that there was no memory.
 abbrev pub FailsBy : List (List ℕ) → Failure → Type 0
-FailsBy words (CannotRead told) = (line : Line) × IsLine words line × (string_bytes told ≡ input_of line)
+FailsBy words (CannotRead told) = (line : Line) × IsLine words line × ((c : ℕ) × (slice_get (inputs_of line) c ≡ Some (string_bytes told)))
 FailsBy words (CannotWrite told) = string_bytes told ≡ codes "standard output"
 FailsBy words NoMemory = ⊤
 
@@ -103,9 +107,13 @@ FailsBy words NoMemory = ⊤
 abbrev pub TellsFailure : List (List ℕ) → (old new : Left) → Type 0
 TellsFailure words old new = (failure : Failure) × FailsBy words failure × Told new.is_lost old.errors new.errors (failure_line failure) × (new.put ≡ old.put)
 
+-- They name more than 8 streams, and that was told, unless it is lost.
+abbrev pub TellsTooMany : List (List ℕ) → (old new : Left) → Type 0
+TellsTooMany words old new = NameTooMany words × Told new.is_lost old.errors new.errors (codes "lfiload: at most 8 streams\n")
+
 -- What a run of the program on these words did, by its ending.
 abbrev pub Runs : List (List ℕ) → (List ℕ → Option (List ℕ)) → (old new : Left) → Ending → Type 0
 Runs words file_at old new Well = (AsksHelp words × (new.put ≡ old.put) × (new.errors ≡ old.errors)) ⊎ CarriesOutWords words file_at old new Well
 Runs words file_at old new NotWell = CarriesOutWords words file_at old new NotWell
-Runs words file_at old new WrongWords = AreWrong words × (new.out ≡ old.out) × (new.put ≡ old.put)
+Runs words file_at old new WrongWords = (AreWrong words ⊎ TellsTooMany words old new) × (new.out ≡ old.out) × (new.put ≡ old.put)
 Runs words file_at old new Failed = TellsFailure words old new ⊎ CarriesOutWords words file_at old new Failed

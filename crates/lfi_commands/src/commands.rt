@@ -1,6 +1,6 @@
 //! The commands, over any reader and writer.
 
-ghost use Rattle.std.specs.Prelude.{◌≡◌, ◌≢◌, ◌≤◌, ◌++◌, [], ◌∷◌, IfOk, IfErr, IfSome, codes};
+ghost use Rattle.std.specs.Prelude.{◌≡◌, ◌≢◌, ℕ, List, Some, ◌≤◌, ◌++◌, IfOk, IfErr, IfSome, codes, length, slice_get};
 ghost use Rattle.lfi_module.specs.Numbers.{most_words};
 ghost use Rattle.std.specs.Io.KnownBytes.{Appends};
 ghost use Rattle.lfi_receive.specs.Inputs.{left_of};
@@ -18,7 +18,7 @@ use lfi_place::OpenGate;
 use lfi_receive::Input;
 use lfi_stage::load::load_all;
 use lfi_stage::settle::Report;
-use std::alloc::{AllocError, Global};
+use std::alloc::Global;
 use std::io::{self, Read, Write};
 use std::sync::Wait;
 
@@ -116,28 +116,8 @@ pub fn check_file<R: Read + Drop, W: Write>(
     }
 }
 
-/// How many verifiers there are. All parts are turned on one thread, where more gain nothing.
-const VERIFIERS: usize = 1;
-
-/// The input of the one reader.
-fn one_input<R: Read + Drop>(alloc: Global, reader: R) -> Result<Vec<Input<R>>, AllocError>
-    ensures one { IfOk result (λ inputs. (input : Input R) × (inputs.items ≡ input ∷ []) × (left_of R.remaining input ≡ R.remaining reader)) }
-{
-    let mut inputs = Vec::new(alloc);
-    inputs.push(Input::new(alloc, reader)?)?;
-    Ok(inputs)
-}
-
-/// What became of the modules of the stream that a reader has left, up to its end.
-fn loaded<S: Wait, R: Read + Drop>(rt: &S, alloc: Global, reader: R) -> Result<Report, AllocError>
-    ensures { IfOk result (λ report. IfSome (R.remaining reader) (λ bytes. IsLoaded 1 (λ c. bytes) report)) }
-{
-    let inputs = one_input(alloc, reader)?;
-    load_all(rt, alloc, inputs, VERIFIERS, &OpenGate)
-}
-
-/// Loads the modules of the stream that a reader has left, up to its end or a read that fails, which
-/// is then the connection's fault, and writes the report.
+/// Loads the modules of the streams that these inputs have, each up to its end or a read that
+/// fails, which is then its connection's fault, and writes the report.
 ///
 /// # Errors
 ///
@@ -145,14 +125,17 @@ fn loaded<S: Wait, R: Read + Drop>(rt: &S, alloc: Global, reader: R) -> Result<R
 pub fn load<S: Wait, R: Read + Drop, W: Write>(
     rt: &S,
     alloc: Global,
-    reader: R,
+    inputs: Vec<Input<R>>,
+    verifiers: usize,
     writer: &mut W,
 ) -> Result<Report, CommandFault>
-    ensures report { IfOk result (λ report. IfSome (R.remaining reader) (λ bytes. IsLoaded 1 (λ c. bytes) report)) }
+    requires connections { (1 ≤ length inputs.items) × (length inputs.items ≤ 8) }
+    requires verifiers { (1 ≤ verifiers) × (verifiers ≤ 8) }
+    ensures report { IfOk result (λ report. (texts : ℕ → List ℕ) → ((c : ℕ) (input : Input R) → slice_get inputs.items c ≡ Some input → left_of R.remaining input ≡ Some (texts c)) → IsLoaded (length inputs.items) texts report) }
     ensures written { IfOk result (λ report. Appends (W.contents writer.old) (W.contents writer.new) (summary_text (summary_of report))) }
     ensures unwritten { IfErr result (λ fault. fault ≢ CommandFault.NotWritten → writer.new ≡ writer.old) }
 {
-    let Ok(report) = loaded(rt, alloc, reader) else {
+    let Ok(report) = load_all(rt, alloc, inputs, verifiers, &OpenGate) else {
         return Err(CommandFault::NoMemory);
     };
     let summary = report.summary();

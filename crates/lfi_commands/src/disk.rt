@@ -46,14 +46,8 @@ pub trait Disk {
 /// The system's files. It tells contracts nothing of their bytes.
 #[derive(Drop)]
 pub struct SystemDisk<'a, R> {
-    rt: &'a R,
-}
-
-impl<'a, R: Files> SystemDisk<'a, R> {
-    /// The files that this runtime reaches.
-    pub fn new(rt: &'a R) -> SystemDisk<'a, R> {
-        SystemDisk { rt }
-    }
+    /// The runtime that reaches them.
+    pub rt: &'a R,
 }
 
 impl<R: Files> Disk for SystemDisk<'_, R> {

@@ -9,6 +9,7 @@ mod ending;
 mod errors;
 mod failure;
 mod images;
+mod opening;
 mod pieces;
 mod program;
 mod verdict;

@@ -1,35 +1,26 @@
 //! The program, from its words to its ending.
 
-ghost use Rattle.std.specs.Prelude.{◌≡◌, ℕ, List, Option, Some, IfOk, IfErr, IfSome, OnErr, map, option_map, string_bytes};
+ghost use Rattle.std.specs.Prelude.{◌≡◌, ◌≤◌, ℕ, List, [], ◌∷◌, Option, IfOk, IfErr, OnErr, length, map, option_map, string_bytes};
 ghost use Rattle.lfi_command_line.specs.CommandLine.{IsLineFault};
 ghost use Rattle.lfi_commands.specs.Errors.{is_lost_of, writer_of};
-ghost use Rattle.lfi_commands.specs.Failures.{FailsOn, TellsRead};
+ghost use Rattle.lfi_commands.specs.Failures.{FailsOn};
 ghost use Rattle.lfi_commands.specs.Images.{WritesImages};
-ghost use Rattle.lfi_commands.specs.Runs.{asked_images, folder_or_none, left, input_of, FindsVerdict, FindsReport, FindsRun, CarriesOut, Runs};
+ghost use Rattle.lfi_commands.specs.inner.Opening.{IsInRange};
+ghost use Rattle.lfi_commands.specs.Runs.{asked_images, folder_or_none, left, inputs_of, FindsVerdict, FindsReport, FindsRun, CarriesOut, Runs};
 
-use crate::commands::{check_file, load};
+use crate::commands::{CommandFault, check_file, load};
 use crate::disk::Disk;
 use crate::ending::Ending;
 use crate::errors::Errors;
 use crate::failure::{Failure, OUTPUT};
 use crate::images::write_images;
+use crate::opening::{open, open_all};
 use lfi_command_line::{Line, LineFault, read_line};
 use lfi_place::ModuleReport;
 use lfi_run::run_image;
 use std::alloc::Global;
 use std::io::Write;
 use std::sync::Wait;
-
-/// Opens the file at this path.
-fn open<D: Disk>(alloc: Global, disk: &D, path: &str) -> Result<D::Reader, Failure>
-    ensures reader { IfOk result (λ reader. IfSome (D.file_at disk.now path.now) (λ bytes. D.Reader.remaining reader ≡ Some bytes)) }
-    ensures failure { IfErr result (TellsRead path.now) }
-{
-    match disk.open(path) {
-        Ok(reader) => Ok(reader),
-        Err(error) => Err(Failure::reading(alloc, path, error)),
-    }
-}
 
 /// Judges the code in a file, and writes what is found of it.
 fn run_check<D: Disk, O: Write>(
@@ -39,7 +30,7 @@ fn run_check<D: Disk, O: Write>(
     out: &mut O,
 ) -> Result<Ending, Failure>
     ensures found { IfOk result (FindsVerdict (D.file_at disk.now path.now) (O.contents out.old) (O.contents out.new)) }
-    ensures failure { IfErr result (FailsOn path.now) }
+    ensures failure { IfErr result (FailsOn (path.now ∷ [])) }
 {
     let reader = open(alloc, disk, path)?;
     let length = disk.length(&reader);
@@ -67,28 +58,32 @@ fn write_asked_images<D: Disk, E: Write>(
     }
 }
 
-/// Loads the modules of the stream in a file, writes the report, and writes the whole images to a folder where one is
-/// named.
+/// Loads the modules of the streams in these files, with so many verifiers, writes the report, and writes the whole images
+/// to a folder where one is named.
 fn run_load<S: Wait, D: Disk, O: Write, E: Write>(
     rt: &S,
     alloc: Global,
     disk: &mut D,
+    verifiers: usize,
     folder: Option<&str>,
-    path: &str,
+    paths: &[&str],
     out: &mut O,
     errors: &mut Errors<E>,
 ) -> Result<Ending, Failure>
-    ensures found { IfOk result (FindsReport (D.file_at disk.old path.now) (option_map (λ s. s.now) folder.entry)
+    requires verifiers { (1 ≤ verifiers) × (verifiers ≤ 8) }
+    requires connections { (1 ≤ length paths.now) × (length paths.now ≤ 8) }
+    ensures found { IfOk result (FindsReport (map (λ path. D.file_at disk.old path.now) paths.now) (option_map (λ s. s.now) folder.entry)
         (left (O.contents out.old) (D.put_files disk.old) (is_lost_of errors.old) (E.contents (writer_of errors.old)))
         (left (O.contents out.new) (D.put_files disk.new) (is_lost_of errors.new) (E.contents (writer_of errors.new)))) }
-    ensures failure { IfErr result (FailsOn path.now) }
+    ensures failure { IfErr result (FailsOn (map (λ path. path.now) paths.now)) }
     ensures disk { OnErr result (disk.new ≡ disk.old) }
     ensures errors { OnErr result (errors.new ≡ errors.old) }
 {
-    let reader = open(alloc, disk, path)?;
-    let report = match load(rt, alloc, reader, out) {
+    let inputs = open_all(alloc, disk, paths)?;
+    let report = match load(rt, alloc, inputs, verifiers, out) {
         Ok(report) => report,
-        Err(fault) => return Err(Failure::of(alloc, fault, path)),
+        Err(CommandFault::NotWritten) => return Err(Failure::writing(alloc, OUTPUT)),
+        Err(_) => return Err(Failure::NoMemory),
     };
     if write_asked_images(alloc, disk, folder, &report.modules, errors) {
         Ok(Ending::of_report(&report))
@@ -108,7 +103,7 @@ fn run_run<D: Disk, O: Write, E: Write>(
 ) -> Result<Ending, Failure>
     ensures found { IfOk result (FindsRun (D.file_at disk.now path.now) steps (O.contents out.old) (O.contents out.new)
         (is_lost_of errors.new) (E.contents (writer_of errors.old)) (E.contents (writer_of errors.new))) }
-    ensures failure { IfErr result (FailsOn path.now) }
+    ensures failure { IfErr result (FailsOn (path.now ∷ [])) }
     ensures errors { OnErr result (errors.new ≡ errors.old) }
 {
     let mut reader = open(alloc, disk, path)?;
@@ -129,19 +124,21 @@ fn run<S: Wait, D: Disk, O: Write, E: Write>(
     out: &mut O,
     errors: &mut Errors<E>,
 ) -> Result<Ending, Failure>
+    requires { IsInRange line }
     ensures found { IfOk result (CarriesOut line.entry (D.file_at disk.old)
         (left (O.contents out.old) (D.put_files disk.old) (is_lost_of errors.old) (E.contents (writer_of errors.old)))
         (left (O.contents out.new) (D.put_files disk.new) (is_lost_of errors.new) (E.contents (writer_of errors.new)))) }
-    ensures failure { IfErr result (FailsOn (input_of line.entry)) }
+    ensures failure { IfErr result (FailsOn (inputs_of line.entry)) }
     ensures disk { OnErr result (disk.new ≡ disk.old) }
     ensures errors { OnErr result (errors.new ≡ errors.old) }
 {
     match line {
         Line::Check { file } => run_check(alloc, disk, file, out),
         Line::Load {
+            verifiers,
             out: folder,
-            stream,
-        } => run_load(rt, alloc, disk, folder, stream, out, errors),
+            streams,
+        } => run_load(rt, alloc, disk, verifiers, folder, &streams, out, errors),
         Line::Run { image, steps } => run_run(alloc, disk, image, steps, out, errors),
     }
 }
@@ -166,6 +163,12 @@ fn tell_fault<O: Write, E: Write>(
         },
         LineFault::Wrong(text) => {
             errors.write_text(text);
+            if !errors.is_lost() {
+                return Ending::WrongWords;
+            }
+        }
+        LineFault::TooManyStreams => {
+            errors.write_line("lfiload: at most 8 streams");
             if !errors.is_lost() {
                 return Ending::WrongWords;
             }

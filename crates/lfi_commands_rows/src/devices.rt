@@ -1,8 +1,12 @@
 //! Readers and writers that give and take little, or fail.
 
+ghost use Rattle.std.specs.Prelude.{◌≡◌, IfOk, length};
+
 use crate::runs::{ONE_RET, ONE_RET_REPORT, RET, begin, run_over};
 use lfi_commands::{CommandFault, Ending, Errors, SystemDisk, Verdict, check, check_file, load};
 use lfi_model::Outcome;
+use lfi_receive::Input;
+use std::alloc::{AllocError, Global};
 use std::fs;
 use std::io::{self, Read, Write};
 use std::test::Fail;
@@ -98,6 +102,15 @@ fn a_fault_in_a_later_piece(rt: HostRuntime) -> Result<(), Fail> {
     Ok(())
 }
 
+/// The input of one reader.
+fn one_input<R: Read + Drop>(alloc: Global, reader: R) -> Result<Vec<Input<R>>, AllocError>
+    ensures { IfOk result (λ inputs. length inputs.items ≡ 1) }
+{
+    let mut inputs = Vec::new(alloc);
+    inputs.push(Input::new(alloc, reader)?)?;
+    Ok(inputs)
+}
+
 #[test]
 fn a_byte_a_read(rt: HostRuntime) -> Result<(), Fail> {
     let mut out = Vec::new(rt.alloc());
@@ -111,7 +124,7 @@ fn a_byte_a_read(rt: HostRuntime) -> Result<(), Fail> {
         bytes: ONE_RET.as_slice(),
         left: 41,
     };
-    let outcome = match load(&rt, rt.alloc(), stream, &mut out) {
+    let outcome = match load(&rt, rt.alloc(), one_input(rt.alloc(), stream)?, 1, &mut out) {
         Ok(report) => Some(report.modules[0].outcome),
         Err(_) => None,
     };
@@ -156,7 +169,7 @@ fn a_stream_whose_reads_fail(rt: HostRuntime) -> Result<(), Fail> {
             bytes: ONE_RET.as_slice(),
             left,
         };
-        let ending = match load(&rt, rt.alloc(), stream, &mut out) {
+        let ending = match load(&rt, rt.alloc(), one_input(rt.alloc(), stream)?, 1, &mut out) {
             Ok(report) => Some(Ending::of_report(&report)),
             Err(_) => None,
         };
@@ -193,7 +206,7 @@ fn output_that_fails(rt: HostRuntime) -> Result<(), Fail> {
         let line = answer.line;
         for left in 0..answer.length {
             let mut errors = Errors::new(Vec::new(rt.alloc()));
-            let mut disk = SystemDisk::new(&rt);
+            let mut disk = SystemDisk { rt: &rt };
             let mut out = FullWriter { left };
             let ending = run_over(&rt, rt.alloc(), &mut disk, line, &mut out, &mut errors)?;
             assert!(rt; ending == Ending::Failed, "{line}");
@@ -217,7 +230,7 @@ const UNTOLD: [&str; 3] = [
 fn errors_that_fail(rt: HostRuntime) -> Result<(), Fail> {
     for line in UNTOLD {
         let mut errors = Errors::new(FullWriter { left: 0 });
-        let mut disk = SystemDisk::new(&rt);
+        let mut disk = SystemDisk { rt: &rt };
         let mut out = FullWriter { left: 0 };
         let ending = run_over(&rt, rt.alloc(), &mut disk, line, &mut out, &mut errors)?;
         assert!(rt; ending == Ending::Failed, "{line}");

@@ -265,7 +265,7 @@ fn output_of_images_that_fails(rt: HostRuntime) -> Result<(), Fail> {
     begin(&rt, "full.tmp")?;
     let file = image_file(rt.alloc(), HELLO.as_slice())?;
     fs::write(&rt, "full.tmp/hello.img", file.as_slice())?;
-    let mut disk = SystemDisk::new(&rt);
+    let mut disk = SystemDisk { rt: &rt };
     let mut out = FullWriter { left: 1 };
     let mut errors = Errors::new(Vec::new(rt.alloc()));
     let line = "lfiload run full.tmp/hello.img --steps 1000";
@@ -291,7 +291,7 @@ fn much_output(rt: HostRuntime) -> Result<(), Fail> {
     assert!(rt; ran.status == 0);
     assert!(rt; ran.out.len() == 10_000);
     assert!(rt; ran.err.as_slice() == b"halt 1 after 30000 steps\n".as_slice());
-    let mut disk = SystemDisk::new(&rt);
+    let mut disk = SystemDisk { rt: &rt };
     let mut out = FullWriter { left: 8191 };
     let mut errors = Errors::new(Vec::new(rt.alloc()));
     let ending = run_over(&rt, rt.alloc(), &mut disk, line, &mut out, &mut errors)?;

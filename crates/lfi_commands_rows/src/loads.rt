@@ -78,6 +78,75 @@ fn short_streams(rt: HostRuntime) -> Result<(), Fail> {
     Ok(())
 }
 
+/// The same stream, of module 3.
+const ONE_RET_OF_3: [u8; 40] = [
+    1, 0, 3, 0, 1, 0, 0, 0, 0, 0, 0, 0, // Open of module 3: 1 word, entry 0
+    2, 0, 3, 0, 0, 0, 0, 0, 4, 0, 0, 0, // Page 0, 4 bytes
+    0xC0, 0x03, 0x5F, 0xD6, // RET
+    3, 0, 3, 0, 0, 0, 0, 0, 0, 0, 0, 0, // Close
+];
+
+const SEVERAL: [Run; 7] = [
+    Run {
+        line: "lfiload load --verifiers 8 --out several.tmp several.tmp/0 several.tmp/3",
+        status: 0,
+        out: "module 0: complete, 1 words\nmodule 3: complete, 1 words\nstrays 0\n",
+        err: "",
+    },
+    Run {
+        line: "lfiload load several.tmp/3 several.tmp/cut --verifiers 1",
+        status: 1,
+        out: "module 0: lost, fault 9\nmodule 3: complete, 1 words\nconnection 1: fault 9\nstrays 0\n",
+        err: "",
+    },
+    // Two connections that open one module: all messages of the second are strays.
+    Run {
+        line: "lfiload load several.tmp/0 several.tmp/0",
+        status: 0,
+        out: "module 0: complete, 1 words\nstrays 3\n",
+        err: "",
+    },
+    Run {
+        line: "lfiload load several.tmp/0 missing.a several.tmp/cut missing.b",
+        status: 3,
+        out: "",
+        err: "lfiload: cannot read missing.a\n",
+    },
+    Run {
+        line: "lfiload load several.tmp/3 several.tmp several.tmp/0",
+        status: 3,
+        out: "module 0: complete, 1 words\nmodule 3: complete, 1 words\nconnection 1: fault 10\nstrays 0\n",
+        err: "",
+    },
+    Run {
+        line: "lfiload load several.tmp/0 b c d e f g h i",
+        status: 2,
+        out: "",
+        err: "lfiload: at most 8 streams\n",
+    },
+    Run {
+        line: "lfiload load --verifiers +2 several.tmp/e several.tmp/e several.tmp/e several.tmp/e several.tmp/e several.tmp/e several.tmp/0 several.tmp/3",
+        status: 0,
+        out: "module 0: complete, 1 words\nmodule 3: complete, 1 words\nstrays 0\n",
+        err: "",
+    },
+];
+
+#[test]
+fn several_streams(rt: HostRuntime) -> Result<(), Fail> {
+    begin(&rt, "several.tmp")?;
+    fs::write(&rt, "several.tmp/0", ONE_RET.as_slice())?;
+    fs::write(&rt, "several.tmp/3", ONE_RET_OF_3.as_slice())?;
+    fs::write(&rt, "several.tmp/cut", &ONE_RET[..30])?;
+    fs::write(&rt, "several.tmp/e", b"".as_slice())?;
+    assert_runs(&rt, SEVERAL.as_slice())?;
+    let image = fs::read(&rt, "several.tmp/module-03.img")?;
+    assert!(rt; image.len() == 28 && image[20] == 7);
+    assert!(rt; fs::exists(&rt, "several.tmp/module-00.img")?);
+    fs::remove_dir_all(&rt, "several.tmp")?;
+    Ok(())
+}
+
 #[test]
 fn a_full_device(rt: HostRuntime) -> Result<(), Fail> {
     begin(&rt, "device.tmp")?;

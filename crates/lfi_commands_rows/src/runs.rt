@@ -70,7 +70,7 @@ pub fn run_line<R: Files + AllocGlobal + Wait>(rt: &R, line: &str) -> Result<Ran
     let mut out = Vec::new(rt.alloc());
     let mut err = Vec::new(rt.alloc());
     let mut errors = Errors::new(&mut err);
-    let mut disk = SystemDisk::new(rt);
+    let mut disk = SystemDisk { rt };
     let ending = run_over(rt, rt.alloc(), &mut disk, line, &mut out, &mut errors)?;
     Ok(Ran {
         status: ending.status(),

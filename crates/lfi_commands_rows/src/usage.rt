@@ -3,13 +3,18 @@
 use crate::runs::run_line;
 use std::test::Fail;
 
-const WRONG: [&str; 15] = [
+const WRONG: [&str; 20] = [
     "lfiload",
     "lfiload check",
     "lfiload check a b",
     "lfiload check --out images a",
     "lfiload load",
     "lfiload load --out images",
+    "lfiload load a --verifiers",
+    "lfiload load a --verifiers 0",
+    "lfiload load a --verifiers 9",
+    "lfiload load a --verifiers two",
+    "lfiload load --verifiers 2",
     "lfiload run",
     "lfiload run a",
     "lfiload run --steps 5",

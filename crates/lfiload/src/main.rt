@@ -14,7 +14,7 @@ fn main(rt: HostRuntime) -> ExitCode {
     let mut errors = Errors::new(rt.stderr());
     let ending = match words(&rt) {
         Ok(words) => {
-            let mut disk = SystemDisk::new(&rt);
+            let mut disk = SystemDisk { rt: &rt };
             run_words(
                 &rt,
                 rt.alloc(),

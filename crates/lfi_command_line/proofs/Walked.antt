@@ -1,4 +1,4 @@
--- Where the parser finds no fault in the words, the command's required value is there.
+-- Where the parser finds no fault in the words of a subcommand, its required values are there, and its numbers are in their ranges.
 use Rattle.std.proofs.Common.{◌≡◌, ◌∙◌, ◌⊎◌, ◌&&◌, ◌||◌, ℕ, ap, arith, slice_index, Bool, true, false, not, cond, zero, suc, List, [], ◌∷◌, ◌++◌, length, fold, drop, Option, Some, None, is_some, refl, sym, subst, inl, inr, true≢false, codes, find}
 use Rattle.std.specs.Prelude.{⊤, encode_utf8, slice_get, nat_lt, option_map, option_and_then}
 use Rattle.std.specs.Option.{option_map_or}
@@ -13,8 +13,8 @@ use Rattle.clap.specs.Walk.{Held, Outcome, done, waits, plain, refused, Row, Rul
 use Rattle.clap.specs.Simple.{App, Shape, argument_words, names_of, built, entered, label_of, rows_at, subcommand_of}
 use Rattle.clap.specs.Faults.{bundle_fault, bundle_step_fault, check_fault, defaults_fault, entered_fault, fault_of, flag_word_fault, flags_fault, level_fault, long_fault, option_fault, other_fault, positional_fault, react_fault, settle_fault, short_fault, step_fault, stray_fault, turn_fault, use_fault, walk_fault, word_fault}
 use Rattle.clap.specs.declared.parser.matches.ValueSource.{ValueSource}
-use Rattle.clap.specs.declared.parser.matches.ValueSource.TheVariants.{CommandLine}
-use Rattle.clap.specs.declared.builder.action.ArgAction.TheVariants.{Set, Help}
+use Rattle.clap.specs.declared.parser.matches.ValueSource.TheVariants.{CommandLine, DefaultValue}
+use Rattle.clap.specs.declared.builder.action.ArgAction.TheVariants.{Set, Append, SetTrue, Help, Version}
 use Rattle.std.proofs.lemmas.Slice.Eq.{bytes_eq-Decides}
 use Rattle.clap.specs.Facts.{parser_of_value}
 use Rattle.clap.specs.Faults.{action_fault, repeat_fault}
@@ -24,12 +24,14 @@ use Rattle.clap.specs.ValueTests.{accepts}
 use Rattle.clap.specs.Walk.{one_of, row_text}
 use Rattle.clap.proofs.ValueTestLemmas.{accepts-Accepts}
 use Rattle.clap.specs.declared.builder.value_parser.Reading.{Reading}
+use Rattle.clap.specs.declared.builder.value_parser.ValueParser.TheVariants.{Unsigned}
+use Rattle.std.specs.List.{list_any}
 use Rattle.clap.specs.declared.builder.value_parser.Reading.TheVariants.{AsWritten}
-use Rattle.lfi_command_line.specs.CommandLine.{lfiload_app, steps_parser}
+use Rattle.lfi_command_line.specs.inner.Given.{IsNumberGiven}
 
 -- ---- lists
 
-abbrev IsCons : {X : Type 0} → List X → Type 0
+abbrev pub IsCons : {X : Type 0} → List X → Type 0
 IsCons [] = ⊥
 IsCons (x ∷ xs) = ⊤
 
@@ -38,7 +40,7 @@ abbrev Holds : {X : Type 0} → (X → Type 0) → Option X → Type 0
 Holds P None = ⊤
 Holds P (Some x) = P x
 
-abbrev Each : {X : Type 0} → (X → Type 0) → List X → Type 0
+abbrev pub Each : {X : Type 0} → (X → Type 0) → List X → Type 0
 Each P [] = ⊤
 Each P (x ∷ xs) = P x × Each P xs
 
@@ -58,33 +60,45 @@ longer : {X : Type 0} (xs ys : List X) → IsCons xs → IsCons (xs ++ ys)
 longer [] ys some = absurd some
 longer (x ∷ xs) ys some = tt
 
-not_none : {X : Type 0} (x : X) (xs : List X) → x ∷ xs ≡ [] → ⊥
+pub not_none : {X : Type 0} (x : X) (xs : List X) → x ∷ xs ≡ [] → ⊥
 not_none x xs e = subst IsCons e tt
 
-both_none : (a b : Kinds) → or_else a b ≡ [] → (a ≡ []) × (b ≡ [])
+pub both_none : (a b : Kinds) → or_else a b ≡ [] → (a ≡ []) × (b ≡ [])
 both_none [] b e = (refl, e)
 both_none (k ∷ ks) b e = absurd (not_none k ks e)
 
+-- ---- the numbers that arguments take
+
+-- the range of this argument's number, where it takes one
+abbrev pub range_of : Text → Option (ℕ × ℕ)
+range_of id = if bytes_eq id (codes "steps") then Some (0, 1000000000) else (if bytes_eq id (codes "verifiers") then Some (1, 8)
+    else (if bytes_eq id (codes "connections") then Some (1, 8) else None))
+
+-- values, read so, suit such an argument
+abbrev Suit : Option (ℕ × ℕ) → List Text → Reading → Type 0
+Suit None values how = ⊤
+Suit (Some range) values how = Each (IsUnsignedIn range.0 range.1) values × (how ≡ AsWritten)
+
+-- the argument tests its numbers
+abbrev Tests : Option (ℕ × ℕ) → Rule → Type 0
+Tests None a = ⊤
+Tests (Some range) a = a.parser ≡ Some (Unsigned range.0 range.1)
+
 -- ---- rows with values
 
--- the text is a number of steps
-abbrev pub IsCount : Text → Type 0
-IsCount text = IsUnsignedIn 0 1000000000 text
-
 abbrev Full : Row → Type 0
-Full r = IsCons r.values × (r.id ≡ codes "steps" → Each IsCount r.values × (r.reading ≡ AsWritten))
+Full r = IsCons r.values × Suit (range_of r.id) r.values r.reading
 
--- the argument for a number of steps tests it
-abbrev Tests : Rule → Type 0
-Tests a = a.id ≡ codes "steps" → a.parser ≡ Some steps_parser
+-- Each use of the argument has a value that suits, or is a fault, or makes no row.
+abbrev pub Fine : Rule → Type 0
+Fine a = ((action_of a ≡ Set) × (nat_lt 0 (unwrap_or_range a.range).start_inclusive ≡ true) × Tests (range_of a.id) a)
+    ⊎ (((action_of a ≡ Append) × (nat_lt 0 (unwrap_or_range a.range).start_inclusive ≡ true) × Tests (range_of a.id) a)
+    ⊎ (((action_of a ≡ SetTrue) × IsCons a.missing × (range_of a.id ≡ None))
+    ⊎ ((action_of a ≡ Help) ⊎ (action_of a ≡ Version))))
 
--- a use of the argument without a value is a fault, or makes no row
-abbrev Fine : Rule → Type 0
-Fine a = ((action_of a ≡ Set) × (nat_lt 0 (unwrap_or_range a.range).start_inclusive ≡ true) × Tests a) ⊎ (action_of a ≡ Help)
-
--- the argument has no default
-abbrev Bare : Rule → Type 0
-Bare a = a.defaults ≡ []
+-- the argument has no default, or one that needn't suit
+abbrev pub Bare : Rule → Type 0
+Bare a = (a.defaults ≡ []) ⊎ (range_of a.id ≡ None)
 
 at_full : (id : Text) (change : Row → List Row) (missing rows : List Row) → ((r : Row) → r.id ≡ id → Full r → Each Full (change r)) → Each Full missing → Each Full rows
     → Each Full (at_row id change missing rows)
@@ -98,16 +112,16 @@ at_full id change missing (r ∷ rs) changed added full = go (bytes_eq r.id id) 
 without_full : (id : Text) (rows : List Row) → Each Full rows → Each Full (without id rows)
 without_full id rows full = at_full id (λ _. []) [] rows (λ r same some. tt) tt full
 
--- values of this argument, read so, are numbers of steps where it is the one for them
-abbrev Counts : Text → List Text → Reading → Type 0
-Counts id values how = id ≡ codes "steps" → Each IsCount values × (how ≡ AsWritten)
+both_suit : (range : Option (ℕ × ℕ)) (xs ys : List Text) (how other : Reading) → Suit range xs how → Suit range ys other → Suit range (xs ++ ys) how
+both_suit None xs ys how other first second = tt
+both_suit (Some range) xs ys how other first second = (joined_each (IsUnsignedIn range.0 range.1) xs ys first.0 second.0, first.1)
 
-with_full : (id : Text) (how : Reading) (s : ValueSource) (values : List Text) (rows : List Row) → IsCons values → Counts id values how → Each Full rows
+with_full : (id : Text) (how : Reading) (s : ValueSource) (values : List Text) (rows : List Row) → IsCons values → Suit (range_of id) values how → Each Full rows
     → Each Full (with_values id how s values rows)
-with_full id how s values rows some counts full =
+with_full id how s values rows some suits full =
     at_full id (more_values s values) _ rows
-    (λ r same has. ((longer r.values values has.0, λ e. (joined_each IsCount r.values values (has.1 e).0 (counts (sym same ∙ e)).0, (has.1 e).1)), tt))
-    ((some, counts), tt) full
+    (λ r same has. ((longer r.values values has.0, both_suit (range_of r.id) r.values values r.reading how has.1 (subst (λ i. Suit (range_of i) values how) (sym same) suits)), tt))
+    ((some, suits), tt) full
 
 -- what a use of so many values is told, past the test for none
 abbrev in_range : ℕ → ℕ → Kinds
@@ -121,34 +135,64 @@ no_values least most above none = go (nat_lt 0 least) above none
     go true e h = not_none _ _ h
     go false e h = absurd (true≢false (sym e))
 
-counted : (b : Bool) (values : List Text) → values_kinds b steps_parser values ≡ [] → Each IsCount values
-counted b [] none = tt
-counted b (v ∷ vs) none =
-    let parts = both_none (value_kinds b steps_parser v) _ none in
-    (one (accepts b steps_parser v) refl parts.0, counted b vs parts.1)
+counted : (least most : ℕ) (b : Bool) (values : List Text) → values_kinds b (Unsigned least most) values ≡ [] → Each (IsUnsignedIn least most) values
+counted least most b [] none = tt
+counted least most b (v ∷ vs) none =
+    let parts = both_none (value_kinds b (Unsigned least most) v) _ none in
+    (one (accepts b (Unsigned least most) v) refl parts.0, counted least most b vs parts.1)
   where
-    one : (passes : Bool) → accepts b steps_parser v ≡ passes → cond passes [] (refused_kind steps_parser ∷ []) ≡ [] → IsCount v
-    one true is e = accepts-Accepts b steps_parser v is
+    one : (passes : Bool) → accepts b (Unsigned least most) v ≡ passes → cond passes [] (refused_kind (Unsigned least most) ∷ []) ≡ [] → IsUnsignedIn least most v
+    one true is e = accepts-Accepts b (Unsigned least most) v is
     one false is e = absurd (not_none _ _ e)
 
-set_full : (again : Bool) (a : Rule) (values : List Text) (rows : List Row) → action_of a ≡ Set → nat_lt 0 (unwrap_or_range a.range).start_inclusive ≡ true → Tests a
-    → use_fault again a values rows ≡ [] → Each Full rows → Each Full (used_as Set a.id (reading_by a) (values_or_missing a values) rows)
+-- values that the argument's test lets through suit it
+suit_by : (range : Option (ℕ × ℕ)) (a : Rule) (values : List Text) → Tests range a → values_kinds a.ignore_case (parser_of_value a.parser) values ≡ [] → Suit range values (reading_by a)
+suit_by None a values tests passed = tt
+suit_by (Some range) a values tests passed = (
+  counted range.0 range.1 a.ignore_case values (subst (λ p. values_kinds a.ignore_case (parser_of_value p) values ≡ []) tests passed),
+  ap (λ p. reading_of (parser_of_value p)) tests,
+)
+
+-- a use with values, none of which is a fault
+abbrev UsedWell : Bool → Rule → List Text → List Row → Type 0
+UsedWell again a values rows = use_fault again a values rows ≡ []
+
+acted : (again : Bool) (a : Rule) (values : List Text) (rows : List Row) → UsedWell again a values rows → action_fault (action_of a) again a (values_or_missing a values) rows ≡ []
+acted again a values rows none = (both_none (range_kinds (unwrap_or_range a.range).start_inclusive (most_values a) (length values)) _ none).1
+
+set_full : (again : Bool) (a : Rule) (values : List Text) (rows : List Row) → action_of a ≡ Set → nat_lt 0 (unwrap_or_range a.range).start_inclusive ≡ true → Tests (range_of a.id) a
+    → UsedWell again a values rows → Each Full rows → Each Full (used_as Set a.id (reading_by a) (values_or_missing a values) rows)
 set_full again a [] rows set least tests none full = absurd (no_values _ (most_values a) least (both_none (range_kinds _ (most_values a) 0) _ none).0)
 set_full again a (v ∷ vs) rows set least tests none full =
-    let acted = (both_none (range_kinds (unwrap_or_range a.range).start_inclusive (most_values a) (length (v ∷ vs))) _ none).1 in
-    let as_set = subst (λ x. action_fault x again a (v ∷ vs) rows ≡ []) set acted in
+    let as_set = subst (λ x. action_fault x again a (v ∷ vs) rows ≡ []) set (acted again a (v ∷ vs) rows none) in
     let passed = (both_none (repeat_fault again a.id rows) _ as_set).1 in
-    with_full a.id (reading_by a) CommandLine (v ∷ vs) (without a.id rows) tt
-    (λ e. (
-      counted a.ignore_case (v ∷ vs) (subst (λ p. values_kinds a.ignore_case (parser_of_value p) (v ∷ vs) ≡ []) (tests e) passed),
-      ap (λ p. reading_of (parser_of_value p)) (tests e),
-    ))
-    (without_full a.id rows full)
+    with_full a.id (reading_by a) CommandLine (v ∷ vs) (without a.id rows) tt (suit_by (range_of a.id) a (v ∷ vs) tests passed) (without_full a.id rows full)
 
-used_full : (again : Bool) (a : Rule) (values : List Text) (rows : List Row) → Fine a → use_fault again a values rows ≡ [] → Each Full rows → Each Full (used a values rows)
+append_full : (again : Bool) (a : Rule) (values : List Text) (rows : List Row) → action_of a ≡ Append → nat_lt 0 (unwrap_or_range a.range).start_inclusive ≡ true → Tests (range_of a.id) a
+    → UsedWell again a values rows → Each Full rows → Each Full (used_as Append a.id (reading_by a) (values_or_missing a values) rows)
+append_full again a [] rows append least tests none full = absurd (no_values _ (most_values a) least (both_none (range_kinds _ (most_values a) 0) _ none).0)
+append_full again a (v ∷ vs) rows append least tests none full =
+    let passed = subst (λ x. action_fault x again a (v ∷ vs) rows ≡ []) append (acted again a (v ∷ vs) rows none) in
+    with_full a.id (reading_by a) CommandLine (v ∷ vs) rows tt (suit_by (range_of a.id) a (v ∷ vs) tests passed) full
+
+flag_set_full : (a : Rule) (values : List Text) (rows : List Row) → IsCons a.missing → range_of a.id ≡ None → Each Full rows
+    → Each Full (used_as SetTrue a.id (reading_by a) (values_or_missing a values) rows)
+flag_set_full a values rows some free full = with_full a.id (reading_by a) CommandLine (values_or_missing a values) (without a.id rows) (has values)
+    (subst (λ range. Suit range (values_or_missing a values) (reading_by a)) (sym free) tt) (without_full a.id rows full)
+  where
+    has : (values : List Text) → IsCons (values_or_missing a values)
+    has [] = some
+    has (v ∷ vs) = tt
+
+used_full : (again : Bool) (a : Rule) (values : List Text) (rows : List Row) → Fine a → UsedWell again a values rows → Each Full rows → Each Full (used a values rows)
 used_full again a values rows (inl set) none full =
     subst (λ x. Each Full (used_as x a.id (reading_by a) (values_or_missing a values) rows)) (sym set.0) (set_full again a values rows set.0 set.1 set.2 none full)
-used_full again a values rows (inr help) none full = subst (λ x. Each Full (used_as x a.id (reading_by a) (values_or_missing a values) rows)) (sym help) full
+used_full again a values rows (inr (inl append)) none full =
+    subst (λ x. Each Full (used_as x a.id (reading_by a) (values_or_missing a values) rows)) (sym append.0) (append_full again a values rows append.0 append.1 append.2 none full)
+used_full again a values rows (inr (inr (inl flag))) none full =
+    subst (λ x. Each Full (used_as x a.id (reading_by a) (values_or_missing a values) rows)) (sym flag.0) (flag_set_full a values rows flag.1 flag.2 full)
+used_full again a values rows (inr (inr (inr (inl help)))) none full = subst (λ x. Each Full (used_as x a.id (reading_by a) (values_or_missing a values) rows)) (sym help) full
+used_full again a values rows (inr (inr (inr (inr version)))) none full = subst (λ x. Each Full (used_as x a.id (reading_by a) (values_or_missing a values) rows)) (sym version) full
 
 -- ---- the walk over the words
 
@@ -296,15 +340,23 @@ module _ (s : Shape) (fine : Each Fine s.rules) where
       walk_full (walked s.rules [] w word) rest parts.1 (turn_full w word parts.0 full)
 
 default_full : (rows : List Row) (a : Rule) → Bare a → Each Full rows → Each Full (with_default rows a)
-default_full rows a bare full = subst (λ defaults. Each Full (if has_row a.id rows then rows else default_rows a.id (reading_by a) defaults rows)) (sym bare) (go (has_row a.id rows))
+default_full rows a bare full = go (has_row a.id rows) (defaulted a.defaults bare)
   where
-    go : (b : Bool) → Each Full (cond b rows rows)
-    go true = full
-    go false = full
+    defaulted : (values : List Text) → (values ≡ []) ⊎ (range_of a.id ≡ None) → Each Full (default_rows a.id (reading_by a) values rows)
+    defaulted [] bare = full
+    defaulted (v ∷ vs) (inl none) = absurd (not_none _ _ none)
+    defaulted (v ∷ vs) (inr free) =
+        with_full a.id (reading_by a) DefaultValue (v ∷ vs) rows tt (subst (λ range. Suit range (v ∷ vs) (reading_by a)) (sym free) tt) full
+
+    go : (b : Bool) → Each Full (default_rows a.id (reading_by a) a.defaults rows) → Each Full (cond b rows (default_rows a.id (reading_by a) a.defaults rows))
+    go true made = full
+    go false made = made
 
 defaults_full : (rows : List Row) (c : List Rule) → Each Bare c → Each Full rows → Each Full (fold with_default rows c)
 defaults_full rows [] bare full = full
 defaults_full rows (a ∷ rest) bare full = defaults_full (with_default rows a) rest bare.1 (default_full rows a bare.0 full)
+
+-- ---- what a level gives
 
 first_given : (id : Text) (rows : List Row) → Each Full rows → is_given id rows ≡ true → is_some (first_of id rows) ≡ true
 first_given id rows full given = go (find (λ r. bytes_eq r.id id) rows) (holds_first Full _ rows full) given
@@ -325,130 +377,75 @@ found_passes p (x ∷ xs) = go (p x) refl (found_passes p xs)
     go true is later = is
     go false is later = later
 
--- the first value of the argument for a number of steps, as it is read
-abbrev pub GivesCount : List Row → Type 0
-GivesCount rows = (text : Text) × (first_of (codes "steps") rows ≡ Some text) × (one_of (codes "steps") rows ≡ Some text) × IsCount text
-
-abbrev Gives : Option Row → Type 0
-Gives o = (text : Text) × (option_and_then (λ r. slice_get r.values 0) o ≡ Some text) × (option_and_then row_text o ≡ Some text) × IsCount text
-
-count_given : (rows : List Row) → Each Full rows → is_given (codes "steps") rows ≡ true → GivesCount rows
-count_given rows full given = go (find (λ r. bytes_eq r.id (codes "steps")) rows) (holds_first Full _ rows full) (found_passes (λ r. bytes_eq r.id (codes "steps")) rows) given
+-- the number that is given to this argument is read as it was given
+number_given : (least most : ℕ) (id : Text) (rows : List Row) → range_of id ≡ Some (least, most) → Each Full rows → IsNumberGiven least most id rows
+number_given least most id rows range full = λ text first. go text (find (λ r. bytes_eq r.id id) rows) (holds_first Full _ rows full) (found_passes (λ r. bytes_eq r.id id) rows) first
   where
-    valued : (how : Reading) (values : List Text) → IsCons values → Each IsCount values → how ≡ AsWritten
-        → (text : Text) × (slice_get values 0 ≡ Some text) × (option_map (read_as how) (slice_get values 0) ≡ Some text) × IsCount text
-    valued how [] some each is = absurd some
-    valued how (v ∷ vs) some each is = (v, refl, ap (λ h. Some (read_as h v)) is, each.0)
+    same_text : (text v : Text) → Some v ≡ Some text → v ≡ text
+    same_text text v e = cc
 
-    go : (o : Option Row) → Holds Full o → Holds (λ r. bytes_eq r.id (codes "steps") ≡ true) o → option_map_or (λ r. explicit_source r.source) o false ≡ true → Gives o
-    go None is same e = absurd (true≢false (sym e))
-    go (Some r) is same e =
-        let counts = is.1 ((bytes_eq-Decides r.id (codes "steps")).0 same) in
-        valued r.reading r.values is.0 counts.0 counts.1
+    valued : (text : Text) (how : Reading) (values : List Text) → Suit (Some (least, most)) values how → slice_get values 0 ≡ Some text
+        → (option_map (read_as how) (slice_get values 0) ≡ Some text) × IsUnsignedIn least most text
+    valued text how [] suits e = cc
+    valued text how (v ∷ vs) suits e =
+        let same = same_text text v e in
+        (ap (λ h. Some (read_as h v)) suits.1 ∙ ap Some same, subst (IsUnsignedIn least most) same suits.0.0)
 
--- what holds after the last check, where a level has no fault
-level_full : (s : Shape) (words : List Text) → Each Fine s.rules → Each Bare s.rules → level_fault s [] nothing_held words false [] ≡ []
-    → Each Full (rows_at s words).1 × (check_fault s (rows_at s words).1 false ≡ [])
-level_full s words fine bare none =
+    go : (text : Text) (o : Option Row) → Holds Full o → Holds (λ r. bytes_eq r.id id ≡ true) o → option_and_then (λ r. slice_get r.values 0) o ≡ Some text
+        → (option_and_then row_text o ≡ Some text) × IsUnsignedIn least most text
+    go text None is same e = cc
+    go text (Some r) is same e =
+        valued text r.reading r.values (subst (λ o. Suit o r.values r.reading) (ap range_of ((bytes_eq-Decides r.id id).0 same) ∙ range) is.1) e
+
+-- the same, by the range that the argument has
+abbrev pub IsNumbered : Option (ℕ × ℕ) → Text → List Row → Type 0
+IsNumbered None id rows = ⊤
+IsNumbered (Some range) id rows = IsNumberGiven range.0 range.1 id rows
+
+-- what is given to this argument: something where it has to be, and a number where it takes one
+abbrev pub Gives : List Row → Rule → Type 0
+Gives rows a = (a.required ≡ true → is_some (first_of a.id rows) ≡ true) × IsNumbered (range_of a.id) a.id rows
+
+no_missing : (wants_help wants_subcommand wants_argument : Bool) → check_kinds wants_help wants_subcommand wants_argument ≡ [] → wants_argument ≡ false
+no_missing true s a e = absurd (not_none _ _ e)
+no_missing false true a e = absurd (not_none _ _ e)
+no_missing false false true e = absurd (not_none _ _ e)
+no_missing false false false e = refl
+
+none_missing : (negates missing : Bool) → (not (negates && false) && missing) ≡ false → missing ≡ false
+none_missing true missing e = e
+none_missing false missing e = e
+
+one_gives : (rows : List Row) (a : Rule) → Each Full rows → (a.required && not (is_given a.id rows)) ≡ false → Gives rows a
+one_gives rows a full none = (λ required. first_given a.id rows full (given a.required (is_given a.id rows) required none), numbered (range_of a.id) refl)
+  where
+    given : (required is : Bool) → required ≡ true → (required && not is) ≡ false → is ≡ true
+    given true true r e = refl
+    given true false r e = absurd (true≢false e)
+    given false is r e = absurd (true≢false (sym r))
+
+    numbered : (range : Option (ℕ × ℕ)) → range_of a.id ≡ range → IsNumbered range a.id rows
+    numbered None is = tt
+    numbered (Some range) is = number_given range.0 range.1 a.id rows is full
+
+all_give : (rows : List Row) (rules : List Rule) → Each Full rows → list_any (λ a. a.required && not (is_given a.id rows)) rules ≡ false → Each (Gives rows) rules
+all_give rows [] full none = tt
+all_give rows (a ∷ rest) full none =
+    let parts = neither (a.required && not (is_given a.id rows)) _ none in
+    (one_gives rows a full parts.0, all_give rows rest full parts.1)
+  where
+    neither : (x y : Bool) → (x || y) ≡ false → (x ≡ false) × (y ≡ false)
+    neither true y e = absurd (true≢false e)
+    neither false y e = (refl, e)
+
+-- where a level has no fault, all of its arguments are given what they need
+pub level_gives : (s : Shape) (words : List Text) → Each Fine s.rules → Each Bare s.rules → level_fault s [] nothing_held words false [] ≡ [] → Each (Gives (rows_at s words).1) s.rules
+level_gives s words fine bare none =
     let end = (walk s.rules [] nothing_held words).held in
     let walk_then = both_none (walk_fault s [] (walk_from nothing_held) words) _ none in
     let settle_then = both_none (settle_fault s.rules s.args_override_self end) _ walk_then.1 in
     let check_then = both_none (defaults_fault (settled s.rules end).rows s.rules) (check_fault s (finished s.rules end) false) settle_then.1 in
     let full = walk_full s fine (walk_from nothing_held) words walk_then.0 tt in
     let settled_all = settled_full s.rules s.args_override_self fine end settle_then.0 full in
-    (defaults_full (settled s.rules end).rows s.rules bare settled_all, check_then.1)
-
--- ---- the program's command
-
--- the words name one of the three subcommands, and give it its values
-abbrev pub AsksCheck : Text × List Row → Type 0
-AsksCheck p = (p.0 ≡ codes "check") × (is_some (first_of (codes "FILE") p.1) ≡ true)
-
-abbrev pub AsksLoad : Text × List Row → Type 0
-AsksLoad p = (p.0 ≡ codes "load") × (is_some (first_of (codes "STREAM") p.1) ≡ true)
-
-abbrev pub AsksRun : Text × List Row → Type 0
-AsksRun p = (p.0 ≡ codes "run") × (is_some (first_of (codes "IMAGE") p.1) ≡ true) × GivesCount p.1
-
-abbrev pub Asks : Option (Text × List Row) → Type 0
-Asks None = ⊥
-Asks (Some p) = AsksCheck p ⊎ (AsksLoad p ⊎ AsksRun p)
-
-given_from : (b : Bool) → check_kinds false false (not b || false) ≡ [] → b ≡ true
-given_from true e = refl
-given_from false e = absurd (not_none _ _ e)
-
-given_both : (a b : Bool) → check_kinds false false (not a || (not b || false)) ≡ [] → (a ≡ true) × (b ≡ true)
-given_both true true e = (refl, refl)
-given_both true false e = absurd (not_none _ _ e)
-given_both false b e = absurd (not_none _ _ e)
-
--- an argument of another name
-other : (id : Text) (k : ℕ) {X : Type 0} → slice_index id 0 ≡ k → (k ≡ 115 → ⊥) → id ≡ codes "steps" → X
-other id k first differs e = absurd (differs (sym first ∙ ap (λ t. slice_index t 0) e))
-
-abbrev whole : App
-whole = built lfiload_app
-
-abbrev head_or : Shape → List Shape → Shape
-head_or s [] = s
-head_or s (x ∷ xs) = x
-
-abbrev check_shape : Shape
-check_shape = head_or whole.top whole.subs
-
-abbrev load_shape : Shape
-load_shape = head_or whole.top (drop 1 whole.subs)
-
-abbrev run_shape : Shape
-run_shape = head_or whole.top (drop 2 whole.subs)
-
-check_given : (words : List Text) → level_fault check_shape [] nothing_held words false [] ≡ [] → is_some (first_of (codes "FILE") (rows_at check_shape words).1) ≡ true
-check_given words none =
-    let all = level_full check_shape words (inl (refl, refl, other (codes "FILE") 70 refl (λ e. omega (arith, e))), (inr refl, tt)) (refl, (refl, tt)) none in
-    first_given (codes "FILE") _ all.0 (given_from (is_given (codes "FILE") (rows_at check_shape words).1) all.1)
-
-load_given : (words : List Text) → level_fault load_shape [] nothing_held words false [] ≡ [] → is_some (first_of (codes "STREAM") (rows_at load_shape words).1) ≡ true
-load_given words none =
-    let all = level_full load_shape words (inl (refl, refl, other (codes "out") 111 refl (λ e. omega (arith, e))), (inl (refl, refl, other (codes "STREAM") 83 refl (λ e. omega (arith, e))), (inr refl, tt)))
-    (refl, (refl, (refl, tt))) none in
-    first_given (codes "STREAM") _ all.0 (given_from (is_given (codes "STREAM") (rows_at load_shape words).1) all.1)
-
-run_given : (words : List Text) → level_fault run_shape [] nothing_held words false [] ≡ []
-    → (is_some (first_of (codes "IMAGE") (rows_at run_shape words).1) ≡ true) × GivesCount (rows_at run_shape words).1
-run_given words none =
-    let all = level_full run_shape words (inl (refl, refl, λ e. refl), (inl (refl, refl, other (codes "IMAGE") 73 refl (λ e. omega (arith, e))), (inr refl, tt)))
-    (refl, (refl, (refl, tt))) none in
-    let both = given_both (is_given (codes "steps") (rows_at run_shape words).1) (is_given (codes "IMAGE") (rows_at run_shape words).1) all.1 in
-    (first_given (codes "IMAGE") _ all.0 both.1, count_given _ all.0 both.0)
-
-abbrev chosen : Bool → Bool → Bool → Option Shape
-chosen first second third = cond first (Some check_shape) (cond second (Some load_shape) (cond third (Some run_shape) None))
-
-subcommand_asks : (stop : Option (Text × List Text)) → is_some (entered whole stop) ≡ true → entered_fault whole stop ≡ [] → Asks (entered whole stop)
-subcommand_asks None some none = absurd (true≢false (sym some))
-subcommand_asks (Some p) some none = go (answers_to p.0 (label_of check_shape)) (answers_to p.0 (label_of load_shape)) (answers_to p.0 (label_of run_shape)) some none
-  where
-    go : (first second third : Bool) → is_some (option_map (λ s. rows_at s p.1) (chosen first second third)) ≡ true
-        → option_map_or (λ s. level_fault s [] nothing_held p.1 false []) (chosen first second third) [] ≡ [] → Asks (option_map (λ s. rows_at s p.1) (chosen first second third))
-    go true second third has e = inl (refl, check_given p.1 e)
-    go false true third has e = inr (inl (refl, load_given p.1 e))
-    go false false true has e = let given = run_given p.1 e in inr (inr (refl, given.0, given.1))
-    go false false false has e = absurd (true≢false (sym has))
-
-needed : (has : Bool) (rows : List Row) → check_fault whole.top rows has ≡ [] → has ≡ true
-needed true rows e = refl
-needed false rows e = absurd (not_none _ _ e)
-
-pub asks : (words : List Text) → fault_of lfiload_app words ≡ [] → Asks (subcommand_of lfiload_app words)
-asks words none =
-    let after = argument_words lfiload_app words in
-    let names = names_of whole in
-    let stop = (walk whole.top.rules names nothing_held after).stopped in
-    let end = (walk whole.top.rules names nothing_held after).held in
-    let has = is_some (entered whole stop) in
-    let walk_then = both_none (walk_fault whole.top names (walk_from nothing_held) after) _ none in
-    let below_then = both_none (entered_fault whole stop) _ walk_then.1 in
-    let settle_then = both_none (settle_fault whole.top.rules whole.top.args_override_self end) _ below_then.1 in
-    let check_then = both_none (defaults_fault (settled whole.top.rules end).rows whole.top.rules) (check_fault whole.top (finished whole.top.rules end) has) settle_then.1 in
-    subcommand_asks stop (needed has (finished whole.top.rules end) check_then.1) below_then.0
+    let rows = (rows_at s words).1 in
+    all_give rows s.rules (defaults_full (settled s.rules end).rows s.rules bare settled_all) (none_missing s.subcommand_negates_reqs _ (no_missing _ _ _ check_then.1))

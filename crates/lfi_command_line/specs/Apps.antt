@@ -1,0 +1,57 @@
+-- The program's command, as the parser sees it. (docs/COMMANDS.md)
+use Rattle.std.specs.Prelude.{◌≡◌, false, true, codes, Some}
+use Rattle.clap.specs.Lexer.{usize_max}
+use Rattle.clap.specs.Words.{App, Rule, Text, app_of, new_app, new_rule, with_rule, with_subcommand}
+use Rattle.clap.specs.Simple.{on_top}
+use Rattle.clap.specs.declared.builder.value_parser.ValueParser.{ValueParser}
+use Rattle.clap.specs.declared.builder.value_parser.ValueParser.TheVariants.{Unsigned}
+use Rattle.clap.specs.declared.builder.command.Command.{Command}
+use Rattle.clap.specs.declared.builder.command.Command.TheViews.{out-Command}
+
+-- an argument that has to be there
+abbrev pub needed : Rule → Rule
+needed rule = record rule { required = true }
+
+-- one in its place that has to be there
+abbrev pub required_rule : Text → Rule
+required_rule id = needed (new_rule id)
+
+-- arguments in the last places, one at least
+abbrev pub several_rule : Text → Rule
+several_rule id = record (required_rule id) { range = Some (record { start_inclusive = 1; end_inclusive = usize_max }) }
+
+-- `--NAME VALUE`
+abbrev pub option_rule : Text → Rule
+option_rule name = record (new_rule name) { long = Some name; value_names = 1 }
+
+-- `--NAME N`, N a number in decimal digits from the one to the other
+abbrev pub number_rule : Text → ValueParser → Rule
+number_rule name parser = record (option_rule name) { parser = Some parser }
+
+-- `check FILE`
+abbrev pub check_app : App
+check_app = with_rule (new_app (codes "check")) (required_rule (codes "FILE"))
+
+-- `load [--verifiers V] [--out DIR] STREAM..`
+abbrev pub load_app : App
+load_app = with_rule (with_rule (with_rule (new_app (codes "load")) (number_rule (codes "verifiers") (Unsigned 1 8))) (option_rule (codes "out"))) (several_rule (codes "STREAM"))
+
+-- `serve --socket P --connections C [--verifiers V] [--out DIR]`
+abbrev pub serve_app : App
+serve_app = with_rule (with_rule (with_rule (with_rule (new_app (codes "serve"))
+    (needed (option_rule (codes "socket")))) (needed (number_rule (codes "connections") (Unsigned 1 8))))
+    (number_rule (codes "verifiers") (Unsigned 1 8))) (option_rule (codes "out"))
+
+-- `run IMAGE --steps N`
+abbrev pub run_app : App
+run_app = with_rule (with_rule (new_app (codes "run")) (needed (number_rule (codes "steps") (Unsigned 0 1000000000)))) (required_rule (codes "IMAGE"))
+
+-- the program: one of these has to be there, and `help` is none
+abbrev pub lfiload_app : App
+lfiload_app = with_subcommand (with_subcommand (with_subcommand (with_subcommand
+    (on_top (λ s. record s { subcommand_required = true; disable_help_subcommand = true }) (new_app (codes "lfiload")))
+    check_app.top) load_app.top) serve_app.top) run_app.top
+
+-- the parser's command is the one described, and none of its arguments is global
+abbrev pub Makes : App → Command → Type 0
+Makes app command = (app_of command ≡ app) × ((out-Command command).has_globals ≡ false)

@@ -1,0 +1,59 @@
+//! What the words of the command line ask for.
+
+ghost use Rattle.std.specs.Prelude.{IfOk, IfErr, map, string_bytes};
+ghost use Rattle.lfi_command_line.specs.CommandLine.{IsLine, IsLineFault};
+
+use crate::commands::command;
+use crate::fault::LineFault;
+use crate::given::{check_line, load_line, run_line, serve_line};
+use std::alloc::Global;
+
+/// What the program is asked for.
+#[derive(PartialEq, Eq, Debug, Drop)]
+pub enum Line<'a> {
+    /// Whether the code in a file is lawful.
+    Check {
+        file: &'a str,
+    },
+    /// To load the modules of the streams in 1 to 8 files, one connection each, with so many
+    /// verifiers, 1 to 8, and to write the whole images into a folder.
+    Load {
+        verifiers: usize,
+        out: Option<&'a str>,
+        streams: Vec<&'a str>,
+    },
+    /// To listen at a socket's path, to load the modules of the streams of so many connections, 1 to
+    /// 8, with so many verifiers, 1 to 8, and to write the whole images into a folder.
+    Serve {
+        socket: &'a str,
+        connections: usize,
+        verifiers: usize,
+        out: Option<&'a str>,
+    },
+    /// To run the image in a file for at most so many steps, 0 to 1,000,000,000.
+    Run {
+        image: &'a str,
+        steps: u64,
+    },
+}
+
+/// Parses the words of the command line, of which the first is the program's name.
+///
+/// Which words make which line, and which kind of fault, is what the parser's own definitions say
+/// of this program's command; its texts are in no contract.
+pub fn read_line<'a>(alloc: Global, words: &'a [String]) -> Result<Line<'a>, LineFault>
+    ensures line { IfOk result (IsLine (map string_bytes words.now)) }
+    ensures fault { IfErr result (IsLineFault (map string_bytes words.now)) }
+{
+    let matches = command(alloc)?.try_get_matches_from(words)?;
+    if let Some(check) = matches.subcommand_matches("check") {
+        return Ok(check_line(check));
+    }
+    if let Some(load) = matches.subcommand_matches("load") {
+        return load_line(alloc, load);
+    }
+    if let Some(serve) = matches.subcommand_matches("serve") {
+        return Ok(serve_line(serve));
+    }
+    Ok(run_line(matches.subcommand_matches("run").unwrap()))
+}

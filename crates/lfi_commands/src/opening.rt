@@ -1,0 +1,46 @@
+//! The files that the commands read, opened.
+
+ghost use Rattle.std.specs.Prelude.{◌≡◌, Some, IfOk, IfErr, IfSome, map};
+ghost use Rattle.lfi_commands.specs.Failures.{TellsRead, TellsReadOfOne};
+ghost use Rattle.lfi_commands.specs.inner.Opening.{IsInputOf, AreInputsOf};
+
+use crate::disk::Disk;
+use crate::failure::Failure;
+use lfi_receive::Input;
+use std::alloc::Global;
+
+/// Opens the file at this path.
+pub(crate) fn open<D: Disk>(alloc: Global, disk: &D, path: &str) -> Result<D::Reader, Failure>
+    ensures reader { IfOk result (λ reader. IfSome (D.file_at disk.now path.now) (λ bytes. D.Reader.remaining reader ≡ Some bytes)) }
+    ensures failure { IfErr result (TellsRead path.now) }
+{
+    match disk.open(path) {
+        Ok(reader) => Ok(reader),
+        Err(error) => Err(Failure::reading(alloc, path, error)),
+    }
+}
+
+/// The input of the file at this path.
+fn open_input<D: Disk>(alloc: Global, disk: &D, path: &str) -> Result<Input<D::Reader>, Failure>
+    ensures input { IfOk result (IsInputOf D.Reader.remaining (D.file_at disk.now path.now)) }
+    ensures failure { IfErr result (TellsRead path.now) }
+{
+    let reader = open(alloc, disk, path)?;
+    Ok(Input::new(alloc, reader)?)
+}
+
+/// Opens the files at these paths, in their order, up to the first that can't be opened.
+pub(crate) fn open_all<D: Disk>(
+    alloc: Global,
+    disk: &D,
+    paths: &[&str],
+) -> Result<Vec<Input<D::Reader>>, Failure>
+    ensures inputs { IfOk result (λ inputs. AreInputsOf D.Reader.remaining (map (λ path. D.file_at disk.now path.now) paths.now) inputs.items) }
+    ensures failure { IfErr result (TellsReadOfOne (map (λ path. path.now) paths.now)) }
+{
+    let mut inputs = Vec::new(alloc);
+    for path in paths {
+        inputs.push(open_input(alloc, disk, path)?)?;
+    }
+    Ok(inputs)
+}
