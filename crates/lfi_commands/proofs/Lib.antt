@@ -1,5 +1,6 @@
 mod Begun
 mod Fates
+mod Inputs
 mod Joined
 mod Paths
 mod Spelled

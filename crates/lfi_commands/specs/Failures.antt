@@ -5,12 +5,13 @@ use Rattle.std.specs.Io.KnownBytes.{Appends}
 use Rattle.lfi_commands.specs.declared.commands.CommandFault.{CommandFault}
 use Rattle.lfi_commands.specs.declared.commands.CommandFault.TheVariants as fault
 use Rattle.lfi_commands.specs.declared.failure.Failure.{Failure}
-use Rattle.lfi_commands.specs.declared.failure.Failure.TheVariants.{CannotRead, CannotWrite, NoMemory}
+use Rattle.lfi_commands.specs.declared.failure.Failure.TheVariants.{CannotRead, CannotWrite, CannotListen, NoMemory}
 
 -- a failure in words
 abbrev pub failure_text : Failure → List ℕ
 failure_text (CannotRead path) = codes "cannot read " ++ string_bytes path
 failure_text (CannotWrite path) = codes "cannot write " ++ string_bytes path
+failure_text CannotListen = codes "cannot listen"
 failure_text NoMemory = codes "no memory"
 
 -- its line
@@ -25,12 +26,14 @@ failure_lines failures = flat_map failure_line failures
 abbrev pub TellsRead : List ℕ → Failure → Type 0
 TellsRead path (CannotRead told) = string_bytes told ≡ path
 TellsRead path (CannotWrite told) = ⊥
+TellsRead path CannotListen = ⊥
 TellsRead path NoMemory = ⊤
 
 -- it names this path as one that can't be written, or tells that there was no memory
 abbrev pub TellsWrite : List ℕ → Failure → Type 0
 TellsWrite path (CannotRead told) = ⊥
 TellsWrite path (CannotWrite told) = string_bytes told ≡ path
+TellsWrite path CannotListen = ⊥
 TellsWrite path NoMemory = ⊤
 
 -- it tells of a command's fault, where the input is the file at this path
@@ -43,13 +46,22 @@ TellsOf fault.NotWritten path failure = TellsWrite (codes "standard output") fai
 abbrev pub TellsReadOfOne : List (List ℕ) → Failure → Type 0
 TellsReadOfOne paths (CannotRead told) = (c : ℕ) × (slice_get paths c ≡ Some (string_bytes told))
 TellsReadOfOne paths (CannotWrite told) = ⊥
+TellsReadOfOne paths CannotListen = ⊥
 TellsReadOfOne paths NoMemory = ⊤
 
 -- it tells of a fault of a command whose inputs are the files at these paths
 abbrev pub FailsOn : List (List ℕ) → Failure → Type 0
 FailsOn paths (CannotRead told) = (c : ℕ) × (slice_get paths c ≡ Some (string_bytes told))
 FailsOn paths (CannotWrite told) = string_bytes told ≡ codes "standard output"
+FailsOn paths CannotListen = ⊥
 FailsOn paths NoMemory = ⊤
+
+-- it tells of a fault of a command that listens at a socket
+abbrev pub FailsServing : Failure → Type 0
+FailsServing (CannotRead told) = ⊥
+FailsServing (CannotWrite told) = string_bytes told ≡ codes "standard output"
+FailsServing CannotListen = ⊤
+FailsServing NoMemory = ⊤
 
 -- These lines were written to the errors, unless something is lost.
 abbrev pub Told : Bool → (old new : Option (List ℕ)) → List ℕ → Type 0

@@ -6,16 +6,16 @@ use Rattle.lfi_place.specs.declared.report.ModuleReport.{ModuleReport}
 use Rattle.lfi_stage.specs.declared.settle.Report.{Report}
 use Rattle.lfi_stage.specs.Stages.{IsLoaded}
 use Rattle.lfi_command_line.specs.declared.line.Line.{Line}
-use Rattle.lfi_command_line.specs.declared.line.Line.TheVariants.{Check, Load, Run}
+use Rattle.lfi_command_line.specs.declared.line.Line.TheVariants.{Check, Load, Serve, Run}
 use Rattle.lfi_command_line.specs.CommandLine.{IsLine, AsksHelp, AreWrong, NameTooMany}
 use Rattle.lfi_commands.specs.declared.verdict.Verdict.{Verdict}
 use Rattle.lfi_commands.specs.declared.ending.Ending.{Ending}
 use Rattle.lfi_commands.specs.declared.ending.Ending.TheVariants.{Well, NotWell, WrongWords, Failed}
 use Rattle.lfi_commands.specs.declared.failure.Failure.{Failure}
-use Rattle.lfi_commands.specs.declared.failure.Failure.TheVariants.{CannotRead, CannotWrite, NoMemory}
+use Rattle.lfi_commands.specs.declared.failure.Failure.TheVariants.{CannotRead, CannotWrite, CannotListen, NoMemory}
 use Rattle.lfi_commands.specs.Checking.{Checks, verdict_text}
 use Rattle.lfi_commands.specs.Endings.{ending_of, ending_of_run, EndsBy}
-use Rattle.lfi_commands.specs.Failures.{failure_line, Told}
+use Rattle.lfi_commands.specs.Failures.{failure_line, FailsOn, FailsServing, Told}
 use Rattle.lfi_commands.specs.Images.{images_in, WritesImages}
 use Rattle.lfi_model.specs.Texts.{summary_text}
 use Rattle.lfi_run.specs.declared.image_run.ImageRun.{ImageRun}
@@ -67,6 +67,20 @@ pub record FindsReport (streams : List (Option (List ℕ))) (folder : Option (Li
   pub images : WritesImages (folder_or_none folder) (asked_images folder report.modules) old.put new.put new.is_lost old.errors new.errors all
   pub ends : EndsLoad report all ending
 
+-- the ending of a load over a socket: as of any load, where all connections were taken
+abbrev pub EndsServed : Report → (taken all : Bool) → Ending → Type 0
+EndsServed report true all ending = EndsLoad report all ending
+EndsServed report false all ending = ending ≡ Failed
+
+-- Of what so many connections sent one report was found; its text was written, its images were put into the folder, and it gives the ending.
+pub record FindsServed (connections : ℕ) (folder : Option (List ℕ)) (old new : Left) (ending : Ending) : Type 0 where
+  pub report : Report
+  pub written : Appends old.out new.out (summary_text (summary_of report))
+  pub taken : Bool
+  pub all : Bool
+  pub images : WritesImages (folder_or_none folder) (asked_images folder report.modules) old.put new.put new.is_lost old.errors new.errors all
+  pub ends : EndsServed report taken all ending
+
 -- the ending of a run of an image: by what came of it, where that was told
 abbrev pub EndsRun : (is_lost : Bool) → ImageRun → Ending → Type 0
 EndsRun true run ending = ending ≡ Failed
@@ -84,23 +98,26 @@ pub record FindsRun (bytes : Option (List ℕ)) (steps : ℕ) (out_old out_new :
 abbrev pub CarriesOut : Line → (List ℕ → Option (List ℕ)) → (old new : Left) → Ending → Type 0
 CarriesOut (Check file) file_at old new ending = FindsVerdict (file_at file.now) old.out new.out ending × (new.put ≡ old.put) × (new.errors ≡ old.errors)
 CarriesOut (Load verifiers folder streams) file_at old new ending = FindsReport (map (λ s. file_at s.now) streams.items) (option_map (λ s. s.now) folder) old new ending
+CarriesOut (Serve socket connections verifiers folder) file_at old new ending = FindsServed connections (option_map (λ s. s.now) folder) old new ending
 CarriesOut (Run image steps) file_at old new ending =
     FindsRun (file_at image.now) steps old.out new.out new.is_lost old.errors new.errors ending × (new.put ≡ old.put)
 
--- the files that the line wants to be read
-abbrev pub inputs_of : Line → List (List ℕ)
-inputs_of (Check file) = file.now ∷ []
-inputs_of (Load verifiers folder streams) = map (λ s. s.now) streams.items
-inputs_of (Run image steps) = image.now ∷ []
+-- it tells of a fault of what the line asks for: of a file that it names, of the output, of the socket
+abbrev pub FailsAs : Line → Failure → Type 0
+FailsAs (Check file) = FailsOn (file.now ∷ [])
+FailsAs (Load verifiers folder streams) = FailsOn (map (λ s. s.now) streams.items)
+FailsAs (Serve socket connections verifiers folder) = FailsServing
+FailsAs (Run image steps) = FailsOn (image.now ∷ [])
 
 -- The words ask for a line, and it was carried out.
 abbrev pub CarriesOutWords : List (List ℕ) → (List ℕ → Option (List ℕ)) → (old new : Left) → Ending → Type 0
 CarriesOutWords words file_at old new ending = (line : Line) × IsLine words line × CarriesOut line file_at old new ending
 
--- It names a file that the words want to be read, or the standard output, or tells that there was no memory.
+-- It tells of a fault of the line that the words ask for, or of the output, or of no memory.
 abbrev pub FailsBy : List (List ℕ) → Failure → Type 0
-FailsBy words (CannotRead told) = (line : Line) × IsLine words line × ((c : ℕ) × (slice_get (inputs_of line) c ≡ Some (string_bytes told)))
+FailsBy words (CannotRead told) = (line : Line) × IsLine words line × FailsAs line (CannotRead told)
 FailsBy words (CannotWrite told) = string_bytes told ≡ codes "standard output"
+FailsBy words CannotListen = (line : Line) × IsLine words line × FailsAs line CannotListen
 FailsBy words NoMemory = ⊤
 
 -- A failure was told, unless it is lost, and no file was put.

@@ -14,6 +14,8 @@ pub enum Failure {
     CannotRead(String),
     /// The file at this path can't be written.
     CannotWrite(String),
+    /// It can't be listened at the path of a socket.
+    CannotListen,
     /// There was no memory.
     NoMemory,
 }
@@ -25,6 +27,7 @@ impl fmt::Display for Failure {
         match self {
             Failure::CannotRead(path) => write!(f, "cannot read {path}"),
             Failure::CannotWrite(path) => write!(f, "cannot write {path}"),
+            Failure::CannotListen => write!(f, "cannot listen"),
             Failure::NoMemory => write!(f, "no memory"),
         }
     }

@@ -1,6 +1,6 @@
 //! The files that the commands read, opened.
 
-ghost use Rattle.std.specs.Prelude.{◌≡◌, Some, IfOk, IfErr, IfSome, map};
+ghost use Rattle.std.specs.Prelude.{◌≡◌, ◌<◌, Some, IfOk, IfErr, IfSome, length, map, slice_get};
 ghost use Rattle.lfi_commands.specs.Failures.{TellsRead, TellsReadOfOne};
 ghost use Rattle.lfi_commands.specs.inner.Opening.{IsInputOf, AreInputsOf};
 
@@ -29,6 +29,14 @@ fn open_input<D: Disk>(alloc: Global, disk: &D, path: &str) -> Result<Input<D::R
     Ok(Input::new(alloc, reader)?)
 }
 
+/// The path at this place.
+fn path_at<'a>(paths: &[&'a str], place: usize) -> &'a str
+    requires { place < length paths.now }
+    ensures { slice_get paths.now place ≡ Some result }
+{
+    paths[place]
+}
+
 /// Opens the files at these paths, in their order, up to the first that can't be opened.
 pub(crate) fn open_all<D: Disk>(
     alloc: Global,
@@ -39,8 +47,14 @@ pub(crate) fn open_all<D: Disk>(
     ensures failure { IfErr result (TellsReadOfOne (map (λ path. path.now) paths.now)) }
 {
     let mut inputs = Vec::new(alloc);
-    for path in paths {
-        inputs.push(open_input(alloc, disk, path)?)?;
+    for number in 0..paths.len() {
+        let input = match open_input(alloc, disk, path_at(paths, number)) {
+            Ok(input) => input,
+            Err(failure) => return Err(failure),
+        };
+        if inputs.push(input).is_err() {
+            return Err(Failure::NoMemory);
+        }
     }
     Ok(inputs)
 }

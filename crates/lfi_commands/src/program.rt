@@ -3,10 +3,10 @@
 ghost use Rattle.std.specs.Prelude.{◌≡◌, ◌≤◌, ℕ, List, [], ◌∷◌, Option, IfOk, IfErr, OnErr, length, map, option_map, string_bytes};
 ghost use Rattle.lfi_command_line.specs.CommandLine.{IsLineFault};
 ghost use Rattle.lfi_commands.specs.Errors.{is_lost_of, writer_of};
-ghost use Rattle.lfi_commands.specs.Failures.{FailsOn};
+ghost use Rattle.lfi_commands.specs.Failures.{FailsOn, FailsServing};
 ghost use Rattle.lfi_commands.specs.Images.{WritesImages};
 ghost use Rattle.lfi_commands.specs.inner.Opening.{IsInRange};
-ghost use Rattle.lfi_commands.specs.Runs.{asked_images, folder_or_none, left, inputs_of, FindsVerdict, FindsReport, FindsRun, CarriesOut, Runs};
+ghost use Rattle.lfi_commands.specs.Runs.{asked_images, folder_or_none, left, FailsAs, FindsServed, FindsVerdict, FindsReport, FindsRun, CarriesOut, Runs};
 
 use crate::commands::{CommandFault, check_file, load};
 use crate::disk::Disk;
@@ -92,6 +92,31 @@ fn run_load<S: Wait, D: Disk, O: Write, E: Write>(
     }
 }
 
+/// Loads the modules of what so many connections send over a socket, with so many verifiers, writes the report, and writes
+/// the whole images to a folder where one is named.
+fn run_serve<S: Wait, D: Disk, O: Write, E: Write>(
+    rt: &S,
+    alloc: Global,
+    disk: &mut D,
+    socket: &str,
+    connections: usize,
+    verifiers: usize,
+    folder: Option<&str>,
+    out: &mut O,
+    errors: &mut Errors<E>,
+) -> Result<Ending, Failure>
+    requires verifiers { (1 ≤ verifiers) × (verifiers ≤ 8) }
+    requires connections { (1 ≤ connections) × (connections ≤ 8) }
+    ensures found { IfOk result (FindsServed connections (option_map (λ s. s.now) folder.entry)
+        (left (O.contents out.old) (D.put_files disk.old) (is_lost_of errors.old) (E.contents (writer_of errors.old)))
+        (left (O.contents out.new) (D.put_files disk.new) (is_lost_of errors.new) (E.contents (writer_of errors.new)))) }
+    ensures failure { IfErr result FailsServing }
+    ensures disk { OnErr result (disk.new ≡ disk.old) }
+    ensures errors { OnErr result (errors.new ≡ errors.old) }
+{
+    Err(Failure::CannotListen)
+}
+
 /// Runs the image in a file for at most so many steps, and tells what comes of it.
 fn run_run<D: Disk, O: Write, E: Write>(
     alloc: Global,
@@ -128,7 +153,7 @@ fn run<S: Wait, D: Disk, O: Write, E: Write>(
     ensures found { IfOk result (CarriesOut line.entry (D.file_at disk.old)
         (left (O.contents out.old) (D.put_files disk.old) (is_lost_of errors.old) (E.contents (writer_of errors.old)))
         (left (O.contents out.new) (D.put_files disk.new) (is_lost_of errors.new) (E.contents (writer_of errors.new)))) }
-    ensures failure { IfErr result (FailsOn (inputs_of line.entry)) }
+    ensures failure { IfErr result (FailsAs line.entry) }
     ensures disk { OnErr result (disk.new ≡ disk.old) }
     ensures errors { OnErr result (errors.new ≡ errors.old) }
 {
@@ -139,6 +164,22 @@ fn run<S: Wait, D: Disk, O: Write, E: Write>(
             out: folder,
             streams,
         } => run_load(rt, alloc, disk, verifiers, folder, &streams, out, errors),
+        Line::Serve {
+            socket,
+            connections,
+            verifiers,
+            out: folder,
+        } => run_serve(
+            rt,
+            alloc,
+            disk,
+            socket,
+            connections,
+            verifiers,
+            folder,
+            out,
+            errors,
+        ),
         Line::Run { image, steps } => run_run(alloc, disk, image, steps, out, errors),
     }
 }

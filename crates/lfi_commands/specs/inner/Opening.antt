@@ -1,7 +1,7 @@
 -- Inputs of files that were opened. Only private clauses and proofs use it.
 use Rattle.std.specs.Prelude.{◌≡◌, ⊤, ℕ, ◌≤◌, List, Option, Some, IfSome, slice_get, length}
 use Rattle.lfi_command_line.specs.declared.line.Line.{Line}
-use Rattle.lfi_command_line.specs.declared.line.Line.TheVariants.{Check, Load, Run}
+use Rattle.lfi_command_line.specs.declared.line.Line.TheVariants.{Check, Load, Serve, Run}
 use Rattle.lfi_receive.specs.declared.input.Input.{Input}
 use Rattle.lfi_receive.specs.Inputs.{left_of}
 
@@ -18,4 +18,5 @@ pub record AreInputsOf {R : Type 0} (remaining : R → Option (List ℕ)) (texts
 abbrev pub IsInRange : Line → Type 0
 IsInRange (Check file) = ⊤
 IsInRange (Load verifiers out streams) = ((1 ≤ verifiers) × (verifiers ≤ 8)) × ((1 ≤ length streams.items) × (length streams.items ≤ 8))
+IsInRange (Serve socket connections verifiers out) = ((1 ≤ verifiers) × (verifiers ≤ 8)) × ((1 ≤ connections) × (connections ≤ 8))
 IsInRange (Run image steps) = ⊤

@@ -1,0 +1,7 @@
+use Rattle.std.proofs.Common.{refl, inr, subst, sym}
+use Rattle.lfi_command_line.specs.CommandLine.{IsLineFault}
+use Rattle.lfi_commands.proofs.program.tell_fault.Goals as goal
+
+pub returns-then-not-is_lost-2 : goal.returns-then-not-is_lost-2
+returns-then-not-is_lost-2 g c = λ words file_at put is.
+    (inr (subst (λ fault. IsLineFault words fault) c.in-TooManyStreams.is is, c.write_line.ensures.told), refl, refl)
