@@ -1,0 +1,4 @@
+pub mod Pieces
+pub mod Pages
+pub mod Messages
+pub mod Whole
