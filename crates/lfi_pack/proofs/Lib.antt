@@ -2,3 +2,5 @@ pub mod Pieces
 pub mod Pages
 pub mod Messages
 pub mod Whole
+pub mod Shares
+pub mod Hearing

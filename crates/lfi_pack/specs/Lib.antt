@@ -1,3 +1,4 @@
 pub mod Faults
 pub mod Packs
+pub mod Heard
 pub mod inner

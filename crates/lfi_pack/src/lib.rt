@@ -5,6 +5,7 @@
 mod copying;
 pub mod fault;
 mod headers;
+pub mod laws;
 pub mod pack;
 
 pub use fault::PackFault;
