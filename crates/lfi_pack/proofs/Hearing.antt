@@ -1,25 +1,20 @@
 -- What a receiver hears of packed modules.
-use Rattle.std.proofs.Common.{◌≡◌, ◌≢◌, ℕ, ◌+◌, ◌==◌, List, [], ◌∷◌, ◌++◌, length, Option, Some, None, refl, sym, ◌∙◌, ap, subst, inl, inr, ◌⊎◌, append-nil, append_assoc, flat_map, Bool, true, false, not, ◌||◌, if◌then◌else◌, sum_by}
-use Rattle.std.specs.Prelude.{All}
+use Rattle.std.proofs.Common.{◌≡◌, ◌≢◌, ℕ, List, [], ◌∷◌, ◌++◌, Some, None, refl, sym, ◌∙◌, ap, subst, inl, inr, ◌⊎◌, append-nil, append_assoc, flat_map, Bool, true, false, ◌||◌, if◌then◌else◌, sum_by, arith}
 use Rattle.std.specs.List.{filter, fold, list_any}
 use Rattle.std.proofs.lemmas.Bool.Decides.{eqb_tells}
 use Rattle.std.proofs.lemmas.Grind.{flat_map-append}
 use Rattle.std.proofs.lemmas.List.Elements.{All-nil, All-append, filter-append}
 use Rattle.std.proofs.lemmas.List.Sums.{sum_by-cons}
 use Rattle.a64_word.specs.Words.{words_of}
-use Rattle.lfi_module.specs.Numbers.{module_count, page_words}
+use Rattle.lfi_module.specs.Numbers.{page_words}
 use Rattle.lfi_module.specs.Pages.{page_count}
-use Rattle.lfi_frame.specs.declared.fault.FrameFault.{FrameFault}
 use Rattle.lfi_frame.specs.declared.fault.FrameFault.TheVariants as fault
 use Rattle.lfi_frame.specs.Streams.{Message, Cut, IsMessage, spelling, short, whole}
-use Rattle.lfi_rules.specs.Verdicts.{all_words}
 use Rattle.lfi_model.specs.Item.{ItemView}
-use Rattle.lfi_model.specs.declared.item.ItemKind.TheVariants.{Open}
 use Rattle.lfi_model.specs.declared.connection.Cause.TheVariants.{End}
 use Rattle.lfi_model.specs.declared.connection.Progress.TheVariants.{Ended}
-use Rattle.lfi_model.specs.Items.{Share, ItemsOf, nothing_yet, after_message, is_of, is_going, share_at, is_inside, connection_fault, items_of, ends_of, modules, strays_of}
+use Rattle.lfi_model.specs.Items.{Share, ItemsOf, nothing_yet, after_message, is_of, is_going, share_at, is_inside, connection_fault, items_of, ends_of, modules}
 use Rattle.lfi_model.specs.Modules.{Member}
-use Rattle.lfi_model.specs.Outcomes.{pages_of}
 use Rattle.lfi_pack.specs.Heard.{PackedView, IsStream, NoneIs, AreDistinct, AreClaimed, IsHeard}
 use Rattle.lfi_pack.specs.Packs.{AreFirst, joined, messages_of}
 use Rattle.lfi_pack.proofs.Messages.{among_all}
@@ -66,11 +61,11 @@ told (p ∷ ps) text is apart =
       };
       each = λ q member. elim member [
         | inl same ↦ subst (Stands all) same (record {
-            pages = packed.pages;
-            all = packed.all;
-            bytes = packed.bytes;
-            mine = filter-append (is_of p.number) head tail ∙ ap (λ l. l ++ filter (is_of p.number) tail) (filter_mine p.number p.extent packed.pages) ∙ ap (λ l. head ++ l) (later.none p.number apart.0) ∙ append-nil head;
-          })
+          pages = packed.pages;
+          all = packed.all;
+          bytes = packed.bytes;
+          mine = filter-append (is_of p.number) head tail ∙ ap (λ l. l ++ filter (is_of p.number) tail) (filter_mine p.number p.extent packed.pages) ∙ ap (λ l. head ++ l) (later.none p.number apart.0) ∙ append-nil head;
+        })
         | inr among ↦
             let stands = later.each q among in
             let differs : p.number ≢ q.number = λ e. apart.0 q among (sym e) in
@@ -101,7 +96,7 @@ any_false f (x ∷ xs) all = ap (λ b. b || list_any f xs) (all x) ∙ any_false
 
 sum_none : (f : ℕ → ℕ) (xs : List ℕ) → ((m : ℕ) → f m ≡ 0) → sum_by f xs ≡ 0
 sum_none f [] all = refl
-sum_none f (x ∷ xs) all = sum_by-cons f x xs ∙ ap (λ n. n + sum_by f xs) (all x) ∙ sum_none f xs all
+sum_none f (x ∷ xs) all = (let parted = sum_by-cons f x xs in let first = all x in let rest = sum_none f xs all in omega arith)
 
 module _ (ps : List PackedView) (text : List ℕ) (claimed : ℕ → Bool) (is : IsStream ps text) (apart : AreDistinct ps) (mine : AreClaimed claimed ps) where
   all : Told ps text
@@ -146,7 +141,7 @@ module _ (ps : List PackedView) (text : List ℕ) (claimed : ℕ → Bool) (is :
   items_by : (m : ℕ) (s : Share) → share m ≡ s → items m ≡ s.items ++ ends_of m s.progress None
   items_by m s e = ap (λ f. (share m).items ++ ends_of m (share m).progress f) no_fault ∙ ap (λ (t : Share). t.items ++ ends_of m t.progress None) e
 
-  pub of_packed : ItemsOf text End claimed items None 0
+  of_packed : ItemsOf text End claimed items None 0
   of_packed = record {
     messages = messages;
     rest = [];
@@ -156,7 +151,7 @@ module _ (ps : List PackedView) (text : List ℕ) (claimed : ℕ → Bool) (is :
     strays_are = sym (sum_none (λ m. (share m).strays) modules (λ m. (settled m).1));
   }
 
-  pub heard : (p : PackedView) → Member ps p → IsHeard p (items p.number)
+  heard : (p : PackedView) → Member ps p → IsHeard p (items p.number)
   heard p member =
       let stands = all.each p member in
       let pages = stands.pages in
@@ -168,7 +163,7 @@ module _ (ps : List PackedView) (text : List ℕ) (claimed : ℕ → Bool) (is :
         ended = end_made p.number p.extent pages;
       })
 
-  pub unheard : (m : ℕ) → NoneIs m ps → items m ≡ []
+  unheard : (m : ℕ) → NoneIs m ps → items m ≡ []
   unheard m none = items_by m nothing_yet (share_of_none m none)
 
   pub packed_items : (items : ℕ → List ItemView) × ItemsOf text End claimed items None 0 × ((p : PackedView) → Member ps p → IsHeard p (items p.number)) × ((m : ℕ) → NoneIs m ps → items m ≡ [])

@@ -1,15 +1,15 @@
 -- Messages of a module are without fault.
-use Rattle.std.proofs.Common.{◌≡◌, ℕ, zero, suc, ◌+◌, ◌-◌, ◌*◌, ◌/◌, ◌<◌, ◌≤◌, ◌^◌, ◌%◌, List, [], ◌∷◌, ◌++◌, length, Option, Some, None, refl, sym, ◌∙◌, ap, subst, inl, inr, arith, append-nil, slice_get, min}
-use Rattle.std.specs.Prelude.{Bool, true, false, not, ◌||◌, ◌&&◌, ◌==◌, nat_lt, nat_le, if◌then◌else◌, All}
+use Rattle.std.proofs.Common.{◌≡◌, ℕ, suc, ◌+◌, ◌-◌, ◌*◌, ◌/◌, ◌<◌, ◌≤◌, ◌^◌, ◌%◌, List, [], ◌∷◌, length, Option, Some, None, refl, ◌∙◌, ap, subst, inl, inr, arith, slice_get, min}
+use Rattle.std.specs.Prelude.{Bool, true, false, not, ◌||◌, ◌&&◌, ◌==◌, nat_lt, if◌then◌else◌, All}
 use Rattle.std.proofs.lemmas.Bool.{lt-leb, le-leb, lt-ltb, le-ltb, eq-eqb}
 use Rattle.std.proofs.lemmas.Bool.Decides.{eqb_tells}
-use Rattle.std.proofs.lemmas.List.Elements.{All-nil, All-cons, All-append}
+use Rattle.std.proofs.lemmas.List.Elements.{All-nil, All-cons}
 use Rattle.std.proofs.lemmas.Option.{slice_get_within}
 use Rattle.lfi_module.specs.Numbers.{module_count, most_words, page_words, page_bytes}
 use Rattle.lfi_module.specs.Pages.{page_count, bytes_in_page}
 use Rattle.lfi_frame.specs.declared.fault.FrameFault.{FrameFault}
 use Rattle.lfi_frame.specs.declared.fault.FrameFault.TheVariants.{Module, PageLength, WordCount, Entry}
-use Rattle.lfi_frame.specs.Streams.{Message, open_message, page_message, close_message, header_of, header_fault, is_page_length, IsMessage}
+use Rattle.lfi_frame.specs.Streams.{open_message, page_message, close_message, is_page_length, IsMessage}
 use Rattle.lfi_pack.specs.Packs.{AreFirst, numbered}
 
 open_tests : Bool → Bool → Bool → Option FrameFault
@@ -81,8 +81,8 @@ pages_are_messages m n index (page ∷ pages) below few among =
     let size : length page ≡ 4 * min 1024 (n - 1024 * index) = is.0 in
     let inside : index < (n + 1023) / 1024 = is.1 in
     All-cons IsMessage (page_message m index page) (numbered m (index + 1) pages)
-        (page_is_message m index page below (omega arith) (omega arith) (omega arith) (omega arith))
-        (pages_are_messages m n (index + 1) pages below few (later n index page pages among))
+    (page_is_message m index page below (omega arith) (omega arith) (omega arith) (omega arith))
+    (pages_are_messages m n (index + 1) pages below few (later n index page pages among))
 
 pub among_all : (n : ℕ) (pages : List (List ℕ)) → AreFirst n (page_count page_words n) pages → Among n 0 pages
 among_all n pages first i page at =

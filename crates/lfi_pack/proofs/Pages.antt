@@ -1,13 +1,13 @@
 -- Pages, one more at a time, and their lengths.
-use Rattle.std.proofs.Common.{◌≡◌, ℕ, zero, suc, ◌+◌, ◌-◌, ◌*◌, ◌/◌, ◌%◌, ◌<◌, ◌≤◌, min, List, [], ◌∷◌, ◌++◌, length, Option, Some, None, Result, Ok, Err, refl, sym, ◌∙◌, ap, subst, inl, inr, ◌⊎◌, arith, append_assoc, append-nil, length-append, flat_map, slice_get}
-use Rattle.std.specs.Prelude.{OnOk, IfErr, IfSome}
+use Rattle.std.proofs.Common.{◌≡◌, ℕ, zero, suc, ◌+◌, ◌-◌, ◌*◌, ◌<◌, min, List, [], ◌∷◌, ◌++◌, length, Option, Some, None, Result, Ok, Err, refl, sym, ◌∙◌, ap, subst, inl, inr, ◌⊎◌, arith, append-nil, length-append, flat_map, slice_get}
+use Rattle.std.specs.Prelude.{OnOk}
 use Rattle.std.proofs.lemmas.Grind.{flat_map-append}
 use Rattle.std.specs.Io.KnownBytes.{Consumes, Appends}
 use Rattle.std.proofs.KnownBytes.{Consumes-trans, Appends-trans}
 use Rattle.lfi_module.specs.Numbers.{page_words}
 use Rattle.lfi_module.specs.Pages.{page_count, bytes_in_page}
 use Rattle.lfi_frame.specs.Feeds.{page_header}
-use Rattle.lfi_frame.specs.Streams.{Message, page_message, header_bytes, spelling}
+use Rattle.lfi_frame.specs.Streams.{page_message, header_bytes, spelling}
 use Rattle.lfi_pack.specs.declared.fault.PackFault.{PackFault}
 use Rattle.lfi_pack.specs.declared.fault.PackFault.TheVariants.{Shorter, Longer, ReadFailed, WriteFailed}
 use Rattle.lfi_pack.specs.Faults.{IsPackFault}

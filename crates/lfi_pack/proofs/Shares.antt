@@ -1,6 +1,6 @@
 -- What a module's messages make of its share.
-use Rattle.std.proofs.Common.{◌≡◌, ◌≢◌, ℕ, zero, suc, ◌+◌, ◌-◌, ◌*◌, ◌/◌, ◌%◌, ◌<◌, ◌≤◌, ◌==◌, min, List, [], ◌∷◌, ◌++◌, length, Option, Some, None, refl, sym, ◌∙◌, ap, subst, inl, inr, arith, append_assoc, append-nil, cond, Bool, true, false}
-use Rattle.std.specs.Prelude.{◌&&◌, nat_lt, if◌then◌else◌}
+use Rattle.std.proofs.Common.{◌≡◌, ◌≢◌, ℕ, suc, ◌+◌, ◌-◌, ◌*◌, ◌%◌, ◌<◌, ◌==◌, min, List, [], ◌∷◌, ◌++◌, length, Some, refl, sym, ◌∙◌, ap, inl, inr, arith, append_assoc, append-nil, cond, Bool, true, false}
+use Rattle.std.specs.Prelude.{◌&&◌, if◌then◌else◌}
 use Rattle.std.specs.Int.{w32, from_le_bytes}
 use Rattle.std.specs.List.{filter, fold}
 use Rattle.std.proofs.lemmas.Bool.{lt-ltb, eq-eqb}
@@ -80,7 +80,7 @@ due n p page size inside =
     λ i. a i && b i && c i
 
 pages_step : (m n p : ℕ) (items : List ItemView) (pages : List (List ℕ)) → Among n p pages → fold (step true m) (going items n p) (numbered m p pages) ≡ going (items ++ page_items m n p pages) n (p + length pages)
-pages_step m n p items [] among = let e : p ≡ p + 0 = omega arith in λ i. going (append-nil items (i)) n (e i)
+pages_step m n p items [] among = let e : p ≡ p + 0 = omega arith in let same = sym (append-nil items) in λ i. going (same i) n (e i)
 pages_step m n p items (page ∷ pages) among =
     let is = first_is n p page pages among in
     let item = item_of m (p + 1) n (Page page) in

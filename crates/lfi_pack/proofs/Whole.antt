@@ -1,16 +1,16 @@
 -- A module that was written whole.
-use Rattle.std.proofs.Common.{◌≡◌, ℕ, ◌+◌, ◌*◌, ◌<◌, ◌≤◌, List, [], ◌∷◌, ◌++◌, length, Option, Some, None, Result, Ok, Err, refl, sym, ◌∙◌, ap, subst, arith, append-nil, append_assoc, flat_map}
-use Rattle.std.specs.Prelude.{OnOk, All}
+use Rattle.std.proofs.Common.{◌≡◌, ℕ, ◌<◌, ◌≤◌, List, [], ◌∷◌, ◌++◌, Option, Result, Ok, Err, refl, sym, ◌∙◌, ap, subst, append-nil, flat_map}
+use Rattle.std.specs.Prelude.{OnOk}
 use Rattle.std.specs.Io.KnownBytes.{Consumes, Appends, IsAtEnd}
 use Rattle.std.proofs.KnownBytes.{Consumes-trans, Appends-trans}
 use Rattle.std.proofs.lemmas.Grind.{flat_map-append}
 use Rattle.std.proofs.lemmas.List.Elements.{All-nil, All-cons, All-append}
 use Rattle.lfi_module.specs.Extents.{ExtentView}
 use Rattle.lfi_module.specs.Numbers.{module_count, most_words}
-use Rattle.lfi_frame.specs.Streams.{Message, open_message, close_message, header_of, spelling, IsMessage, short, whole}
+use Rattle.lfi_frame.specs.Streams.{open_message, close_message, header_of, spelling, IsMessage, short, whole}
 use Rattle.lfi_frame.proofs.Headers.{sound}
 use Rattle.lfi_pack.specs.declared.fault.PackFault.{PackFault}
-use Rattle.lfi_pack.specs.Packs.{joined, numbered, messages_of, IsPacked, Packs}
+use Rattle.lfi_pack.specs.Packs.{joined, numbered, messages_of, Packs}
 use Rattle.lfi_pack.specs.inner.Copies.{CopiesPages}
 use Rattle.lfi_pack.proofs.Messages.{pages_are_messages, among_all}
 
@@ -20,7 +20,7 @@ spelled_whole m extent pages =
     let head = spelling (open_message m extent.words extent.entry) in
     let close = close_message m in
     let tail : flat_map spelling (numbered m 0 pages ++ close ∷ []) ≡ flat_map spelling (numbered m 0 pages) ++ spelling close =
-        flat_map-append spelling (numbered m 0 pages) (close ∷ []) ∙ ap (λ l. flat_map spelling (numbered m 0 pages) ++ l) (append-nil (spelling close)) in
+    flat_map-append spelling (numbered m 0 pages) (close ∷ []) ∙ ap (λ l. flat_map spelling (numbered m 0 pages) ++ l) (append-nil (spelling close)) in
     ap (λ l. head ++ l) (sym tail) ∙ sym (append-nil (flat_map spelling (messages_of m extent pages)))
 
 pub packs_all : (m : ℕ) (extent : ExtentView) (left rest end old mid half new : Option (List ℕ)) (head tail : List ℕ) (r : Result (Unit {0}) PackFault) →

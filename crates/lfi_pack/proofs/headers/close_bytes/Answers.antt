@@ -1,5 +1,4 @@
-use Rattle.std.proofs.Common.{◌<◌, arith}
-use Rattle.lfi_module.specs.Numbers.{module_count}
+use Rattle.std.proofs.Common.{arith}
 use Rattle.lfi_pack.proofs.Messages.{close_is_message}
 use Rattle.lfi_pack.proofs.headers.close_bytes.Goals as goal
 

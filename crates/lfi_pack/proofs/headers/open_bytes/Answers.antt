@@ -1,4 +1,4 @@
-use Rattle.std.proofs.Common.{◌<◌, arith}
+use Rattle.std.proofs.Common.{arith}
 use Rattle.lfi_pack.proofs.Messages.{open_is_message}
 use Rattle.lfi_pack.proofs.headers.open_bytes.Goals as goal
 

@@ -1,6 +1,6 @@
-use Rattle.std.proofs.Common.{◌≡◌, ◌*◌, ◌≤◌, ◌∙◌, Err, IfErr, ap, sym, subst, arith}
+use Rattle.std.proofs.Common.{◌≡◌, ◌*◌, ◌∙◌, Err, IfErr, ap, sym, subst, arith}
 use Rattle.std.proofs.lemmas.Result.{err_from_is_err_and}
-use Rattle.lfi_module.specs.Numbers.{page_words, most_words}
+use Rattle.lfi_module.specs.Numbers.{page_words}
 use Rattle.lfi_module.specs.Pages.{page_count}
 use Rattle.lfi_pack.specs.Faults.{IsPackFault}
 use Rattle.lfi_pack.specs.Packs.{joined}
@@ -17,7 +17,7 @@ returns-in_err-expect_end-clause-fault g c =
     let p = err_from_is_err_and c.from_residual-in_err-expect_end.result c.from_residual-in_err-expect_end.ensures.1 in
     let fault = c.in_err-expect_end.field-0.0 in
     subst (λ r. IfErr r (IsPackFault (g.R.Read.remaining c.args.reader.now) (4 * n))) (sym (p.1 ∙ ap (λ f. Err f) p.2))
-        (fault_at_end n (g.R.Read.remaining c.args.reader.now) (g.R.Read.remaining c.pack_pages.new.reader) (joined copied.pages) fault copied.read (joined_length n (page_count page_words n) copied.pages copied.first ∙ all_long n) c.in_err-expect_end.ensures.fault)
+    (fault_at_end n (g.R.Read.remaining c.args.reader.now) (g.R.Read.remaining c.pack_pages.new.reader) (joined copied.pages) fault copied.read (joined_length n (page_count page_words n) copied.pages copied.first ∙ all_long n) c.in_err-expect_end.ensures.fault)
 
 pub returns-clause-packed : goal.returns-clause-packed
 returns-clause-packed g c =

@@ -16,7 +16,7 @@ returns-in_err-pack_page-clause-fault g c =
     let fault = c.in_err-pack_page.field-0.0 in
     let is = subst (λ k. IsPageFault (g.R.Read.remaining c.loop-index.reader) k fault) len c.in_err-pack_page.ensures.fault in
     subst (λ r. IfErr r (IsPageFault (g.R.Read.remaining c.args.reader.now) (4 * n))) (sym (p.1 ∙ ap (λ f. Err f) p.2))
-        (fault_later n c.loop-index.index (g.R.Read.remaining c.args.reader.now) (g.R.Read.remaining c.loop-index.reader) (joined i.pages) fault i.read (joined_length n c.loop-index.index i.pages i.first) is)
+    (fault_later n c.loop-index.index (g.R.Read.remaining c.args.reader.now) (g.R.Read.remaining c.loop-index.reader) (joined i.pages) fault i.read (joined_length n c.loop-index.index i.pages i.first) is)
 
 pub loop-index-preserved : goal.loop-index-preserved
 loop-index-preserved g c =
