@@ -5,13 +5,21 @@ use std::io::{self, ErrorKind, Read, Write};
 
 /// Gives at most `step` bytes a call. Once all are given it is at its end, or fails.
 #[derive(Drop)]
-pub struct Code<'a> {
+pub struct CodeReader<'a> {
     pub bytes: &'a [u8],
     pub step: usize,
     pub fails: bool,
 }
 
-impl<'a> Read for Code<'a> {
+impl<'a> CodeReader<'a> {
+    /// Code that is at its end once all bytes are given.
+    pub fn new(bytes: &'a [u8], step: usize) -> CodeReader<'a> {
+        let fails = false;
+        CodeReader { bytes, step, fails }
+    }
+}
+
+impl<'a> Read for CodeReader<'a> {
     fn read(&mut self, buf: &mut [u8]) -> io::Result<usize> {
         let count = buf.len().min(self.bytes.len()).min(self.step);
         if count == 0 && self.fails {
@@ -25,13 +33,21 @@ impl<'a> Read for Code<'a> {
 
 /// Takes at most `step` bytes a call, and fails once it has taken `left` bytes.
 #[derive(Drop)]
-pub struct Stream {
+pub struct StreamWriter {
     pub taken: Vec<u8>,
     pub left: usize,
     pub step: usize,
 }
 
-impl Write for Stream {
+impl StreamWriter {
+    /// A stream that has taken nothing.
+    pub fn new(alloc: Global, left: usize, step: usize) -> StreamWriter {
+        let taken = Vec::new(alloc);
+        StreamWriter { taken, left, step }
+    }
+}
+
+impl Write for StreamWriter {
     fn write(&mut self, buf: &[u8]) -> io::Result<usize> {
         if self.left == 0 && !buf.is_empty() {
             return Err(ErrorKind::Other.into());
@@ -44,15 +60,6 @@ impl Write for Stream {
 
     fn flush(&mut self) -> io::Result<()> {
         Ok(())
-    }
-}
-
-/// A stream that takes so many bytes.
-pub fn stream(alloc: Global, left: usize, step: usize) -> Stream {
-    Stream {
-        taken: Vec::new(alloc),
-        left,
-        step,
     }
 }
 

@@ -1,6 +1,6 @@
 //! Packed modules, loaded by the stage.
 
-use crate::devices::{Code, code, stream};
+use crate::devices::{CodeReader, StreamWriter, code};
 use lfi_module::{Extent, ModuleNumber, WordCount};
 use lfi_pack::pack_module;
 use lfi_place::OpenGate;
@@ -11,23 +11,22 @@ use std::test::Fail;
 #[test]
 fn three_files(rt: HostRuntime) -> Result<(), Fail> {
     let alloc = rt.alloc();
-    let mut stream = stream(alloc, 100_000, 4096);
-    for (place, words) in [2u32, 1025, 3072].iter().enumerate() {
-        let words = *words;
+    let mut stream = StreamWriter::new(alloc, 100_000, 4096);
+    for (number, words) in [(5u16, 2u32), (6, 1025), (7, 3072)] {
         let file = code(alloc, words as usize)?;
-        let (bytes, step, fails) = (file.as_slice(), 700, false);
-        let mut code = Code { bytes, step, fails };
+        let mut code = CodeReader::new(file.as_slice(), 700);
         let count = WordCount::new(words).ok_or("no such number of words")?;
-        let module = ModuleNumber::new(5 + place as u16).ok_or("no such module")?;
+        let module = ModuleNumber::new(number).ok_or("no such module")?;
         let packed = pack_module(module, Extent::of(count, 0), &mut code, &mut stream);
         assert!(rt; packed == Ok(()), "{words} words");
     }
-    let (bytes, step, fails) = (stream.taken.as_slice(), 5000, false);
     let mut inputs = Vec::new(alloc);
-    inputs.push(Input::new(alloc, Code { bytes, step, fails })?)?;
+    let text = CodeReader::new(stream.taken.as_slice(), 5000);
+    inputs.push(Input::new(alloc, text)?)?;
     let summary = load_all(&rt, alloc, inputs, 1, &OpenGate)?.summary();
     let told = format!(in alloc; "{summary}")?;
-    let want = "module 5: complete, 2 words\nmodule 6: complete, 1025 words\nmodule 7: complete, 3072 words\nstrays 0\n";
+    let want =
+        "module 5: complete, 2 words\nmodule 6: complete, 1025 words\nmodule 7: complete, 3072 words\nstrays 0\n";
     assert_eq!(rt; told.as_str(), want);
     Ok(())
 }

@@ -1,6 +1,6 @@
 //! Packed streams, byte by byte.
 
-use crate::devices::{Code, code, stream};
+use crate::devices::{CodeReader, StreamWriter, code};
 use lfi_module::{Extent, ModuleNumber, WordCount};
 use lfi_pack::{PackFault, pack_module};
 use std::test::Fail;
@@ -20,12 +20,14 @@ fn one_word() -> Extent {
 fn one_ret_by_hand(rt: HostRuntime) -> Result<(), Fail> {
     for step in [1usize, 3, 4096] {
         let bytes: &[u8] = &[0xC0, 0x03, 0x5F, 0xD6];
-        let fails = false;
-        let mut code = Code { bytes, step, fails };
-        let mut stream = stream(rt.alloc(), 1000, step);
+        let mut code = CodeReader::new(bytes, step);
+        let mut stream = StreamWriter::new(rt.alloc(), 1000, step);
         let packed = pack_module(ModuleNumber::at(0), one_word(), &mut code, &mut stream);
         assert!(rt; packed == Ok(()), "in steps of {step}");
-        assert!(rt; stream.taken.as_slice() == &ONE_RET, "in steps of {step}");
+        assert!(rt;
+            stream.taken.as_slice() == ONE_RET.as_slice(),
+            "in steps of {step}"
+        );
     }
     Ok(())
 }
@@ -34,12 +36,14 @@ fn one_ret_by_hand(rt: HostRuntime) -> Result<(), Fail> {
 fn a_write_fails_after_each_length(rt: HostRuntime) -> Result<(), Fail> {
     for left in 0..40usize {
         let bytes: &[u8] = &[0xC0, 0x03, 0x5F, 0xD6];
-        let (step, fails) = (5, false);
-        let mut code = Code { bytes, step, fails };
-        let mut stream = stream(rt.alloc(), left, step);
+        let mut code = CodeReader::new(bytes, 5);
+        let mut stream = StreamWriter::new(rt.alloc(), left, 5);
         let packed = pack_module(ModuleNumber::at(0), one_word(), &mut code, &mut stream);
         assert!(rt; packed == Err(PackFault::WriteFailed), "after {left} bytes");
-        assert!(rt; stream.taken.as_slice() == &ONE_RET[..left], "after {left} bytes");
+        assert!(rt;
+            stream.taken.as_slice() == &ONE_RET[..left],
+            "after {left} bytes"
+        );
     }
     Ok(())
 }
@@ -47,21 +51,23 @@ fn a_write_fails_after_each_length(rt: HostRuntime) -> Result<(), Fail> {
 #[test]
 fn headers_of_two_pages(rt: HostRuntime) -> Result<(), Fail> {
     let words = code(rt.alloc(), 1025)?;
-    let (bytes, step, fails) = (words.as_slice(), 1000, false);
-    let mut code = Code { bytes, step, fails };
-    let mut stream = stream(rt.alloc(), 10_000, 999);
+    let mut code = CodeReader::new(words.as_slice(), 1000);
+    let mut stream = StreamWriter::new(rt.alloc(), 10_000, 999);
     let extent = Extent::of(WordCount::of(1025), 1024);
     let packed = pack_module(ModuleNumber::at(3), extent, &mut code, &mut stream);
     assert!(rt; packed == Ok(()));
     let taken = stream.taken.as_slice();
-    if taken.len() != 4148 {
-        return Err(Fail::from("4,148 bytes"));
+    if taken.len() != 4148 || words.len() != 4100 {
+        return Err(Fail::from("4,148 bytes of 4,100"));
     }
-    assert!(rt; &taken[..12] == &[1, 0, 3, 0, 1, 4, 0, 0, 0, 4, 0, 0]);
-    assert!(rt; &taken[12..24] == &[2, 0, 3, 0, 0, 0, 0, 0, 0, 16, 0, 0]);
+    assert!(rt; &taken[..12] == [1, 0, 3, 0, 1, 4, 0, 0, 0, 4, 0, 0].as_slice());
+    assert!(rt; &taken[12..24] == [2, 0, 3, 0, 0, 0, 0, 0, 0, 16, 0, 0].as_slice());
     assert!(rt; &taken[24..4120] == &words.as_slice()[..4096]);
-    assert!(rt; &taken[4120..4136] == &[2, 0, 3, 0, 1, 0, 0, 0, 4, 0, 0, 0, 0xC0, 0x03, 0x5F, 0xD6]);
-    assert!(rt; &taken[4136..] == &[3, 0, 3, 0, 0, 0, 0, 0, 0, 0, 0, 0]);
+    assert!(rt;
+        &taken[4120..4136]
+            == [2, 0, 3, 0, 1, 0, 0, 0, 4, 0, 0, 0, 0xC0, 0x03, 0x5F, 0xD6].as_slice()
+    );
+    assert!(rt; &taken[4136..] == [3, 0, 3, 0, 0, 0, 0, 0, 0, 0, 0, 0].as_slice());
     Ok(())
 }
 
@@ -78,9 +84,9 @@ fn code_that_is_not_as_told(rt: HostRuntime) -> Result<(), Fail> {
         (4098, true, PackFault::ReadFailed),
         (4100, true, PackFault::ReadFailed),
     ] {
-        let (bytes, step) = (&words.as_slice()[..len.min(words.len())], 4096);
-        let mut code = Code { bytes, step, fails };
-        let mut stream = stream(rt.alloc(), 10_000, 4096);
+        let mut code = CodeReader::new(&words.as_slice()[..len.min(words.len())], 4096);
+        code.fails = fails;
+        let mut stream = StreamWriter::new(rt.alloc(), 10_000, 4096);
         let extent = Extent::of(WordCount::of(1025), 0);
         let packed = pack_module(ModuleNumber::at(0), extent, &mut code, &mut stream);
         assert!(rt; packed == Err(want), "{len} bytes");

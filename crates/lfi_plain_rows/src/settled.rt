@@ -53,7 +53,10 @@ fn blocked(rt: &(impl Wait + AllocGlobal)) -> Result<Stage, Fail>
 fn a_verifier_stops_with_an_item_in_hand(rt: HostRuntime) -> Result<(), Fail> {
     let stage = blocked(&rt)?;
     let told = settled(&rt, stage)?;
-    assert_eq!(rt; told.as_str(), "module 9: complete, 67584 words\nstrays 0\n");
+    assert_eq!(rt;
+        told.as_str(),
+        "module 9: complete, 67584 words\nstrays 0\n"
+    );
     Ok(())
 }
 
@@ -61,7 +64,9 @@ fn a_verifier_stops_with_an_item_in_hand(rt: HostRuntime) -> Result<(), Fail> {
 fn others_go_on_without_it(rt: HostRuntime) -> Result<(), Fail> {
     let mut stage = blocked(&rt)?;
     let text = one_word(rt.alloc(), 3, RET)?;
-    assert!(rt; receive_all(&rt, &mut stage, 1, &mut input(rt.alloc(), &text)?) == ReceiverTurn::Finished);
+    assert!(rt;
+        receive_all(&rt, &mut stage, 1, &mut input(rt.alloc(), &text)?) == ReceiverTurn::Finished
+    );
     go_on(&rt, &mut stage, 1, 100);
     assert!(rt; phase(&mut stage, 1, ModuleNumber::at(3)) == Phase::Done);
     assert!(rt; phase(&mut stage, 0, ModuleNumber::at(9)) == Phase::Open);
@@ -85,8 +90,12 @@ fn a_sequencer_makes_room(rt: HostRuntime) -> Result<(), Fail> {
 fn all_in_the_intake(rt: HostRuntime) -> Result<(), Fail> {
     let mut stage = pair(rt.alloc())?;
     let (long, short) = (full_pages(rt.alloc(), 66)?, one_word(rt.alloc(), 3, RET)?);
-    assert!(rt; receive_all(&rt, &mut stage, 0, &mut input(rt.alloc(), &long)?) == ReceiverTurn::Finished);
-    assert!(rt; receive_all(&rt, &mut stage, 1, &mut input(rt.alloc(), &short)?) == ReceiverTurn::Finished);
+    assert!(rt;
+        receive_all(&rt, &mut stage, 0, &mut input(rt.alloc(), &long)?) == ReceiverTurn::Finished
+    );
+    assert!(rt;
+        receive_all(&rt, &mut stage, 1, &mut input(rt.alloc(), &short)?) == ReceiverTurn::Finished
+    );
     let told = settled(&rt, stage)?;
     let want = "module 3: complete, 1 words\nmodule 9: complete, 67584 words\nstrays 0\n";
     assert_eq!(rt; told.as_str(), want);
@@ -97,10 +106,15 @@ fn all_in_the_intake(rt: HostRuntime) -> Result<(), Fail> {
 fn receivers_with_items_in_hand(rt: HostRuntime) -> Result<(), Fail> {
     let mut stage = pair(rt.alloc())?;
     let (long, short) = (full_pages(rt.alloc(), 300)?, one_word(rt.alloc(), 3, RET)?);
-    assert!(rt; receive_all(&rt, &mut stage, 0, &mut input(rt.alloc(), &long)?) == ReceiverTurn::Blocked);
-    assert!(rt; receive_all(&rt, &mut stage, 1, &mut input(rt.alloc(), &short)?) == ReceiverTurn::Blocked);
+    assert!(rt;
+        receive_all(&rt, &mut stage, 0, &mut input(rt.alloc(), &long)?) == ReceiverTurn::Blocked
+    );
+    assert!(rt;
+        receive_all(&rt, &mut stage, 1, &mut input(rt.alloc(), &short)?) == ReceiverTurn::Blocked
+    );
     let told = settled(&rt, stage)?;
-    let want = "module 3: lost, fault 9\nmodule 9: lost, fault 9\nconnection 0: fault 9\nconnection 1: fault 9\nstrays 0\n";
+    let want =
+        "module 3: lost, fault 9\nmodule 9: lost, fault 9\nconnection 0: fault 9\nconnection 1: fault 9\nstrays 0\n";
     assert_eq!(rt; told.as_str(), want);
     Ok(())
 }
