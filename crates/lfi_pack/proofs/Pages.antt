@@ -27,7 +27,7 @@ copied_page m index len left rest old mid new page head (Ok x) size read is wrot
       written = subst (λ l. Appends old new (l ++ page)) same (Appends-trans old mid new head page wrote w);
     }
 
-numbered_snoc : (m k : ℕ) (pages : List (List ℕ)) (page : List ℕ) → numbered m k (pages ++ page ∷ []) ≡ numbered m k pages ++ page_message m (k + length pages) page ∷ []
+pub numbered_snoc : (m k : ℕ) (pages : List (List ℕ)) (page : List ℕ) → numbered m k (pages ++ page ∷ []) ≡ numbered m k pages ++ page_message m (k + length pages) page ∷ []
 numbered_snoc m k [] page = let e : k ≡ k + 0 = omega arith in ap (λ n. page_message m n page ∷ []) e
 numbered_snoc m k (first ∷ pages) page =
     let e : (k + 1) + length pages ≡ k + suc (length pages) = omega arith in
@@ -39,21 +39,25 @@ snoc_at [] x y (suc i) e = absurd cc
 snoc_at (z ∷ xs) x y zero e = inl e
 snoc_at (z ∷ xs) x y (suc i) e = elim (snoc_at xs x y i e) [ inl before ↦ inl before | inr last ↦ inr (ap suc last.0, last.1) ]
 
+pub page_added : (n count : ℕ) (pages : List (List ℕ)) (page : List ℕ) → AreFirst n count pages → length page ≡ bytes_in_page page_words n count → AreFirst n (count + 1) (pages ++ page ∷ [])
+page_added n count pages page first size =
+    let at_end : length pages ≡ count = first.all in
+    record {
+      all = (let both = length-append pages (page ∷ []) in omega arith);
+      each = λ index next at. elim (snoc_at pages page next index at) [
+        | inl before ↦ first.each index next before
+        | inr last ↦ ap length (sym last.1) ∙ size ∙ ap (λ k. bytes_in_page page_words n k) (sym (last.0 ∙ at_end))
+      ];
+    }
+
 -- one more page
 pub first_more : (m n count : ℕ) (left mid rest old half new : Option (List ℕ)) → CopiesFirst m n count left mid old half → CopiesPage m count (bytes_in_page page_words n count) mid rest half new → CopiesFirst m n (count + 1) left rest old new
 first_more m n count left mid rest old half new some one =
     let all : List (List ℕ) = some.pages ++ one.page ∷ [] in
     let count_is : 0 + length some.pages ≡ count = (let all_is = some.first.all in omega arith) in
-    let at_end : length some.pages ≡ count = some.first.all in
     record {
       pages = all;
-      first = record {
-        all = (let both = length-append some.pages (one.page ∷ []) in omega arith);
-        each = λ index page at. elim (snoc_at some.pages one.page page index at) [
-          | inl before ↦ some.first.each index page before
-          | inr last ↦ ap length (sym last.1) ∙ one.size ∙ ap (λ k. bytes_in_page page_words n k) (sym (last.0 ∙ at_end))
-        ];
-      };
+      first = page_added n count some.pages one.page some.first one.size;
       read = subst (Consumes left rest) (sym (flat_map-append (λ page. page) some.pages (one.page ∷ []) ∙ ap (λ l. joined some.pages ++ l) (append-nil one.page))) (Consumes-trans left mid rest (joined some.pages) one.page some.read one.read);
       written = subst (Appends old new)
           (sym (ap (λ l. flat_map spelling l) (numbered_snoc m 0 some.pages one.page ∙ ap (λ k. numbered m 0 some.pages ++ page_message m k one.page ∷ []) count_is)

@@ -43,3 +43,10 @@ pub record Packs (m : ℕ) (extent : ExtentView) (left rest : Option (List ℕ))
 -- What a writer holds grew by a beginning of the bytes, and not by all of them.
 abbrev pub AppendsBeginning : (old new : Option (List ℕ)) → List ℕ → Type 0
 AppendsBeginning old new bytes = (front rest : List ℕ) × (bytes ≡ front ++ rest) × (0 < length rest) × Appends old new front
+
+-- A beginning of a module of this extent was written, and not all of it.
+pub record PacksPart (m : ℕ) (extent : ExtentView) (old new : Option (List ℕ)) : Type 0 where
+  pub code : List ℕ
+  pub text : List ℕ
+  pub packed : IsPacked m extent code text
+  pub written : AppendsBeginning old new text

@@ -50,8 +50,7 @@ pub(crate) fn page_bytes(module: ModuleNumber, index: u32, len: u32) -> [u8; HEA
 
 /// The Close of a module.
 pub(crate) fn close_bytes(module: ModuleNumber) -> [u8; HEADER_BYTES]
-    ensures spells { result ≡ spelling (close_message «module») }
-    ensures message { IsMessage (close_message «module») }
+    ensures { result ≡ spelling (close_message «module») }
 {
     encode(Header {
         kind: 3,

@@ -6,7 +6,7 @@ use Rattle.lfi_module.specs.Pages.{page_count}
 use Rattle.lfi_frame.specs.Streams.{page_message, spelling}
 use Rattle.lfi_pack.specs.declared.fault.PackFault.{PackFault}
 use Rattle.lfi_pack.specs.declared.fault.PackFault.TheVariants.{Shorter, Longer, ReadFailed}
-use Rattle.lfi_pack.specs.Packs.{AreFirst, joined, numbered}
+use Rattle.lfi_pack.specs.Packs.{AreFirst, joined, numbered, AppendsBeginning}
 
 -- fewer bytes are left than are asked for, or a read failed
 abbrev pub IsShort : Option (List ℕ) → ℕ → PackFault → Type 0
@@ -37,3 +37,15 @@ pub record CopiesFirst (m n count : ℕ) (left rest : Option (List ℕ)) (old ne
 -- all pages of n words were
 abbrev pub CopiesPages : (m n : ℕ) (left rest : Option (List ℕ)) (old new : Option (List ℕ)) → Type 0
 CopiesPages m n left rest old new = CopiesFirst m n (page_count page_words n) left rest old new
+
+-- a beginning of page `index`, of so many bytes, was written, and not all of it
+pub record BeginsPage (m index len : ℕ) (old new : Option (List ℕ)) : Type 0 where
+  pub page : List ℕ
+  pub size : length page ≡ len
+  pub written : AppendsBeginning old new (spelling (page_message m index page))
+
+-- a beginning of all pages of n words was, and not all of it
+pub record BeginsPages (m n : ℕ) (old new : Option (List ℕ)) : Type 0 where
+  pub pages : List (List ℕ)
+  pub all : AreFirst n (page_count page_words n) pages
+  pub written : AppendsBeginning old new (flat_map spelling (numbered m 0 pages))
