@@ -10,6 +10,9 @@ mod cuts;
 #[cfg(test)]
 mod modules;
 #[cfg(test)]
+mod settled;
+#[cfg(test)]
 mod stage;
 #[cfg(test)]
 mod streams;
+pub mod turned;

@@ -30,9 +30,7 @@ use Rattle.lfi_stage.specs.Shares.{intake_of, board_at}
 use Rattle.lfi_stage.specs.Parts.{IsReceiver, AreReceivers}
 use Rattle.lfi_stage.specs.inner.Made.{AreUnused, AreUnusedSeats, AreRowsOf, AreFreshOf, AreVerifiersOf, AreSequencersOf}
 use Rattle.lfi_stage.proofs.Filling.{push_each}
-
-some_same : {A : Type 0} (a b : A) → Some a ≡ Some b → a ≡ b
-some_same a b e = cc
+use Rattle.lfi_stage.proofs.Each.{some_same}
 
 -- the passes of a new queue
 pass_is : (q : QueueId) (n k : ℕ) (pass : PassView ItemView) → slice_get (new_passes q n) k ≡ Some pass → pass ≡ new_pass q k

@@ -6,3 +6,4 @@ pub mod Fresh
 pub mod Seats
 pub mod Settling
 pub mod Heard
+pub mod Staying

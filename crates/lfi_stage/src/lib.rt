@@ -6,6 +6,7 @@
 mod apart;
 mod claims;
 mod finishing;
+pub mod laws;
 pub mod load;
 mod making;
 pub mod settle;

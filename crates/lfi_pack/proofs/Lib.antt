@@ -1,0 +1,7 @@
+pub mod Pieces
+pub mod Pages
+pub mod Messages
+pub mod Whole
+pub mod Parts
+pub mod Shares
+pub mod Hearing

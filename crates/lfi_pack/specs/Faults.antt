@@ -1,0 +1,18 @@
+-- Why a module isn't packed. (docs/DEFINITIONS.md, "Packing")
+use Rattle.std.specs.Prelude.{ℕ, ◌<◌, List, length, Option, IfSome, ⊤, codes}
+use Rattle.lfi_pack.specs.declared.fault.PackFault.{PackFault}
+use Rattle.lfi_pack.specs.declared.fault.PackFault.TheVariants.{Shorter, Longer, ReadFailed, WriteFailed}
+
+-- what is printed of a fault
+abbrev pub fault_text : PackFault → List ℕ
+fault_text Shorter = codes "code shorter than told"
+fault_text Longer = codes "code longer than told"
+fault_text ReadFailed = codes "read failed"
+fault_text WriteFailed = codes "write failed"
+
+-- The fault of code that is to have so many bytes, where it is known; a device can fail at any time.
+abbrev pub IsPackFault : Option (List ℕ) → ℕ → PackFault → Type 0
+IsPackFault code len Shorter = IfSome code (λ bytes. length bytes < len)
+IsPackFault code len Longer = IfSome code (λ bytes. len < length bytes)
+IsPackFault code len ReadFailed = ⊤
+IsPackFault code len WriteFailed = ⊤

@@ -1,0 +1,4 @@
+pub mod Faults
+pub mod Packs
+pub mod Heard
+pub mod inner

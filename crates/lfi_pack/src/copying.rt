@@ -1,0 +1,71 @@
+//! Bytes read in full, and written in full.
+
+ghost use Rattle.std.specs.Prelude.{◌≡◌, ◌<◌, ◌≤◌, [], length, take, IfOk, IfErr, OnOk, OnErr};
+ghost use Rattle.std.specs.Io.KnownBytes.{Consumes, Appends, IsAtEnd};
+ghost use Rattle.lfi_pack.specs.declared.fault.PackFault.TheVariants.{WriteFailed};
+ghost use Rattle.lfi_pack.specs.Faults.{IsPackFault};
+ghost use Rattle.lfi_pack.specs.Packs.{AppendsBeginning};
+ghost use Rattle.lfi_pack.specs.inner.Copies.{IsShort};
+
+use crate::fault::PackFault;
+use std::io::{self, Read, Write};
+
+/// Reads until the buffer is full or the input ends, and answers how many bytes it read.
+fn fill<R: Read>(reader: &mut R, bytes: &mut [u8]) -> io::Result<usize>
+    ensures within { IfOk result (λ n. n ≤ length bytes.new) }
+    ensures consumed { IfOk result (λ n. Consumes (R.remaining reader.old) (R.remaining reader.new) (take n bytes.new)) }
+    ensures end { IfOk result (λ n. n < length bytes.new → IsAtEnd (R.remaining reader.new)) }
+{
+    let mut at = 0;
+    while at < bytes.len() {
+        let count = reader.read(&mut bytes[at..])?;
+        if count == 0 {
+            return Ok(at);
+        }
+        at += count;
+    }
+    Ok(at)
+}
+
+/// Fills the buffer.
+pub(crate) fn read_full<R: Read>(reader: &mut R, bytes: &mut [u8]) -> Result<(), PackFault>
+    ensures full { OnOk result (Consumes (R.remaining reader.old) (R.remaining reader.new) bytes.new) }
+    ensures short { IfErr result (λ fault. IsShort (R.remaining reader.old) (length bytes.old) fault) }
+{
+    match fill(reader, bytes) {
+        Ok(count) if count < bytes.len() => Err(PackFault::Shorter),
+        Ok(_) => Ok(()),
+        Err(_) => Err(PackFault::ReadFailed),
+    }
+}
+
+/// Reads no byte more: none is left.
+pub(crate) fn expect_end<R: Read>(reader: &mut R) -> Result<(), PackFault>
+    ensures none { OnOk result (Consumes (R.remaining reader.old) (R.remaining reader.new) []) }
+    ensures ended { OnOk result (IsAtEnd (R.remaining reader.new)) }
+    ensures fault { IfErr result (IsPackFault (R.remaining reader.old) 0) }
+{
+    let mut byte = [0; 1];
+    match reader.read(&mut byte) {
+        Ok(0) => Ok(()),
+        Ok(_) => Err(PackFault::Longer),
+        Err(_) => Err(PackFault::ReadFailed),
+    }
+}
+
+/// Writes the bytes, or a beginning of them where the writer fails.
+pub(crate) fn write_full<W: Write>(writer: &mut W, bytes: &[u8]) -> Result<(), PackFault>
+    ensures written { OnOk result (Appends (W.contents writer.old) (W.contents writer.new) bytes.now) }
+    ensures fault { IfErr result (λ fault. fault ≡ WriteFailed) }
+    ensures part { OnErr result (AppendsBeginning (W.contents writer.old) (W.contents writer.new) bytes.now) }
+{
+    let mut at = 0;
+    while at < bytes.len() {
+        match writer.write(&bytes[at..]) {
+            Ok(0) => return Err(PackFault::WriteFailed),
+            Ok(count) => at += count,
+            Err(_) => return Err(PackFault::WriteFailed),
+        }
+    }
+    Ok(())
+}

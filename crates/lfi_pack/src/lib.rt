@@ -1,0 +1,12 @@
+//! Packing: code files are written as a stream, a module each: an Open, the pages of its code, a
+//! Close. The laws in [`laws`] say what a receiver hears of such a stream.
+#![tactic(auto)]
+
+mod copying;
+pub mod fault;
+mod headers;
+pub mod laws;
+pub mod pack;
+
+pub use fault::PackFault;
+pub use pack::pack_module;

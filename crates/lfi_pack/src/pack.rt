@@ -1,0 +1,78 @@
+//! A code file is packed: its module's Open, its pages, its Close.
+
+ghost use Rattle.std.specs.Prelude.{◌*◌, ◌≤◌, IfErr, OnOk, OnErr};
+ghost use Rattle.lfi_module.specs.Numbers.{page_bytes};
+ghost use Rattle.lfi_pack.specs.Faults.{IsPackFault};
+ghost use Rattle.lfi_pack.specs.Packs.{Packs, PacksPart};
+ghost use Rattle.lfi_pack.specs.inner.Copies.{IsPageFault, CopiesPage, CopiesPages, BeginsPage, BeginsPages};
+
+use crate::copying::{expect_end, read_full, write_full};
+use crate::fault::PackFault;
+use crate::headers;
+use lfi_module::{Extent, ModuleNumber, PageSize, WordCount};
+use std::io::{Read, Write};
+
+/// The bytes of a full page.
+const PAGE_BYTES: usize = 4096;
+
+/// Writes the next page of a module, of so many bytes, which are read.
+fn pack_page<R: Read, W: Write>(
+    module: ModuleNumber,
+    index: u32,
+    len: u32,
+    reader: &mut R,
+    writer: &mut W,
+) -> Result<(), PackFault>
+    requires { len ≤ page_bytes }
+    ensures copied { OnOk result (CopiesPage «module» index len (R.remaining reader.old) (R.remaining reader.new) (W.contents writer.old) (W.contents writer.new)) }
+    ensures fault { IfErr result (IsPageFault (R.remaining reader.old) len) }
+    ensures part { OnErr result (BeginsPage «module» index len (W.contents writer.old) (W.contents writer.new)) }
+{
+    let mut bytes = [0; PAGE_BYTES];
+    let bytes = &mut bytes[..len as usize];
+    read_full(reader, bytes)?;
+    write_full(writer, &headers::page_bytes(module, index, len))?;
+    write_full(writer, bytes)
+}
+
+/// Writes all pages of a module.
+fn pack_pages<R: Read, W: Write>(
+    module: ModuleNumber,
+    words: WordCount,
+    reader: &mut R,
+    writer: &mut W,
+) -> Result<(), PackFault>
+    ensures copied { OnOk result (CopiesPages «module» words (R.remaining reader.old) (R.remaining reader.new) (W.contents writer.old) (W.contents writer.new)) }
+    ensures fault { IfErr result (IsPageFault (R.remaining reader.old) (4 * words)) }
+    ensures part { OnErr result (BeginsPages «module» words (W.contents writer.old) (W.contents writer.new)) }
+{
+    for index in 0..words.pages(PageSize::PROFILE) {
+        let len = words.bytes_in_page(PageSize::PROFILE, index);
+        pack_page(module, index, len, reader, writer)?;
+    }
+    Ok(())
+}
+
+/// Writes the module whose code the reader has left, four bytes a word, a page at a time. It takes
+/// no memory.
+///
+/// # Errors
+///
+/// `Shorter` and `Longer` where the code isn't of so many words, `ReadFailed` and `WriteFailed`
+/// where a device fails. What was written then is a beginning of a module of so many words, which
+/// isn't whole.
+pub fn pack_module<R: Read, W: Write>(
+    module: ModuleNumber,
+    extent: Extent,
+    reader: &mut R,
+    writer: &mut W,
+) -> Result<(), PackFault>
+    ensures packed { OnOk result (Packs «module» extent (R.remaining reader.old) (R.remaining reader.new) (W.contents writer.old) (W.contents writer.new)) }
+    ensures fault { IfErr result (IsPackFault (R.remaining reader.old) (4 * extent.words)) }
+    ensures part { OnErr result (PacksPart «module» extent (W.contents writer.old) (W.contents writer.new)) }
+{
+    write_full(writer, &headers::open_bytes(module, extent))?;
+    pack_pages(module, extent.words(), reader, writer)?;
+    expect_end(reader)?;
+    write_full(writer, &headers::close_bytes(module))
+}
