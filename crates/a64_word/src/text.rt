@@ -14,6 +14,7 @@ mod operands;
 mod processing;
 
 use crate::instruction::Instruction;
+pub use operands::{GeneralRegister, RegisterOrStack};
 use std::fmt;
 
 impl fmt::Display for Instruction {

@@ -6,7 +6,7 @@ ghost use Rattle.a64_word.specs.Texts as spec;
 ghost use Rattle.a64_word.specs.inner.Addresses.{based};
 
 use super::names::Access;
-use super::operands::{Based, ExtendedIndex, General, OrStack};
+use super::operands::{Based, ExtendedIndex, GeneralRegister, RegisterOrStack};
 use crate::load_store::{Pair, RegisterOffset, SignedOffset, UnsignedOffset};
 use crate::operands::{IndexExtend, IndexMode, Width};
 use std::fmt;
@@ -21,7 +21,7 @@ impl fmt::Display for UnsignedOffset {
             transfer: self.transfer,
             size: self.size,
         };
-        let rt = General(name.width(), self.rt);
+        let rt = GeneralRegister(name.width(), self.rt);
         let bytes = i64::from(self.imm12) << self.size.code();
         write!(f, "{name} {rt}, {}", Based::Offset(self.rn, bytes))
     }
@@ -38,7 +38,7 @@ impl fmt::Display for SignedOffset {
             transfer: self.transfer,
             size: self.size,
         };
-        let rt = General(name.width(), self.rt);
+        let rt = GeneralRegister(name.width(), self.rt);
         let address = Based::by_index_mode(self.mode, self.rn, i64::from(self.imm9));
         write!(f, "{name} {rt}, {address}")
     }
@@ -64,8 +64,8 @@ impl fmt::Display for Indexed {
     ghost output = { λ i. Some (spec.indexed i.0.rn i.0.rm i.0.extend i.0.scaled (size_code i.0.size)) };
 
     fn fmt<W: fmt::Write>(&self, f: &mut fmt::Formatter<W>) -> fmt::Result {
-        let base = OrStack(Width::X, self.0.rn);
-        let index = General(index_width(self.0.extend), self.0.rm);
+        let base = RegisterOrStack(Width::X, self.0.rn);
+        let index = GeneralRegister(index_width(self.0.extend), self.0.rm);
         let amount = self.0.size.code();
         let extended = ExtendedIndex {
             extend: self.0.extend,
@@ -86,7 +86,7 @@ impl fmt::Display for RegisterOffset {
             transfer: self.transfer,
             size: self.size,
         };
-        let rt = General(name.width(), self.rt);
+        let rt = GeneralRegister(name.width(), self.rt);
         write!(f, "{name} {rt}, {}", Indexed(*self))
     }
 }
@@ -114,8 +114,8 @@ impl fmt::Display for Pair {
     /// Writes the instruction, as `stp x29, x30, [sp, #-16]!`.
     fn fmt<W: fmt::Write>(&self, f: &mut fmt::Formatter<W>) -> fmt::Result {
         let name = if self.load { "ldp" } else { "stp" };
-        let rt = General(self.width, self.rt);
-        let rt2 = General(self.width, self.rt2);
+        let rt = GeneralRegister(self.width, self.rt);
+        let rt2 = GeneralRegister(self.width, self.rt2);
         write!(f, "{name} {rt}, {rt2}, {}", pair_address(self))
     }
 }
