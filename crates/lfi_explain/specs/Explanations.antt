@@ -51,7 +51,7 @@ pub record Explains (ws : List ℕ) (slot : ℕ) (fault : Fault) (e : Explanatio
 abbrev pub IsToldAt : List ℕ → (slot k : ℕ) → Option Explanation → Type 0
 IsToldAt ws slot k None = IsLeastAt ws (length ws) k None
 IsToldAt ws slot k (Some e) =
-    IsLeastAt ws (length ws) k (Some e.fault.rule) × Explains ws slot (record { word = k; rule = e.fault.rule }) e
+    (rule : Rule) × IsLeastAt ws (length ws) k (Some rule) × Explains ws slot (record { word = k; rule = rule }) e
 
 abbrev pub one_or_none : Option Explanation → List Explanation
 one_or_none (Some e) = e ∷ []

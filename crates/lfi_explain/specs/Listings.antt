@@ -1,5 +1,5 @@
 -- The lines of a listing.
-use Rattle.std.specs.Prelude.{◌≡◌, ℕ, zero, suc, ◌+◌, ◌-◌, ℤ, List, [], ◌∷◌, ◌++◌, length, flat_map, replicate, slice_get, codes, decimal, Option, Some, None, if◌then◌else◌}
+use Rattle.std.specs.Prelude.{◌≡◌, ℕ, zero, suc, ◌-◌, ℤ, List, [], ◌∷◌, ◌++◌, length, flat_map, replicate, slice_get, codes, decimal, Option, Some, None, if◌then◌else◌}
 use Rattle.std.specs.Fmt.{signed_decimal}
 use Rattle.std.specs.Io.KnownBytes.{Appends}
 use Rattle.lfi_rules.specs.declared.needs.Need.{Need}
@@ -20,11 +20,15 @@ abbrev pub opened_text : Need → List ℕ
 opened_text Nothing = []
 opened_text need = codes "  ; opens: next is " ++ meeting_text need
 
+-- a place in a column of seven, with spaces before it
+abbrev pub column : ℕ → List ℕ
+column place = replicate (7 - length (decimal place)) 32 ++ decimal place
+
 -- the place, the word at its address, where it goes and what it opens
 abbrev pub listed_text : ListedWord → List ℕ
 listed_text listed =
     let located = listed.located in
-    replicate (7 - length (decimal located.place)) 32 ++ decimal located.place ++ codes "  "
+    column located.place ++ codes "  "
     ++ located_text located.slot located.place located.spelling
     ++ arrow_text listed.words (target_by located.spelling located.place) ++ opened_text (opened_by located.spelling)
 

@@ -2,7 +2,6 @@
 use Rattle.std.specs.Prelude.{ℕ, ℤ, List, [], ◌++◌, if◌then◌else◌, codes, decimal, Option, Some, None}
 use Rattle.std.specs.Fmt.{signed_decimal}
 use Rattle.a64_word.specs.declared.operands.Width.TheVariants.{X}
-use Rattle.a64_word.specs.declared.operands.IndexExtend.{IndexExtend}
 use Rattle.a64_word.specs.Names.{index_extend_name}
 use Rattle.a64_word.specs.Texts.{general, or_sp, index_width}
 use Rattle.a64_effects.specs.declared.access.Form.{Form}

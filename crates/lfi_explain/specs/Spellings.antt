@@ -1,5 +1,5 @@
 -- A word with the instruction that it spells, what the profile says of it, and its line at its address.
-use Rattle.std.specs.Prelude.{◌≡◌, ℕ, ℤ, ◌+◌, ◌-◌, ◌*◌, ◌==◌, if◌then◌else◌, Bool, true, false, List, ◌++◌, length, replicate, codes, Option, Some, None, IfSome}
+use Rattle.std.specs.Prelude.{◌≡◌, ℕ, ℤ, ◌+◌, ◌-◌, ◌*◌, if◌then◌else◌, Bool, true, false, List, ◌++◌, length, replicate, codes, Option, Some, None, IfSome}
 use Rattle.std.specs.Fmt.{digits}
 use Rattle.a64_word.specs.declared.instruction.Instruction.{Instruction}
 use Rattle.a64_word.specs.declared.instruction.Instruction.TheVariants.{BranchRegister}
@@ -9,7 +9,7 @@ use Rattle.a64_effects.specs.declared.access.Address.{Address}
 use Rattle.a64_effects.specs.Effects.{address_of, target_of}
 use Rattle.lfi_module.specs.Numbers.{base_of}
 use Rattle.lfi_rules.specs.declared.needs.Need.{Need}
-use Rattle.lfi_rules.specs.declared.needs.Need.TheVariants.{Nothing, Call, Guard, Probe}
+use Rattle.lfi_rules.specs.declared.needs.Need.TheVariants.{Nothing}
 use Rattle.lfi_rules.specs.Needs.{opens_of, meets_of}
 use Rattle.lfi_rules.specs.Rules.{writes}
 use Rattle.lfi_rules.specs.Registers.{first_address, second_address, third_address}

@@ -3,6 +3,7 @@
 //! Faults and rules are those of lfi_rules. What is told of each is fixed by the definitions of specs/.
 #![tactic(auto)]
 
+mod digits;
 mod explanation;
 mod listing;
 mod located;

@@ -1,9 +1,11 @@
 //! A listing of a module's words.
 
-ghost use Rattle.std.specs.Prelude.{◌≡◌, ◌<◌, ◌≤◌, length, Some, OnOk};
+ghost use Rattle.std.specs.Prelude.{◌<◌, ◌≤◌, length, Some, OnOk};
+ghost use Rattle.std.specs.Io.KnownBytes.{Appends};
 ghost use Rattle.lfi_module.specs.Numbers.{most_words};
 ghost use Rattle.lfi_explain.specs.Listings as spec;
 
+use crate::digits::PlaceColumn;
 use crate::located::Located;
 use crate::sentence::Meeting;
 use crate::spelling::Spelling;
@@ -71,7 +73,8 @@ impl fmt::Display for ListedWord {
         };
         write!(
             f,
-            "{place:>7}  {}{arrow}{}",
+            "{}  {}{arrow}{}",
+            PlaceColumn(place),
             self.located,
             Opened(spelling.opens())
         )
@@ -96,6 +99,13 @@ fn listed_at<L: Words>(words: &L, slot: ModuleNumber, place: usize) -> ListedWor
     }
 }
 
+/// Writes the line of a word.
+fn write_listed<W: Write>(listed: ListedWord, out: &mut W) -> io::Result<()>
+    ensures { OnOk result (Appends (W.contents out.old) (W.contents out.new) (spec.listed_line listed)) }
+{
+    writeln!(out, "{listed}")
+}
+
 /// Writes a line for each word of a module in a slot, in order.
 ///
 /// # Errors
@@ -110,8 +120,7 @@ pub fn write_listing<L: Words, W: Write>(
     ensures { OnOk result (spec.WritesListing (L.words words.now) slot (W.contents out.old) (W.contents out.new)) }
 {
     for place in 0..words.count() {
-        let listed = listed_at(words, slot, place);
-        writeln!(out, "{listed}")?;
+        write_listed(listed_at(words, slot, place), out)?;
     }
     Ok(())
 }

@@ -3,6 +3,7 @@
 ghost use Rattle.std.specs.Prelude.{◌≡◌, Some};
 ghost use Rattle.lfi_explain.specs.Spellings as spec;
 
+use crate::digits::{AddressDigits, WordDigits};
 use crate::spelling::Spelling;
 use lfi_module::ModuleNumber;
 use std::fmt;
@@ -21,12 +22,20 @@ pub struct Located {
     pub spelling: Spelling,
 }
 
+/// The address of the word at a place of the module in a slot.
+fn address_at(slot: ModuleNumber, place: u32) -> u64
+    ensures { result ≡ spec.address_at slot place }
+{
+    let base = slot.base();
+    base + CODE_OFFSET + 4 * u64::from(place)
+}
+
 impl Located {
     /// The address of the word.
     pub fn address(&self) -> u64
         ensures { result ≡ spec.address_at self.now.slot self.now.place }
     {
-        self.slot.base() + CODE_OFFSET + 4 * u64::from(self.place)
+        address_at(self.slot, self.place)
     }
 }
 
@@ -37,9 +46,9 @@ impl fmt::Display for Located {
     fn fmt<W: fmt::Write>(&self, f: &mut fmt::Formatter<W>) -> fmt::Result {
         write!(
             f,
-            "0x{:016x}  {:08x}  {}",
-            self.address(),
-            self.spelling.word,
+            "0x{}  {}  {}",
+            AddressDigits(self.address()),
+            WordDigits(self.spelling.word),
             self.spelling
         )
     }

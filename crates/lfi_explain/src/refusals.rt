@@ -1,6 +1,7 @@
 //! All words of a module that break a rule.
 
-ghost use Rattle.std.specs.Prelude.{◌≡◌, ◌<◌, ◌≤◌, length, OnOk, IfOk};
+ghost use Rattle.std.specs.Prelude.{◌≡◌, ◌<◌, ◌≤◌, length, flat_map, OnOk, IfOk};
+ghost use Rattle.std.specs.Io.KnownBytes.{Appends};
 ghost use Rattle.lfi_module.specs.Numbers.{most_words};
 ghost use Rattle.lfi_explain.specs.Explanations as spec;
 
@@ -21,6 +22,20 @@ fn explained_at<L: Words>(words: &L, slot: ModuleNumber, place: usize) -> Option
     Some(explain(words, slot, Fault { word, rule }))
 }
 
+/// Writes what is told of a word, if anything is. Gives of how many words something was told.
+fn write_told<W: Write>(told: Option<Explanation>, out: &mut W) -> io::Result<u32>
+    ensures count { IfOk result (λ count. count ≡ length (spec.one_or_none told)) }
+    ensures written { OnOk result (Appends (W.contents out.old) (W.contents out.new) (flat_map spec.explanation_line (spec.one_or_none told))) }
+{
+    match told {
+        Some(explanation) => {
+            writeln!(out, "{explanation}")?;
+            Ok(1)
+        }
+        None => Ok(0),
+    }
+}
+
 /// Writes what is told of each word of a module in a slot that breaks a rule, in order; then a line with how many these are,
 /// as `words refused: 2`. Gives how many.
 ///
@@ -37,10 +52,7 @@ pub fn write_refusals<L: Words, W: Write>(
 {
     let mut refused = 0;
     for place in 0..words.count() {
-        if let Some(explanation) = explained_at(words, slot, place) {
-            writeln!(out, "{explanation}")?;
-            refused += 1;
-        }
+        refused += write_told(explained_at(words, slot, place), out)?;
     }
     writeln!(out, "words refused: {refused}")?;
     Ok(refused)

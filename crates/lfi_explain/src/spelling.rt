@@ -1,13 +1,39 @@
 //! A word with the instruction that it spells.
 
-ghost use Rattle.std.specs.Prelude.{◌≡◌, Some};
+ghost use Rattle.std.specs.Prelude.{◌≡◌, ◌<◌, Some};
+ghost use Rattle.lfi_rules.specs.Rules.{writes};
 ghost use Rattle.lfi_explain.specs.Spellings as spec;
 
+use crate::digits::WordDigits;
 use a64_effects::{Address, address_of, target, writes};
 use a64_word::{Instruction, Register, decode};
 use lfi_rules::registers::{FIRST_ADDRESS, SECOND_ADDRESS, THIRD_ADDRESS};
 use lfi_rules::{Need, meets, opens};
 use std::fmt;
+
+/// Whether an instruction writes a register, by its number.
+#[tactic(auto, unfolding(lfi_rules::specs::Rules::written))]
+fn is_written(instruction: &Instruction, number: u8) -> bool
+    requires { number < 31 }
+    ensures { result ≡ writes instruction.now number }
+{
+    writes(instruction).register(number).is_some()
+}
+
+/// The first of x18, x23 and x24 that an instruction writes.
+fn first_written(instruction: &Instruction) -> Option<u8>
+    ensures { result ≡ spec.first_written instruction.now }
+{
+    if is_written(instruction, FIRST_ADDRESS) {
+        Some(FIRST_ADDRESS)
+    } else if is_written(instruction, SECOND_ADDRESS) {
+        Some(SECOND_ADDRESS)
+    } else if is_written(instruction, THIRD_ADDRESS) {
+        Some(THIRD_ADDRESS)
+    } else {
+        None
+    }
+}
 
 /// A word, with the instruction that it spells, if one does.
 #[derive(Clone, Copy)]
@@ -77,16 +103,8 @@ impl Spelling {
     pub fn written_address(&self) -> Option<u8>
         ensures { result ≡ spec.written_address_by self.now }
     {
-        let written = writes(self.instruction.as_ref()?);
-        if written.register(FIRST_ADDRESS).is_some() {
-            Some(FIRST_ADDRESS)
-        } else if written.register(SECOND_ADDRESS).is_some() {
-            Some(SECOND_ADDRESS)
-        } else if written.register(THIRD_ADDRESS).is_some() {
-            Some(THIRD_ADDRESS)
-        } else {
-            None
-        }
+        let instruction = self.instruction.as_ref()?;
+        first_written(instruction)
     }
 }
 
@@ -97,7 +115,7 @@ impl fmt::Display for Spelling {
     fn fmt<W: fmt::Write>(&self, f: &mut fmt::Formatter<W>) -> fmt::Result {
         match &self.instruction {
             Some(instruction) => write!(f, "{instruction}"),
-            None => write!(f, ".inst 0x{:08x}", self.word),
+            None => write!(f, ".inst 0x{}", WordDigits(self.word)),
         }
     }
 }
