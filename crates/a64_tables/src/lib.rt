@@ -12,4 +12,6 @@ mod ranges;
 #[cfg(test)]
 mod spelling;
 #[cfg(test)]
+mod texts;
+#[cfg(test)]
 mod words;

@@ -56,7 +56,7 @@ fn head_of(word: u32) -> HeadMeets
 }
 
 /// What a word opens.
-fn tail_of(word: u32) -> Need
+pub(crate) fn tail_of(word: u32) -> Need
     ensures { Opens word result }
 {
     match decode(word) {

@@ -47,3 +47,8 @@ pub record NoneBefore (ws : List ℕ) (first n i : ℕ) : Type 0 where
 pub data IsOpen (ws : List ℕ) (i : ℕ) (need : Need) : Type 0 where
   at_start : i ≡ 0 → need ≡ Nothing → IsOpen ws i need
   after : (j before : ℕ) → i ≡ j + 1 → slice_get ws j ≡ Some before → Opens before need → IsOpen ws i need
+
+-- the rule that the last word breaks by what it opens
+abbrev pub unclosed : Need → Option Rule
+unclosed Nothing = None
+unclosed opened = Some NeedMet

@@ -1,0 +1,11 @@
+use Rattle.std.proofs.Common.{◌≡◌, List, length}
+use Rattle.std.specs.Prelude.{flat_map}
+use Rattle.std.specs.Io.KnownBytes.{Appends}
+use Rattle.lfi_explain.specs.declared.explanation.Explanation.{Explanation}
+use Rattle.lfi_explain.specs.Explanations.{AreTold, explanation_line}
+use Rattle.lfi_explain.proofs.refusals.write_refusals.Given as goal
+
+abbrev pub invariant-loop-place : goal.invariant-loop-place
+invariant-loop-place g l =
+    (told : List Explanation) × AreTold (g.L.Words.words l.words) l.slot l.place told × (l.refused ≡ length told)
+    × Appends (g.W.Write.contents l.initial.out) (g.W.Write.contents l.out) (flat_map explanation_line told)

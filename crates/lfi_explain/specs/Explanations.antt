@@ -1,0 +1,74 @@
+-- What is told of a fault, and of all words that break a rule.
+use Rattle.std.specs.Prelude.{◌≡◌, ℕ, zero, suc, ◌+◌, ◌-◌, Bool, true, false, ◌&&◌, not, if◌then◌else◌, List, [], ◌∷◌, ◌++◌, length, flat_map, slice_get, codes, decimal, Option, Some, None}
+use Rattle.std.specs.Io.KnownBytes.{Appends}
+use Rattle.lfi_rules.specs.declared.rule.Rule.{Rule}
+use Rattle.lfi_rules.specs.declared.rule.Rule.TheVariants.{NeedMet}
+use Rattle.lfi_rules.specs.declared.fault.Fault.{Fault}
+use Rattle.lfi_rules.specs.Texts.{fault_text}
+use Rattle.lfi_rules.specs.Faults.{IsLeastAt}
+use Rattle.lfi_explain.specs.declared.spelling.Spelling.{Spelling}
+use Rattle.lfi_explain.specs.declared.explanation.Explanation.{Explanation}
+use Rattle.lfi_explain.specs.Spellings.{IsSpelling, located_text, is_nothing}
+use Rattle.lfi_explain.specs.Sentences.{unmet_in, sentence_text}
+
+abbrev pub is_need_met : Rule → Bool
+is_need_met NeedMet = true
+is_need_met _ = false
+
+-- the fault is that the word doesn't meet what the word before opens
+abbrev pub is_unmet : Explanation → Bool
+is_unmet e = is_need_met e.fault.rule && not (is_nothing (unmet_in e))
+
+-- the line of the word before, where its need isn't met
+abbrev pub opener_text : Explanation → List ℕ
+opener_text e = by_before e.before
+  where
+    by_before : Option Spelling → List ℕ
+    by_before (Some before) =
+        if is_unmet e then codes "  " ++ located_text e.slot (e.fault.word - 1) before ++ codes "\n" else []
+    by_before None = []
+
+-- three or four lines: the fault; the word before, where its need isn't met; the word; what the rule asks
+abbrev pub explanation_text : Explanation → List ℕ
+explanation_text e =
+    fault_text e.fault ++ codes "\n" ++ opener_text e ++ codes "  " ++ located_text e.slot e.fault.word e.at ++ codes "\n  "
+    ++ sentence_text e
+
+-- the word before place k, if there is one
+abbrev pub IsBefore : List ℕ → (k : ℕ) → Option Spelling → Type 0
+IsBefore ws k None = k ≡ 0
+IsBefore ws k (Some before) = (j word : ℕ) × (k ≡ j + 1) × (slice_get ws j ≡ Some word) × IsSpelling word before
+
+-- It tells this fault of the words of a module in a slot.
+pub record Explains (ws : List ℕ) (slot : ℕ) (fault : Fault) (e : Explanation) : Type 0 where
+  pub same_fault : e.fault ≡ fault
+  pub same_slot : e.slot ≡ slot
+  pub count : e.words ≡ length ws
+  pub at : (word : ℕ) → slice_get ws fault.word ≡ Some word → IsSpelling word e.at
+  pub before : IsBefore ws fault.word e.before
+
+-- Of place k the least rule that its word breaks is told; nothing, where it breaks none.
+abbrev pub IsToldAt : List ℕ → (slot k : ℕ) → Option Explanation → Type 0
+IsToldAt ws slot k None = IsLeastAt ws (length ws) k None
+IsToldAt ws slot k (Some e) =
+    (rule : Rule) × IsLeastAt ws (length ws) k (Some rule) × Explains ws slot (record { word = k; rule = rule }) e
+
+abbrev pub one_or_none : Option Explanation → List Explanation
+one_or_none (Some e) = e ∷ []
+one_or_none None = []
+
+-- what is told of the first `count` places, in order
+abbrev pub AreTold : List ℕ → (slot count : ℕ) → List Explanation → Type 0
+AreTold ws slot zero all = all ≡ []
+AreTold ws slot (suc k) all =
+    (before : List Explanation) × (here : Option Explanation) × AreTold ws slot k before × IsToldAt ws slot k here
+    × (all ≡ before ++ one_or_none here)
+
+abbrev pub explanation_line : Explanation → List ℕ
+explanation_line e = explanation_text e ++ codes "\n"
+
+-- All that is told was written, and then how many words that is.
+abbrev pub WritesRefusals : List ℕ → (slot : ℕ) → (old new : Option (List ℕ)) → (refused : ℕ) → Type 0
+WritesRefusals ws slot old new refused =
+    (told : List Explanation) × AreTold ws slot (length ws) told × (refused ≡ length told)
+    × Appends old new (flat_map explanation_line told ++ codes "words refused: " ++ decimal refused ++ codes "\n")

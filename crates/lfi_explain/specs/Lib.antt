@@ -1,0 +1,4 @@
+pub mod Spellings
+pub mod Sentences
+pub mod Explanations
+pub mod Listings

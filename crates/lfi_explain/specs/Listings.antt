@@ -1,0 +1,54 @@
+-- The lines of a listing.
+use Rattle.std.specs.Prelude.{◌≡◌, ℕ, zero, suc, ◌-◌, ℤ, List, [], ◌∷◌, ◌++◌, length, flat_map, replicate, slice_get, codes, decimal, Option, Some, None, if◌then◌else◌}
+use Rattle.std.specs.Fmt.{signed_decimal}
+use Rattle.std.specs.Io.KnownBytes.{Appends}
+use Rattle.lfi_rules.specs.declared.needs.Need.{Need}
+use Rattle.lfi_rules.specs.declared.needs.Need.TheVariants.{Nothing}
+use Rattle.lfi_rules.specs.Rules.{is_inside}
+use Rattle.lfi_explain.specs.declared.listing.ListedWord.{ListedWord}
+use Rattle.lfi_explain.specs.Spellings.{IsSpelling, located_text, opened_by, target_by}
+use Rattle.lfi_explain.specs.Sentences.{meeting_text}
+
+-- where a direct branch goes, in a module of n words
+abbrev pub arrow_text : (n : ℕ) → Option ℤ → List ℕ
+arrow_text n (Some place) =
+    if is_inside n (Some place) then codes "  -> word " ++ signed_decimal place else codes "  -> outside, word " ++ signed_decimal place
+arrow_text n None = []
+
+-- what a word asks of the next one
+abbrev pub opened_text : Need → List ℕ
+opened_text Nothing = []
+opened_text need = codes "  ; opens: next is " ++ meeting_text need
+
+-- a place in a column of seven, with spaces before it
+abbrev pub column : ℕ → List ℕ
+column place = replicate (7 - length (decimal place)) 32 ++ decimal place
+
+-- the place, the word at its address, where it goes and what it opens
+abbrev pub listed_text : ListedWord → List ℕ
+listed_text listed =
+    let located = listed.located in
+    column located.place ++ codes "  "
+    ++ located_text located.slot located.place located.spelling
+    ++ arrow_text listed.words (target_by located.spelling located.place) ++ opened_text (opened_by located.spelling)
+
+-- It is the word at place k of the words of a module in a slot.
+pub record IsListed (ws : List ℕ) (slot k : ℕ) (listed : ListedWord) : Type 0 where
+  pub same_slot : listed.located.slot ≡ slot
+  pub place : listed.located.place ≡ k
+  pub spelling : (word : ℕ) → slice_get ws k ≡ Some word → IsSpelling word listed.located.spelling
+  pub count : listed.words ≡ length ws
+
+-- the words at the first `count` places, in order
+abbrev pub AreListed : List ℕ → (slot count : ℕ) → List ListedWord → Type 0
+AreListed ws slot zero all = all ≡ []
+AreListed ws slot (suc k) all =
+    (before : List ListedWord) × (here : ListedWord) × AreListed ws slot k before × IsListed ws slot k here
+    × (all ≡ before ++ here ∷ [])
+
+abbrev pub listed_line : ListedWord → List ℕ
+listed_line listed = listed_text listed ++ codes "\n"
+
+-- A line was written for each word.
+abbrev pub WritesListing : List ℕ → (slot : ℕ) → (old new : Option (List ℕ)) → Type 0
+WritesListing ws slot old new = (all : List ListedWord) × AreListed ws slot (length ws) all × Appends old new (flat_map listed_line all)

@@ -1,0 +1,92 @@
+-- What is told of a rule and of a word that breaks it (docs/DEFINITIONS.md, "Rules").
+use Rattle.std.specs.Prelude.{ℕ, ℤ, List, [], ◌++◌, if◌then◌else◌, codes, decimal, Option, Some, None}
+use Rattle.std.specs.Fmt.{signed_decimal}
+use Rattle.a64_word.specs.declared.operands.Width.TheVariants.{X}
+use Rattle.a64_word.specs.Names.{index_extend_name}
+use Rattle.a64_word.specs.Texts.{general, or_sp, index_width}
+use Rattle.a64_effects.specs.declared.access.Form.{Form}
+use Rattle.a64_effects.specs.declared.access.Form.TheVariants as forms
+use Rattle.a64_effects.specs.declared.access.Address.{Address}
+use Rattle.lfi_rules.specs.declared.needs.Need.{Need}
+use Rattle.lfi_rules.specs.declared.needs.Need.TheVariants.{Nothing, Call, Guard, Probe}
+use Rattle.lfi_rules.specs.declared.rule.Rule.{Rule}
+use Rattle.lfi_rules.specs.declared.rule.Rule.TheVariants as rules
+use Rattle.lfi_explain.specs.declared.spelling.Spelling.{Spelling}
+use Rattle.lfi_explain.specs.declared.explanation.Explanation.{Explanation}
+use Rattle.lfi_explain.specs.Spellings.{opened_by, is_met_by, address_by, target_by, branch_register_by, written_address_by}
+
+-- the word that meets a need
+abbrev pub meeting_text : Need → List ℕ
+meeting_text Nothing = codes "any word"
+meeting_text Call = codes "blr x30"
+meeting_text Guard = codes "add x30, x21, w30, uxtw"
+meeting_text Probe = codes "a load or store at [sp]"
+
+-- what opens a need
+abbrev pub opening_text : Need → List ℕ
+opening_text Nothing = codes "any other word"
+opening_text Call = codes "a load of a table entry into x30"
+opening_text Guard = codes "any other load of 64 bits into x30"
+opening_text Probe = codes "a move of sp by an immediate"
+
+-- how an access comes from its base to its address, where it isn't by an immediate alone
+abbrev pub form_text : Form → List ℕ
+form_text forms.Offset = []
+form_text forms.PreIndex = codes " and changes it"
+form_text forms.PostIndex = codes " and changes it"
+form_text (forms.Index register extend scaled) =
+    codes " by " ++ general (index_width extend) register ++ codes ", " ++ index_extend_name extend ++ (if scaled then codes ", shifted" else [])
+
+-- through which register an access goes, and how
+abbrev pub through_text : Option Address → List ℕ
+through_text (Some address) = codes "; this one goes through " ++ or_sp X address.base ++ form_text address.form
+through_text None = []
+
+abbrev pub writes_text : Option ℕ → List ℕ
+writes_text (Some register) = codes "; this one writes x" ++ decimal register
+writes_text None = []
+
+abbrev pub goes_text : Option ℤ → List ℕ
+goes_text (Some place) = codes ", and this one goes to word " ++ signed_decimal place
+goes_text None = []
+
+abbrev pub branch_text : Option ℕ → List ℕ
+branch_text (Some register) = codes "; this one goes through " ++ general X register
+branch_text None = []
+
+-- a need that isn't met: that of the word before, or else that of the last word
+abbrev pub unmet_text : (need opened : Need) → List ℕ
+unmet_text Nothing opened = codes "the last word asks nothing of a next one; this one asks for " ++ meeting_text opened
+unmet_text need opened = opening_text need ++ codes " is followed by " ++ meeting_text need ++ codes "; this word isn't that"
+
+-- what the word before asks
+abbrev pub asked_before : Option Spelling → Need
+asked_before (Some before) = opened_by before
+asked_before None = Nothing
+
+-- what the word before asks, where it isn't met; else Nothing
+abbrev pub unmet_in : Explanation → Need
+unmet_in e = if is_met_by e.at (asked_before e.before) then Nothing else asked_before e.before
+
+-- what the rule asks, and what the word does instead
+abbrev pub asked : Rule → Explanation → List ℕ
+asked rules.Spelled e = codes "an instruction of the profile spells each word; none spells this one"
+asked rules.AccessConfined e =
+    codes "a load or store goes through x18, x21, x23, x24 or sp at an immediate offset, through sp and changes it, or through x21 by a W register with uxtw and no shift"
+    ++ through_text (address_by e.at)
+asked rules.BaseKept e = codes "x21 holds where the slot begins and is never written; this one writes it"
+asked rules.AddressGuarded e =
+    codes "x18, x23 and x24 are written by add xD, x21, wM, uxtw alone" ++ writes_text (written_address_by e.at)
+asked rules.LinkGuarded e =
+    codes "x30 is written by add x30, x21, wM, uxtw, by bl, by blr or by a load of 64 bits alone; this one writes it otherwise"
+asked rules.OffsetNarrow e = codes "x22 is written as w22 alone, so that it stays below 2^32; this one writes all of it"
+asked rules.StackBounded e =
+    codes "sp is written by add sp, x21, wM, uxtw, by add sp, x21, x22, uxtx, by an unshifted add or sub of an immediate to sp, or by indexing on sp alone; this one writes it otherwise"
+asked rules.TargetInside e =
+    codes "a direct branch goes to a word of the module; it has " ++ decimal e.words ++ goes_text (target_by e.at e.fault.word)
+asked rules.BranchBounded e =
+    codes "br and blr go through x18, x23, x24 or x30, and ret through x30" ++ branch_text (branch_register_by e.at)
+asked rules.NeedMet e = unmet_text (unmet_in e) (opened_by e.at)
+
+abbrev pub sentence_text : Explanation → List ℕ
+sentence_text e = asked e.fault.rule e

@@ -1,0 +1,99 @@
+-- A word with the instruction that it spells, what the profile says of it, and its line at its address.
+use Rattle.std.specs.Prelude.{◌≡◌, ℕ, ℤ, ◌+◌, ◌-◌, ◌*◌, if◌then◌else◌, Bool, true, false, List, ◌++◌, length, replicate, codes, Option, Some, None, IfSome}
+use Rattle.std.specs.Fmt.{digits}
+use Rattle.a64_word.specs.declared.instruction.Instruction.{Instruction}
+use Rattle.a64_word.specs.declared.instruction.Instruction.TheVariants.{BranchRegister}
+use Rattle.a64_word.specs.Encoding.{Spells}
+use Rattle.a64_word.specs.Texts.{text}
+use Rattle.a64_effects.specs.declared.access.Address.{Address}
+use Rattle.a64_effects.specs.Effects.{address_of, target_of}
+use Rattle.lfi_module.specs.Numbers.{base_of}
+use Rattle.lfi_rules.specs.declared.needs.Need.{Need}
+use Rattle.lfi_rules.specs.declared.needs.Need.TheVariants.{Nothing}
+use Rattle.lfi_rules.specs.Needs.{opens_of, meets_of}
+use Rattle.lfi_rules.specs.Rules.{writes}
+use Rattle.lfi_rules.specs.Registers.{first_address, second_address, third_address}
+use Rattle.lfi_explain.specs.declared.spelling.Spelling.{Spelling}
+
+-- The word, with the instruction that it spells, if one does.
+pub record IsSpelling (word : ℕ) (spelling : Spelling) : Type 0 where
+  pub same : spelling.word ≡ word
+  pub found : IfSome spelling.instruction (λ i. Spells i word)
+  pub only : (i : Instruction) → Spells i word → spelling.instruction ≡ Some i
+
+-- what it asks of the next word
+abbrev pub opened_by : Spelling → Need
+opened_by spelling = of spelling.instruction
+  where
+    of : Option Instruction → Need
+    of (Some i) = opens_of i
+    of None = Nothing
+
+abbrev pub is_nothing : Need → Bool
+is_nothing Nothing = true
+is_nothing _ = false
+
+abbrev pub is_met_by : Spelling → Need → Bool
+is_met_by spelling need = of spelling.instruction
+  where
+    of : Option Instruction → Bool
+    of (Some i) = meets_of i need
+    of None = is_nothing need
+
+-- where it accesses memory
+abbrev pub address_by : Spelling → Option Address
+address_by spelling = of spelling.instruction
+  where
+    of : Option Instruction → Option Address
+    of (Some i) = address_of i
+    of None = None
+
+-- where it branches to
+abbrev pub target_by : Spelling → (place : ℕ) → Option ℤ
+target_by spelling place = of spelling.instruction
+  where
+    of : Option Instruction → Option ℤ
+    of (Some i) = target_of i place
+    of None = None
+
+-- through which register it branches
+abbrev pub branch_register_by : Spelling → Option ℕ
+branch_register_by spelling = of spelling.instruction
+  where
+    of : Option Instruction → Option ℕ
+    of (Some (BranchRegister i)) = Some i.rn
+    of _ = None
+
+-- the first of x18, x23 and x24 that is written
+abbrev pub first_written : Instruction → Option ℕ
+first_written i =
+    if writes i first_address then Some first_address
+    else (if writes i second_address then Some second_address else (if writes i third_address then Some third_address else None))
+
+abbrev pub written_address_by : Spelling → Option ℕ
+written_address_by spelling = of spelling.instruction
+  where
+    of : Option Instruction → Option ℕ
+    of (Some i) = first_written i
+    of None = None
+
+-- a number in so many hexadecimal digits
+abbrev pub hexadecimal : (count n : ℕ) → List ℕ
+hexadecimal count n = replicate (count - length (digits 16 false n)) 48 ++ digits 16 false n
+
+abbrev pub instruction_text : (word : ℕ) → Option Instruction → List ℕ
+instruction_text word (Some i) = text i
+instruction_text word None = codes ".inst 0x" ++ hexadecimal 8 word
+
+-- the assembly text of a word
+abbrev pub spelling_text : Spelling → List ℕ
+spelling_text spelling = instruction_text spelling.word spelling.instruction
+
+-- where the word at a place lies (docs/DEFINITIONS.md, "Slots and registers")
+abbrev pub address_at : (slot place : ℕ) → ℕ
+address_at slot place = base_of slot + 65536 + 4 * place
+
+-- a word at its address
+abbrev pub located_text : (slot place : ℕ) → Spelling → List ℕ
+located_text slot place spelling =
+    codes "0x" ++ hexadecimal 16 (address_at slot place) ++ codes "  " ++ hexadecimal 8 spelling.word ++ codes "  " ++ spelling_text spelling

@@ -1,0 +1,125 @@
+//! What is told of a fault.
+
+ghost use Rattle.std.specs.Prelude.{◌≡◌, ◌<◌, ◌≤◌, length, Some};
+ghost use Rattle.lfi_module.specs.Numbers.{most_words};
+ghost use Rattle.lfi_explain.specs.Explanations as spec;
+ghost use Rattle.lfi_explain.specs.Sentences.{unmet_in};
+
+use crate::located::Located;
+use crate::sentence::Sentence;
+use crate::spelling::Spelling;
+use a64_word::Words;
+use lfi_module::ModuleNumber;
+use lfi_rules::{Fault, Need, Rule};
+use std::fmt;
+
+/// A fault, with the words that it speaks of.
+#[derive(Clone, Copy)]
+pub struct Explanation {
+    /// The place, and the rule that its word breaks.
+    pub fault: Fault,
+    /// The slot in which the module lies.
+    pub slot: ModuleNumber,
+    /// How many words the module has.
+    pub words: u32,
+    /// The word at the place.
+    pub at: Spelling,
+    /// The word before it, if there is one.
+    pub before: Option<Spelling>,
+}
+
+impl Explanation {
+    /// What the word before asks of the one at the place, where that doesn't meet it; else Nothing.
+    pub fn unmet(&self) -> Need
+        ensures { result ≡ unmet_in self.now }
+    {
+        let need = match &self.before {
+            Some(before) => before.opens(),
+            None => Need::Nothing,
+        };
+        if self.at.meets(need) {
+            Need::Nothing
+        } else {
+            need
+        }
+    }
+
+    /// Whether the fault is that the word doesn't meet what the word before opens.
+    fn is_unmet(&self) -> bool
+        ensures { result ≡ spec.is_unmet self.now }
+    {
+        self.fault.rule == Rule::NeedMet && self.unmet() != Need::Nothing
+    }
+}
+
+/// The line of the word before the place, where the fault is that its need isn't met.
+#[derive(Clone, Copy)]
+struct Opener(Explanation);
+
+impl fmt::Display for Opener {
+    ghost output = { λ opener. Some (spec.opener_text opener.0) };
+
+    fn fmt<W: fmt::Write>(&self, f: &mut fmt::Formatter<W>) -> fmt::Result {
+        match self.0.before {
+            Some(spelling) if self.0.is_unmet() => {
+                let place = self.0.fault.word.saturating_sub(1);
+                let located = Located {
+                    slot: self.0.slot,
+                    place,
+                    spelling,
+                };
+                write!(f, "  {located}\n")
+            }
+            _ => Ok(()),
+        }
+    }
+}
+
+impl fmt::Display for Explanation {
+    ghost output = { λ explanation. Some (spec.explanation_text explanation) };
+
+    /// Writes three lines, without the end of the last: the fault, as `word 16 rule 2`; the word at its address, after that of
+    /// the word before where its need isn't met; and what the rule asks.
+    fn fmt<W: fmt::Write>(&self, f: &mut fmt::Formatter<W>) -> fmt::Result {
+        let located = Located {
+            slot: self.slot,
+            place: self.fault.word,
+            spelling: self.at,
+        };
+        write!(
+            f,
+            "{}\n{}  {located}\n  {}",
+            self.fault,
+            Opener(*self),
+            Sentence(*self)
+        )
+    }
+}
+
+/// The word before a place, with what spells it, if there is one.
+fn spelling_before<W: Words>(words: &W, place: usize) -> Option<Spelling>
+    requires { place < length (W.words words.now) }
+    ensures { spec.IsBefore (W.words words.now) place result }
+{
+    if place == 0 {
+        None
+    } else {
+        Some(Spelling::of(words.word(place - 1)))
+    }
+}
+
+/// What is told of a fault of the words of a module in a slot.
+pub fn explain<W: Words>(words: &W, slot: ModuleNumber, fault: Fault) -> Explanation
+    requires inside { fault.word < length (W.words words.now) }
+    requires most { length (W.words words.now) ≤ most_words }
+    ensures { spec.Explains (W.words words.now) slot fault result }
+{
+    let place = fault.word as usize;
+    Explanation {
+        fault,
+        slot,
+        words: words.count() as u32,
+        at: Spelling::of(words.word(place)),
+        before: spelling_before(words, place),
+    }
+}

@@ -1,0 +1,126 @@
+//! A listing of a module's words.
+
+ghost use Rattle.std.specs.Prelude.{◌<◌, ◌≤◌, length, Some, OnOk};
+ghost use Rattle.std.specs.Io.KnownBytes.{Appends};
+ghost use Rattle.lfi_module.specs.Numbers.{most_words};
+ghost use Rattle.lfi_explain.specs.Listings as spec;
+
+use crate::digits::PlaceColumn;
+use crate::located::Located;
+use crate::sentence::Meeting;
+use crate::spelling::Spelling;
+use a64_word::Words;
+use lfi_module::ModuleNumber;
+use lfi_rules::Need;
+use std::fmt;
+use std::io::{self, Write};
+
+/// A word of a listing.
+#[derive(Clone, Copy)]
+pub struct ListedWord {
+    /// The word at its place.
+    pub located: Located,
+    /// How many words the module has.
+    pub words: u32,
+}
+
+/// Where a direct branch goes, in a module of so many words.
+#[derive(Clone, Copy)]
+struct Arrow {
+    target: Option<i64>,
+    words: u32,
+}
+
+impl fmt::Display for Arrow {
+    ghost output = { λ arrow. Some (spec.arrow_text arrow.words arrow.target) };
+
+    fn fmt<W: fmt::Write>(&self, f: &mut fmt::Formatter<W>) -> fmt::Result {
+        match self.target {
+            Some(place) if 0 <= place && place < i64::from(self.words) => {
+                write!(f, "  -> word {place}")
+            }
+            Some(place) => write!(f, "  -> outside, word {place}"),
+            None => Ok(()),
+        }
+    }
+}
+
+/// What a word asks of the next one.
+#[derive(Clone, Copy)]
+struct Opened(Need);
+
+impl fmt::Display for Opened {
+    ghost output = { λ opened. Some (spec.opened_text opened.0) };
+
+    fn fmt<W: fmt::Write>(&self, f: &mut fmt::Formatter<W>) -> fmt::Result {
+        match self.0 {
+            Need::Nothing => Ok(()),
+            need => write!(f, "  ; opens: next is {}", Meeting(need)),
+        }
+    }
+}
+
+impl fmt::Display for ListedWord {
+    ghost output = { λ listed. Some (spec.listed_text listed) };
+
+    /// Writes the place, the address, the word, its text, where it branches to and what it asks of the next word.
+    fn fmt<W: fmt::Write>(&self, f: &mut fmt::Formatter<W>) -> fmt::Result {
+        let place = self.located.place;
+        let spelling = &self.located.spelling;
+        let arrow = Arrow {
+            target: spelling.target(place),
+            words: self.words,
+        };
+        write!(
+            f,
+            "{}  {}{arrow}{}",
+            PlaceColumn(place),
+            self.located,
+            Opened(spelling.opens())
+        )
+    }
+}
+
+/// The word at a place of a module in a slot, as it is listed.
+fn listed_at<L: Words>(words: &L, slot: ModuleNumber, place: usize) -> ListedWord
+    requires inside { place < length (L.words words.now) }
+    requires most { length (L.words words.now) ≤ most_words }
+    ensures { spec.IsListed (L.words words.now) slot place result }
+{
+    let spelling = Spelling::of(words.word(place));
+    let located = Located {
+        slot,
+        place: place as u32,
+        spelling,
+    };
+    ListedWord {
+        located,
+        words: words.count() as u32,
+    }
+}
+
+/// Writes the line of a word.
+fn write_listed<W: Write>(listed: ListedWord, out: &mut W) -> io::Result<()>
+    ensures { OnOk result (Appends (W.contents out.old) (W.contents out.new) (spec.listed_line listed)) }
+{
+    writeln!(out, "{listed}")
+}
+
+/// Writes a line for each word of a module in a slot, in order.
+///
+/// # Errors
+///
+/// Where a write fails.
+pub fn write_listing<L: Words, W: Write>(
+    words: &L,
+    slot: ModuleNumber,
+    out: &mut W,
+) -> io::Result<()>
+    requires most { length (L.words words.now) ≤ most_words }
+    ensures { OnOk result (spec.WritesListing (L.words words.now) slot (W.contents out.old) (W.contents out.new)) }
+{
+    for place in 0..words.count() {
+        write_listed(listed_at(words, slot, place), out)?;
+    }
+    Ok(())
+}

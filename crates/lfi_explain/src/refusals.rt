@@ -1,0 +1,59 @@
+//! All words of a module that break a rule.
+
+ghost use Rattle.std.specs.Prelude.{◌≡◌, ◌<◌, ◌≤◌, length, flat_map, OnOk, IfOk};
+ghost use Rattle.std.specs.Io.KnownBytes.{Appends};
+ghost use Rattle.lfi_module.specs.Numbers.{most_words};
+ghost use Rattle.lfi_explain.specs.Explanations as spec;
+
+use crate::explanation::{Explanation, explain};
+use a64_word::Words;
+use lfi_module::ModuleNumber;
+use lfi_rules::{Fault, broken_at};
+use std::io::{self, Write};
+
+/// What is told of the word at a place, where it breaks a rule: of those that it breaks, the one with the least number.
+fn explained_at<L: Words>(words: &L, slot: ModuleNumber, place: usize) -> Option<Explanation>
+    requires inside { place < length (L.words words.now) }
+    requires most { length (L.words words.now) ≤ most_words }
+    ensures { spec.IsToldAt (L.words words.now) slot place result }
+{
+    let rule = broken_at(words, place)?;
+    let word = place as u32;
+    Some(explain(words, slot, Fault { word, rule }))
+}
+
+/// Writes what is told of a word, if anything is. Gives of how many words something was told.
+fn write_told<W: Write>(told: Option<Explanation>, out: &mut W) -> io::Result<u32>
+    ensures count { IfOk result (λ count. count ≡ length (spec.one_or_none told)) }
+    ensures written { OnOk result (Appends (W.contents out.old) (W.contents out.new) (flat_map spec.explanation_line (spec.one_or_none told))) }
+{
+    match told {
+        Some(explanation) => {
+            writeln!(out, "{explanation}")?;
+            Ok(1)
+        }
+        None => Ok(0),
+    }
+}
+
+/// Writes what is told of each word of a module in a slot that breaks a rule, in order; then a line with how many these are,
+/// as `words refused: 2`. Gives how many.
+///
+/// # Errors
+///
+/// Where a write fails.
+pub fn write_refusals<L: Words, W: Write>(
+    words: &L,
+    slot: ModuleNumber,
+    out: &mut W,
+) -> io::Result<u32>
+    requires most { length (L.words words.now) ≤ most_words }
+    ensures { IfOk result (spec.WritesRefusals (L.words words.now) slot (W.contents out.old) (W.contents out.new)) }
+{
+    let mut refused = 0;
+    for place in 0..words.count() {
+        refused += write_told(explained_at(words, slot, place), out)?;
+    }
+    writeln!(out, "words refused: {refused}")?;
+    Ok(refused)
+}

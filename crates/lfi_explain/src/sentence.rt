@@ -1,0 +1,245 @@
+//! What a rule asks, and what a word does that breaks it.
+
+ghost use Rattle.std.specs.Prelude.{◌≡◌, Some};
+ghost use Rattle.lfi_explain.specs.Sentences as spec;
+
+use crate::explanation::Explanation;
+use a64_effects::{Address, Form};
+use a64_word::{GeneralRegister, IndexExtend, Register, RegisterOrStack, Width};
+use lfi_rules::{Need, Rule};
+use std::fmt;
+
+/// The word that meets a need.
+#[derive(Clone, Copy)]
+pub(crate) struct Meeting(pub(crate) Need);
+
+impl fmt::Display for Meeting {
+    ghost output = { λ meeting. Some (spec.meeting_text meeting.0) };
+
+    fn fmt<W: fmt::Write>(&self, f: &mut fmt::Formatter<W>) -> fmt::Result {
+        f.write_str(match self.0 {
+            Need::Nothing => "any word",
+            Need::Call => "blr x30",
+            Need::Guard => "add x30, x21, w30, uxtw",
+            Need::Probe => "a load or store at [sp]",
+        })
+    }
+}
+
+/// What opens a need.
+#[derive(Clone, Copy)]
+struct Opening(Need);
+
+impl fmt::Display for Opening {
+    ghost output = { λ opening. Some (spec.opening_text opening.0) };
+
+    fn fmt<W: fmt::Write>(&self, f: &mut fmt::Formatter<W>) -> fmt::Result {
+        f.write_str(match self.0 {
+            Need::Nothing => "any other word",
+            Need::Call => "a load of a table entry into x30",
+            Need::Guard => "any other load of 64 bits into x30",
+            Need::Probe => "a move of sp by an immediate",
+        })
+    }
+}
+
+/// How an access comes from its base to its address, where it isn't by an immediate alone.
+#[derive(Clone, Copy)]
+struct ByForm(Form);
+
+impl fmt::Display for ByForm {
+    ghost output = { λ by. Some (spec.form_text by.0) };
+
+    fn fmt<W: fmt::Write>(&self, f: &mut fmt::Formatter<W>) -> fmt::Result {
+        match self.0 {
+            Form::Offset => Ok(()),
+            Form::PreIndex | Form::PostIndex => write!(f, " and changes it"),
+            Form::Index {
+                register,
+                extend,
+                scaled,
+            } => {
+                let width = match extend {
+                    IndexExtend::Uxtw | IndexExtend::Sxtw => Width::W,
+                    _ => Width::X,
+                };
+                let shifted = if scaled { ", shifted" } else { "" };
+                write!(
+                    f,
+                    " by {}, {extend}{shifted}",
+                    GeneralRegister(width, register)
+                )
+            }
+        }
+    }
+}
+
+/// Through which register an access goes, and how.
+#[derive(Clone, Copy)]
+struct Through(Option<Address>);
+
+impl fmt::Display for Through {
+    ghost output = { λ through. Some (spec.through_text through.0) };
+
+    fn fmt<W: fmt::Write>(&self, f: &mut fmt::Formatter<W>) -> fmt::Result {
+        match self.0 {
+            Some(address) => {
+                let base = RegisterOrStack(Width::X, address.base);
+                write!(f, "; this one goes through {base}{}", ByForm(address.form))
+            }
+            None => Ok(()),
+        }
+    }
+}
+
+/// Which address register is written.
+#[derive(Clone, Copy)]
+struct WritesAddress(Option<u8>);
+
+impl fmt::Display for WritesAddress {
+    ghost output = { λ writes. Some (spec.writes_text writes.0) };
+
+    fn fmt<W: fmt::Write>(&self, f: &mut fmt::Formatter<W>) -> fmt::Result {
+        match self.0 {
+            Some(number) => write!(f, "; this one writes x{number}"),
+            None => Ok(()),
+        }
+    }
+}
+
+/// Where a direct branch goes.
+#[derive(Clone, Copy)]
+struct GoesTo(Option<i64>);
+
+impl fmt::Display for GoesTo {
+    ghost output = { λ goes. Some (spec.goes_text goes.0) };
+
+    fn fmt<W: fmt::Write>(&self, f: &mut fmt::Formatter<W>) -> fmt::Result {
+        match self.0 {
+            Some(place) => write!(f, ", and this one goes to word {place}"),
+            None => Ok(()),
+        }
+    }
+}
+
+/// Through which register a branch goes.
+#[derive(Clone, Copy)]
+struct BranchesThrough(Option<Register>);
+
+impl fmt::Display for BranchesThrough {
+    ghost output = { λ branch. Some (spec.branch_text branch.0) };
+
+    fn fmt<W: fmt::Write>(&self, f: &mut fmt::Formatter<W>) -> fmt::Result {
+        match self.0 {
+            Some(register) => {
+                write!(
+                    f,
+                    "; this one goes through {}",
+                    GeneralRegister(Width::X, register)
+                )
+            }
+            None => Ok(()),
+        }
+    }
+}
+
+/// What is told of a need that isn't met: that of the word before, or else that of the last word.
+#[derive(Clone, Copy)]
+struct Unmet {
+    need: Need,
+    opened: Need,
+}
+
+impl fmt::Display for Unmet {
+    ghost output = { λ unmet. Some (spec.unmet_text unmet.need unmet.opened) };
+
+    fn fmt<W: fmt::Write>(&self, f: &mut fmt::Formatter<W>) -> fmt::Result {
+        match self.need {
+            Need::Nothing => {
+                let asked = Meeting(self.opened);
+                write!(
+                    f,
+                    "the last word asks nothing of a next one; this one asks for {asked}"
+                )
+            }
+            need => {
+                write!(
+                    f,
+                    "{} is followed by {}; this word isn't that",
+                    Opening(need),
+                    Meeting(need)
+                )
+            }
+        }
+    }
+}
+
+/// What the rule of a fault asks, and what the word does instead.
+#[derive(Clone, Copy)]
+pub(crate) struct Sentence(pub(crate) Explanation);
+
+impl fmt::Display for Sentence {
+    ghost output = { λ sentence. Some (spec.sentence_text sentence.0) };
+
+    fn fmt<W: fmt::Write>(&self, f: &mut fmt::Formatter<W>) -> fmt::Result {
+        let told = &self.0;
+        match told.fault.rule {
+            Rule::Spelled => {
+                write!(
+                    f,
+                    "an instruction of the profile spells each word; none spells this one"
+                )
+            }
+            Rule::AccessConfined => write!(
+                f,
+                "a load or store goes through x18, x21, x23, x24 or sp at an immediate offset, through sp and changes it, or through x21 by a W register with uxtw and no shift{}",
+                Through(told.at.address())
+            ),
+            Rule::BaseKept => {
+                write!(
+                    f,
+                    "x21 holds where the slot begins and is never written; this one writes it"
+                )
+            }
+            Rule::AddressGuarded => write!(
+                f,
+                "x18, x23 and x24 are written by add xD, x21, wM, uxtw alone{}",
+                WritesAddress(told.at.written_address())
+            ),
+            Rule::LinkGuarded => write!(
+                f,
+                "x30 is written by add x30, x21, wM, uxtw, by bl, by blr or by a load of 64 bits alone; this one writes it otherwise"
+            ),
+            Rule::OffsetNarrow => {
+                write!(
+                    f,
+                    "x22 is written as w22 alone, so that it stays below 2^32; this one writes all of it"
+                )
+            }
+            Rule::StackBounded => write!(
+                f,
+                "sp is written by add sp, x21, wM, uxtw, by add sp, x21, x22, uxtx, by an unshifted add or sub of an immediate to sp, or by indexing on sp alone; this one writes it otherwise"
+            ),
+            Rule::TargetInside => {
+                let goes = GoesTo(told.at.target(told.fault.word));
+                write!(
+                    f,
+                    "a direct branch goes to a word of the module; it has {}{goes}",
+                    told.words
+                )
+            }
+            Rule::BranchBounded => write!(
+                f,
+                "br and blr go through x18, x23, x24 or x30, and ret through x30{}",
+                BranchesThrough(told.at.branch_register())
+            ),
+            Rule::NeedMet => {
+                let unmet = Unmet {
+                    need: told.unmet(),
+                    opened: told.at.opens(),
+                };
+                write!(f, "{unmet}")
+            }
+        }
+    }
+}
