@@ -1,0 +1,174 @@
+//! Threads are started, one a part.
+
+ghost use Rattle.std.specs.Prelude.{◌≡◌, ℕ, ◌≤◌, [], Some, IfSome, IsTrue, length, slice_get};
+ghost use Rattle.lfi_receive.specs.declared.receiver.Receiver.{Receiver};
+ghost use Rattle.lfi_place.specs.declared.verifier.Verifier.{Verifier};
+ghost use Rattle.lfi_stage.specs.Parts.{IsReceiver};
+ghost use Rattle.lfi_stage.specs.Stages.{IsFresh};
+ghost use Rattle.lfi_threads.specs.inner.Workers.{IsVerifierOf, AreSequencersOf};
+
+use crate::ends::Ends;
+use crate::hearing::hear;
+use crate::notices::Notices;
+use crate::placing::place;
+use crate::promises::{
+    ReceiverOf, ReceiverThread, SequencersOf, SequencersThread, VerifierOf, VerifierThread,
+};
+use crate::verifying::verify;
+use lfi_place::{Gate, Sequencer, Verifier};
+use lfi_receive::{Input, Receiver};
+use lfi_stage::Shared;
+use std::io::Read;
+use std::snapshot::Snapshot;
+use std::sync::Wait;
+use std::thread::{Scope, Threads};
+
+/// Starts the thread of one receiver.
+pub(crate) fn start_receiver<
+    's,
+    'e: 's,
+    S: Wait + Sync,
+    R: Read + Send + Drop + 'e,
+    N: Notices + Sync,
+>(
+    scope: &Scope<'s, &'e ()>,
+    rt: &'e S,
+    shared: &'e Shared,
+    ends: &'e Ends,
+    notices: &'e N,
+    number: usize,
+    receiver: Receiver,
+    input: Input<R>,
+) -> Option<ReceiverThread<'e, R>>
+    requires is { IsReceiver shared.now number receiver }
+    requires fresh { IsFresh receiver }
+    ensures { IfSome result (λ handle. (handle.promise.shared.now ≡ shared.now) × (handle.promise.number ≡ number) × (handle.promise.input.value ≡ input)) }
+{
+    let promise = ReceiverOf {
+        shared,
+        number,
+        input: Snapshot::of(&input),
+    };
+    match scope.spawn_with(
+        promise,
+        move || hear(rt, shared, ends, notices, receiver, input),
+    ) {
+        Ok(handle) => Some(handle),
+        Err(_) => None,
+    }
+}
+
+/// Starts the threads of all receivers, each with the input of its number. The answer is whether
+/// all were started; else all are told to stop.
+pub(crate) fn start_receivers<
+    's,
+    'e: 's,
+    S: Threads + Wait + Sync,
+    R: Read + Send + Drop + 'e,
+    N: Notices + Sync,
+>(
+    scope: &Scope<'s, &'e ()>,
+    rt: &'e S,
+    shared: &'e Shared,
+    ends: &'e Ends,
+    notices: &'e N,
+    receivers: Vec<Receiver>,
+    inputs: Vec<Input<R>>,
+    handles: &mut Vec<ReceiverThread<'e, R>>,
+) -> bool
+    requires is { (k : ℕ) (r : Receiver) → slice_get receivers.items k ≡ Some r → IsReceiver shared.now k r × IsFresh r }
+    requires inputs { length inputs.items ≡ length receivers.items }
+    requires none { handles.old.items ≡ [] }
+    ensures promised { (k : ℕ) (h : _) → slice_get handles.new.items k ≡ Some h → (h.promise.shared.now ≡ shared.now) × (h.promise.number ≡ k) × (slice_get inputs.items k ≡ Some h.promise.input.value) }
+    ensures all { IsTrue result → length handles.new.items ≡ length receivers.items }
+{
+    let mut inputs = inputs.into_iter();
+    for receiver in receivers {
+        let number = handles.len();
+        let input = inputs.next().unwrap();
+        let Some(handle) = start_receiver(scope, rt, shared, ends, notices, number, receiver, input)
+        else {
+            ends.stop();
+            return false;
+        };
+        if let Err(refused) = handles.push(handle) {
+            ends.stop();
+            refused.value.join(rt);
+            return false;
+        }
+    }
+    true
+}
+
+/// Starts the thread of one verifier.
+fn start_verifier<'s, 'e, S: Wait + Sync, G: Gate + Sync>(
+    scope: &Scope<'s, &'e ()>,
+    rt: &'e S,
+    shared: &'e Shared,
+    ends: &'e Ends,
+    gate: &'e G,
+    number: usize,
+    verifier: Verifier,
+) -> Option<VerifierThread<'e>>
+    requires is { IsVerifierOf shared.now number verifier }
+    ensures { IfSome result (λ handle. (handle.promise.shared.now ≡ shared.now) × (handle.promise.number ≡ number)) }
+{
+    match scope.spawn_with(
+        VerifierOf { shared, number },
+        move || verify(rt, shared, ends, gate, verifier),
+    ) {
+        Ok(handle) => Some(handle),
+        Err(_) => None,
+    }
+}
+
+/// Starts the threads of all verifiers. The answer is whether all were started; else all are told
+/// to stop.
+pub(crate) fn start_verifiers<'s, 'e, S: Threads + Wait + Sync, G: Gate + Sync>(
+    scope: &Scope<'s, &'e ()>,
+    rt: &'e S,
+    shared: &'e Shared,
+    ends: &'e Ends,
+    gate: &'e G,
+    verifiers: Vec<Verifier>,
+    handles: &mut Vec<VerifierThread<'e>>,
+) -> bool
+    requires is { (k : ℕ) (v : Verifier) → slice_get verifiers.items k ≡ Some v → IsVerifierOf shared.now k v }
+    requires none { handles.old.items ≡ [] }
+    ensures promised { (k : ℕ) (h : _) → slice_get handles.new.items k ≡ Some h → (h.promise.shared.now ≡ shared.now) × (h.promise.number ≡ k) }
+    ensures all { IsTrue result → length handles.new.items ≡ length verifiers.items }
+{
+    for verifier in verifiers {
+        let number = handles.len();
+        let Some(handle) = start_verifier(scope, rt, shared, ends, gate, number, verifier) else {
+            ends.stop();
+            return false;
+        };
+        if let Err(refused) = handles.push(handle) {
+            ends.stop();
+            refused.value.join(rt);
+            return false;
+        }
+    }
+    true
+}
+
+/// Starts the thread of all sequencers.
+pub(crate) fn start_sequencers<'s, 'e, S: Wait + Sync>(
+    scope: &Scope<'s, &'e ()>,
+    rt: &'e S,
+    shared: &'e Shared,
+    ends: &'e Ends,
+    sequencers: Vec<Sequencer>,
+) -> Option<SequencersThread<'e>>
+    requires { AreSequencersOf shared.now sequencers.items }
+    ensures { IfSome result (λ handle. handle.promise.shared.now ≡ shared.now) }
+{
+    match scope.spawn_with(
+        SequencersOf { shared },
+        move || place(rt, shared, ends, sequencers),
+    ) {
+        Ok(handle) => Some(handle),
+        Err(_) => None,
+    }
+}
