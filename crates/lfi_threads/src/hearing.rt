@@ -1,9 +1,8 @@
 //! What a receiver's thread does.
 
-ghost use Rattle.std.specs.Prelude.{◌≡◌, ℕ, List, Option, IsTrue, IsSome};
-ghost use Rattle.lfi_receive.specs.Receivers.{cause_of, IsFinished};
+ghost use Rattle.std.specs.Prelude.{ℕ, List, Option, IsSome};
+ghost use Rattle.lfi_receive.specs.Receivers.{cause_of};
 ghost use Rattle.lfi_receive.specs.Inputs.{left_of};
-ghost use Rattle.lfi_receive.specs.declared.receiver.ReceiverTurn.TheVariants as turn;
 ghost use Rattle.lfi_stage.specs.Parts.{IsReceiver};
 ghost use Rattle.lfi_stage.specs.Stages.{IsFresh};
 ghost use Rattle.lfi_threads.specs.Heard.{HasHeard};
@@ -11,8 +10,8 @@ ghost use Rattle.lfi_threads.specs.inner.Hearing.{IsHearing, IsAsBefore};
 
 use crate::ends::{Ends, Rest};
 use crate::notices::{Notices, Told};
+use crate::promises::Place;
 use lfi_receive::{Input, Receiver, ReceiverTurn};
-use lfi_stage::Shared;
 use std::io::Read;
 use std::sync::Wait;
 
@@ -20,13 +19,13 @@ use std::sync::Wait;
 const LOOK_TURNS: u32 = 64;
 
 /// One turn of a receiver whose input is over.
-fn put_one<S: Wait>(rt: &S, shared: &Shared, receiver: &mut Receiver) -> ReceiverTurn
-    requires is { (c : ℕ) × IsReceiver shared.now c receiver.old }
+fn put_one<S: Wait>(rt: &S, place: Place<'_>, receiver: &mut Receiver) -> ReceiverTurn
+    requires is { IsReceiver place.shared.now place.number receiver.old }
     requires over { IsSome (cause_of receiver.old) }
-    ensures is { (c : ℕ) → IsReceiver shared.now c receiver.old → IsReceiver shared.now c receiver.new }
+    ensures is { IsReceiver place.entry.shared.now place.entry.number receiver.new }
     ensures before { IsAsBefore receiver.old receiver.new }
-    ensures finished { result ≡ turn.Finished → IsSome (cause_of receiver.new) }
 {
+    let shared = place.shared;
     let (_, did) = receiver.turn(rt, &shared.board, &shared.intake, &[]);
     did
 }
@@ -34,17 +33,18 @@ fn put_one<S: Wait>(rt: &S, shared: &Shared, receiver: &mut Receiver) -> Receive
 /// One turn of a receiver over its input, or, once that is over, over what is still to be put.
 fn pull_one<S: Wait, R: Read + Drop>(
     rt: &S,
-    shared: &Shared,
+    place: Place<'_>,
     receiver: &mut Receiver,
     input: &mut Input<R>,
 ) -> ReceiverTurn
-    requires is { (c : ℕ) × IsReceiver shared.now c receiver.old }
-    ensures is { (c : ℕ) → IsReceiver shared.now c receiver.old → IsReceiver shared.now c receiver.new }
+    requires is { IsReceiver place.shared.now place.number receiver.old }
+    ensures is { IsReceiver place.entry.shared.now place.entry.number receiver.new }
     ensures hearing { (whole : Option (List ℕ)) → IsHearing R.remaining whole receiver.old input.old → IsHearing R.remaining whole receiver.new input.new }
 {
     if receiver.is_over() {
-        return put_one(rt, shared, receiver);
+        return put_one(rt, place, receiver);
     }
+    let shared = place.shared;
     receiver.pull(rt, &shared.board, &shared.intake, input)
 }
 
@@ -65,6 +65,15 @@ impl Watch {
         }
     }
 
+    /// Rests after a turn that was refused.
+    fn rest_after<S: Wait>(&mut self, rt: &S, ends: &Ends, did: ReceiverTurn) {
+        if did == ReceiverTurn::Blocked {
+            self.rest.pause(rt, ends);
+        } else {
+            self.rest.end();
+        }
+    }
+
     /// Whether it is time to look at the modules' phases, after a turn that did this: where there
     /// was nothing else to do, at the end, and now and then.
     fn is_due(&mut self, did: ReceiverTurn) -> bool {
@@ -74,36 +83,69 @@ impl Watch {
             || self.turns % LOOK_TURNS == 0
     }
 
-    /// Rests after a turn that was refused.
-    fn rest_after<S: Wait>(&mut self, rt: &S, ends: &Ends, did: ReceiverTurn) {
-        if did == ReceiverTurn::Blocked {
-            self.rest.pause(rt, ends);
-        } else {
-            self.rest.end();
+    /// Looks at the modules' phases, where it is time to.
+    fn look_after<N: Notices>(
+        &mut self,
+        place: Place<'_>,
+        notices: &N,
+        receiver: &mut Receiver,
+        did: ReceiverTurn,
+    )
+        requires is { IsReceiver place.shared.now place.number receiver.old }
+        ensures is { IsReceiver place.entry.shared.now place.entry.number receiver.new }
+        ensures before { IsAsBefore receiver.old receiver.new }
+    {
+        if !self.is_due(did) {
+            return;
         }
+        self.told.look(place, receiver, notices);
     }
 }
 
-/// One turn of a receiver, and what follows it. The answer is whether it has finished.
+/// One turn of a receiver, and what follows it. The answer is whether its thread is to end: where
+/// the receiver has finished, or the threads are to stop.
 fn hear_once<S: Wait, R: Read + Drop, N: Notices>(
     rt: &S,
-    shared: &Shared,
+    place: Place<'_>,
     ends: &Ends,
     notices: &N,
     receiver: &mut Receiver,
     input: &mut Input<R>,
     watch: &mut Watch,
 ) -> bool
-    requires is { (c : ℕ) × IsReceiver shared.now c receiver.old }
-    ensures is { (c : ℕ) → IsReceiver shared.now c receiver.old → IsReceiver shared.now c receiver.new }
+    requires is { IsReceiver place.shared.now place.number receiver.old }
+    ensures is { IsReceiver place.entry.shared.now place.entry.number receiver.new }
     ensures hearing { (whole : Option (List ℕ)) → IsHearing R.remaining whole receiver.old input.old → IsHearing R.remaining whole receiver.new input.new }
 {
-    let did = pull_one(rt, shared, receiver, input);
-    if watch.is_due(did) {
-        watch.told.look(receiver, shared, notices);
+    if ends.are_stopped() {
+        return true;
     }
+    let did = pull_one(rt, place, receiver, input);
+    watch.look_after(place, notices, receiver, did);
     watch.rest_after(rt, ends, did);
     did == ReceiverTurn::Finished
+}
+
+/// Turns a receiver until its thread is to end.
+fn hear_on<S: Wait, R: Read + Drop, N: Notices>(
+    rt: &S,
+    place: Place<'_>,
+    ends: &Ends,
+    notices: &N,
+    receiver: &mut Receiver,
+    input: &mut Input<R>,
+)
+    requires is { IsReceiver place.shared.now place.number receiver.old }
+    ensures is { IsReceiver place.entry.shared.now place.entry.number receiver.new }
+    ensures hearing { (whole : Option (List ℕ)) → IsHearing R.remaining whole receiver.old input.old → IsHearing R.remaining whole receiver.new input.new }
+{
+    let mut watch = Watch::new();
+    for _ in rt.forever() {
+        if hear_once(rt, place, ends, notices, receiver, input, &mut watch) {
+            return;
+        }
+    }
+    unreachable!()
 }
 
 /// Turns a receiver until it has put all that its input makes and has told the board its end. It
@@ -111,34 +153,19 @@ fn hear_once<S: Wait, R: Read + Drop, N: Notices>(
 /// that failed.
 pub(crate) fn hear<S: Wait, R: Read + Drop, N: Notices>(
     rt: &S,
-    shared: &Shared,
+    place: Place<'_>,
     ends: &Ends,
     notices: &N,
     mut receiver: Receiver,
     mut input: Input<R>,
 ) -> Receiver
-    requires is { (c : ℕ) × IsReceiver shared.now c receiver }
+    requires is { IsReceiver place.shared.now place.number receiver }
     requires fresh { IsFresh receiver }
-    ensures is { (c : ℕ) → IsReceiver shared.now c receiver → IsReceiver shared.now c result }
+    ensures is { IsReceiver place.entry.shared.now place.entry.number result }
     ensures heard { HasHeard (left_of R.remaining input) result }
 {
-    let mut watch = Watch::new();
     ends.wait_for_go(rt);
-    for _ in rt.forever() {
-        if ends.are_stopped()
-            || hear_once(
-                rt,
-                shared,
-                ends,
-                notices,
-                &mut receiver,
-                &mut input,
-                &mut watch,
-            )
-        {
-            break;
-        }
-    }
+    hear_on(rt, place, ends, notices, &mut receiver, &mut input);
     receiver.end(true);
     receiver
 }

@@ -35,8 +35,8 @@ pub(crate) fn join_parts<S: Threads, R: Read + Drop>(
     verifying: Vec<VerifierThread<'_>>,
     placing: SequencersThread<'_>,
 ) -> Option<Parts>
-    requires receiving { (k : ℕ) (h : _) → slice_get receiving.items k ≡ Some h → (h.promise.shared.now ≡ shared.now) × (h.promise.number ≡ k) }
-    requires verifying { (k : ℕ) (h : _) → slice_get verifying.items k ≡ Some h → (h.promise.shared.now ≡ shared.now) × (h.promise.number ≡ k) }
+    requires receiving { (k : ℕ) (h : _) → slice_get receiving.items k ≡ Some h → (h.promise.place.shared.now ≡ shared.now) × (h.promise.place.number ≡ k) }
+    requires verifying { (k : ℕ) (h : _) → slice_get verifying.items k ≡ Some h → (h.promise.place.shared.now ≡ shared.now) × (h.promise.place.number ≡ k) }
     requires placing { placing.promise.shared.now ≡ shared.now }
     ensures receiver_count { IfSome result (λ parts. length parts.receivers.items ≡ length receiving.entry.items) }
     ensures receivers { IfSome result (λ parts. (k : ℕ) (r : Receiver) → slice_get parts.receivers.items k ≡ Some r → IsReceiver shared.now k r) }

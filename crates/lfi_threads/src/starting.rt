@@ -12,7 +12,7 @@ use crate::hearing::hear;
 use crate::notices::Notices;
 use crate::placing::place;
 use crate::promises::{
-    ReceiverOf, ReceiverThread, SequencersOf, SequencersThread, VerifierOf, VerifierThread,
+    AllPlaced, HeardBy, Place, ReceiverThread, SequencersThread, VerifiedBy, VerifierThread,
 };
 use crate::verifying::verify;
 use lfi_place::{Gate, Sequencer, Verifier};
@@ -33,25 +33,23 @@ pub(crate) fn start_receiver<
 >(
     scope: &Scope<'s, &'e ()>,
     rt: &'e S,
-    shared: &'e Shared,
+    place: Place<'e>,
     ends: &'e Ends,
     notices: &'e N,
-    number: usize,
     receiver: Receiver,
     input: Input<R>,
 ) -> Option<ReceiverThread<'e, R>>
-    requires is { IsReceiver shared.now number receiver }
+    requires is { IsReceiver place.shared.now place.number receiver }
     requires fresh { IsFresh receiver }
-    ensures { IfSome result (λ handle. (handle.promise.shared.now ≡ shared.now) × (handle.promise.number ≡ number) × (handle.promise.input.value ≡ input)) }
+    ensures { IfSome result (λ handle. (handle.promise.place.shared.now ≡ place.entry.shared.now) × (handle.promise.place.number ≡ place.entry.number) × (handle.promise.input.value ≡ input)) }
 {
-    let promise = ReceiverOf {
-        shared,
-        number,
+    let promise = HeardBy {
+        place,
         input: Snapshot::of(&input),
     };
     match scope.spawn_with(
         promise,
-        move || hear(rt, shared, ends, notices, receiver, input),
+        move || hear(rt, place, ends, notices, receiver, input),
     ) {
         Ok(handle) => Some(handle),
         Err(_) => None,
@@ -79,15 +77,15 @@ pub(crate) fn start_receivers<
     requires is { (k : ℕ) (r : Receiver) → slice_get receivers.items k ≡ Some r → IsReceiver shared.now k r × IsFresh r }
     requires inputs { length inputs.items ≡ length receivers.items }
     requires none { handles.old.items ≡ [] }
-    ensures promised { (k : ℕ) (h : _) → slice_get handles.new.items k ≡ Some h → (h.promise.shared.now ≡ shared.now) × (h.promise.number ≡ k) × (slice_get inputs.items k ≡ Some h.promise.input.value) }
+    ensures promised { (k : ℕ) (h : _) → slice_get handles.new.items k ≡ Some h → (h.promise.place.shared.now ≡ shared.now) × (h.promise.place.number ≡ k) × (slice_get inputs.items k ≡ Some h.promise.input.value) }
     ensures all { IsTrue result → length handles.new.items ≡ length receivers.items }
 {
     let mut inputs = inputs.into_iter();
     for receiver in receivers {
         let number = handles.len();
+        let place = Place { shared, number };
         let input = inputs.next().unwrap();
-        let Some(handle) = start_receiver(scope, rt, shared, ends, notices, number, receiver, input)
-        else {
+        let Some(handle) = start_receiver(scope, rt, place, ends, notices, receiver, input) else {
             ends.stop();
             return false;
         };
@@ -104,19 +102,16 @@ pub(crate) fn start_receivers<
 fn start_verifier<'s, 'e, S: Wait + Sync, G: Gate + Sync>(
     scope: &Scope<'s, &'e ()>,
     rt: &'e S,
-    shared: &'e Shared,
+    place: Place<'e>,
     ends: &'e Ends,
     gate: &'e G,
-    number: usize,
     verifier: Verifier,
 ) -> Option<VerifierThread<'e>>
-    requires is { IsVerifierOf shared.now number verifier }
-    ensures { IfSome result (λ handle. (handle.promise.shared.now ≡ shared.now) × (handle.promise.number ≡ number)) }
+    requires { IsVerifierOf place.shared.now place.number verifier }
+    ensures { IfSome result (λ handle. (handle.promise.place.shared.now ≡ place.entry.shared.now) × (handle.promise.place.number ≡ place.entry.number)) }
 {
-    match scope.spawn_with(
-        VerifierOf { shared, number },
-        move || verify(rt, shared, ends, gate, verifier),
-    ) {
+    let promise = VerifiedBy { place };
+    match scope.spawn_with(promise, move || verify(rt, place, ends, gate, verifier)) {
         Ok(handle) => Some(handle),
         Err(_) => None,
     }
@@ -135,12 +130,13 @@ pub(crate) fn start_verifiers<'s, 'e, S: Threads + Wait + Sync, G: Gate + Sync>(
 ) -> bool
     requires is { (k : ℕ) (v : Verifier) → slice_get verifiers.items k ≡ Some v → IsVerifierOf shared.now k v }
     requires none { handles.old.items ≡ [] }
-    ensures promised { (k : ℕ) (h : _) → slice_get handles.new.items k ≡ Some h → (h.promise.shared.now ≡ shared.now) × (h.promise.number ≡ k) }
+    ensures promised { (k : ℕ) (h : _) → slice_get handles.new.items k ≡ Some h → (h.promise.place.shared.now ≡ shared.now) × (h.promise.place.number ≡ k) }
     ensures all { IsTrue result → length handles.new.items ≡ length verifiers.items }
 {
     for verifier in verifiers {
         let number = handles.len();
-        let Some(handle) = start_verifier(scope, rt, shared, ends, gate, number, verifier) else {
+        let place = Place { shared, number };
+        let Some(handle) = start_verifier(scope, rt, place, ends, gate, verifier) else {
             ends.stop();
             return false;
         };
@@ -165,7 +161,7 @@ pub(crate) fn start_sequencers<'s, 'e, S: Wait + Sync>(
     ensures { IfSome result (λ handle. handle.promise.shared.now ≡ shared.now) }
 {
     match scope.spawn_with(
-        SequencersOf { shared },
+        AllPlaced { shared },
         move || place(rt, shared, ends, sequencers),
     ) {
         Ok(handle) => Some(handle),

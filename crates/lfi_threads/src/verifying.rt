@@ -1,42 +1,42 @@
 //! What a verifier's thread does.
 
-ghost use Rattle.std.specs.Prelude.{◌≡◌, ℕ};
 ghost use Rattle.lfi_threads.specs.inner.Workers.{IsVerifierOf};
 
 use crate::ends::{Ends, Rest};
+use crate::promises::Place;
 use lfi_place::{Gate, Verifier, VerifierTurn};
-use lfi_stage::Shared;
 use std::sync::Wait;
 
 /// One turn of a verifier.
 fn turn_one<S: Wait, G: Gate>(
     rt: &S,
-    shared: &Shared,
+    place: Place<'_>,
     gate: &G,
     verifier: &mut Verifier,
 ) -> VerifierTurn
-    requires is { (k : ℕ) × IsVerifierOf shared.now k verifier.old }
-    ensures is { (k : ℕ) → IsVerifierOf shared.now k verifier.old → IsVerifierOf shared.now k verifier.new }
+    requires { IsVerifierOf place.shared.now place.number verifier.old }
+    ensures { IsVerifierOf place.entry.shared.now place.entry.number verifier.new }
 {
+    let shared = place.shared;
     verifier.turn(rt, &shared.intake, &shared.lanes, gate)
 }
 
 /// One turn of a verifier, and what follows it. The answer is whether its thread is to end: where it
-/// finds nothing, after all receivers have ended.
+/// finds nothing, after all receivers have ended, or the threads are to stop.
 fn verify_once<S: Wait, G: Gate>(
     rt: &S,
-    shared: &Shared,
+    place: Place<'_>,
     ends: &Ends,
     gate: &G,
     verifier: &mut Verifier,
     rest: &mut Rest,
 ) -> bool
-    requires is { (k : ℕ) × IsVerifierOf shared.now k verifier.old }
-    ensures is { (k : ℕ) → IsVerifierOf shared.now k verifier.old → IsVerifierOf shared.now k verifier.new }
+    requires { IsVerifierOf place.shared.now place.number verifier.old }
+    ensures { IsVerifierOf place.entry.shared.now place.entry.number verifier.new }
 {
     let all_heard = ends.are_heard();
-    let did = turn_one(rt, shared, gate, verifier);
-    if did == VerifierTurn::Idle && all_heard {
+    let did = turn_one(rt, place, gate, verifier);
+    if did == VerifierTurn::Idle && all_heard || ends.are_stopped() {
         return true;
     }
     if did == VerifierTurn::Idle || did == VerifierTurn::Blocked {
@@ -51,17 +51,17 @@ fn verify_once<S: Wait, G: Gate>(
 /// are to stop.
 pub(crate) fn verify<S: Wait, G: Gate>(
     rt: &S,
-    shared: &Shared,
+    place: Place<'_>,
     ends: &Ends,
     gate: &G,
     mut verifier: Verifier,
 ) -> Verifier
-    requires is { (k : ℕ) × IsVerifierOf shared.now k verifier }
-    ensures is { (k : ℕ) → IsVerifierOf shared.now k verifier → IsVerifierOf shared.now k result }
+    requires { IsVerifierOf place.shared.now place.number verifier }
+    ensures { IsVerifierOf place.entry.shared.now place.entry.number result }
 {
     let mut rest = Rest::new();
     for _ in rt.forever() {
-        if ends.are_stopped() || verify_once(rt, shared, ends, gate, &mut verifier, &mut rest) {
+        if verify_once(rt, place, ends, gate, &mut verifier, &mut rest) {
             break;
         }
     }
