@@ -9,6 +9,7 @@ ghost use Rattle.lfi_threads.specs.inner.Workers.{IsVerifierOf, AreSequencersOf}
 
 use crate::ends::Ends;
 use crate::hearing::hear;
+use crate::joining::keep;
 use crate::notices::Notices;
 use crate::placing::place;
 use crate::promises::{
@@ -89,9 +90,7 @@ pub(crate) fn start_receivers<
             ends.stop();
             return false;
         };
-        if let Err(refused) = handles.push(handle) {
-            ends.stop();
-            refused.value.join(rt);
+        if !keep(rt, ends, handles, handle) {
             return false;
         }
     }
@@ -99,19 +98,25 @@ pub(crate) fn start_receivers<
 }
 
 /// Starts the thread of one verifier.
-fn start_verifier<'s, 'e, S: Wait + Sync, G: Gate + Sync>(
+fn start_verifier<'s, 'e: 's, S: Wait + Sync, G: Gate + Sync>(
     scope: &Scope<'s, &'e ()>,
     rt: &'e S,
-    place: Place<'e>,
+    shared: &'e Shared,
+    number: usize,
     ends: &'e Ends,
     gate: &'e G,
     verifier: Verifier,
 ) -> Option<VerifierThread<'e>>
-    requires { IsVerifierOf place.shared.now place.number verifier }
-    ensures { IfSome result (λ handle. (handle.promise.place.shared.now ≡ place.entry.shared.now) × (handle.promise.place.number ≡ place.entry.number)) }
+    requires is { IsVerifierOf shared.now number verifier }
+    ensures { IfSome result (λ handle. (handle.promise.place.shared.now ≡ shared.now) × (handle.promise.place.number ≡ number)) }
 {
-    let promise = VerifiedBy { place };
-    match scope.spawn_with(promise, move || verify(rt, place, ends, gate, verifier)) {
+    let promise = VerifiedBy {
+        place: Place { shared, number },
+    };
+    match scope.spawn_with(
+        promise,
+        move || verify(rt, shared, number, ends, gate, verifier),
+    ) {
         Ok(handle) => Some(handle),
         Err(_) => None,
     }
@@ -119,7 +124,7 @@ fn start_verifier<'s, 'e, S: Wait + Sync, G: Gate + Sync>(
 
 /// Starts the threads of all verifiers. The answer is whether all were started; else all are told
 /// to stop.
-pub(crate) fn start_verifiers<'s, 'e, S: Threads + Wait + Sync, G: Gate + Sync>(
+pub(crate) fn start_verifiers<'s, 'e: 's, S: Threads + Wait + Sync, G: Gate + Sync>(
     scope: &Scope<'s, &'e ()>,
     rt: &'e S,
     shared: &'e Shared,
@@ -135,14 +140,11 @@ pub(crate) fn start_verifiers<'s, 'e, S: Threads + Wait + Sync, G: Gate + Sync>(
 {
     for verifier in verifiers {
         let number = handles.len();
-        let place = Place { shared, number };
-        let Some(handle) = start_verifier(scope, rt, place, ends, gate, verifier) else {
+        let Some(handle) = start_verifier(scope, rt, shared, number, ends, gate, verifier) else {
             ends.stop();
             return false;
         };
-        if let Err(refused) = handles.push(handle) {
-            ends.stop();
-            refused.value.join(rt);
+        if !keep(rt, ends, handles, handle) {
             return false;
         }
     }

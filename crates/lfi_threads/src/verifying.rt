@@ -5,6 +5,7 @@ ghost use Rattle.lfi_threads.specs.inner.Workers.{IsVerifierOf};
 use crate::ends::{Ends, Rest};
 use crate::promises::Place;
 use lfi_place::{Gate, Verifier, VerifierTurn};
+use lfi_stage::Shared;
 use std::sync::Wait;
 
 /// One turn of a verifier.
@@ -14,8 +15,8 @@ fn turn_one<S: Wait, G: Gate>(
     gate: &G,
     verifier: &mut Verifier,
 ) -> VerifierTurn
-    requires { IsVerifierOf place.shared.now place.number verifier.old }
-    ensures { IsVerifierOf place.entry.shared.now place.entry.number verifier.new }
+    requires is { IsVerifierOf place.shared.now place.number verifier.old }
+    ensures is { IsVerifierOf place.entry.shared.now place.entry.number verifier.new }
 {
     let shared = place.shared;
     verifier.turn(rt, &shared.intake, &shared.lanes, gate)
@@ -31,8 +32,8 @@ fn verify_once<S: Wait, G: Gate>(
     verifier: &mut Verifier,
     rest: &mut Rest,
 ) -> bool
-    requires { IsVerifierOf place.shared.now place.number verifier.old }
-    ensures { IsVerifierOf place.entry.shared.now place.entry.number verifier.new }
+    requires is { IsVerifierOf place.shared.now place.number verifier.old }
+    ensures is { IsVerifierOf place.entry.shared.now place.entry.number verifier.new }
 {
     let all_heard = ends.are_heard();
     let did = turn_one(rt, place, gate, verifier);
@@ -49,15 +50,15 @@ fn verify_once<S: Wait, G: Gate>(
 
 /// Turns a verifier until all receivers have ended and a later turn finds nothing, or the threads
 /// are to stop.
-pub(crate) fn verify<S: Wait, G: Gate>(
+fn verify_on<S: Wait, G: Gate>(
     rt: &S,
     place: Place<'_>,
     ends: &Ends,
     gate: &G,
     mut verifier: Verifier,
 ) -> Verifier
-    requires { IsVerifierOf place.shared.now place.number verifier }
-    ensures { IsVerifierOf place.entry.shared.now place.entry.number result }
+    requires is { IsVerifierOf place.shared.now place.number verifier }
+    ensures is { IsVerifierOf place.entry.shared.now place.entry.number result }
 {
     let mut rest = Rest::new();
     for _ in rt.forever() {
@@ -66,4 +67,19 @@ pub(crate) fn verify<S: Wait, G: Gate>(
         }
     }
     verifier
+}
+
+/// What the thread of the verifier with this number does.
+pub(crate) fn verify<S: Wait, G: Gate>(
+    rt: &S,
+    shared: &Shared,
+    number: usize,
+    ends: &Ends,
+    gate: &G,
+    verifier: Verifier,
+) -> Verifier
+    requires is { IsVerifierOf shared.now number verifier }
+    ensures is { IsVerifierOf shared.now number result }
+{
+    verify_on(rt, Place { shared, number }, ends, gate, verifier)
 }

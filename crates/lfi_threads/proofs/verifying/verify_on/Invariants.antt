@@ -1,5 +1,5 @@
 use Rattle.lfi_threads.specs.inner.Workers.{IsVerifierOf}
-use Rattle.lfi_threads.proofs.verifying.verify.Given as goal
+use Rattle.lfi_threads.proofs.verifying.verify_on.Given as goal
 
 abbrev pub invariant-loop : goal.invariant-loop
 invariant-loop g l = record {
