@@ -3,6 +3,7 @@ use Rattle.std.specs.Prelude.{◌≡◌, ℕ, List, Option, length, Some, slice_
 use Rattle.lfi_receive.specs.declared.receiver.Receiver.{Receiver}
 use Rattle.lfi_receive.specs.declared.input.Input.{Input}
 use Rattle.lfi_receive.specs.Inputs.{left_of}
+use Rattle.lfi_receive.specs.Receivers.{StandsFor}
 use Rattle.lfi_stage.specs.declared.shared.Shared.{Shared}
 use Rattle.lfi_stage.specs.Parts.{AreAllParts}
 use Rattle.lfi_stage.specs.Stages.{IsFresh}
@@ -24,3 +25,9 @@ pub record AreBack {R : Type 0} (remaining : R → Option (List ℕ)) (shared : 
   pub all : ArePartsOf shared parts
   pub counted : length parts.receivers.items ≡ length inputs
   pub heard : (c : ℕ) (r : Receiver) (input : Input R) → slice_get parts.receivers.items c ≡ Some r → slice_get inputs c ≡ Some input → HasHeard (left_of remaining input) r
+
+-- These are all parts of a stage with so many receivers, each of which stands for some text.
+pub record HaveServed (shared : Shared) (count : ℕ) (parts : Parts) : Type 0 where
+  pub all : ArePartsOf shared parts
+  pub counted : length parts.receivers.items ≡ count
+  pub stand : (c : ℕ) (r : Receiver) → slice_get parts.receivers.items c ≡ Some r → (text : List ℕ) × StandsFor r text
