@@ -159,7 +159,7 @@ pub(crate) fn start_sequencers<'s, 'e, S: Wait + Sync>(
     ends: &'e Ends,
     sequencers: Vec<Sequencer>,
 ) -> Option<SequencersThread<'e>>
-    requires { AreSequencersOf shared.now sequencers.items }
+    requires are { AreSequencersOf shared.now sequencers.items }
     ensures { IfSome result (λ handle. handle.promise.shared.now ≡ shared.now) }
 {
     match scope.spawn_with(

@@ -10,8 +10,8 @@ use Rattle.lfi_threads.proofs.load.load_all.Goals as goal
 pub returns : goal.returns
 returns g c = λ texts known.
     let remaining = g.R.Read.remaining in
-    let back = c.in-Some-load_with.ensures in
-    let rs = c.in-Some-load_with.parts.receivers.items in
+    let back = c.in-Some.ensures in
+    let rs = c.in-Some.parts.receivers.items in
     let ins = c.args.inputs.items in
     let told = told_by rs (λ k r heard. IsHeard (claimed_by r) (cause_of r) heard (texts k) × StandsFor r heard) (λ k r at.
     let input = some_at ins k (let within = slice_get_within rs k r at in let same = back.counted in omega arith) in
