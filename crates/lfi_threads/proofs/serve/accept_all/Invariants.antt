@@ -1,0 +1,10 @@
+use Rattle.std.proofs.Common.{◌≡◌, ℕ, ◌+◌, Some, length, slice_get}
+use Rattle.std.specs.Vec.Iter.{into_iter_items, into_iter_len}
+use Rattle.lfi_threads.proofs.serve.accept_all.Given as goal
+
+abbrev pub invariant-loop-receiver : goal.invariant-loop-receiver
+invariant-loop-receiver g l = record {
+  count : length l.handles.items + into_iter_len l.receiver-iterator ≡ length l.fn.receivers.items;
+  rest : (k : ℕ) → slice_get (into_iter_items l.receiver-iterator) k ≡ slice_get l.fn.receivers.items (length l.handles.items + k);
+  promised : (k : ℕ) (h : _) → slice_get l.handles.items k ≡ Some h → (h.promise.place.shared.now ≡ l.shared) × (h.promise.place.number ≡ k);
+}

@@ -1,0 +1,171 @@
+//! What a receiver's thread does.
+
+ghost use Rattle.std.specs.Prelude.{ℕ, List, Option, IsSome};
+ghost use Rattle.lfi_receive.specs.Receivers.{cause_of};
+ghost use Rattle.lfi_receive.specs.Inputs.{left_of};
+ghost use Rattle.lfi_stage.specs.Parts.{IsReceiver};
+ghost use Rattle.lfi_stage.specs.Stages.{IsFresh};
+ghost use Rattle.lfi_threads.specs.Heard.{HasHeard};
+ghost use Rattle.lfi_threads.specs.inner.Hearing.{IsHearing, IsAsBefore};
+
+use crate::ends::{Ends, Rest};
+use crate::notices::{Notices, Told};
+use crate::promises::Place;
+use lfi_receive::{Input, Receiver, ReceiverTurn};
+use std::io::Read;
+use std::sync::Wait;
+
+/// In every so many turns of a receiver its thread looks at the modules' phases.
+const LOOK_TURNS: u32 = 64;
+
+/// One turn of a receiver whose input is over.
+fn put_one<S: Wait>(rt: &S, place: Place<'_>, receiver: &mut Receiver) -> ReceiverTurn
+    requires is { IsReceiver place.shared.now place.number receiver.old }
+    requires over { IsSome (cause_of receiver.old) }
+    ensures is { IsReceiver place.entry.shared.now place.entry.number receiver.new }
+    ensures before { IsAsBefore receiver.old receiver.new }
+{
+    let shared = place.shared;
+    let (_, did) = receiver.turn(rt, &shared.board, &shared.intake, &[]);
+    did
+}
+
+/// One turn of a receiver over its input, or, once that is over, over what is still to be put.
+fn pull_one<S: Wait, R: Read + Drop>(
+    rt: &S,
+    place: Place<'_>,
+    receiver: &mut Receiver,
+    input: &mut Input<R>,
+) -> ReceiverTurn
+    requires is { IsReceiver place.shared.now place.number receiver.old }
+    ensures is { IsReceiver place.entry.shared.now place.entry.number receiver.new }
+    ensures hearing { (whole : Option (List ℕ)) → IsHearing R.remaining whole receiver.old input.old → IsHearing R.remaining whole receiver.new input.new }
+{
+    if receiver.is_over() {
+        return put_one(rt, place, receiver);
+    }
+    let shared = place.shared;
+    receiver.pull(rt, &shared.board, &shared.intake, input)
+}
+
+/// What a receiver's thread keeps beside its receiver.
+#[derive(Drop)]
+struct Watch {
+    rest: Rest,
+    told: Told,
+    turns: u32,
+}
+
+impl Watch {
+    fn new() -> Watch {
+        Watch {
+            rest: Rest::new(),
+            told: Told::new(),
+            turns: 0,
+        }
+    }
+
+    /// Rests after a turn that was refused.
+    fn rest_after<S: Wait>(&mut self, rt: &S, ends: &Ends, did: ReceiverTurn) {
+        if did == ReceiverTurn::Blocked {
+            self.rest.pause(rt, ends);
+        } else {
+            self.rest.end();
+        }
+    }
+
+    /// Whether it is time to look at the modules' phases, after a turn that did this: where there
+    /// was nothing else to do, at the end, and now and then.
+    fn is_due(&mut self, did: ReceiverTurn) -> bool {
+        self.turns = self.turns.wrapping_add(1);
+        did == ReceiverTurn::Blocked
+            || did == ReceiverTurn::Finished
+            || self.turns % LOOK_TURNS == 0
+    }
+
+    /// Looks at the modules' phases, where it is time to.
+    fn look_after<N: Notices>(
+        &mut self,
+        place: Place<'_>,
+        notices: &N,
+        receiver: &mut Receiver,
+        did: ReceiverTurn,
+    )
+        requires is { IsReceiver place.shared.now place.number receiver.old }
+        ensures is { IsReceiver place.entry.shared.now place.entry.number receiver.new }
+        ensures before { IsAsBefore receiver.old receiver.new }
+    {
+        if !self.is_due(did) {
+            return;
+        }
+        self.told.look(place, receiver, notices);
+    }
+}
+
+/// One turn of a receiver, and what follows it. The answer is whether its thread is to end: where
+/// the receiver has finished, or the threads are to stop.
+fn hear_once<S: Wait, R: Read + Drop, N: Notices>(
+    rt: &S,
+    place: Place<'_>,
+    ends: &Ends,
+    notices: &N,
+    receiver: &mut Receiver,
+    input: &mut Input<R>,
+    watch: &mut Watch,
+) -> bool
+    requires is { IsReceiver place.shared.now place.number receiver.old }
+    ensures is { IsReceiver place.entry.shared.now place.entry.number receiver.new }
+    ensures hearing { (whole : Option (List ℕ)) → IsHearing R.remaining whole receiver.old input.old → IsHearing R.remaining whole receiver.new input.new }
+{
+    if ends.are_stopped() {
+        return true;
+    }
+    let did = pull_one(rt, place, receiver, input);
+    watch.look_after(place, notices, receiver, did);
+    watch.rest_after(rt, ends, did);
+    did == ReceiverTurn::Finished
+}
+
+/// Turns a receiver until its thread is to end.
+fn hear_on<S: Wait, R: Read + Drop, N: Notices>(
+    rt: &S,
+    place: Place<'_>,
+    ends: &Ends,
+    notices: &N,
+    receiver: &mut Receiver,
+    input: &mut Input<R>,
+)
+    requires is { IsReceiver place.shared.now place.number receiver.old }
+    ensures is { IsReceiver place.entry.shared.now place.entry.number receiver.new }
+    ensures hearing { (whole : Option (List ℕ)) → IsHearing R.remaining whole receiver.old input.old → IsHearing R.remaining whole receiver.new input.new }
+{
+    let mut watch = Watch::new();
+    for _ in rt.forever() {
+        if hear_once(rt, place, ends, notices, receiver, input, &mut watch) {
+            return;
+        }
+    }
+    unreachable!()
+}
+
+/// Turns a receiver until it has put all that its input makes and has told the board its end. It
+/// begins once all threads have been started. Where they are to stop it gives up, as after a read
+/// that failed.
+pub(crate) fn hear<S: Wait, R: Read + Drop, N: Notices>(
+    rt: &S,
+    place: Place<'_>,
+    ends: &Ends,
+    notices: &N,
+    mut receiver: Receiver,
+    mut input: Input<R>,
+) -> Receiver
+    requires is { IsReceiver place.shared.now place.number receiver }
+    requires fresh { IsFresh receiver }
+    ensures is { IsReceiver place.entry.shared.now place.entry.number result }
+    ensures heard { HasHeard (left_of R.remaining input) result }
+{
+    ends.wait_for_go(rt);
+    hear_on(rt, place, ends, notices, &mut receiver, &mut input);
+    receiver.end(true);
+    receiver
+}

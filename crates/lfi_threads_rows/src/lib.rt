@@ -1,0 +1,11 @@
+//! Worked rows of `lfi_threads`: streams loaded on threads, and clients over sockets.
+#![tactic(auto)]
+
+#[cfg(test)]
+mod build;
+#[cfg(test)]
+mod clients;
+#[cfg(test)]
+mod gates;
+#[cfg(test)]
+mod inputs;
