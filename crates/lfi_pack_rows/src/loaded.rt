@@ -5,7 +5,7 @@ use lfi_module::{Extent, ModuleNumber, WordCount};
 use lfi_pack::pack_module;
 use lfi_place::OpenGate;
 use lfi_receive::Input;
-use lfi_stage::load::load_all;
+use lfi_threads::{NoNotices, load_all};
 use std::test::Fail;
 
 #[test]
@@ -23,7 +23,7 @@ fn three_files(rt: HostRuntime) -> Result<(), Fail> {
     let mut inputs = Vec::new(alloc);
     let text = CodeReader::new(stream.taken.as_slice(), 5000);
     inputs.push(Input::new(alloc, text)?)?;
-    let summary = load_all(&rt, alloc, inputs, 1, &OpenGate)?.summary();
+    let summary = load_all(&rt, alloc, inputs, 1, &OpenGate, &NoNotices)?.summary();
     let told = format!(in alloc; "{summary}")?;
     let want =
         "module 5: complete, 2 words\nmodule 6: complete, 1025 words\nmodule 7: complete, 3072 words\nstrays 0\n";

@@ -8,15 +8,16 @@ use lfi_model::Cause;
 use lfi_place::OpenGate;
 use lfi_plain::report_on;
 use lfi_receive::Input;
-use lfi_stage::load::load_all;
+use lfi_threads::{NoNotices, load_all};
 use std::alloc::{AllocError, Global};
 use std::sync::Wait;
 use std::test::Fail;
+use std::thread::Threads;
 
 /// The text of the stage's report on these connections, of which it takes at most eight, each in
 /// pieces of so many bytes; nothing where there is none.
 fn loaded_all(
-    rt: &(impl Wait + AllocGlobal),
+    rt: &(impl Threads + Wait + Sync + AllocGlobal),
     texts: &[Text],
     most: usize,
     verifiers: usize,
@@ -32,7 +33,7 @@ fn loaded_all(
     if inputs.is_empty() {
         return Ok(String::new(rt.alloc()));
     }
-    let summary = load_all(rt, rt.alloc(), inputs, verifiers, &OpenGate)?.summary();
+    let summary = load_all(rt, rt.alloc(), inputs, verifiers, &OpenGate, &NoNotices)?.summary();
     format!(in rt.alloc(); "{summary}")
 }
 

@@ -5,11 +5,12 @@ use crate::cuts::cut_short;
 use lfi_model::Cause;
 use lfi_place::OpenGate;
 use lfi_receive::Input;
-use lfi_stage::load::load_all;
+use lfi_threads::{NoNotices, load_all};
 use std::alloc::{AllocError, Global};
 use std::io::{self, Read};
 use std::sync::Wait;
 use std::test::Fail;
+use std::thread::Threads;
 
 /// A text in memory, of which a read gives at most so many bytes.
 #[derive(Drop)]
@@ -28,20 +29,20 @@ impl<'a> Read for Pieces<'a> {
 }
 
 /// The text of the stage's report on one connection.
-pub fn loaded(rt: &(impl Wait + AllocGlobal), bytes: &[u8]) -> Result<String, AllocError> {
+pub fn loaded(rt: &(impl Threads + Wait + Sync + AllocGlobal), bytes: &[u8]) -> Result<String, AllocError> {
     loaded_in_pieces(rt, bytes, usize::MAX)
 }
 
 /// The text of the stage's report on one connection that comes in pieces of so many bytes.
 fn loaded_in_pieces(
-    rt: &(impl Wait + AllocGlobal),
+    rt: &(impl Threads + Wait + Sync + AllocGlobal),
     bytes: &[u8],
     most: usize,
 ) -> Result<String, AllocError> {
     let mut inputs = Vec::new(rt.alloc());
     let pieces = Pieces { left: bytes, most };
     inputs.push(Input::new(rt.alloc(), pieces)?)?;
-    let summary = load_all(rt, rt.alloc(), inputs, 1, &OpenGate)?.summary();
+    let summary = load_all(rt, rt.alloc(), inputs, 1, &OpenGate, &NoNotices)?.summary();
     format!(in rt.alloc(); "{summary}")
 }
 
@@ -162,7 +163,7 @@ fn modules_of_one_page(rt: HostRuntime) -> Result<(), Fail> {
 /// Whether the stage and the plain program, for which these modules are claimed, both tell this of
 /// a text.
 pub fn both_tell(
-    rt: &(impl Wait + AllocGlobal),
+    rt: &(impl Threads + Wait + Sync + AllocGlobal),
     text: &Text,
     modules: &[u16],
     want: &str,
