@@ -2,7 +2,7 @@
 
 /// Of the program: the exit statuses.
 pub const PROGRAM: &str = "Exit status:
-  0  check: the code is lawful. load: each module is complete or unused, and no connection has a fault.
+  0  check: the code is lawful. load, serve: each module is complete or unused, and no connection has a fault.
      run: the run ended with a status, at BRK, or when all steps were used.
   1  It isn't so: the printed lines say why.
   2  The words of the command line are wrong.
@@ -55,10 +55,11 @@ failed, else 1.
 With --out DIR, the image of each complete module M is written to DIR/module-MM.img, M in two digits.
 
 On the standard error:
+  module M refused            A connection's thread has seen that module M is refused; the report tells why.
   lfiload: cannot read PATH   The first stream that can't be opened; nothing is loaded (status 3).
   lfiload: cannot write PATH  An image can't be written (status 3).
   lfiload: at most 8 streams  More were named (status 2).
-  lfiload: no memory          There was no memory to load them (status 3).
+  lfiload: no memory          There was no memory to load them, or a thread could not be started (status 3).
 
 Example: lfiload load --verifiers 4 --out images a.stream b.stream";
 

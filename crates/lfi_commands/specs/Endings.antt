@@ -1,5 +1,5 @@
 -- How a run ends, by what it found. (this project's profile: docs/DEFINITIONS.md, "The program")
-use Rattle.std.specs.Prelude.{◌≡◌, ℕ, List, Option, Some, slice_get}
+use Rattle.std.specs.Prelude.{◌≡◌, ℕ, Bool, true, false, List, Option, Some, slice_get}
 use Rattle.lfi_frame.specs.declared.fault.FrameFault.{FrameFault}
 use Rattle.lfi_frame.specs.declared.fault.FrameFault.TheVariants.{ReadFailed}
 use Rattle.lfi_image.specs.declared.fault.ImageFault.TheVariants as image_fault
@@ -55,3 +55,9 @@ ending_of_run (image_run.Refused image_fault.NoMemory) = Failed
 ending_of_run (image_run.Refused image_fault.Device) = Failed
 ending_of_run (image_run.Refused fault) = NotWell
 ending_of_run (image_run.Ended halt steps) = ending_of_halt halt
+
+-- by a load: by its report, where all connections were taken and all images that were asked for were put
+abbrev pub EndsLoad : Report → (all_taken all_put : Bool) → Ending → Type 0
+EndsLoad report true true ending = EndsBy report ending
+EndsLoad report true false ending = ending ≡ Failed
+EndsLoad report false all_put ending = ending ≡ Failed

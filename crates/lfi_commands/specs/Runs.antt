@@ -5,6 +5,7 @@ use Rattle.lfi_image.specs.Image.{Image}
 use Rattle.lfi_place.specs.declared.report.ModuleReport.{ModuleReport}
 use Rattle.lfi_stage.specs.declared.settle.Report.{Report}
 use Rattle.lfi_stage.specs.Stages.{IsLoaded}
+use Rattle.lfi_threads.specs.Served.{IsServed}
 use Rattle.lfi_command_line.specs.declared.line.Line.{Line}
 use Rattle.lfi_command_line.specs.declared.line.Line.TheVariants.{Check, Load, Serve, Run}
 use Rattle.lfi_command_line.specs.CommandLine.{IsLine, AsksHelp, AreWrong, NameTooMany}
@@ -14,7 +15,7 @@ use Rattle.lfi_commands.specs.declared.ending.Ending.TheVariants.{Well, NotWell,
 use Rattle.lfi_commands.specs.declared.failure.Failure.{Failure}
 use Rattle.lfi_commands.specs.declared.failure.Failure.TheVariants.{CannotRead, CannotWrite, CannotListen, NoMemory}
 use Rattle.lfi_commands.specs.Checking.{Checks, verdict_text}
-use Rattle.lfi_commands.specs.Endings.{ending_of, ending_of_run, EndsBy}
+use Rattle.lfi_commands.specs.Endings.{ending_of, ending_of_run, EndsLoad}
 use Rattle.lfi_commands.specs.Failures.{failure_line, FailsOn, FailsServing, Told}
 use Rattle.lfi_commands.specs.Images.{images_in, WritesImages}
 use Rattle.lfi_model.specs.Texts.{summary_text}
@@ -29,11 +30,6 @@ pub record FindsVerdict (bytes out_old out_new : Option (List ℕ)) (ending : En
   pub checks : IfSome bytes (λ xs. Checks xs verdict)
   pub written : Appends out_old out_new (verdict_text verdict ++ codes "\n")
   pub ends : ending ≡ ending_of verdict
-
--- the ending of a load: by the report, where all images were put
-abbrev pub EndsLoad : Report → Bool → Ending → Type 0
-EndsLoad report true ending = EndsBy report ending
-EndsLoad report false ending = ending ≡ Failed
 
 -- the images that are asked for: all whole ones where a folder is named
 abbrev pub asked_images : Option (List ℕ) → List ModuleReport → List Image
@@ -65,21 +61,17 @@ pub record FindsReport (streams : List (Option (List ℕ))) (folder : Option (Li
   pub written : Appends old.out new.out (summary_text (summary_of report))
   pub all : Bool
   pub images : WritesImages (folder_or_none folder) (asked_images folder report.modules) old.put new.put new.is_lost old.errors new.errors all
-  pub ends : EndsLoad report all ending
-
--- the ending of a load over a socket: as of any load, where all connections were taken
-abbrev pub EndsServed : Report → (taken all : Bool) → Ending → Type 0
-EndsServed report true all ending = EndsLoad report all ending
-EndsServed report false all ending = ending ≡ Failed
+  pub ends : EndsLoad report true all ending
 
 -- Of what so many connections sent one report was found; its text was written, its images were put into the folder, and it gives the ending.
 pub record FindsServed (connections : ℕ) (folder : Option (List ℕ)) (old new : Left) (ending : Ending) : Type 0 where
   pub report : Report
+  pub served : IsServed connections report
   pub written : Appends old.out new.out (summary_text (summary_of report))
-  pub taken : Bool
+  pub all_taken : Bool
   pub all : Bool
   pub images : WritesImages (folder_or_none folder) (asked_images folder report.modules) old.put new.put new.is_lost old.errors new.errors all
-  pub ends : EndsServed report taken all ending
+  pub ends : EndsLoad report all_taken all ending
 
 -- the ending of a run of an image: by what came of it, where that was told
 abbrev pub EndsRun : (is_lost : Bool) → ImageRun → Ending → Type 0

@@ -6,6 +6,7 @@ ghost use Rattle.std.specs.Io.KnownBytes.{Appends};
 ghost use Rattle.lfi_receive.specs.Inputs.{left_of};
 ghost use Rattle.lfi_receive.specs.declared.input.Input.{Input};
 ghost use Rattle.lfi_stage.specs.Stages.{IsLoaded};
+ghost use Rattle.lfi_threads.specs.Served.{IsServed};
 ghost use Rattle.lfi_commands.specs.Checking.{Checks, verdict_text};
 ghost use Rattle.lfi_model.specs.Texts.{summary_text};
 ghost use Rattle.lfi_stage.specs.Summaries.{summary_of};
@@ -16,11 +17,14 @@ use crate::verdict::{Verdict, judge_code};
 use a64_word::WORD_BYTES;
 use lfi_place::OpenGate;
 use lfi_receive::Input;
-use lfi_stage::load::load_all;
 use lfi_stage::settle::Report;
+use lfi_threads::{Notices, Served, load_all, serve_on};
 use std::alloc::Global;
+use std::fs::Files;
 use std::io::{self, Read, Write};
+use std::os::unix::net::UnixListener;
 use std::sync::Wait;
+use std::thread::Threads;
 
 /// Why a command comes to no answer, or can't tell it.
 #[derive(Clone, Copy, PartialEq, Eq, Debug)]
@@ -116,17 +120,32 @@ pub fn check_file<R: Read + Drop, W: Write>(
     }
 }
 
+/// Writes the text of a report.
+fn write_report<W: Write>(report: Report, writer: &mut W) -> Result<Report, CommandFault>
+    ensures same { IfOk result (λ written. written ≡ report) }
+    ensures written { IfOk result (λ written. Appends (W.contents writer.old) (W.contents writer.new) (summary_text (summary_of written))) }
+    ensures fault { IfErr result (λ fault. fault ≡ CommandFault.NotWritten) }
+{
+    let summary = report.summary();
+    match write!(writer, "{summary}") {
+        Ok(()) => Ok(report),
+        Err(_) => Err(CommandFault::NotWritten),
+    }
+}
+
 /// Loads the modules of the streams that these inputs have, each up to its end or a read that
-/// fails, which is then its connection's fault, and writes the report.
+/// fails, which is then its connection's fault, and writes the report. Each input and each verifier
+/// has its thread.
 ///
 /// # Errors
 ///
-/// Where the write fails, or there is no memory for the stage.
-pub fn load<S: Wait, R: Read + Drop, W: Write>(
+/// Where the write fails, or there is no memory for the stage, or a thread can't be started.
+pub fn load<S: Threads + Wait + Sync, R: Read + Send + Drop, N: Notices + Sync, W: Write>(
     rt: &S,
     alloc: Global,
     inputs: Vec<Input<R>>,
     verifiers: usize,
+    notices: &N,
     writer: &mut W,
 ) -> Result<Report, CommandFault>
     requires connections { (1 ≤ length inputs.items) × (length inputs.items ≤ 8) }
@@ -135,12 +154,42 @@ pub fn load<S: Wait, R: Read + Drop, W: Write>(
     ensures written { IfOk result (λ report. Appends (W.contents writer.old) (W.contents writer.new) (summary_text (summary_of report))) }
     ensures unwritten { IfErr result (λ fault. fault ≢ CommandFault.NotWritten → writer.new ≡ writer.old) }
 {
-    let Ok(report) = load_all(rt, alloc, inputs, verifiers, &OpenGate) else {
+    match load_all(rt, alloc, inputs, verifiers, &OpenGate, notices) {
+        Ok(report) => write_report(report, writer),
+        Err(_) => Err(CommandFault::NoMemory),
+    }
+}
+
+/// Takes so many connections of a listener at this path, loads the modules of their streams as
+/// `load` does, each from when its connection was taken, and writes the report. After the last was
+/// taken the path is removed.
+///
+/// # Errors
+///
+/// Where the write fails, or there is no memory for the stage, or a thread can't be started.
+pub fn serve<S: Threads + Wait + Files + Sync, N: Notices + Sync, W: Write>(
+    rt: &S,
+    alloc: Global,
+    listener: UnixListener,
+    path: &str,
+    connections: usize,
+    verifiers: usize,
+    notices: &N,
+    writer: &mut W,
+) -> Result<Served, CommandFault>
+    requires connections { (1 ≤ connections) × (connections ≤ 8) }
+    requires verifiers { (1 ≤ verifiers) × (verifiers ≤ 8) }
+    ensures report { IfOk result (λ served. IsServed connections served.report) }
+    ensures written { IfOk result (λ served. Appends (W.contents writer.old) (W.contents writer.new) (summary_text (summary_of served.report))) }
+    ensures unwritten { IfErr result (λ fault. fault ≢ CommandFault.NotWritten → writer.new ≡ writer.old) }
+{
+    let Ok(Served { report, all_accepted }) = serve_on(
+        rt, alloc, listener, path, connections, verifiers, &OpenGate, notices,
+    ) else {
         return Err(CommandFault::NoMemory);
     };
-    let summary = report.summary();
-    match write!(writer, "{summary}") {
-        Ok(()) => Ok(report),
-        Err(_) => Err(CommandFault::NotWritten),
+    match write_report(report, writer) {
+        Ok(report) => Ok(Served { report, all_accepted }),
+        Err(fault) => Err(fault),
     }
 }

@@ -11,7 +11,7 @@ use std::io::{self, Read};
 /// Where the commands find their input, and put the images.
 pub trait Disk {
     /// What reads a file.
-    type Reader: Read + Drop;
+    type Reader: Read + Send + Drop;
 
     /// The bytes of the file at a path, where they are known.
     ghost file_at: { Self → List ℕ → Option (List ℕ) } = { λ _ _. None };

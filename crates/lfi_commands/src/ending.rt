@@ -2,7 +2,7 @@
 
 ghost use Rattle.std.specs.Prelude.{◌≡◌, ◌≢◌, Some, false, IsTrue};
 ghost use Rattle.lfi_frame.specs.declared.fault.FrameFault.TheVariants.{ReadFailed};
-ghost use Rattle.lfi_commands.specs.Endings.{number_of, ending_of, ending_of_run, EndsBy, IsReadFailed};
+ghost use Rattle.lfi_commands.specs.Endings.{number_of, ending_of, ending_of_run, EndsBy, EndsLoad, IsReadFailed};
 
 use crate::verdict::Verdict;
 use lfi_frame::FrameFault;
@@ -82,6 +82,18 @@ impl Ending {
             Ending::Failed
         } else {
             Ending::NotWell
+        }
+    }
+
+    /// The ending that a load gives: by its report, where all connections were taken and all images that were asked for were
+    /// put; else failed.
+    pub fn of_load(report: &Report, all_taken: bool, all_put: bool) -> Ending
+        ensures { EndsLoad report.now all_taken all_put result }
+    {
+        if all_taken && all_put {
+            Ending::of_report(report)
+        } else {
+            Ending::Failed
         }
     }
 

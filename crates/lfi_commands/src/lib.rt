@@ -1,4 +1,4 @@
-//! The commands of `lfiload`: `check`, `load` and `run` over any reader and writer, their texts, failures and
+//! The commands of `lfiload`: `check`, `load`, `serve` and `run` over any reader and writer, their texts, failures and
 //! exit statuses, and the files that they read and write.
 #![tactic(auto)]
 
@@ -9,17 +9,19 @@ mod ending;
 mod errors;
 mod failure;
 mod images;
+mod notices;
 mod opening;
 mod pieces;
 mod program;
 mod verdict;
 
 pub use code::{Code, MOST_BYTES};
-pub use commands::{CommandFault, check, check_file, load};
+pub use commands::{CommandFault, check, check_file, load, serve};
 pub use disk::{Disk, SystemDisk};
 pub use ending::Ending;
 pub use errors::Errors;
 pub use failure::Failure;
 pub use images::write_images;
+pub use notices::WrittenNotices;
 pub use program::run_words;
 pub use verdict::{Verdict, judge_code};

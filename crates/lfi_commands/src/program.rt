@@ -8,7 +8,7 @@ ghost use Rattle.lfi_commands.specs.Images.{WritesImages};
 ghost use Rattle.lfi_commands.specs.inner.Opening.{IsInRange};
 ghost use Rattle.lfi_commands.specs.Runs.{asked_images, folder_or_none, left, FailsAs, FindsServed, FindsVerdict, FindsReport, FindsRun, CarriesOut, Runs};
 
-use crate::commands::{CommandFault, check_file, load};
+use crate::commands::{CommandFault, check_file, load, serve};
 use crate::disk::Disk;
 use crate::ending::Ending;
 use crate::errors::Errors;
@@ -18,9 +18,14 @@ use crate::opening::{open, open_all};
 use lfi_command_line::{Line, LineFault, read_line};
 use lfi_place::ModuleReport;
 use lfi_run::run_image;
+use lfi_threads::Notices;
 use std::alloc::Global;
+use std::fs::Files;
 use std::io::Write;
+use std::net::Net;
+use std::os::unix::net::UnixListener;
 use std::sync::Wait;
+use std::thread::Threads;
 
 /// Judges the code in a file, and writes what is found of it.
 fn run_check<D: Disk, O: Write>(
@@ -60,10 +65,11 @@ fn write_asked_images<D: Disk, E: Write>(
 
 /// Loads the modules of the streams in these files, with so many verifiers, writes the report, and writes the whole images
 /// to a folder where one is named.
-fn run_load<S: Wait, D: Disk, O: Write, E: Write>(
+fn run_load<S: Threads + Wait + Files + Net + Sync, D: Disk, N: Notices + Sync, O: Write, E: Write>(
     rt: &S,
     alloc: Global,
     disk: &mut D,
+    notices: &N,
     verifiers: usize,
     folder: Option<&str>,
     paths: &[&str],
@@ -80,24 +86,22 @@ fn run_load<S: Wait, D: Disk, O: Write, E: Write>(
     ensures errors { OnErr result (errors.new ≡ errors.old) }
 {
     let inputs = open_all(alloc, disk, paths)?;
-    let report = match load(rt, alloc, inputs, verifiers, out) {
+    let report = match load(rt, alloc, inputs, verifiers, notices, out) {
         Ok(report) => report,
         Err(CommandFault::NotWritten) => return Err(Failure::writing(alloc, OUTPUT)),
         Err(_) => return Err(Failure::NoMemory),
     };
-    if write_asked_images(alloc, disk, folder, &report.modules, errors) {
-        Ok(Ending::of_report(&report))
-    } else {
-        Ok(Ending::Failed)
-    }
+    let all = write_asked_images(alloc, disk, folder, &report.modules, errors);
+    Ok(Ending::of_load(&report, true, all))
 }
 
-/// Loads the modules of what so many connections send over a socket, with so many verifiers, writes the report, and writes
-/// the whole images to a folder where one is named.
-fn run_serve<S: Wait, D: Disk, O: Write, E: Write>(
+/// Loads the modules of what so many connections send over a socket at this path, with so many verifiers, writes the report,
+/// and writes the whole images to a folder where one is named.
+fn run_serve<S: Threads + Wait + Files + Net + Sync, D: Disk, N: Notices + Sync, O: Write, E: Write>(
     rt: &S,
     alloc: Global,
     disk: &mut D,
+    notices: &N,
     socket: &str,
     connections: usize,
     verifiers: usize,
@@ -114,7 +118,16 @@ fn run_serve<S: Wait, D: Disk, O: Write, E: Write>(
     ensures disk { OnErr result (disk.new ≡ disk.old) }
     ensures errors { OnErr result (errors.new ≡ errors.old) }
 {
-    Err(Failure::CannotListen)
+    let Ok(listener) = UnixListener::bind(rt, socket) else {
+        return Err(Failure::CannotListen);
+    };
+    let served = match serve(rt, alloc, listener, socket, connections, verifiers, notices, out) {
+        Ok(served) => served,
+        Err(CommandFault::NotWritten) => return Err(Failure::writing(alloc, OUTPUT)),
+        Err(_) => return Err(Failure::NoMemory),
+    };
+    let all = write_asked_images(alloc, disk, folder, &served.report.modules, errors);
+    Ok(Ending::of_load(&served.report, served.all_accepted, all))
 }
 
 /// Runs the image in a file for at most so many steps, and tells what comes of it.
@@ -141,10 +154,11 @@ fn run_run<D: Disk, O: Write, E: Write>(
 }
 
 /// Carries out what the program is asked for.
-fn run<S: Wait, D: Disk, O: Write, E: Write>(
+fn run<S: Threads + Wait + Files + Net + Sync, D: Disk, N: Notices + Sync, O: Write, E: Write>(
     rt: &S,
     alloc: Global,
     disk: &mut D,
+    notices: &N,
     line: Line<'_>,
     out: &mut O,
     errors: &mut Errors<E>,
@@ -163,7 +177,7 @@ fn run<S: Wait, D: Disk, O: Write, E: Write>(
             verifiers,
             out: folder,
             streams,
-        } => run_load(rt, alloc, disk, verifiers, folder, &streams, out, errors),
+        } => run_load(rt, alloc, disk, notices, verifiers, folder, &streams, out, errors),
         Line::Serve {
             socket,
             connections,
@@ -173,6 +187,7 @@ fn run<S: Wait, D: Disk, O: Write, E: Write>(
             rt,
             alloc,
             disk,
+            notices,
             socket,
             connections,
             verifiers,
@@ -219,11 +234,13 @@ fn tell_fault<O: Write, E: Write>(
 }
 
 /// Carries out what the words of the command line ask for, of which the first is the program's name: reads and writes
-/// files of the disk, writes the answer to `out`, and tells what went wrong.
-pub fn run_words<S: Wait, D: Disk, O: Write, E: Write>(
+/// files of the disk, writes the answer to `out`, and tells what went wrong. While modules are loaded, the notices are told of
+/// those that are refused.
+pub fn run_words<S: Threads + Wait + Files + Net + Sync, D: Disk, N: Notices + Sync, O: Write, E: Write>(
     rt: &S,
     alloc: Global,
     disk: &mut D,
+    notices: &N,
     words: &[String],
     out: &mut O,
     errors: &mut Errors<E>,
@@ -233,7 +250,7 @@ pub fn run_words<S: Wait, D: Disk, O: Write, E: Write>(
         (left (O.contents out.new) (D.put_files disk.new) (is_lost_of errors.new) (E.contents (writer_of errors.new))) result }
 {
     match read_line(alloc, words) {
-        Ok(line) => match run(rt, alloc, disk, line, out, errors) {
+        Ok(line) => match run(rt, alloc, disk, notices, line, out, errors) {
             Ok(ending) => ending,
             Err(failure) => {
                 errors.tell(&failure);

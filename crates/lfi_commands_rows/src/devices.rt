@@ -6,6 +6,7 @@ use crate::runs::{ONE_RET, ONE_RET_REPORT, RET, begin, run_over};
 use lfi_commands::{CommandFault, Ending, Errors, SystemDisk, Verdict, check, check_file, load};
 use lfi_model::Outcome;
 use lfi_receive::Input;
+use lfi_threads::NoNotices;
 use std::alloc::{AllocError, Global};
 use std::fs;
 use std::io::{self, Read, Write};
@@ -124,7 +125,7 @@ fn a_byte_a_read(rt: HostRuntime) -> Result<(), Fail> {
         bytes: ONE_RET.as_slice(),
         left: 41,
     };
-    let outcome = match load(&rt, rt.alloc(), one_input(rt.alloc(), stream)?, 1, &mut out) {
+    let outcome = match load(&rt, rt.alloc(), one_input(rt.alloc(), stream)?, 1, &NoNotices, &mut out) {
         Ok(report) => Some(report.modules[0].outcome),
         Err(_) => None,
     };
@@ -169,7 +170,7 @@ fn a_stream_whose_reads_fail(rt: HostRuntime) -> Result<(), Fail> {
             bytes: ONE_RET.as_slice(),
             left,
         };
-        let ending = match load(&rt, rt.alloc(), one_input(rt.alloc(), stream)?, 1, &mut out) {
+        let ending = match load(&rt, rt.alloc(), one_input(rt.alloc(), stream)?, 1, &NoNotices, &mut out) {
             Ok(report) => Some(Ending::of_report(&report)),
             Err(_) => None,
         };

@@ -14,4 +14,6 @@ mod loads;
 #[cfg(test)]
 mod runs;
 #[cfg(test)]
+mod serves;
+#[cfg(test)]
 mod usage;

@@ -1,12 +1,15 @@
 //! Runs of the program over the system's files, and what they must answer.
 
 use lfi_commands::{Disk, Ending, Errors, SystemDisk, run_words};
+use lfi_threads::NoNotices;
 use std::alloc::{AllocError, Global};
 use std::fs::{self, Files};
 use std::io::{self, Write};
+use std::net::Net;
 use std::process::Abort;
 use std::sync::Wait;
 use std::test::Fail;
+use std::thread::Threads;
 
 /// RET, a branch to the address in x30.
 pub const RET: [u8; 4] = [0xC0, 0x03, 0x5F, 0xD6];
@@ -53,7 +56,7 @@ fn words(alloc: Global, line: &str) -> Result<Vec<String>, AllocError> {
 }
 
 /// Runs the program on the words of a line, over any disk and writers.
-pub fn run_over<S: Wait, D: Disk, O: Write, E: Write>(
+pub fn run_over<S: Threads + Wait + Files + Net + Sync, D: Disk, O: Write, E: Write>(
     rt: &S,
     alloc: Global,
     disk: &mut D,
@@ -62,11 +65,11 @@ pub fn run_over<S: Wait, D: Disk, O: Write, E: Write>(
     errors: &mut Errors<E>,
 ) -> Result<Ending, AllocError> {
     let words = words(alloc, line)?;
-    Ok(run_words(rt, alloc, disk, &words, out, errors))
+    Ok(run_words(rt, alloc, disk, &NoNotices, &words, out, errors))
 }
 
 /// Runs the program on the words of a line, over the system's files.
-pub fn run_line<R: Files + AllocGlobal + Wait>(rt: &R, line: &str) -> Result<Ran, AllocError> {
+pub fn run_line<R: Files + Net + AllocGlobal + Threads + Wait + Sync>(rt: &R, line: &str) -> Result<Ran, AllocError> {
     let mut out = Vec::new(rt.alloc());
     let mut err = Vec::new(rt.alloc());
     let mut errors = Errors::new(&mut err);
@@ -80,7 +83,7 @@ pub fn run_line<R: Files + AllocGlobal + Wait>(rt: &R, line: &str) -> Result<Ran
 }
 
 /// Runs each line, and compares.
-pub fn assert_runs<R: Files + AllocGlobal + Abort + Wait>(
+pub fn assert_runs<R: Files + Net + AllocGlobal + Abort + Threads + Wait + Sync>(
     rt: &R,
     runs: &[Run],
 ) -> Result<(), Fail> {

@@ -3,7 +3,7 @@
 use crate::runs::run_line;
 use std::test::Fail;
 
-const WRONG: [&str; 20] = [
+const WRONG: [&str; 24] = [
     "lfiload",
     "lfiload check",
     "lfiload check a b",
@@ -15,6 +15,10 @@ const WRONG: [&str; 20] = [
     "lfiload load a --verifiers 9",
     "lfiload load a --verifiers two",
     "lfiload load --verifiers 2",
+    "lfiload serve --socket a",
+    "lfiload serve --connections 1",
+    "lfiload serve --socket a --connections 9",
+    "lfiload serve --socket a --connections 0",
     "lfiload run",
     "lfiload run a",
     "lfiload run --steps 5",
@@ -44,7 +48,7 @@ struct Help {
     text: &'static str,
 }
 
-const HELPS: [Help; 4] = [
+const HELPS: [Help; 5] = [
     Help {
         line: "lfiload --help",
         text: "Exit status:",
@@ -56,6 +60,10 @@ const HELPS: [Help; 4] = [
     Help {
         line: "lfiload load --help",
         text: "module M: page fault, index I",
+    },
+    Help {
+        line: "lfiload serve --help",
+        text: "lfiload: cannot listen",
     },
     Help {
         line: "lfiload run --help",

@@ -1,7 +1,7 @@
 //! `lfiload`: checks the code of modules, and loads modules from streams.
 #![tactic(auto)]
 
-use lfi_commands::{Ending, Errors, Failure, SystemDisk, run_words};
+use lfi_commands::{Ending, Errors, Failure, SystemDisk, WrittenNotices, run_words};
 use std::process::ExitCode;
 use std::{env, io};
 
@@ -19,6 +19,9 @@ fn main(rt: HostRuntime) -> ExitCode {
                 &rt,
                 rt.alloc(),
                 &mut disk,
+                &WrittenNotices {
+                    writer: rt.stderr(),
+                },
                 &words,
                 &mut io::writer(&rt),
                 &mut errors,
