@@ -1,4 +1,6 @@
 //! Explanations, written out by hand from the rules (docs/DEFINITIONS.md, "Rules"), and all words of a module that break one.
+ghost use Rattle.std.specs.Prelude.{◌<◌};
+
 use lfi_explain::{explain, write_refusals};
 use lfi_module::ModuleNumber;
 use lfi_rules::{Fault, Rule};
