@@ -1,0 +1,192 @@
+//! Explanations, written out by hand from the rules (docs/DEFINITIONS.md, "Rules"), and all words of a module that break one.
+ghost use Rattle.std.specs.Prelude.{◌<◌};
+
+use lfi_explain::{explain, write_refusals};
+use lfi_module::ModuleNumber;
+use lfi_rules::{Fault, Rule};
+use std::alloc::{AllocError, Global};
+use std::io::{self, Write};
+use std::test::Fail;
+
+/// A module of two words in slot 0, a fault of it, and what is told.
+struct Row {
+    words: [u32; 2],
+    place: u32,
+    rule: Rule,
+    told: &'static str,
+}
+
+const ROWS: [Row; 16] = [
+    Row {
+        words: [0xD4000001, 0xD503201F], // SVC #0
+        place: 0,
+        rule: Rule::Spelled,
+        told: "word 0 rule 1\n  0x0000000100010000  d4000001  .inst 0xd4000001\n  an instruction of the profile spells each word; none spells this one",
+    },
+    Row {
+        words: [0xD503201F, 0xB9400261],
+        place: 1,
+        rule: Rule::AccessConfined,
+        told: "word 1 rule 2\n  0x0000000100010004  b9400261  ldr w1, [x19]\n  a load or store goes through x18, x21, x23, x24 or sp at an immediate offset, through sp and changes it, or through x21 by a W register with uxtw and no shift; this one goes through x19",
+    },
+    Row {
+        words: [0xF8408E40, 0xD503201F],
+        place: 0,
+        rule: Rule::AccessConfined,
+        told: "word 0 rule 2\n  0x0000000100010000  f8408e40  ldr x0, [x18, #8]!\n  a load or store goes through x18, x21, x23, x24 or sp at an immediate offset, through sp and changes it, or through x21 by a W register with uxtw and no shift; this one goes through x18 and changes it",
+    },
+    Row {
+        words: [0xF8617AA0, 0xD503201F],
+        place: 0,
+        rule: Rule::AccessConfined,
+        told: "word 0 rule 2\n  0x0000000100010000  f8617aa0  ldr x0, [x21, x1, lsl #3]\n  a load or store goes through x18, x21, x23, x24 or sp at an immediate offset, through sp and changes it, or through x21 by a W register with uxtw and no shift; this one goes through x21 by x1, lsl, shifted",
+    },
+    Row {
+        words: [0xAA0003F5, 0xD503201F],
+        place: 0,
+        rule: Rule::BaseKept,
+        told: "word 0 rule 3\n  0x0000000100010000  aa0003f5  orr x21, xzr, x0\n  x21 holds where the slot begins and is never written; this one writes it",
+    },
+    Row {
+        words: [0x8B020037, 0xD503201F],
+        place: 0,
+        rule: Rule::AddressGuarded,
+        told: "word 0 rule 4\n  0x0000000100010000  8b020037  add x23, x1, x2\n  x18, x23 and x24 are written by add xD, x21, wM, uxtw alone; this one writes x23",
+    },
+    Row {
+        words: [0xAA0003FE, 0xD503201F],
+        place: 0,
+        rule: Rule::LinkGuarded,
+        told: "word 0 rule 5\n  0x0000000100010000  aa0003fe  orr x30, xzr, x0\n  x30 is written by add x30, x21, wM, uxtw, by bl, by blr or by a load of 64 bits alone; this one writes it otherwise",
+    },
+    Row {
+        words: [0xAA0003F6, 0xD503201F],
+        place: 0,
+        rule: Rule::OffsetNarrow,
+        told: "word 0 rule 6\n  0x0000000100010000  aa0003f6  orr x22, xzr, x0\n  x22 is written as w22 alone, so that it stays below 2^32; this one writes all of it",
+    },
+    Row {
+        words: [0x9100001F, 0xD503201F],
+        place: 0,
+        rule: Rule::StackBounded,
+        told: "word 0 rule 7\n  0x0000000100010000  9100001f  add sp, x0, #0\n  sp is written by add sp, x21, wM, uxtw, by add sp, x21, x22, uxtx, by an unshifted add or sub of an immediate to sp, or by indexing on sp alone; this one writes it otherwise",
+    },
+    Row {
+        words: [0x14000002, 0xD503201F],
+        place: 0,
+        rule: Rule::TargetInside,
+        told: "word 0 rule 8\n  0x0000000100010000  14000002  b .+8\n  a direct branch goes to a word of the module; it has 2, and this one goes to word 2",
+    },
+    Row {
+        words: [0xD503201F, 0x17FFFFFE],
+        place: 1,
+        rule: Rule::TargetInside,
+        told: "word 1 rule 8\n  0x0000000100010004  17fffffe  b .-8\n  a direct branch goes to a word of the module; it has 2, and this one goes to word -1",
+    },
+    Row {
+        words: [0xD65F00A0, 0xD503201F],
+        place: 0,
+        rule: Rule::BranchBounded,
+        told: "word 0 rule 9\n  0x0000000100010000  d65f00a0  ret x5\n  br and blr go through x18, x23, x24 or x30, and ret through x30; this one goes through x5",
+    },
+    Row {
+        words: [0xF94006BE, 0xD503201F],
+        place: 1,
+        rule: Rule::NeedMet,
+        told: "word 1 rule 10\n  0x0000000100010000  f94006be  ldr x30, [x21, #8]\n  0x0000000100010004  d503201f  nop\n  a load of a table entry into x30 is followed by blr x30; this word isn't that",
+    },
+    Row {
+        words: [0xF9400A5E, 0xD63F03C0],
+        place: 1,
+        rule: Rule::NeedMet,
+        told: "word 1 rule 10\n  0x0000000100010000  f9400a5e  ldr x30, [x18, #16]\n  0x0000000100010004  d63f03c0  blr x30\n  any other load of 64 bits into x30 is followed by add x30, x21, w30, uxtw; this word isn't that",
+    },
+    Row {
+        words: [0xD10043FF, 0xF90007E0],
+        place: 1,
+        rule: Rule::NeedMet,
+        told: "word 1 rule 10\n  0x0000000100010000  d10043ff  sub sp, sp, #16\n  0x0000000100010004  f90007e0  str x0, [sp, #8]\n  a move of sp by an immediate is followed by a load or store at [sp]; this word isn't that",
+    },
+    Row {
+        words: [0xD503201F, 0xD10043FF],
+        place: 1,
+        rule: Rule::NeedMet,
+        told: "word 1 rule 10\n  0x0000000100010004  d10043ff  sub sp, sp, #16\n  the last word asks nothing of a next one; this one asks for a load or store at [sp]",
+    },
+];
+
+/// What is told of a row.
+fn told_of(alloc: Global, row: &Row) -> Result<String, AllocError>
+    requires { row.now.place < 2 }
+{
+    let words = Vec::from_array(alloc, row.words)?;
+    let fault = Fault {
+        word: row.place,
+        rule: row.rule,
+    };
+    explain(&words, ModuleNumber::at(0), fault).to_string(alloc)
+}
+
+#[test]
+fn each_rule(rt: HostRuntime) -> Result<(), Fail> {
+    for row in &ROWS {
+        if row.place < 2 {
+            assert!(rt;
+                told_of(rt.alloc(), row)?.as_str() == row.told,
+                "{}",
+                row.told
+            );
+        }
+    }
+    Ok(())
+}
+
+/// Words of which three break a rule: LDR W1, [X19]; MOV X21, X0; and the last, which asks for a next one.
+const THREE: [u32; 4] = [0xB9400261, 0xD503201F, 0xAA0003F5, 0xF94006BE];
+
+/// What is told of them in slot 1.
+const OF_THREE: &str =
+    "word 0 rule 2\n  0x0000000300010000  b9400261  ldr w1, [x19]\n  a load or store goes through x18, x21, x23, x24 or sp at an immediate offset, through sp and changes it, or through x21 by a W register with uxtw and no shift; this one goes through x19\nword 2 rule 3\n  0x0000000300010008  aa0003f5  orr x21, xzr, x0\n  x21 holds where the slot begins and is never written; this one writes it\nword 3 rule 10\n  0x000000030001000c  f94006be  ldr x30, [x21, #8]\n  the last word asks nothing of a next one; this one asks for blr x30\nwords refused: 3\n";
+
+#[test]
+fn all_of_three(rt: HostRuntime) -> Result<(), Fail> {
+    let words = Vec::from_array(rt.alloc(), THREE)?;
+    let mut out = Vec::new(rt.alloc());
+    let refused = write_refusals(&words, ModuleNumber::at(1), &mut out)?;
+    assert!(rt; refused == 3);
+    assert!(rt; out.as_slice() == OF_THREE.as_bytes());
+    Ok(())
+}
+
+/// A module without a fault: NOP, RET X30.
+#[test]
+fn none_of_lawful_words(rt: HostRuntime) -> Result<(), Fail> {
+    let words = Vec::from_array(rt.alloc(), [0xD503201F, 0xD65F03C0])?;
+    let mut out = Vec::new(rt.alloc());
+    let refused = write_refusals(&words, ModuleNumber::at(0), &mut out)?;
+    assert!(rt; refused == 0);
+    assert!(rt; out.as_slice() == b"words refused: 0\n".as_slice());
+    Ok(())
+}
+
+/// A writer that takes nothing.
+#[derive(Drop)]
+struct FullWriter;
+
+impl Write for FullWriter {
+    fn write(&mut self, _bytes: &[u8]) -> io::Result<usize> {
+        Err(io::Error::from(io::ErrorKind::StorageFull))
+    }
+
+    fn flush(&mut self) -> io::Result<()> {
+        Ok(())
+    }
+}
+
+#[test]
+fn refusals_that_fail(rt: HostRuntime) -> Result<(), Fail> {
+    let words = Vec::from_array(rt.alloc(), THREE)?;
+    let written = write_refusals(&words, ModuleNumber::at(1), &mut FullWriter);
+    assert!(rt; written.is_err());
+    Ok(())
+}
