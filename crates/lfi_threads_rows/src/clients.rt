@@ -10,6 +10,7 @@ use std::fs::{self, Files};
 use std::io::{self, Write};
 use std::net::Net;
 use std::os::unix::net::{UnixListener, UnixStream};
+use std::sync::Wait;
 use std::test::Fail;
 use std::thread::{Threads, join};
 
@@ -22,7 +23,16 @@ fn served<S: Threads + Wait + Files + Sync + AllocGlobal>(
 ) -> io::Result<(String, bool)>
     requires connections { (1 ≤ connections) × (connections ≤ 8) }
 {
-    let served = serve_on(rt, rt.alloc(), listener, path, connections, 2, &OpenGate, &NoNotices)?;
+    let served = serve_on(
+        rt,
+        rt.alloc(),
+        listener,
+        path,
+        connections,
+        2,
+        &OpenGate,
+        &NoNotices,
+    )?;
     let summary = served.report.summary();
     Ok((format!(in rt.alloc(); "{summary}")?, served.all_accepted))
 }
@@ -50,7 +60,10 @@ fn two_clients(rt: HostRuntime) -> Result<(), Fail> {
     );
     sent?;
     let (report, all_accepted) = told?;
-    assert_eq!(rt; report.as_str(), "module 0: complete, 1 words\nmodule 3: complete, 1 words\nstrays 0\n");
+    assert_eq!(rt;
+        report.as_str(),
+        "module 0: complete, 1 words\nmodule 3: complete, 1 words\nstrays 0\n"
+    );
     assert!(rt; all_accepted);
     assert!(rt; fs::metadata(&rt, path).is_err());
     Ok(())
