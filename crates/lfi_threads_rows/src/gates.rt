@@ -67,7 +67,10 @@ fn page_1_is_judged_first(rt: HostRuntime) -> Result<(), Fail> {
     let texts = [two_pages(rt.alloc(), NOP, NOP)?];
     let gate = SecondFirst::new();
     let report = loaded(&rt, &texts, 4096, 2, &gate, &NoNotices)?;
-    assert_eq!(rt; report.as_str(), "module 0: complete, 1025 words\nstrays 0\n");
+    assert_eq!(rt;
+        report.as_str(),
+        "module 0: complete, 1025 words\nstrays 0\n"
+    );
     assert_eq!(rt; gate.seen.load(Ordering::SeqCst), 1);
     assert_eq!(rt; gate.after.load(Ordering::SeqCst), 4);
     Ok(())
@@ -78,7 +81,10 @@ fn the_first_fault_of_a_module_judged_out_of_order(rt: HostRuntime) -> Result<()
     let texts = [two_pages(rt.alloc(), 0xD4000001, 0xAA0003F5)?];
     let gate = SecondFirst::new();
     let report = loaded(&rt, &texts, 4096, 2, &gate, &NoNotices)?;
-    assert_eq!(rt; report.as_str(), "module 0: refused, word 5 rule 1\nstrays 0\n");
+    assert_eq!(rt;
+        report.as_str(),
+        "module 0: refused, word 5 rule 1\nstrays 0\n"
+    );
     assert_eq!(rt; gate.seen.load(Ordering::SeqCst), 1);
     Ok(())
 }
@@ -141,7 +147,11 @@ fn a_refused_module_is_told_of_once(rt: HostRuntime) -> Result<(), Fail> {
     assert!(rt; inputs.len() == 1);
     let summary = load_all(&rt, rt.alloc(), inputs, 2, &OpenGate, &notices)?.summary();
     let report = format!(in rt.alloc(); "{summary}")?;
-    assert!(rt; report.as_str().starts_with("module 0: refused, word 5 rule 1\nstrays "));
+    assert!(rt;
+        report
+            .as_str()
+            .starts_with("module 0: refused, word 5 rule 1\nstrays ")
+    );
     assert_eq!(rt; notices.count.load(Ordering::SeqCst), 1);
     assert_eq!(rt; notices.module.load(Ordering::SeqCst), 1);
     Ok(())

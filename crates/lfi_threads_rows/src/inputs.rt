@@ -158,7 +158,10 @@ fn two_readers_that_wait_for_each_other(rt: HostRuntime) -> Result<(), Fail> {
     assert!(rt; inputs.len() == 2);
     let summary = load_all(&rt, rt.alloc(), inputs, 2, &OpenGate, &NoNotices)?.summary();
     let report = format!(in rt.alloc(); "{summary}")?;
-    assert_eq!(rt; report.as_str(), "module 0: complete, 1 words\nmodule 1: complete, 1 words\nstrays 0\n");
+    assert_eq!(rt;
+        report.as_str(),
+        "module 0: complete, 1 words\nmodule 1: complete, 1 words\nstrays 0\n"
+    );
     assert_eq!(rt; met.load(Ordering::SeqCst), 2);
     Ok(())
 }
