@@ -68,25 +68,31 @@ asked_before None = Nothing
 abbrev pub unmet_in : Explanation → Need
 unmet_in e = if is_met_by e.at (asked_before e.before) then Nothing else asked_before e.before
 
--- what the rule asks, and what the word does instead
-abbrev pub asked : Rule → Explanation → List ℕ
-asked rules.Spelled e = codes "an instruction of the profile spells each word; none spells this one"
-asked rules.AccessConfined e =
-    codes "a load or store goes through x18, x21, x23, x24 or sp at an immediate offset, through sp and changes it, or through x21 by a W register with uxtw and no shift"
-    ++ through_text (address_by e.at)
-asked rules.BaseKept e = codes "x21 holds where the slot begins and is never written; this one writes it"
-asked rules.AddressGuarded e =
-    codes "x18, x23 and x24 are written by add xD, x21, wM, uxtw alone" ++ writes_text (written_address_by e.at)
-asked rules.LinkGuarded e =
-    codes "x30 is written by add x30, x21, wM, uxtw, by bl, by blr or by a load of 64 bits alone; this one writes it otherwise"
-asked rules.OffsetNarrow e = codes "x22 is written as w22 alone, so that it stays below 2^32; this one writes all of it"
-asked rules.StackBounded e =
-    codes "sp is written by add sp, x21, wM, uxtw, by add sp, x21, x22, uxtx, by an unshifted add or sub of an immediate to sp, or by indexing on sp alone; this one writes it otherwise"
-asked rules.TargetInside e =
-    codes "a direct branch goes to a word of the module; it has " ++ decimal e.words ++ goes_text (target_by e.at e.fault.word)
-asked rules.BranchBounded e =
-    codes "br and blr go through x18, x23, x24 or x30, and ret through x30" ++ branch_text (branch_register_by e.at)
-asked rules.NeedMet e = unmet_text (unmet_in e) (opened_by e.at)
+-- what a rule asks of a word; of the last rule, nothing, since its need says it
+abbrev pub asks_text : Rule → List ℕ
+asks_text rules.Spelled = codes "an instruction of the profile spells each word"
+asks_text rules.AccessConfined = codes "a load or store goes through x18, x21, x23, x24 or sp at an immediate offset, through sp and changes it, or through x21 by a W register with uxtw and no shift"
+asks_text rules.BaseKept = codes "x21 holds where the slot begins and is never written"
+asks_text rules.AddressGuarded = codes "x18, x23 and x24 are written by add xD, x21, wM, uxtw alone"
+asks_text rules.LinkGuarded = codes "x30 is written by add x30, x21, wM, uxtw, by bl, by blr or by a load of 64 bits alone"
+asks_text rules.OffsetNarrow = codes "x22 is written as w22 alone, so that it stays below 2^32"
+asks_text rules.StackBounded = codes "sp is written by add sp, x21, wM, uxtw, by add sp, x21, x22, uxtx, by an unshifted add or sub of an immediate to sp, or by indexing on sp alone"
+asks_text rules.TargetInside = codes "a direct branch goes to a word of the module"
+asks_text rules.BranchBounded = codes "br and blr go through x18, x23, x24 or x30, and ret through x30"
+asks_text rules.NeedMet = []
+
+-- what the word does instead
+abbrev pub does_text : Rule → Explanation → List ℕ
+does_text rules.Spelled e = codes "; none spells this one"
+does_text rules.AccessConfined e = through_text (address_by e.at)
+does_text rules.BaseKept e = codes "; this one writes it"
+does_text rules.AddressGuarded e = writes_text (written_address_by e.at)
+does_text rules.LinkGuarded e = codes "; this one writes it otherwise"
+does_text rules.OffsetNarrow e = codes "; this one writes all of it"
+does_text rules.StackBounded e = codes "; this one writes it otherwise"
+does_text rules.TargetInside e = codes "; it has " ++ decimal e.words ++ goes_text (target_by e.at e.fault.word)
+does_text rules.BranchBounded e = branch_text (branch_register_by e.at)
+does_text rules.NeedMet e = unmet_text (unmet_in e) (opened_by e.at)
 
 abbrev pub sentence_text : Explanation → List ℕ
-sentence_text e = asked e.fault.rule e
+sentence_text e = asks_text e.fault.rule ++ does_text e.fault.rule e

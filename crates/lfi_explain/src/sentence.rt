@@ -174,65 +174,55 @@ impl fmt::Display for Unmet {
     }
 }
 
-/// What the rule of a fault asks, and what the word does instead.
+/// What a rule asks of a word; of the last rule, nothing, since its need says it.
 #[derive(Clone, Copy)]
-pub(crate) struct Sentence(pub(crate) Explanation);
+struct Asks(Rule);
 
-impl fmt::Display for Sentence {
-    ghost output = { λ sentence. Some (spec.sentence_text sentence.0) };
+impl fmt::Display for Asks {
+    ghost output = { λ asks. Some (spec.asks_text asks.0) };
+
+    fn fmt<W: fmt::Write>(&self, f: &mut fmt::Formatter<W>) -> fmt::Result {
+        f.write_str(match self.0 {
+            Rule::Spelled => "an instruction of the profile spells each word",
+            Rule::AccessConfined =>
+                "a load or store goes through x18, x21, x23, x24 or sp at an immediate offset, through sp and changes it, or through x21 by a W register with uxtw and no shift",
+            Rule::BaseKept => "x21 holds where the slot begins and is never written",
+            Rule::AddressGuarded => "x18, x23 and x24 are written by add xD, x21, wM, uxtw alone",
+            Rule::LinkGuarded =>
+                "x30 is written by add x30, x21, wM, uxtw, by bl, by blr or by a load of 64 bits alone",
+            Rule::OffsetNarrow => "x22 is written as w22 alone, so that it stays below 2^32",
+            Rule::StackBounded =>
+                "sp is written by add sp, x21, wM, uxtw, by add sp, x21, x22, uxtx, by an unshifted add or sub of an immediate to sp, or by indexing on sp alone",
+            Rule::TargetInside => "a direct branch goes to a word of the module",
+            Rule::BranchBounded =>
+                "br and blr go through x18, x23, x24 or x30, and ret through x30",
+            Rule::NeedMet => "",
+        })
+    }
+}
+
+/// What the word does instead.
+#[derive(Clone, Copy)]
+struct Does(Explanation);
+
+impl fmt::Display for Does {
+    ghost output = { λ does. Some (spec.does_text does.0.fault.rule does.0) };
 
     fn fmt<W: fmt::Write>(&self, f: &mut fmt::Formatter<W>) -> fmt::Result {
         let told = &self.0;
         match told.fault.rule {
-            Rule::Spelled => {
-                write!(
-                    f,
-                    "an instruction of the profile spells each word; none spells this one"
-                )
-            }
-            Rule::AccessConfined => write!(
-                f,
-                "a load or store goes through x18, x21, x23, x24 or sp at an immediate offset, through sp and changes it, or through x21 by a W register with uxtw and no shift{}",
-                Through(told.at.address())
-            ),
-            Rule::BaseKept => {
-                write!(
-                    f,
-                    "x21 holds where the slot begins and is never written; this one writes it"
-                )
-            }
-            Rule::AddressGuarded => write!(
-                f,
-                "x18, x23 and x24 are written by add xD, x21, wM, uxtw alone{}",
-                WritesAddress(told.at.written_address())
-            ),
-            Rule::LinkGuarded => write!(
-                f,
-                "x30 is written by add x30, x21, wM, uxtw, by bl, by blr or by a load of 64 bits alone; this one writes it otherwise"
-            ),
-            Rule::OffsetNarrow => {
-                write!(
-                    f,
-                    "x22 is written as w22 alone, so that it stays below 2^32; this one writes all of it"
-                )
-            }
-            Rule::StackBounded => write!(
-                f,
-                "sp is written by add sp, x21, wM, uxtw, by add sp, x21, x22, uxtx, by an unshifted add or sub of an immediate to sp, or by indexing on sp alone; this one writes it otherwise"
-            ),
+            Rule::Spelled => write!(f, "; none spells this one"),
+            Rule::AccessConfined => write!(f, "{}", Through(told.at.address())),
+            Rule::BaseKept => write!(f, "; this one writes it"),
+            Rule::AddressGuarded => write!(f, "{}", WritesAddress(told.at.written_address())),
+            Rule::LinkGuarded => write!(f, "; this one writes it otherwise"),
+            Rule::OffsetNarrow => write!(f, "; this one writes all of it"),
+            Rule::StackBounded => write!(f, "; this one writes it otherwise"),
             Rule::TargetInside => {
                 let goes = GoesTo(told.at.target(told.fault.word));
-                write!(
-                    f,
-                    "a direct branch goes to a word of the module; it has {}{goes}",
-                    told.words
-                )
+                write!(f, "; it has {}{goes}", told.words)
             }
-            Rule::BranchBounded => write!(
-                f,
-                "br and blr go through x18, x23, x24 or x30, and ret through x30{}",
-                BranchesThrough(told.at.branch_register())
-            ),
+            Rule::BranchBounded => write!(f, "{}", BranchesThrough(told.at.branch_register())),
             Rule::NeedMet => {
                 let unmet = Unmet {
                     need: told.unmet(),
@@ -241,5 +231,17 @@ impl fmt::Display for Sentence {
                 write!(f, "{unmet}")
             }
         }
+    }
+}
+
+/// What the rule of a fault asks, and what the word does instead.
+#[derive(Clone, Copy)]
+pub(crate) struct Sentence(pub(crate) Explanation);
+
+impl fmt::Display for Sentence {
+    ghost output = { λ sentence. Some (spec.sentence_text sentence.0) };
+
+    fn fmt<W: fmt::Write>(&self, f: &mut fmt::Formatter<W>) -> fmt::Result {
+        write!(f, "{}{}", Asks(self.0.fault.rule), Does(self.0))
     }
 }
