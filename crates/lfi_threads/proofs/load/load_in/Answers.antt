@@ -1,4 +1,4 @@
-use Rattle.std.proofs.Common.{rules, ◌≡◌, ◌<◌, ◌∙◌, ℕ, Some, length, slice_get, sym, subst, arith}
+use Rattle.std.proofs.Common.{rules, ◌<◌, ◌∙◌, length, sym, subst, arith}
 use Rattle.std.proofs.lemmas.Option.{same_Some, slice_get_within}
 use Rattle.lfi_receive.specs.Inputs.{left_of}
 use Rattle.lfi_stage.proofs.Heard.{some_at}

@@ -1,4 +1,4 @@
-use Rattle.std.proofs.Common.{rules, ◌≡◌, ◌<◌, ◌∙◌, ℕ, Some, length, slice_get, sym, subst, arith}
+use Rattle.std.proofs.Common.{◌<◌, ◌∙◌, length, arith}
 use Rattle.std.proofs.lemmas.Option.{slice_get_within}
 use Rattle.lfi_stage.proofs.Heard.{some_at}
 use Rattle.lfi_threads.proofs.Back.{back_of, workers_of, sequencers_of, receivers_of}

@@ -1,5 +1,5 @@
-use Rattle.std.proofs.Common.{rules, ◌≡◌, ◌+◌, ◌++◌, ◌∷◌, [], ◌∙◌, ℕ, Some, length, slice_get, sym, subst, arith}
-use Rattle.std.specs.Vec.Iter.{into_iter_items, into_iter_len}
+use Rattle.std.proofs.Common.{rules, ◌≡◌, ◌++◌, ◌∷◌, [], ◌∙◌, ℕ, Some, length, slice_get, sym, subst, arith}
+use Rattle.std.specs.Vec.Iter.{into_iter_items}
 use Rattle.lfi_stage.proofs.Filling.{push_each, one_more, next_is, still_from}
 use Rattle.lfi_threads.specs.inner.Workers.{IsVerifierOf}
 use Rattle.lfi_threads.proofs.starting.start_verifiers.Goals as goal
