@@ -8,8 +8,10 @@ use lfi_receive::Input;
 use lfi_threads::{NoNotices, Notices, load_all};
 use std::alloc::{AllocError, Global};
 use std::io::{self, Read};
+use std::sync::Wait;
 use std::sync::atomic::{AtomicU64, Ordering};
 use std::test::Fail;
+use std::thread::Threads;
 
 /// A gate that keeps page 0 (ordinal 1) from being judged before page 1 (ordinal 2) was.
 #[derive(Drop)]
@@ -127,6 +129,27 @@ impl<'a> Read for UntilNoticed<'a> {
     }
 }
 
+/// The text of the report on this text and the strays that follow it, until a notice has come.
+fn loaded_until_noticed<S: Threads + Wait + Sync + AllocGlobal>(
+    rt: &S,
+    text: &Text,
+    notices: &Counted,
+) -> Result<String, AllocError> {
+    let left = Pieces {
+        left: text.bytes.as_slice(),
+        most: 4096,
+    };
+    let reader = UntilNoticed {
+        text: left,
+        notices,
+        turns: TURNS,
+    };
+    let mut inputs = Vec::new(rt.alloc());
+    inputs.push(Input::new(rt.alloc(), reader)?)?;
+    let summary = load_all(rt, rt.alloc(), inputs, 2, &OpenGate, notices)?.summary();
+    format!(in rt.alloc(); "{summary}")
+}
+
 #[test]
 fn a_refused_module_is_told_of_once(rt: HostRuntime) -> Result<(), Fail> {
     let text = two_pages(rt.alloc(), 0xD4000001, NOP)?;
@@ -134,19 +157,7 @@ fn a_refused_module_is_told_of_once(rt: HostRuntime) -> Result<(), Fail> {
         count: AtomicU64::new(0),
         module: AtomicU64::new(0),
     };
-    let reader = UntilNoticed {
-        text: Pieces {
-            left: text.bytes.as_slice(),
-            most: 4096,
-        },
-        notices: &notices,
-        turns: TURNS,
-    };
-    let mut inputs = Vec::new(rt.alloc());
-    inputs.push(Input::new(rt.alloc(), reader)?)?;
-    assert!(rt; inputs.len() == 1);
-    let summary = load_all(&rt, rt.alloc(), inputs, 2, &OpenGate, &notices)?.summary();
-    let report = format!(in rt.alloc(); "{summary}")?;
+    let report = loaded_until_noticed(&rt, &text, &notices)?;
     assert!(rt;
         report
             .as_str()
