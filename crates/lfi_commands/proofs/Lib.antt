@@ -1,4 +1,5 @@
 mod Begun
+mod Failing
 mod Fates
 mod Inputs
 mod Joined

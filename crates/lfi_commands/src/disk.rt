@@ -50,14 +50,14 @@ pub struct SystemDisk<'a, R> {
     pub rt: &'a R,
 }
 
-impl<R: Files> Disk for SystemDisk<'_, R> {
-    type Reader = R::File;
+impl<R: Files<File = File>> Disk for SystemDisk<'_, R> {
+    type Reader = File;
 
-    fn open(&self, path: &str) -> io::Result<R::File> {
+    fn open(&self, path: &str) -> io::Result<File> {
         File::open(self.rt, path)
     }
 
-    fn length(&self, reader: &R::File) -> Option<u64> {
+    fn length(&self, reader: &File) -> Option<u64> {
         match reader.metadata() {
             Ok(metadata) if metadata.is_file() => Some(metadata.len()),
             _ => None,

@@ -3,7 +3,7 @@
 use lfi_commands::{Disk, Ending, Errors, SystemDisk, run_words};
 use lfi_threads::NoNotices;
 use std::alloc::{AllocError, Global};
-use std::fs::{self, Files};
+use std::fs::{self, File, Files};
 use std::io::{self, Write};
 use std::net::Net;
 use std::process::Abort;
@@ -69,7 +69,7 @@ pub fn run_over<S: Threads + Wait + Files + Net + Sync, D: Disk, O: Write, E: Wr
 }
 
 /// Runs the program on the words of a line, over the system's files.
-pub fn run_line<R: Files + Net + AllocGlobal + Threads + Wait + Sync>(rt: &R, line: &str) -> Result<Ran, AllocError> {
+pub fn run_line<R: Files<File = File> + Net + AllocGlobal + Threads + Wait + Sync>(rt: &R, line: &str) -> Result<Ran, AllocError> {
     let mut out = Vec::new(rt.alloc());
     let mut err = Vec::new(rt.alloc());
     let mut errors = Errors::new(&mut err);
@@ -83,7 +83,7 @@ pub fn run_line<R: Files + Net + AllocGlobal + Threads + Wait + Sync>(rt: &R, li
 }
 
 /// Runs each line, and compares.
-pub fn assert_runs<R: Files + Net + AllocGlobal + Abort + Threads + Wait + Sync>(
+pub fn assert_runs<R: Files<File = File> + Net + AllocGlobal + Abort + Threads + Wait + Sync>(
     rt: &R,
     runs: &[Run],
 ) -> Result<(), Fail> {

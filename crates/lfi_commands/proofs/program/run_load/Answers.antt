@@ -11,7 +11,7 @@ returns-clause-found g c =
       report = c.in-Ok.report;
       loaded = λ bytes known. subst (λ n. IsLoaded n bytes c.in-Ok.report) are.all (c.in-Ok.ensures.report bytes (known_left _ inputs bytes are known));
       written = c.in-Ok.ensures.written;
-      all = c.write_asked_images.result;
-      images = c.write_asked_images.ensures;
+      all = c.write_asked_images-all.result;
+      images = c.write_asked_images-all.ensures;
       ends = c.of_load.ensures;
     }
