@@ -4,10 +4,12 @@ use crate::devices::FullWriter;
 use crate::runs::{ONE_RET_IMAGE, Run, assert_runs, begin, run_line, run_over};
 use lfi_commands::{Ending, Errors, SystemDisk};
 use std::alloc::{AllocError, Global};
-use std::fs::{self, Files};
+use std::fs::{self, File, Files};
+use std::net::Net;
 use std::process::Abort;
 use std::sync::Wait;
 use std::test::Fail;
+use std::thread::Threads;
 
 /// The file of an image: LFI1, so many words, entry 0, profile 1, base 2^32, the words. Words that are 0 are left out.
 fn image_file(alloc: Global, words: &[u32]) -> Result<Vec<u8>, AllocError> {
@@ -146,7 +148,10 @@ const HELLO: [u32; 8] = [
 ];
 
 /// Runs the image of each row's words, and compares.
-fn assert_rows<R: Files + AllocGlobal + Abort + Wait>(rt: &R, rows: &[Row]) -> Result<(), Fail> {
+fn assert_rows<R: Files<File = File> + Net + AllocGlobal + Abort + Threads + Wait + Sync>(
+    rt: &R,
+    rows: &[Row],
+) -> Result<(), Fail> {
     for row in rows {
         let expected = row.err;
         let file = image_file(rt.alloc(), row.words.as_slice())?;
