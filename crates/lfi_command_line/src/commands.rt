@@ -40,7 +40,10 @@ fn option_argument<'a>(alloc: Global, name: &'a str, value: &'a str, text: &'a s
     ensures rule { rule_of result ≡ option_rule name.entry.now }
     ensures local { result.global ≡ false }
 {
-    Arg::new(alloc, name).long(name).value_name(value).help(text)
+    Arg::new(alloc, name)
+        .long(name)
+        .value_name(value)
+        .help(text)
 }
 
 /// An option with a number in this range.
@@ -72,7 +75,13 @@ fn check_command<'a>(alloc: Global) -> Result<Command<'a>, AllocError>
 fn load_command<'a>(alloc: Global) -> Result<Command<'a>, AllocError>
     ensures { IfOk result (Makes load_app) }
 {
-    let verifiers = number_argument(alloc, "verifiers", "V", help::VERIFIERS, (1, MOST_VERIFIERS));
+    let verifiers = number_argument(
+        alloc,
+        "verifiers",
+        "V",
+        help::VERIFIERS,
+        (1, MOST_VERIFIERS),
+    );
     let out = option_argument(alloc, "out", "DIR", help::OUT);
     let streams = several_arguments(alloc, "STREAM", help::STREAM);
     Command::new(alloc, "load")
@@ -88,9 +97,21 @@ fn serve_command<'a>(alloc: Global) -> Result<Command<'a>, AllocError>
     ensures { IfOk result (Makes serve_app) }
 {
     let socket = option_argument(alloc, "socket", "P", help::SOCKET).required(true);
-    let connections =
-        number_argument(alloc, "connections", "C", help::CONNECTIONS, (1, MOST_CONNECTIONS)).required(true);
-    let verifiers = number_argument(alloc, "verifiers", "V", help::VERIFIERS, (1, MOST_VERIFIERS));
+    let connections = number_argument(
+        alloc,
+        "connections",
+        "C",
+        help::CONNECTIONS,
+        (1, MOST_CONNECTIONS),
+    )
+    .required(true);
+    let verifiers = number_argument(
+        alloc,
+        "verifiers",
+        "V",
+        help::VERIFIERS,
+        (1, MOST_VERIFIERS),
+    );
     let out = option_argument(alloc, "out", "DIR", help::OUT);
     Command::new(alloc, "serve")
         .about("Loads the modules of streams that come over a Unix socket, and prints the report")
@@ -106,7 +127,11 @@ fn run_command<'a>(alloc: Global) -> Result<Command<'a>, AllocError>
     ensures { IfOk result (Makes run_app) }
 {
     let steps = number_argument(alloc, "steps", "N", help::STEPS, (0, MOST_STEPS)).required(true);
-    let image = required_argument(alloc, "IMAGE", "the file of an image, as load --out writes it");
+    let image = required_argument(
+        alloc,
+        "IMAGE",
+        "the file of an image, as load --out writes it",
+    );
     Command::new(alloc, "run")
         .about("Runs an image in a simulated machine")
         .after_help(help::RUN)

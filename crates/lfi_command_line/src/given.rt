@@ -39,10 +39,7 @@ fn number_or(matches: &ArgMatches<'_>, id: &str, default: u64) -> u64
 /// # Errors
 ///
 /// Where there are more than 8 streams, or no memory to list them.
-pub(crate) fn load_line<'a>(
-    alloc: Global,
-    load: &ArgMatches<'a>,
-) -> Result<Line<'a>, LineFault>
+pub(crate) fn load_line<'a>(alloc: Global, load: &ArgMatches<'a>) -> Result<Line<'a>, LineFault>
     requires streams { is_some (first_of (codes "STREAM") (rows_of (found_of load.now))) ≡ true }
     requires verifiers { IsNumberGiven 1 8 (codes "verifiers") (rows_of (found_of load.now)) }
     ensures line { IfOk result (IsAskedBy (codes "load") (rows_of (found_of load.now))) }

@@ -18,7 +18,8 @@ pub const OUT: &str = "the folder that the images of complete modules are writte
 pub const STREAM: &str = "1 to 8 files, each with one connection's bytes";
 
 /// Of `--socket`.
-pub const SOCKET: &str = "the path of the Unix socket to listen at; it is removed after the last connection came";
+pub const SOCKET: &str =
+    "the path of the Unix socket to listen at; it is removed after the last connection came";
 
 /// Of `--connections`.
 pub const CONNECTIONS: &str = "how many connections are taken, 1 to 8";
@@ -64,7 +65,8 @@ On the standard error:
 Example: lfiload load --verifiers 4 --out images a.stream b.stream";
 
 /// Of `serve`: its lines.
-pub const SERVE: &str = "Takes C connections, numbers them from 0 as they come, and reads each by a thread of its own.
+pub const SERVE: &str =
+    "Takes C connections, numbers them from 0 as they come, and reads each by a thread of its own.
 Prints the report once all of them have ended, as load does, and writes images as load does. The report waits for each
 connection, also for one that sends nothing: a limit of time is the user's, as in `timeout 60 lfiload serve ..`.
 The status is load's; it is 3 as well where a connection could not be taken: that one has no messages.

@@ -183,13 +183,29 @@ pub fn serve<S: Threads + Wait + Files + Sync, N: Notices + Sync, W: Write>(
     ensures written { IfOk result (λ served. Appends (W.contents writer.old) (W.contents writer.new) (summary_text (summary_of served.report))) }
     ensures unwritten { IfErr result (λ fault. fault ≢ CommandFault.NotWritten → writer.new ≡ writer.old) }
 {
-    let Ok(Served { report, all_accepted }) = serve_on(
-        rt, alloc, listener, path, connections, verifiers, &OpenGate, notices,
-    ) else {
+    let Ok(
+        Served {
+            report,
+            all_accepted,
+        },
+    ) = serve_on(
+        rt,
+        alloc,
+        listener,
+        path,
+        connections,
+        verifiers,
+        &OpenGate,
+        notices,
+    )
+    else {
         return Err(CommandFault::NoMemory);
     };
     match write_report(report, writer) {
-        Ok(report) => Ok(Served { report, all_accepted }),
+        Ok(report) => Ok(Served {
+            report,
+            all_accepted,
+        }),
         Err(fault) => Err(fault),
     }
 }

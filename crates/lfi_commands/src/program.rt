@@ -97,7 +97,13 @@ fn run_load<S: Threads + Wait + Files + Net + Sync, D: Disk, N: Notices + Sync, 
 
 /// Loads the modules of what so many connections send over a socket at this path, with so many verifiers, writes the report,
 /// and writes the whole images to a folder where one is named.
-fn run_serve<S: Threads + Wait + Files + Net + Sync, D: Disk, N: Notices + Sync, O: Write, E: Write>(
+fn run_serve<
+    S: Threads + Wait + Files + Net + Sync,
+    D: Disk,
+    N: Notices + Sync,
+    O: Write,
+    E: Write,
+>(
     rt: &S,
     alloc: Global,
     disk: &mut D,
@@ -121,7 +127,16 @@ fn run_serve<S: Threads + Wait + Files + Net + Sync, D: Disk, N: Notices + Sync,
     let Ok(listener) = UnixListener::bind(rt, socket) else {
         return Err(Failure::CannotListen);
     };
-    let served = match serve(rt, alloc, listener, socket, connections, verifiers, notices, out) {
+    let served = match serve(
+        rt,
+        alloc,
+        listener,
+        socket,
+        connections,
+        verifiers,
+        notices,
+        out,
+    ) {
         Ok(served) => served,
         Err(CommandFault::NotWritten) => return Err(Failure::writing(alloc, OUTPUT)),
         Err(_) => return Err(Failure::NoMemory),
@@ -177,7 +192,9 @@ fn run<S: Threads + Wait + Files + Net + Sync, D: Disk, N: Notices + Sync, O: Wr
             verifiers,
             out: folder,
             streams,
-        } => run_load(rt, alloc, disk, notices, verifiers, folder, &streams, out, errors),
+        } => run_load(
+            rt, alloc, disk, notices, verifiers, folder, &streams, out, errors,
+        ),
         Line::Serve {
             socket,
             connections,
@@ -236,7 +253,13 @@ fn tell_fault<O: Write, E: Write>(
 /// Carries out what the words of the command line ask for, of which the first is the program's name: reads and writes
 /// files of the disk, writes the answer to `out`, and tells what went wrong. While modules are loaded, the notices are told of
 /// those that are refused.
-pub fn run_words<S: Threads + Wait + Files + Net + Sync, D: Disk, N: Notices + Sync, O: Write, E: Write>(
+pub fn run_words<
+    S: Threads + Wait + Files + Net + Sync,
+    D: Disk,
+    N: Notices + Sync,
+    O: Write,
+    E: Write,
+>(
     rt: &S,
     alloc: Global,
     disk: &mut D,

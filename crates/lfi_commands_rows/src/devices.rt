@@ -125,7 +125,14 @@ fn a_byte_a_read(rt: HostRuntime) -> Result<(), Fail> {
         bytes: ONE_RET.as_slice(),
         left: 41,
     };
-    let outcome = match load(&rt, rt.alloc(), one_input(rt.alloc(), stream)?, 1, &NoNotices, &mut out) {
+    let outcome = match load(
+        &rt,
+        rt.alloc(),
+        one_input(rt.alloc(), stream)?,
+        1,
+        &NoNotices,
+        &mut out,
+    ) {
         Ok(report) => Some(report.modules[0].outcome),
         Err(_) => None,
     };
@@ -170,7 +177,14 @@ fn a_stream_whose_reads_fail(rt: HostRuntime) -> Result<(), Fail> {
             bytes: ONE_RET.as_slice(),
             left,
         };
-        let ending = match load(&rt, rt.alloc(), one_input(rt.alloc(), stream)?, 1, &NoNotices, &mut out) {
+        let ending = match load(
+            &rt,
+            rt.alloc(),
+            one_input(rt.alloc(), stream)?,
+            1,
+            &NoNotices,
+            &mut out,
+        ) {
             Ok(report) => Some(Ending::of_report(&report)),
             Err(_) => None,
         };

@@ -69,7 +69,10 @@ pub fn run_over<S: Threads + Wait + Files + Net + Sync, D: Disk, O: Write, E: Wr
 }
 
 /// Runs the program on the words of a line, over the system's files.
-pub fn run_line<R: Files<File = File> + Net + AllocGlobal + Threads + Wait + Sync>(rt: &R, line: &str) -> Result<Ran, AllocError> {
+pub fn run_line<R: Files<File = File> + Net + AllocGlobal + Threads + Wait + Sync>(
+    rt: &R,
+    line: &str,
+) -> Result<Ran, AllocError> {
     let mut out = Vec::new(rt.alloc());
     let mut err = Vec::new(rt.alloc());
     let mut errors = Errors::new(&mut err);

@@ -29,7 +29,10 @@ impl<'a> Read for Pieces<'a> {
 }
 
 /// The text of the stage's report on one connection.
-pub fn loaded(rt: &(impl Threads + Wait + Sync + AllocGlobal), bytes: &[u8]) -> Result<String, AllocError> {
+pub fn loaded(
+    rt: &(impl Threads + Wait + Sync + AllocGlobal),
+    bytes: &[u8],
+) -> Result<String, AllocError> {
     loaded_in_pieces(rt, bytes, usize::MAX)
 }
 

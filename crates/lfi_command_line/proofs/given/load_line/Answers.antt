@@ -14,7 +14,7 @@ pub returns-then-paths-gt-MOST_STREAMS-clause-fault : goal.returns-then-paths-gt
 returns-then-paths-gt-MOST_STREAMS-clause-fault c =
     let paths = c.unwrap-paths.result.now in
     let same : all_of (codes "STREAM") (rows_of (found_of c.args.load.now)) ≡ Some (map (λ s. s.now) paths) =
-        sym (raw_values-rows (found_of c.args.load.now) (codes "STREAM")) ∙ sym c.get_strs.ensures ∙ ap (option_map (λ s. map (λ v. v.now) s.now)) c.unwrap-paths.ensures in
+    sym (raw_values-rows (found_of c.args.load.now) (codes "STREAM")) ∙ sym c.get_strs.ensures ∙ ap (option_map (λ s. map (λ v. v.now) s.now)) c.unwrap-paths.ensures in
     let count = map_length (λ s. s.now) paths in
     (map (λ s. s.now) paths, same, omega (count, c.if-paths-gt-MOST_STREAMS.true, arith))
 
@@ -23,11 +23,10 @@ returns-clause-line c =
     let paths = c.unwrap-paths.result.now in
     let all = all_given (codes "STREAM") (rows_of (found_of c.args.load.now)) c.requires.streams in
     let same : all_of (codes "STREAM") (rows_of (found_of c.args.load.now)) ≡ Some (map (λ s. s.now) paths) =
-        sym (raw_values-rows (found_of c.args.load.now) (codes "STREAM")) ∙ sym c.get_strs.ensures ∙ ap (option_map (λ s. map (λ v. v.now) s.now)) c.unwrap-paths.ensures in
+    sym (raw_values-rows (found_of c.args.load.now) (codes "STREAM")) ∙ sym c.get_strs.ensures ∙ ap (option_map (λ s. map (λ v. v.now) s.now)) c.unwrap-paths.ensures in
     let items : c.in_ok-streams.streams.items ≡ paths = c.in_ok-streams.ensures.items in
     let values : all.0 ≡ map (λ s. s.now) paths = some_same (sym all.1 ∙ same) in
-    let count : length all.0 ≡ length paths = ap length values ∙ map_length (λ s. s.now) paths in
-    (
+    let count : length all.0 ≡ length paths = ap length values ∙ map_length (λ s. s.now) paths in (
       refl,
       c.number_or.ensures 1 8 c.requires.verifiers,
       sym (first_value-rows (found_of c.args.load.now) (codes "out")) ∙ sym c.get_str.ensures,

@@ -12,5 +12,5 @@ returns c = λ least most is.
     let found = found_of c.args.matches.now in
     let same = one_text-rows found id in
     let number = number_read (λ bs r. ParsesUnsigned 64 10 bs r × ExplainsUnsignedError 10 bs r × HasUnsignedDigitsIfOk bs r) c.args.default least most id (rows_of found) c.get_one.result is
-        (λ none. c.get_one.ensures.none (same ∙ none)) (λ t some. c.get_one.ensures.value t (same ∙ some)) (λ u x g. g.0) in
+    (λ none. c.get_one.ensures.none (same ∙ none)) (λ t some. c.get_one.ensures.value t (same ∙ some)) (λ u x g. g.0) in
     subst (λ n. IsNumberOr c.args.default least most (first_of id (rows_of found)) n) (sym c.unwrap_or.ensures) number
