@@ -160,7 +160,10 @@ fn serve_in<'s, 'e: 's, S: Threads + Wait + Files + Sync, G: Gate + Sync, N: Not
     } = parts;
     let mut verifying = Vec::new(alloc);
     let mut receiving = Vec::new(alloc);
-    let placing = start_sequencers(scope, rt, shared, ends, sequencers)?;
+    let Some(placing) = start_sequencers(scope, rt, shared, ends, sequencers) else {
+        let _ = fs::remove_file(rt, path);
+        return None;
+    };
     let accepted = take_clients(
         scope,
         rt,
@@ -217,8 +220,8 @@ fn serve_with<S: Threads + Wait + Files + Sync, G: Gate + Sync, N: Notices + Syn
 /// Takes so many clients of a listener, and loads the modules of the streams that they send, each up
 /// to its end. Each connection is read by a thread of its own from when it was accepted, each of so
 /// many verifiers has a thread, and one turns all sequencers. The connections have numbers in the
-/// order in which they were accepted. After the last one was, the path at which the listener listens
-/// is removed; that this fails isn't told. The gate is told of each item before and after it is
+/// order in which they were accepted. After the last one was, or where it comes to an error, the
+/// path at which the listener listens is removed; that this fails isn't told. The gate is told of each item before and after it is
 /// judged, and the notices of refused modules.
 ///
 /// # Errors
@@ -239,12 +242,16 @@ pub fn serve_on<S: Threads + Wait + Files + Sync, G: Gate + Sync, N: Notices + S
     requires verifiers { (1 ≤ verifiers) × (verifiers ≤ 8) }
     ensures { IfOk result (λ served. IsServed connections served.report) }
 {
+    let Ok(stage) = Stage::new(alloc, connections, verifiers) else {
+        let _ = fs::remove_file(rt, path);
+        return Err(AllocError);
+    };
     let Stage {
         receivers,
         verifiers,
         sequencers,
         shared,
-    } = Stage::new(alloc, connections, verifiers)?;
+    } = stage;
     let parts = Parts {
         receivers,
         verifiers,
