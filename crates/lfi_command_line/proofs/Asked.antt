@@ -1,5 +1,5 @@
 -- The subcommand that the parser met, by the words, and the fault that it told.
-use Rattle.std.proofs.Common.{◌≡◌, ◌∙◌, ◌⊎◌, ℕ, Bool, Result, Ok, Err, IfErr, IsErrAnd, true, false, cond, suc, List, [], ◌∷◌, map, Option, Some, None, is_some, find, refl, sym, arith, ap, ap₂, subst, inl, inr, codes, option_map, unwrap_or, true≢false}
+use Rattle.std.proofs.Common.{◌≡◌, ◌∙◌, ◌⊎◌, ℕ, Bool, Result, Ok, Err, IfErr, IsErrAnd, true, false, suc, List, [], ◌∷◌, map, Option, Some, None, is_some, find, refl, sym, arith, ap, ap₂, subst, inl, inr, codes, option_map, unwrap_or, true≢false}
 use Rattle.std.specs.Prelude.{◌<◌, Box, length, option_and_then, slice_get}
 use Rattle.std.specs.Box.{box_value}
 use Rattle.std.specs.Str.{bytes_eq}

@@ -1,5 +1,5 @@
 -- A command of the parser, an argument or a subcommand more.
-use Rattle.std.proofs.Common.{◌≡◌, ◌∙◌, ◌||◌, ap, ap₂, Bool, false}
+use Rattle.std.proofs.Common.{◌≡◌, ◌∙◌, ◌||◌, ap₂, Bool, false}
 use Rattle.clap.specs.Built.{AddsArg}
 use Rattle.clap.specs.Words.{App, Rule, rule_of, with_rule}
 use Rattle.clap.specs.declared.builder.arg.Arg.{Arg}

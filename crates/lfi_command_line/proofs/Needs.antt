@@ -1,5 +1,5 @@
 -- Where the parser finds no fault in the words, they name a subcommand, and give it what it needs.
-use Rattle.std.proofs.Common.{◌≡◌, ◌∙◌, ℕ, ap, Bool, true, false, cond, List, [], ◌∷◌, drop, Option, Some, None, is_some, refl, sym, inl, inr, true≢false, codes, find}
+use Rattle.std.proofs.Common.{◌≡◌, Bool, true, false, cond, List, [], ◌∷◌, drop, Option, Some, None, is_some, refl, sym, inl, inr, true≢false, find}
 use Rattle.std.specs.Prelude.{option_map}
 use Rattle.std.specs.Option.{option_map_or}
 use Rattle.std.specs.Str.{bytes_eq}

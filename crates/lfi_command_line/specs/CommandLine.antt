@@ -1,5 +1,5 @@
 -- What the words of the command line ask for, and what is wrong with them. (docs/COMMANDS.md)
-use Rattle.std.specs.Prelude.{◌≡◌, ◌⊎◌, ⊤, ℕ, ◌≤◌, ◌<◌, Bool, List, [], codes, length, map, Option, Some, None, true, false, option_map}
+use Rattle.std.specs.Prelude.{◌≡◌, ⊤, ℕ, ◌≤◌, ◌<◌, Bool, List, [], codes, length, map, Option, Some, None, true, false, option_map}
 use Rattle.clap.specs.Words.{IsAmong, Row, Text, all_of, fault_of, first_of, kind_of, subcommand_of}
 use Rattle.std.specs.Str.Parse.{IsNumeral, digits_value, without_leading_plus}
 use Rattle.clap.specs.declared.error.Error.{Error}

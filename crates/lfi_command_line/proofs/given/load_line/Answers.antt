@@ -1,5 +1,5 @@
-use Rattle.std.proofs.Common.{rules, ◌≡◌, ◌∙◌, ◌≤◌, List, length, map, Some, codes, option_map, is_some, refl, sym, ap, arith, true}
-use Rattle.clap.specs.Words.{Text, all_of, found_of, rows_of}
+use Rattle.std.proofs.Common.{◌≡◌, ◌∙◌, length, map, Some, codes, option_map, is_some, refl, sym, ap, arith}
+use Rattle.clap.specs.Words.{all_of, found_of, rows_of}
 use Rattle.clap.proofs.CallerLemmas.{some_of_text}
 use Rattle.clap.proofs.WalkLemmas.{first_value-rows, raw_values-rows}
 use Rattle.lfi_command_line.proofs.Asked.{all_given, map_length, some_same}

@@ -1,4 +1,4 @@
-use Rattle.std.proofs.Common.{◌≡◌, ◌∙◌, Some, None, sym, subst, ℕ, unwrap_or}
+use Rattle.std.proofs.Common.{◌∙◌, sym, subst}
 use Rattle.std.specs.Str.Parse.{ParsesUnsigned, ExplainsUnsignedError, HasUnsignedDigitsIfOk}
 use Rattle.clap.specs.Words.{found_of, rows_of, first_of}
 use Rattle.clap.proofs.WalkLemmas.{one_text-rows}

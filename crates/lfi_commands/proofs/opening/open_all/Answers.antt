@@ -1,4 +1,4 @@
-use Rattle.std.proofs.Common.{rules, ◌≡◌, ℕ, Bor, List, Option, map, subst, sym, take}
+use Rattle.std.proofs.Common.{rules, ℕ, Bor, List, Option, map, subst, sym, take}
 use Rattle.lfi_commands.specs.inner.Opening.{AreInputsOf}
 use Rattle.lfi_commands.proofs.Inputs.{inputs_more, map_all, map_more, tells_one}
 use Rattle.lfi_commands.proofs.opening.open_all.Goals as goal

@@ -1,4 +1,4 @@
-use Rattle.std.proofs.Common.{◌≡◌, map, take}
+use Rattle.std.proofs.Common.{map, take}
 use Rattle.lfi_commands.specs.inner.Opening.{AreInputsOf}
 use Rattle.lfi_commands.proofs.opening.open_all.Given as goal
 

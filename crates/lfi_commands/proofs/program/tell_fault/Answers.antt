@@ -1,4 +1,4 @@
-use Rattle.std.proofs.Common.{refl, inr, subst, sym}
+use Rattle.std.proofs.Common.{refl, inr, subst}
 use Rattle.lfi_command_line.specs.CommandLine.{IsLineFault}
 use Rattle.lfi_commands.proofs.program.tell_fault.Goals as goal
 
