@@ -4,7 +4,8 @@ ghost use Rattle.std.specs.Prelude.{◌≡◌, IfOk, length};
 
 use crate::runs::{ONE_RET, ONE_RET_REPORT, RET, begin, run_over};
 use lfi_commands::{
-    CommandFault, DeviceCause, Ending, Errors, Failure, SystemDisk, Verdict, check, check_file, load,
+    CommandFault, DeviceCause, Ending, Errors, Failure, SystemDisk, Verdict, check, check_file,
+    load,
 };
 use lfi_model::Outcome;
 use lfi_receive::Input;
