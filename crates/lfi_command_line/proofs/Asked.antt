@@ -1,12 +1,12 @@
 -- The subcommand that the parser met, by the words, and the fault that it told.
 use Rattle.std.proofs.Common.{◌≡◌, ◌∙◌, ◌⊎◌, ℕ, Bool, Result, Ok, Err, IfErr, IsErrAnd, true, false, suc, List, [], ◌∷◌, map, Option, Some, None, is_some, find, refl, sym, arith, ap, ap₂, subst, inl, inr, codes, option_map, unwrap_or, true≢false}
-use Rattle.std.specs.Prelude.{◌<◌, Box, length, option_and_then, slice_get}
+use Rattle.std.specs.Prelude.{◌<◌, ◌≤◌, Box, length, option_and_then, slice_get}
 use Rattle.std.specs.Box.{box_value}
 use Rattle.std.specs.Str.{bytes_eq}
 use Rattle.std.proofs.lemmas.Slice.Eq.{bytes_eq-Decides}
 use Rattle.std.specs.Str.Parse.{ParsesUnsigned}
 use Rattle.clap.specs.Matches.{ReadsOne, subcommand_name_of}
-use Rattle.clap.specs.Simple.{subcommand_rows, subcommand_rows_of}
+use Rattle.clap.specs.Simple.{subcommand_of, subcommand_rows, subcommand_rows_of}
 use Rattle.clap.specs.declared.builder.value_parser.Reading.{Reading}
 use Rattle.clap.specs.Values.{read_as}
 use Rattle.clap.specs.Walk.{Row, Text, all_of, first_of, one_of, row_text}
@@ -18,11 +18,11 @@ use Rattle.clap.specs.declared.error.Error.{Error}
 use Rattle.clap.specs.declared.error.kind.ErrorKind.{ErrorKind}
 use Rattle.clap.specs.declared.error.kind.ErrorKind.TheVariants as kind
 use Rattle.lfi_command_line.specs.declared.fault.LineFault.{LineFault}
-use Rattle.lfi_command_line.specs.declared.fault.LineFault.TheVariants.{NoMemory, Help, Wrong, TooManyStreams}
+use Rattle.lfi_command_line.specs.declared.fault.LineFault.TheVariants.{NoMemory, Help, Wrong, TooManyStreams, TooManyModules}
 use Rattle.lfi_command_line.specs.Apps.{lfiload_app}
-use Rattle.lfi_command_line.specs.CommandLine.{AreTakenFor, IsLineFault, IsNumber, IsNumberOr, fault_by, fault_from, is_help}
-use Rattle.lfi_command_line.specs.inner.Given.{IsFaultOfLoad, IsNumberGiven}
-use Rattle.lfi_command_line.proofs.Needs.{AllGive, Asks, picked}
+use Rattle.lfi_command_line.specs.CommandLine.{AreTakenFor, IsLineFault, IsFlag, IsNumber, IsNumberOr, fault_by, fault_from, is_help}
+use Rattle.lfi_command_line.specs.inner.Given.{AreTakenBy, IsFaultOfLoad, IsFaultOfPack, IsNumberGiven}
+use Rattle.lfi_command_line.proofs.Needs.{AllGive, Asks, asks, picked, shape_named}
 
 module _ {Z : Type 0} where
   named : (o : Option (Box SubCommand Z)) → option_map (λ p. p.0) (subcommand_rows o) ≡ option_map (λ b. (out-SubCommand (box_value b)).name.now) o
@@ -107,23 +107,57 @@ pub number_has : (default least most : ℕ) (o : Option Text) (n : ℕ) → is_s
 number_has default least most None n some is = absurd (true≢false (sym some))
 number_has default least most (Some text) n some is = (text, refl, is)
 
--- the one name that is left
-pub last_named : (p : Option (Text × List Row)) → Asks p → (option_map (λ p. p.0) p ≡ Some (codes "check") → ⊥) → (option_map (λ p. p.0) p ≡ Some (codes "load") → ⊥)
-    → (option_map (λ p. p.0) p ≡ Some (codes "serve") → ⊥) → option_map (λ p. p.0) p ≡ Some (codes "run")
-last_named None asks not_check not_load not_serve = absurd asks
-last_named (Some p) asks not_check not_load not_serve =
-    named (bytes_eq (codes "check") p.0) refl (bytes_eq (codes "load") p.0) refl (bytes_eq (codes "serve") p.0) refl (bytes_eq (codes "run") p.0) refl asks
+-- Words that the parser takes for a subcommand give it what it needs.
+pub given_of : (words : List Text) (name : Text) (given : List Row) → AreTakenFor words name given → AllGive (shape_named name) given
+given_of words name given taken = subst Asks taken.1 (asks words taken.0)
+
+-- The subcommand that the parser met is the one that the words name.
+pub taken_for : (words : List Text) (m : ArgMatches) (name : Text) (given : List Row) → AreTakenBy words m → subcommand_name_of m ≡ Some name
+    → option_map (λ p. p.1) (subcommand_rows_of m) ≡ Some given → AreTakenFor words name given
+taken_for words m name given taken met rows =
+    (taken.0, both_parts (subcommand_of lfiload_app words) name given (name_met m _ taken.1 ∙ met) (ap (option_map (λ p. p.1)) (sym taken.1) ∙ rows))
+
+-- the name that is left, where the words name none of the others
+last_of : (p : Option (Text × List Row)) → Asks p → (option_map (λ p. p.0) p ≡ Some (codes "check") → ⊥) → (option_map (λ p. p.0) p ≡ Some (codes "load") → ⊥)
+    → (option_map (λ p. p.0) p ≡ Some (codes "serve") → ⊥) → (option_map (λ p. p.0) p ≡ Some (codes "disassemble") → ⊥) → (option_map (λ p. p.0) p ≡ Some (codes "pack") → ⊥)
+    → option_map (λ p. p.0) p ≡ Some (codes "run")
+last_of None asks not_check not_load not_serve not_disassemble not_pack = absurd asks
+last_of (Some p) asks not_check not_load not_serve not_disassemble not_pack =
+    named (bytes_eq (codes "check") p.0) refl (bytes_eq (codes "load") p.0) refl (bytes_eq (codes "serve") p.0) refl (bytes_eq (codes "run") p.0) refl
+    (bytes_eq (codes "disassemble") p.0) refl (bytes_eq (codes "pack") p.0) refl asks
   where
     same : (name : Text) → bytes_eq name p.0 ≡ true → Some p.0 ≡ Some name
     same name is = ap Some (sym ((bytes_eq-Decides name p.0).0 is))
 
-    named : (first : Bool) → bytes_eq (codes "check") p.0 ≡ first → (second : Bool) → bytes_eq (codes "load") p.0 ≡ second → (third : Bool) → bytes_eq (codes "serve") p.0 ≡ third
-        → (fourth : Bool) → bytes_eq (codes "run") p.0 ≡ fourth → AllGive (picked first second third fourth) p.1 → Some p.0 ≡ Some (codes "run")
-    named true is second _ third _ fourth _ give = absurd (not_check (same (codes "check") is))
-    named false _ true is third _ fourth _ give = absurd (not_load (same (codes "load") is))
-    named false _ false _ true is fourth _ give = absurd (not_serve (same (codes "serve") is))
-    named false _ false _ false _ true is give = same (codes "run") is
-    named false _ false _ false _ false _ give = absurd give
+    named : (a : Bool) → bytes_eq (codes "check") p.0 ≡ a → (b : Bool) → bytes_eq (codes "load") p.0 ≡ b → (c : Bool) → bytes_eq (codes "serve") p.0 ≡ c
+        → (d : Bool) → bytes_eq (codes "run") p.0 ≡ d → (f : Bool) → bytes_eq (codes "disassemble") p.0 ≡ f → (g : Bool) → bytes_eq (codes "pack") p.0 ≡ g
+        → AllGive (picked a b c d f g) p.1 → Some p.0 ≡ Some (codes "run")
+    named true is b _ c _ d _ f _ g _ give = absurd (not_check (same (codes "check") is))
+    named false _ true is c _ d _ f _ g _ give = absurd (not_load (same (codes "load") is))
+    named false _ false _ true is d _ f _ g _ give = absurd (not_serve (same (codes "serve") is))
+    named false _ false _ false _ true is f _ g _ give = same (codes "run") is
+    named false _ false _ false _ false _ true is g _ give = absurd (not_disassemble (same (codes "disassemble") is))
+    named false _ false _ false _ false _ false _ true is give = absurd (not_pack (same (codes "pack") is))
+    named false _ false _ false _ false _ false _ false _ give = absurd give
+
+-- Of a subcommand that the parser didn't meet the words don't have the name.
+not_met : (words : List Text) (m : ArgMatches) (name : Text) → AreTakenBy words m → (subcommand_name_of m ≡ Some name → ⊥)
+    → option_map (λ p. p.0) (subcommand_of lfiload_app words) ≡ Some name → ⊥
+not_met words m name taken other is = other (sym (name_met m _ taken.1) ∙ is)
+
+-- Where the parser met none of the others, it met `run`.
+pub run_met : (words : List Text) (m : ArgMatches) → AreTakenBy words m → (subcommand_name_of m ≡ Some (codes "check") → ⊥) → (subcommand_name_of m ≡ Some (codes "load") → ⊥)
+    → (subcommand_name_of m ≡ Some (codes "serve") → ⊥) → (subcommand_name_of m ≡ Some (codes "disassemble") → ⊥) → (subcommand_name_of m ≡ Some (codes "pack") → ⊥)
+    → subcommand_name_of m ≡ Some (codes "run")
+run_met words m taken check load serve disassemble pack =
+    sym (name_met m _ taken.1)
+    ∙ last_of (subcommand_of lfiload_app words) (asks words taken.0) (not_met words m (codes "check") taken check) (not_met words m (codes "load") taken load)
+    (not_met words m (codes "serve") taken serve) (not_met words m (codes "disassemble") taken disassemble) (not_met words m (codes "pack") taken pack)
+
+-- a number in a range, or one that is in it
+pub number_most : (default least most : ℕ) (o : Option Text) (n : ℕ) → default ≤ most → IsNumberOr default least most o n → n ≤ most
+number_most default least most None n fits is = omega (arith, fits, is)
+number_most default least most (Some text) n fits is = is.3
 
 -- what is wrong with what is given to `load` is wrong with the words
 pub load_fault : (words : List Text) (given : List Row) (fault : LineFault) → AreTakenFor words (codes "load") given → IsFaultOfLoad given fault → IsLineFault words fault
@@ -131,3 +165,17 @@ load_fault words given NoMemory taken is = tt
 load_fault words given TooManyStreams taken is = (given, is.0, taken, is.1, is.2)
 load_fault words given (Help error) taken is = absurd is
 load_fault words given (Wrong error) taken is = absurd is
+load_fault words given TooManyModules taken is = absurd is
+
+-- what is wrong with what is given to `pack` is wrong with the words
+pub pack_fault : (words : List Text) (given : List Row) (fault : LineFault) → AreTakenFor words (codes "pack") given → IsFaultOfPack given fault → IsLineFault words fault
+pack_fault words given NoMemory taken is = tt
+pack_fault words given TooManyModules taken is = (given, is.0, is.1, taken, is.2, is.3, is.4)
+pack_fault words given (Help error) taken is = absurd is
+pack_fault words given (Wrong error) taken is = absurd is
+pack_fault words given TooManyStreams taken is = absurd is
+
+-- a flag is read as it is given
+pub flag_read : (o : Option Text) (given : Bool) → (o ≡ None → given ≡ false) → (o ≡ Some (codes "true") → given ≡ true) → (o ≡ Some (codes "false") → given ≡ false) → IsFlag o given
+flag_read None given none set other = none refl
+flag_read (Some text) given none set other = (λ e. set (ap Some e), λ e. other (ap Some e))

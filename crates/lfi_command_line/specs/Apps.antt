@@ -5,6 +5,7 @@ use Rattle.clap.specs.Words.{App, Rule, Text, app_of, new_app, new_rule, with_ru
 use Rattle.clap.specs.Simple.{on_top}
 use Rattle.clap.specs.declared.builder.value_parser.ValueParser.{ValueParser}
 use Rattle.clap.specs.declared.builder.value_parser.ValueParser.TheVariants.{Unsigned}
+use Rattle.clap.specs.declared.builder.action.ArgAction.TheVariants.{SetTrue}
 use Rattle.clap.specs.declared.builder.command.Command.{Command}
 use Rattle.clap.specs.declared.builder.command.Command.TheViews.{out-Command}
 
@@ -28,9 +29,13 @@ option_rule name = record (new_rule name) { long = Some name; value_names = 1 }
 abbrev pub number_rule : Text → ValueParser → Rule
 number_rule name parser = record (option_rule name) { parser = Some parser }
 
--- `check FILE`
+-- `--NAME`, which is given or not
+abbrev pub flag_rule : Text → Rule
+flag_rule name = record (new_rule name) { long = Some name; action = Some SetTrue }
+
+-- `check [--explain] [--all] FILE`
 abbrev pub check_app : App
-check_app = with_rule (new_app (codes "check")) (required_rule (codes "FILE"))
+check_app = with_rule (with_rule (with_rule (new_app (codes "check")) (flag_rule (codes "explain"))) (flag_rule (codes "all"))) (required_rule (codes "FILE"))
 
 -- `load [--verifiers V] [--out DIR] STREAM..`
 abbrev pub load_app : App
@@ -46,11 +51,22 @@ serve_app = with_rule (with_rule (with_rule (with_rule (new_app (codes "serve"))
 abbrev pub run_app : App
 run_app = with_rule (with_rule (new_app (codes "run")) (needed (number_rule (codes "steps") (Unsigned 0 1000000000)))) (required_rule (codes "IMAGE"))
 
--- the program: one of these has to be there, and `help` is none
+-- `disassemble FILE`
+abbrev pub disassemble_app : App
+disassemble_app = with_rule (new_app (codes "disassemble")) (required_rule (codes "FILE"))
+
+-- `pack [--module M] [--entry WORD] CODE..`
+abbrev pub pack_app : App
+pack_app = with_rule (with_rule (with_rule (new_app (codes "pack")) (number_rule (codes "module") (Unsigned 0 15))) (number_rule (codes "entry") (Unsigned 0 4194303))) (several_rule (codes "CODE"))
+
+-- the program without its subcommands: one has to be there, `help` is none, and it has a version
+abbrev pub bare_app : App
+bare_app = on_top (λ s. record s { has_version = true; subcommand_required = true; disable_help_subcommand = true }) (new_app (codes "lfiload"))
+
+-- the program
 abbrev pub lfiload_app : App
-lfiload_app = with_subcommand (with_subcommand (with_subcommand (with_subcommand
-    (on_top (λ s. record s { subcommand_required = true; disable_help_subcommand = true }) (new_app (codes "lfiload")))
-    check_app.top) load_app.top) serve_app.top) run_app.top
+lfiload_app = with_subcommand (with_subcommand (with_subcommand (with_subcommand (with_subcommand (with_subcommand bare_app
+    check_app.top) load_app.top) serve_app.top) run_app.top) disassemble_app.top) pack_app.top
 
 -- the parser's command is the one described, and none of its arguments is global
 abbrev pub Makes : App → Command → Type 0

@@ -1,15 +1,17 @@
 -- What the words of the command line ask for, and what is wrong with them. (docs/COMMANDS.md)
-use Rattle.std.specs.Prelude.{◌≡◌, ⊤, ℕ, ◌≤◌, ◌<◌, Bool, List, [], codes, length, map, Option, Some, None, true, false, option_map}
-use Rattle.clap.specs.Words.{IsAmong, Row, Text, all_of, fault_of, first_of, kind_of, subcommand_of}
+use Rattle.std.specs.Prelude.{◌≡◌, ⊤, ℕ, ◌+◌, ◌≤◌, ◌<◌, Bool, List, [], codes, length, map, Option, Some, None, true, false, option_map}
+use Rattle.clap.specs.Words.{IsAmong, Row, Text, all_of, fault_of, first_of, kind_of, one_of, subcommand_of}
 use Rattle.std.specs.Str.Parse.{IsNumeral, digits_value, without_leading_plus}
 use Rattle.clap.specs.declared.error.Error.{Error}
 use Rattle.clap.specs.declared.error.kind.ErrorKind.{ErrorKind}
 use Rattle.clap.specs.declared.error.kind.ErrorKind.TheVariants as kind
 use Rattle.lfi_command_line.specs.Apps.{lfiload_app}
 use Rattle.lfi_command_line.specs.declared.line.Line.{Line}
-use Rattle.lfi_command_line.specs.declared.line.Line.TheVariants.{Check, Load, Serve, Run}
+use Rattle.lfi_command_line.specs.declared.line.Line.TheVariants.{Check, Load, Serve, Run, Disassemble, Pack}
+use Rattle.lfi_command_line.specs.declared.line.Explain.{Explain}
+use Rattle.lfi_command_line.specs.declared.line.Explain.TheVariants.{Nothing, First, All}
 use Rattle.lfi_command_line.specs.declared.fault.LineFault.{LineFault}
-use Rattle.lfi_command_line.specs.declared.fault.LineFault.TheVariants.{NoMemory, Help, Wrong, TooManyStreams}
+use Rattle.lfi_command_line.specs.declared.fault.LineFault.TheVariants.{NoMemory, Help, Wrong, TooManyStreams, TooManyModules}
 
 -- the text is a number in this range in decimal digits, perhaps with a plus before them
 abbrev pub IsNumber : (least most : ℕ) → Text → ℕ → Type 0
@@ -21,9 +23,24 @@ abbrev pub IsNumberOr : (default least most : ℕ) → Option Text → ℕ → T
 IsNumberOr default least most None n = n ≡ default
 IsNumberOr default least most (Some text) n = IsNumber least most text n
 
+-- a flag is given, by the value that the parser keeps for it
+abbrev pub IsFlag : Option Text → Bool → Type 0
+IsFlag None given = given ≡ false
+IsFlag (Some text) given = (text ≡ codes "true" → given ≡ true) × (text ≡ codes "false" → given ≡ false)
+
+-- what is explained, by the flags for the first fault and for all
+abbrev pub explain_by : (first all : Bool) → Explain
+explain_by first true = All
+explain_by true false = First
+explain_by false false = Nothing
+
+abbrev pub IsExplain : List Row → Explain → Type 0
+IsExplain given explain =
+    (first all : Bool) × IsFlag (one_of (codes "explain") given) first × IsFlag (one_of (codes "all") given) all × (explain ≡ explain_by first all)
+
 -- a subcommand of this name, with what was given to it, asks for this line
 abbrev pub IsAskedBy : (name : Text) → List Row → Line → Type 0
-IsAskedBy name given (Check file) = (name ≡ codes "check") × (first_of (codes "FILE") given ≡ Some file.now)
+IsAskedBy name given (Check file explain) = (name ≡ codes "check") × (first_of (codes "FILE") given ≡ Some file.now) × IsExplain given explain
 IsAskedBy name given (Load verifiers out streams) = (name ≡ codes "load") × IsNumberOr 2 1 8 (first_of (codes "verifiers") given) verifiers
     × (first_of (codes "out") given ≡ option_map (λ s. s.now) out)
     × (all_of (codes "STREAM") given ≡ Some (map (λ s. s.now) streams.items)) × (1 ≤ length streams.items) × (length streams.items ≤ 8)
@@ -32,6 +49,10 @@ IsAskedBy name given (Serve socket connections verifiers out) = (name ≡ codes 
     × IsNumberOr 2 1 8 (first_of (codes "verifiers") given) verifiers × (first_of (codes "out") given ≡ option_map (λ s. s.now) out)
 IsAskedBy name given (Run image steps) = (name ≡ codes "run") × (first_of (codes "IMAGE") given ≡ Some image.now)
     × ((text : Text) × (first_of (codes "steps") given ≡ Some text) × IsNumber 0 1000000000 text steps)
+IsAskedBy name given (Disassemble file) = (name ≡ codes "disassemble") × (first_of (codes "FILE") given ≡ Some file.now)
+IsAskedBy name given (Pack number entry files) = (name ≡ codes "pack") × IsNumberOr 0 0 15 (first_of (codes "module") given) number
+    × IsNumberOr 0 0 4194303 (first_of (codes "entry") given) entry × (all_of (codes "CODE") given ≡ Some (map (λ s. s.now) files.items))
+    × (1 ≤ length files.items) × (number + length files.items ≤ 16)
 
 -- Nothing is wrong with the words for the parser, which takes them for this subcommand, with what is given to it.
 abbrev pub AreTakenFor : List Text → (name : Text) → List Row → Type 0
@@ -51,12 +72,18 @@ is_help _ = false
 abbrev pub NameTooMany : List Text → Type 0
 NameTooMany words = (given : List Row) × (streams : List Text) × AreTakenFor words (codes "load") given × (all_of (codes "STREAM") given ≡ Some streams) × (8 < length streams)
 
+-- they ask for modules above the last one
+abbrev pub NameTooManyModules : List Text → Type 0
+NameTooManyModules words = (given : List Row) × (number : ℕ) × (files : List Text) × AreTakenFor words (codes "pack") given
+    × IsNumberOr 0 0 15 (first_of (codes "module") given) number × (all_of (codes "CODE") given ≡ Some files) × (16 < number + length files)
+
 -- the parser's error has a kind that the words give, and isn't for want of memory
 abbrev pub IsLineFault : List Text → LineFault → Type 0
 IsLineFault words NoMemory = ⊤
 IsLineFault words (Help error) = IsAmong (kind_of error) (fault_of lfiload_app words) × (is_help (kind_of error) ≡ true)
 IsLineFault words (Wrong error) = IsAmong (kind_of error) (fault_of lfiload_app words) × (is_help (kind_of error) ≡ false)
 IsLineFault words TooManyStreams = NameTooMany words
+IsLineFault words TooManyModules = NameTooManyModules words
 
 -- the fault that is made of the parser's error, by its kind
 abbrev pub fault_by : ErrorKind → Error → LineFault

@@ -3,11 +3,11 @@
 ghost use Rattle.std.specs.Prelude.{◌≡◌, IfOk, false};
 ghost use Rattle.clap.specs.Words.{rule_of};
 ghost use Rattle.clap.specs.declared.builder.value_parser.ValueParser.TheVariants.{Unsigned};
-ghost use Rattle.lfi_command_line.specs.Apps.{Makes, required_rule, several_rule, option_rule, number_rule, check_app, load_app, serve_app, run_app, lfiload_app};
+ghost use Rattle.lfi_command_line.specs.Apps.{Makes, required_rule, several_rule, option_rule, number_rule, flag_rule, check_app, load_app, serve_app, run_app, disassemble_app, pack_app, bare_app, lfiload_app};
 
 use crate::help;
 use clap::builder::ValueParser;
-use clap::{Arg, Command};
+use clap::{Arg, ArgAction, Command};
 use std::alloc::{AllocError, Global};
 
 /// The most steps that `run` is asked for.
@@ -18,6 +18,15 @@ const MOST_CONNECTIONS: u64 = 8;
 
 /// The most verifiers that are asked for.
 const MOST_VERIFIERS: u64 = 8;
+
+/// The last module's number.
+const LAST_MODULE: u64 = 15;
+
+/// The last word of the longest code.
+const LAST_WORD: u64 = 4_194_303;
+
+/// The program's version.
+const VERSION: &str = "0.1.0";
 
 /// An argument in its place that has to be there.
 fn required_argument<'a>(alloc: Global, name: &'a str, text: &'a str) -> Arg<'a>
@@ -60,14 +69,29 @@ fn number_argument<'a>(
     option_argument(alloc, name, value, text).value_parser(ValueParser::Unsigned(range.0, range.1))
 }
 
+/// A flag, `--name`.
+fn flag<'a>(alloc: Global, name: &'a str, text: &'a str) -> Arg<'a>
+    ensures rule { rule_of result ≡ flag_rule name.entry.now }
+    ensures local { result.global ≡ false }
+{
+    Arg::new(alloc, name)
+        .long(name)
+        .action(ArgAction::SetTrue)
+        .help(text)
+}
+
 /// The command `check` and its words.
 fn check_command<'a>(alloc: Global) -> Result<Command<'a>, AllocError>
     ensures { IfOk result (Makes check_app) }
 {
-    let file = required_argument(alloc, "FILE", "plain code words, the lowest byte first");
+    let explain = flag(alloc, "explain", help::EXPLAIN);
+    let all = flag(alloc, "all", help::ALL);
+    let file = required_argument(alloc, "FILE", help::FILE);
     Command::new(alloc, "check")
         .about("Tells whether the code in a file is lawful")
         .after_help(help::CHECK)
+        .arg(explain)?
+        .arg(all)?
         .arg(file)
 }
 
@@ -127,11 +151,7 @@ fn run_command<'a>(alloc: Global) -> Result<Command<'a>, AllocError>
     ensures { IfOk result (Makes run_app) }
 {
     let steps = number_argument(alloc, "steps", "N", help::STEPS, (0, MOST_STEPS)).required(true);
-    let image = required_argument(
-        alloc,
-        "IMAGE",
-        "the file of an image, as load --out writes it",
-    );
+    let image = required_argument(alloc, "IMAGE", help::IMAGE);
     Command::new(alloc, "run")
         .about("Runs an image in a simulated machine")
         .after_help(help::RUN)
@@ -139,17 +159,53 @@ fn run_command<'a>(alloc: Global) -> Result<Command<'a>, AllocError>
         .arg(image)
 }
 
+/// The command `disassemble` and its words.
+fn disassemble_command<'a>(alloc: Global) -> Result<Command<'a>, AllocError>
+    ensures { IfOk result (Makes disassemble_app) }
+{
+    let file = required_argument(alloc, "FILE", help::FILE);
+    Command::new(alloc, "disassemble")
+        .about("Lists the words of a file, each with its place and its text")
+        .after_help(help::DISASSEMBLE)
+        .arg(file)
+}
+
+/// The command `pack` and its words.
+fn pack_command<'a>(alloc: Global) -> Result<Command<'a>, AllocError>
+    ensures { IfOk result (Makes pack_app) }
+{
+    let module = number_argument(alloc, "module", "M", help::MODULE, (0, LAST_MODULE));
+    let entry = number_argument(alloc, "entry", "WORD", help::ENTRY, (0, LAST_WORD));
+    let codes = several_arguments(alloc, "CODE", help::CODE);
+    Command::new(alloc, "pack")
+        .about("Writes a stream of the code in files, a module each")
+        .after_help(help::PACK)
+        .arg(module)?
+        .arg(entry)?
+        .arg(codes)
+}
+
+/// The program's command, without its subcommands.
+fn bare_command<'a>(alloc: Global) -> Command<'a>
+    ensures { Makes bare_app result }
+{
+    Command::new(alloc, "lfiload")
+        .about("Verifies and loads modules of sandboxed code")
+        .version(VERSION)
+        .after_help(help::PROGRAM)
+        .subcommand_required(true)
+        .disable_help_subcommand(true)
+}
+
 /// The program's command, with its subcommands.
 pub(crate) fn command<'a>(alloc: Global) -> Result<Command<'a>, AllocError>
     ensures { IfOk result (Makes lfiload_app) }
 {
-    Command::new(alloc, "lfiload")
-        .about("Verifies and loads modules of sandboxed code")
-        .after_help(help::PROGRAM)
-        .subcommand_required(true)
-        .disable_help_subcommand(true)
+    bare_command(alloc)
         .subcommand(check_command(alloc)?)?
         .subcommand(load_command(alloc)?)?
         .subcommand(serve_command(alloc)?)?
-        .subcommand(run_command(alloc)?)
+        .subcommand(run_command(alloc)?)?
+        .subcommand(disassemble_command(alloc)?)?
+        .subcommand(pack_command(alloc)?)
 }

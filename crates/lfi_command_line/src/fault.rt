@@ -22,6 +22,9 @@ pub enum LineFault {
     /// They name more than 8 streams.
     #[error("at most 8 streams")]
     TooManyStreams,
+    /// They ask for modules above the last one, 15.
+    #[error("at most 16 modules")]
+    TooManyModules,
 }
 
 impl From<AllocError> for LineFault {

@@ -1,12 +1,12 @@
 //! What is given to each subcommand.
 
 ghost use Rattle.std.specs.Prelude.{◌≡◌, ℕ, IfOk, IfErr, true, is_some, codes};
-ghost use Rattle.clap.specs.Words.{first_of, rows_of, found_of};
-ghost use Rattle.lfi_command_line.specs.CommandLine.{IsAskedBy, IsNumberOr};
-ghost use Rattle.lfi_command_line.specs.inner.Given.{IsNumberGiven, IsFaultOfLoad};
+ghost use Rattle.clap.specs.Words.{first_of, one_of, rows_of, found_of};
+ghost use Rattle.lfi_command_line.specs.CommandLine.{IsAskedBy, IsFlag, IsNumberOr, explain_by};
+ghost use Rattle.lfi_command_line.specs.inner.Given.{IsNumberGiven, IsFaultOfLoad, IsFaultOfPack};
 
 use crate::fault::LineFault;
-use crate::line::Line;
+use crate::line::{Explain, Line};
 use clap::ArgMatches;
 use std::alloc::Global;
 
@@ -16,6 +16,29 @@ const VERIFIERS: u64 = 2;
 /// The most streams.
 const MOST_STREAMS: usize = 8;
 
+/// How many modules there are.
+const MODULES: usize = 16;
+
+/// Whether a flag is given.
+fn is_given(matches: &ArgMatches<'_>, id: &str) -> bool
+    ensures { IsFlag (one_of id.now (rows_of (found_of matches.now))) result }
+{
+    matches.get_flag(id)
+}
+
+/// What is explained, by the two flags.
+fn explain_by(first: bool, all: bool) -> Explain
+    ensures { result ≡ explain_by first all }
+{
+    if all {
+        Explain::All
+    } else if first {
+        Explain::First
+    } else {
+        Explain::Nothing
+    }
+}
+
 /// What `check` asks for.
 pub(crate) fn check_line<'a>(check: &ArgMatches<'a>) -> Line<'a>
     requires file { is_some (first_of (codes "FILE") (rows_of (found_of check.now))) ≡ true }
@@ -23,6 +46,7 @@ pub(crate) fn check_line<'a>(check: &ArgMatches<'a>) -> Line<'a>
 {
     Line::Check {
         file: check.get_str("FILE").unwrap(),
+        explain: explain_by(is_given(check, "explain"), is_given(check, "all")),
     }
 }
 
@@ -84,4 +108,40 @@ pub(crate) fn run_line<'a>(run: &ArgMatches<'a>) -> Line<'a>
         image: run.get_str("IMAGE").unwrap(),
         steps: number_or(run, "steps", 0),
     }
+}
+
+/// What `disassemble` asks for.
+pub(crate) fn disassemble_line<'a>(disassemble: &ArgMatches<'a>) -> Line<'a>
+    requires file { is_some (first_of (codes "FILE") (rows_of (found_of disassemble.now))) ≡ true }
+    ensures { IsAskedBy (codes "disassemble") (rows_of (found_of disassemble.now)) result }
+{
+    Line::Disassemble {
+        file: disassemble.get_str("FILE").unwrap(),
+    }
+}
+
+/// What `pack` asks for.
+///
+/// # Errors
+///
+/// Where there are more files than modules from the first one's number on, or no memory to list them.
+pub(crate) fn pack_line<'a>(alloc: Global, pack: &ArgMatches<'a>) -> Result<Line<'a>, LineFault>
+    requires codes { is_some (first_of (codes "CODE") (rows_of (found_of pack.now))) ≡ true }
+    requires module { IsNumberGiven 0 15 (codes "module") (rows_of (found_of pack.now)) }
+    requires entry { IsNumberGiven 0 4194303 (codes "entry") (rows_of (found_of pack.now)) }
+    ensures line { IfOk result (IsAskedBy (codes "pack") (rows_of (found_of pack.now))) }
+    ensures fault { IfErr result (IsFaultOfPack (rows_of (found_of pack.now))) }
+{
+    let module = number_or(pack, "module", 0) as usize;
+    let entry = number_or(pack, "entry", 0) as u32;
+    let paths = pack.get_strs("CODE").unwrap();
+    if module + paths.len() > MODULES {
+        return Err(LineFault::TooManyModules);
+    }
+    let codes = Vec::from_slice(alloc, paths)?;
+    Ok(Line::Pack {
+        module,
+        entry,
+        codes,
+    })
 }

@@ -1,12 +1,26 @@
-//! What `--help` says of the commands and of their answers.
+//! What `--help` says of the commands and of their answers. No line is wider than 100 columns.
 
 /// Of the program: the exit statuses.
 pub const PROGRAM: &str = "Exit status:
-  0  check: the code is lawful. load, serve: each module is complete or unused, and no connection has a fault.
-     run: the run ended with a status, at BRK, or when all steps were used.
+  0  check: the code is lawful. load, serve: each module is complete or unused, and no connection
+     has a fault. run: the run ended with a status, at BRK, or when all steps were used.
+     disassemble, pack: all was written.
   1  It isn't so: the printed lines say why.
   2  The words of the command line are wrong.
-  3  A device failed, or memory was refused: a line on the standard error says which.";
+  3  A device failed, or memory was refused: a line on the standard error says which.
+
+`lfiload COMMAND --help` has each line that a command prints, and an example.
+
+Example: lfiload check --explain module.code";
+
+/// Of a file with code.
+pub const FILE: &str = "plain code words, the lowest byte first";
+
+/// Of `--explain`.
+pub const EXPLAIN: &str = "also say what the word at fault does, and what its rule asks";
+
+/// Of `--all`.
+pub const ALL: &str = "say so of each word that breaks a rule, and how many they are";
 
 /// Of `--verifiers`.
 pub const VERIFIERS: &str = "how many verifiers judge pages, 1 to 8; 2 where it isn't said";
@@ -18,8 +32,7 @@ pub const OUT: &str = "the folder that the images of complete modules are writte
 pub const STREAM: &str = "1 to 8 files, each with one connection's bytes";
 
 /// Of `--socket`.
-pub const SOCKET: &str =
-    "the path of the Unix socket to listen at; it is removed after the last connection came";
+pub const SOCKET: &str = "the path of the Unix socket; it is removed after the last connection";
 
 /// Of `--connections`.
 pub const CONNECTIONS: &str = "how many connections are taken, 1 to 8";
@@ -27,52 +40,80 @@ pub const CONNECTIONS: &str = "how many connections are taken, 1 to 8";
 /// Of `--steps`.
 pub const STEPS: &str = "how many steps it may take, 0 to 1000000000";
 
+/// Of the image.
+pub const IMAGE: &str = "the file of an image, as load --out writes it";
+
+/// Of `--module`.
+pub const MODULE: &str = "the number of the first file's module, 0 to 15; 0 where it isn't said";
+
+/// Of `--entry`.
+pub const ENTRY: &str = "the word at which each module is entered; 0 where it isn't said";
+
+/// Of the files with code.
+pub const CODE: &str = "1 to 16 files, each with the plain code words of one module";
+
 /// Of `check`: its lines.
 pub const CHECK: &str = "Prints one line:
   lawful, N words  The N words are a lawful module (status 0).
-  word K rule R    Word K, counted from 0, is the first that breaks a rule, and R is the least rule that it breaks (status 1).
+  word K rule R    Word K, counted from 0, is the first that breaks a rule, and R is the least rule
+                   that it breaks (status 1).
   bad length       The file is empty, no multiple of 4 bytes, or above 16,777,216 bytes (status 1).
+
+With --explain, these lines follow `word K rule R`:
+  0xADDRESS  WORD  TEXT  The word: its address where the module lies in slot 0, its value in
+                         hexadecimal digits, its assembly text. Where the rule is on what follows
+                         a word, the line of the word before stands above it.
+  A sentence             What the rule asks, and what the word does.
+With --all, all of these lines for each word that breaks a rule, in order, and then:
+  words refused: N       How many they are.
 
 On the standard error:
   lfiload: cannot read PATH  The file can't be read (status 3).
-  lfiload: no memory         There was no memory for it (status 3).";
+  lfiload: no memory         There was no memory for it (status 3).
+
+Example: lfiload check --explain module.code";
 
 /// Of `load`: its lines.
 pub const LOAD: &str =
     "Prints a line for each module that was opened, one for a connection's fault, and the strays:
-  module M: complete, N words             All its words came, and they are lawful.
-  module M: refused, word K rule R        Its first fault.
-  module M: incomplete, P of Q pages      It was closed when only P pages had come.
-  module M: lost, fault F                 Its connection came to fault F while it was open.
-  module M: page fault, index I           Page I wasn't the one due, or hadn't its length.
-  module M: no memory                     There was no memory for it.
-  connection C: fault F                   Its stream has fault F: 1 to 7 a header, 8 no memory, 9 its end,
-                                          10 a read that failed.
-  strays N                                N messages belonged to no open module of their connection.
-Each stream is a connection, numbered from 0 in the order of the words. The first that opens a module is the one
-that it is loaded from. The status is 0 where each module is complete and no connection has a fault, 3 where a read
-failed, else 1.
+  module M: complete, N words         All its words came, and they are lawful.
+  module M: refused, word K rule R    Its first fault.
+  module M: incomplete, P of Q pages  It was closed when only P pages had come.
+  module M: lost, fault F             Its connection came to fault F while it was open.
+  module M: page fault, index I       Page I wasn't the one due, or hadn't its length.
+  module M: no memory                 There was no memory for it.
+  connection C: fault F               Its stream has fault F: 1 to 7 a header, 8 no memory, 9 its
+                                      end, 10 a read that failed.
+  strays N                            N messages belonged to no open module of their connection.
+Each stream is a connection, numbered from 0 in the order of the words. The first that opens a
+module is the one that it is loaded from. The status is 0 where each module is complete and no
+connection has a fault, 3 where a read failed, else 1.
 
-With --out DIR, the image of each complete module M is written to DIR/module-MM.img, M in two digits.
+With --out DIR, the image of each complete module M is written to DIR/module-MM.img, M in two
+digits.
 
 On the standard error:
-  module M refused            A connection's thread has seen that module M is refused; the report tells why.
+  module M refused            A connection's thread has seen that module M is refused; the report
+                              tells why.
   lfiload: cannot read PATH   The first stream that can't be opened; nothing is loaded (status 3).
   lfiload: cannot write PATH  An image can't be written (status 3).
   lfiload: at most 8 streams  More were named (status 2).
-  lfiload: no memory          There was no memory to load them, or a thread could not be started (status 3).
+  lfiload: no memory          There was no memory to load them, or a thread could not be started
+                              (status 3).
 
 Example: lfiload load --verifiers 4 --out images a.stream b.stream";
 
 /// Of `serve`: its lines.
 pub const SERVE: &str =
     "Takes C connections, numbers them from 0 as they come, and reads each by a thread of its own.
-Prints the report once all of them have ended, as load does, and writes images as load does. The report waits for each
-connection, also for one that sends nothing: a limit of time is the user's, as in `timeout 60 lfiload serve ..`.
-The status is load's; it is 3 as well where a connection could not be taken: that one has no messages.
+Prints the report once all of them have ended, as load does, and writes images as load does. The
+report waits for each connection, also for one that sends nothing: a limit of time is the user's,
+as in `timeout 60 lfiload serve ..`. The status is load's; it is 3 as well where a connection could
+not be taken: that one has no messages.
 
 On the standard error:
-  module M refused            A connection's thread has seen that module M is refused; the report tells why.
+  module M refused            A connection's thread has seen that module M is refused; the report
+                              tells why.
   lfiload: cannot listen      It can't listen at the path (status 3).
   lfiload: cannot write PATH  An image can't be written (status 3).
   lfiload: no memory          There was no memory, or a thread could not be started (status 3).
@@ -81,22 +122,60 @@ Example: lfiload serve --socket /tmp/lfi.sock --connections 2 --verifiers 4 --ou
 
 /// Of `run`: its lines.
 pub const RUN: &str =
-    "The code starts at its entry with the base of its slot in x18, x21, x23, x24 and x30, the end of its slot in sp,
-and 0 in all other registers. Calls of the runtime: entry 0 ends the run with the low byte of x0 as its status;
-entry 1 writes the low byte of x0 to the standard output; every other sets all bits of x0.
+    "The code starts at its entry with the base of its slot in x18, x21, x23, x24 and x30, the end of
+its slot in sp, and 0 in all other registers. Calls of the runtime: entry 0 ends the run with the
+low byte of x0 as its status; entry 1 writes the low byte of x0 to the standard output; every other
+sets all bits of x0.
 
 Prints one line on the standard error:
-  halt 1 after N steps            All steps were used (status 0).
-  halt 2 at ADDRESS after N steps The byte at ADDRESS may not be accessed so (status 1).
-  halt 3 at ADDRESS after N steps No word of the code begins at pc, which is ADDRESS (status 1).
-  halt 4 at ADDRESS after N steps BRK, at ADDRESS (status 0).
-  halt 5 status S after N steps   The code ended the run with S; 255 where its output can't be written (status 0).
-  halt 6 after N steps            The runtime answered registers that aren't lawful (status 1).
-  halt 7 after N steps            There was no memory for a byte that is written (status 3).
-  image refused, fault F          There is no image: 1 it doesn't begin with LFI1, 2 its profile, 3 its counts, 4 its base,
-                                  5 it is cut, 6 bytes follow it (status 1), 8 no memory, 9 a read failed (status 3).
+  halt 1 after N steps             All steps were used (status 0).
+  halt 2 at ADDRESS after N steps  The byte at ADDRESS may not be accessed so (status 1).
+  halt 3 at ADDRESS after N steps  No word of the code begins at pc, which is ADDRESS (status 1).
+  halt 4 at ADDRESS after N steps  BRK, at ADDRESS (status 0).
+  halt 5 status S after N steps    The code ended the run with S; 255 where its output can't be
+                                   written (status 0).
+  halt 6 after N steps             The runtime answered registers that aren't lawful (status 1).
+  halt 7 after N steps             There was no memory for a byte that is written (status 3).
+  image refused, fault F           There is no image: 1 it doesn't begin with LFI1, 2 its profile,
+                                   3 its counts, 4 its base, 5 it is cut, 6 bytes follow it (status
+                                   1), 8 no memory, 9 a read failed (status 3).
   image refused, fault 7, word K rule R  Its code breaks a rule (status 1).
-  lfiload: cannot read PATH       The file can't be opened (status 3).
-  lfiload: no memory              There was no memory for the machine (status 3).
+  lfiload: cannot read PATH        The file can't be opened (status 3).
+  lfiload: no memory               There was no memory for the machine (status 3).
 
 Example: lfiload run module-00.img --steps 1000";
+
+/// Of `disassemble`: its lines.
+pub const DISASSEMBLE: &str = "Prints a line for each word, in order (status 0):
+  PLACE  0xADDRESS  WORD  TEXT  Its place, counted from 0; its address where the module lies in
+                                slot 0; its value in hexadecimal digits; its assembly text.
+After the text may stand:
+  -> word K             Where a direct branch goes.
+  -> outside, word K    The same; the code has no word K.
+  ; opens: next is X    Rule 10 asks this of the next word.
+The code isn't judged: `check` does that. A word that no instruction of the profile spells stands
+as `.inst`. Where the file is empty, no multiple of 4 bytes, or above 16,777,216 bytes, one line:
+  bad length            It is no code (status 1).
+
+On the standard error:
+  lfiload: cannot read PATH  The file can't be read (status 3).
+  lfiload: no memory         There was no memory for it (status 3).
+
+Example: lfiload disassemble module.code";
+
+/// Of `pack`: what it writes, and its lines.
+pub const PACK: &str =
+    "Writes a stream to the standard output, as load and serve read it: of each file an Open, its pages
+and a Close. The first file is module M, the next M + 1, and so on, up to 15 at the most. The code
+isn't judged: who receives it does that (status 0).
+
+On the standard error:
+  lfiload: bad length PATH       The file is empty, no multiple of 4 bytes, or above 16,777,216
+                                 bytes (status 1).
+  lfiload: no word WORD in PATH  The file has no such word, at which it could be entered (status 1).
+  lfiload: at most 16 modules    The files are more than the modules from M on (status 2).
+  lfiload: cannot read PATH      The first file that can't be read (status 3).
+  lfiload: no memory             There was no memory for the files (status 3).
+All files are read first: after each of these lines nothing was written.
+
+Example: lfiload pack --module 2 --entry 16 first.code second.code > both.stream";

@@ -8,4 +8,4 @@ mod help;
 mod line;
 
 pub use fault::LineFault;
-pub use line::{Line, read_line};
+pub use line::{Explain, Line, read_line};

@@ -2,18 +2,32 @@
 
 ghost use Rattle.std.specs.Prelude.{IfOk, IfErr, map, string_bytes};
 ghost use Rattle.lfi_command_line.specs.CommandLine.{IsLine, IsLineFault};
+ghost use Rattle.lfi_command_line.specs.inner.Given.{AreTakenBy};
 
 use crate::commands::command;
 use crate::fault::LineFault;
-use crate::given::{check_line, load_line, run_line, serve_line};
+use crate::given::{check_line, disassemble_line, load_line, pack_line, run_line, serve_line};
+use clap::ArgMatches;
 use std::alloc::Global;
+
+/// What `check` explains.
+#[derive(Clone, Copy, PartialEq, Eq, Debug)]
+pub enum Explain {
+    /// Nothing: it tells the first fault in a line.
+    Nothing,
+    /// The first fault.
+    First,
+    /// Each word that breaks a rule.
+    All,
+}
 
 /// What the program is asked for.
 #[derive(PartialEq, Eq, Debug, Drop)]
 pub enum Line<'a> {
-    /// Whether the code in a file is lawful.
+    /// Whether the code in a file is lawful, and what is to be explained where it isn't.
     Check {
         file: &'a str,
+        explain: Explain,
     },
     /// To load the modules of the streams in 1 to 8 files, one connection each, with so many
     /// verifiers, 1 to 8, and to write the whole images into a folder.
@@ -35,6 +49,25 @@ pub enum Line<'a> {
         image: &'a str,
         steps: u64,
     },
+    /// To list the words of the code in a file.
+    Disassemble {
+        file: &'a str,
+    },
+    /// To write a stream of the code in 1 to 16 files, one module each, from this number on, up to 15 at the most, each of which
+    /// is entered at this word, 0 to 4,194,303.
+    Pack {
+        module: usize,
+        entry: u32,
+        codes: Vec<&'a str>,
+    },
+}
+
+/// What the parser makes of the words.
+fn parse<'a>(alloc: Global, words: &'a [String]) -> Result<ArgMatches<'a>, LineFault>
+    ensures taken { IfOk result (AreTakenBy (map string_bytes words.now)) }
+    ensures fault { IfErr result (IsLineFault (map string_bytes words.now)) }
+{
+    Ok(command(alloc)?.try_get_matches_from(words)?)
 }
 
 /// Parses the words of the command line, of which the first is the program's name.
@@ -45,7 +78,7 @@ pub fn read_line<'a>(alloc: Global, words: &'a [String]) -> Result<Line<'a>, Lin
     ensures line { IfOk result (IsLine (map string_bytes words.now)) }
     ensures fault { IfErr result (IsLineFault (map string_bytes words.now)) }
 {
-    let matches = command(alloc)?.try_get_matches_from(words)?;
+    let matches = parse(alloc, words)?;
     if let Some(check) = matches.subcommand_matches("check") {
         return Ok(check_line(check));
     }
@@ -54,6 +87,12 @@ pub fn read_line<'a>(alloc: Global, words: &'a [String]) -> Result<Line<'a>, Lin
     }
     if let Some(serve) = matches.subcommand_matches("serve") {
         return Ok(serve_line(serve));
+    }
+    if let Some(disassemble) = matches.subcommand_matches("disassemble") {
+        return Ok(disassemble_line(disassemble));
+    }
+    if let Some(pack) = matches.subcommand_matches("pack") {
+        return pack_line(alloc, pack);
     }
     Ok(run_line(matches.subcommand_matches("run").unwrap()))
 }

@@ -13,7 +13,8 @@ use Rattle.lfi_commands.proofs.Joined.{all_taken}
 some_same : {A : Type 0} (a b : A) → Some a ≡ Some b → a ≡ b
 some_same a b e = cc
 
-grown : {A B : Type 0} (P : A → B → Type 0) (ts : List A) (is : List B) (t : A) (i : B) → length is ≡ length ts
+-- what holds of each two at the same place holds of them and one more
+pub grown : {A B : Type 0} (P : A → B → Type 0) (ts : List A) (is : List B) (t : A) (i : B) → length is ≡ length ts
     → ((c : ℕ) (b : B) (a : A) → slice_get is c ≡ Some b → slice_get ts c ≡ Some a → P a b) → P t i
     → (c : ℕ) (b : B) (a : A) → slice_get (is ++ i ∷ []) c ≡ Some b → slice_get (ts ++ t ∷ []) c ≡ Some a → P a b
 grown P [] [] t i same each one zero b a at by = subst (λ y. P a y) (some_same i b at) (subst (λ x. P x i) (some_same t a by) one)

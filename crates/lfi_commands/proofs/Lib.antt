@@ -1,7 +1,9 @@
 mod Begun
+mod Explained
 mod Failing
 mod Fates
 mod Inputs
 mod Joined
 mod Paths
 mod Spelled
+mod Streams

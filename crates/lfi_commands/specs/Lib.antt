@@ -2,7 +2,9 @@ pub mod Causes
 pub mod Checking
 pub mod Endings
 pub mod Errors
+pub mod Explaining
 pub mod Failures
 pub mod Images
+pub mod Packing
 pub mod Runs
 pub mod inner

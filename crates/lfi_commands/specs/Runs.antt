@@ -7,28 +7,31 @@ use Rattle.lfi_stage.specs.declared.settle.Report.{Report}
 use Rattle.lfi_stage.specs.Stages.{IsLoaded}
 use Rattle.lfi_threads.specs.Served.{IsServed}
 use Rattle.lfi_command_line.specs.declared.line.Line.{Line}
-use Rattle.lfi_command_line.specs.declared.line.Line.TheVariants.{Check, Load, Serve, Run}
-use Rattle.lfi_command_line.specs.CommandLine.{IsLine, AsksHelp, AreWrong, NameTooMany}
+use Rattle.lfi_command_line.specs.declared.line.Line.TheVariants.{Check, Load, Serve, Run, Disassemble, Pack}
+use Rattle.lfi_command_line.specs.declared.line.Explain.{Explain}
+use Rattle.lfi_command_line.specs.CommandLine.{IsLine, AsksHelp, AreWrong, NameTooMany, NameTooManyModules}
 use Rattle.lfi_commands.specs.declared.verdict.Verdict.{Verdict}
 use Rattle.lfi_commands.specs.declared.ending.Ending.{Ending}
 use Rattle.lfi_commands.specs.declared.ending.Ending.TheVariants.{Well, NotWell, WrongWords, Failed}
 use Rattle.lfi_commands.specs.declared.failure.Failure.{Failure}
 use Rattle.lfi_commands.specs.declared.failure.Failure.TheVariants.{CannotRead, CannotWrite, CannotListen, NoMemory}
-use Rattle.lfi_commands.specs.Checking.{Checks, verdict_text}
+use Rattle.lfi_commands.specs.Checking.{Checks}
 use Rattle.lfi_commands.specs.Endings.{ending_of, ending_of_run, EndsLoad}
 use Rattle.lfi_commands.specs.Failures.{failure_line, FailsOn, FailsServing, Told}
+use Rattle.lfi_commands.specs.Explaining.{FindsListing, WritesVerdict}
 use Rattle.lfi_commands.specs.Images.{images_in, WritesImages}
+use Rattle.lfi_commands.specs.Packing.{FindsPacked}
 use Rattle.lfi_model.specs.Texts.{summary_text}
 use Rattle.lfi_run.specs.declared.image_run.ImageRun.{ImageRun}
 use Rattle.lfi_run.specs.Runs.{CameOf}
 use Rattle.lfi_run.specs.Texts.{run_text}
 use Rattle.lfi_stage.specs.Summaries.{summary_of}
 
--- Of code that has these bytes, where they are known, one verdict was found; its line was written, and it gives the ending.
-pub record FindsVerdict (bytes out_old out_new : Option (List ℕ)) (ending : Ending) : Type 0 where
+-- Of code that has these bytes, where they are known, one verdict was found; it was written, with what is to be explained, and it gives the ending.
+pub record FindsVerdict (explain : Explain) (bytes out_old out_new : Option (List ℕ)) (ending : Ending) : Type 0 where
   pub verdict : Verdict
   pub checks : IfSome bytes (λ xs. Checks xs verdict)
-  pub written : Appends out_old out_new (verdict_text verdict ++ codes "\n")
+  pub written : WritesVerdict explain bytes verdict out_old out_new
   pub ends : ending ≡ ending_of verdict
 
 -- the images that are asked for: all whole ones where a folder is named
@@ -88,18 +91,25 @@ pub record FindsRun (bytes : Option (List ℕ)) (steps : ℕ) (out_old out_new :
 
 -- What the line asks for was carried out, with this ending.
 abbrev pub CarriesOut : Line → (List ℕ → Option (List ℕ)) → (old new : Left) → Ending → Type 0
-CarriesOut (Check file) file_at old new ending = FindsVerdict (file_at file.now) old.out new.out ending × (new.put ≡ old.put) × (new.errors ≡ old.errors)
+CarriesOut (Check file explain) file_at old new ending =
+    FindsVerdict explain (file_at file.now) old.out new.out ending × (new.put ≡ old.put) × (new.errors ≡ old.errors)
 CarriesOut (Load verifiers folder streams) file_at old new ending = FindsReport (map (λ s. file_at s.now) streams.items) (option_map (λ s. s.now) folder) old new ending
 CarriesOut (Serve socket connections verifiers folder) file_at old new ending = FindsServed connections (option_map (λ s. s.now) folder) old new ending
 CarriesOut (Run image steps) file_at old new ending =
     FindsRun (file_at image.now) steps old.out new.out new.is_lost old.errors new.errors ending × (new.put ≡ old.put)
+CarriesOut (Disassemble file) file_at old new ending =
+    FindsListing (file_at file.now) old.out new.out ending × (new.put ≡ old.put) × (new.errors ≡ old.errors)
+CarriesOut (Pack first entry files) file_at old new ending =
+    FindsPacked first entry (map (λ s. s.now) files.items) file_at old.out new.out new.is_lost old.errors new.errors ending × (new.put ≡ old.put)
 
 -- it tells of a fault of what the line asks for: of a file that it names, of the output, of the socket
 abbrev pub FailsAs : Line → Failure → Type 0
-FailsAs (Check file) = FailsOn (file.now ∷ [])
+FailsAs (Check file explain) = FailsOn (file.now ∷ [])
 FailsAs (Load verifiers folder streams) = FailsOn (map (λ s. s.now) streams.items)
 FailsAs (Serve socket connections verifiers folder) = FailsServing
 FailsAs (Run image steps) = FailsOn (image.now ∷ [])
+FailsAs (Disassemble file) = FailsOn (file.now ∷ [])
+FailsAs (Pack first entry files) = FailsOn (map (λ s. s.now) files.items)
 
 -- The words ask for a line, and it was carried out.
 abbrev pub CarriesOutWords : List (List ℕ) → (List ℕ → Option (List ℕ)) → (old new : Left) → Ending → Type 0
@@ -120,9 +130,13 @@ TellsFailure words old new = (failure : Failure) × FailsBy words failure × Tol
 abbrev pub TellsTooMany : List (List ℕ) → (old new : Left) → Type 0
 TellsTooMany words old new = NameTooMany words × Told new.is_lost old.errors new.errors (codes "lfiload: at most 8 streams\n")
 
+-- They ask for modules above the last one, and that was told, unless it is lost.
+abbrev pub TellsTooManyModules : List (List ℕ) → (old new : Left) → Type 0
+TellsTooManyModules words old new = NameTooManyModules words × Told new.is_lost old.errors new.errors (codes "lfiload: at most 16 modules\n")
+
 -- What a run of the program on these words did, by its ending.
 abbrev pub Runs : List (List ℕ) → (List ℕ → Option (List ℕ)) → (old new : Left) → Ending → Type 0
 Runs words file_at old new Well = (AsksHelp words × (new.put ≡ old.put) × (new.errors ≡ old.errors)) ⊎ CarriesOutWords words file_at old new Well
 Runs words file_at old new NotWell = CarriesOutWords words file_at old new NotWell
-Runs words file_at old new WrongWords = (AreWrong words ⊎ TellsTooMany words old new) × (new.out ≡ old.out) × (new.put ≡ old.put)
+Runs words file_at old new WrongWords = (AreWrong words ⊎ (TellsTooMany words old new ⊎ TellsTooManyModules words old new)) × (new.out ≡ old.out) × (new.put ≡ old.put)
 Runs words file_at old new Failed = TellsFailure words old new ⊎ CarriesOutWords words file_at old new Failed

@@ -43,6 +43,14 @@ impl<'a> Code<'a> {
         Some(Code { bytes })
     }
 
+    /// These bytes, which are known to be code.
+    pub fn of(bytes: &'a [u8]) -> Code<'a>
+        requires { IsCode bytes.now }
+        ensures { result ≡ bytes.entry.now }
+    {
+        Code { bytes }
+    }
+
     /// How many words there are: 1 to 4,194,304.
     pub fn len_words(&self) -> usize
         ensures count { result ≡ length (words_of self.now) }

@@ -52,7 +52,10 @@ impl CommandFault {
 }
 
 /// All the bytes that a reader has left.
-fn read_all<R: Read + Drop>(alloc: Global, mut reader: R) -> Result<Vec<u8>, CommandFault>
+pub(crate) fn read_all<R: Read + Drop>(
+    alloc: Global,
+    mut reader: R,
+) -> Result<Vec<u8>, CommandFault>
     ensures all { IfOk result (λ bytes. IfSome (R.remaining reader) (λ all. bytes.items ≡ all)) }
     ensures fault { IfErr result (λ fault. is_of_a_write fault ≡ false) }
 {
@@ -84,7 +87,10 @@ pub fn check<R: Read + Drop, W: Write>(
 }
 
 /// Writes the line of a verdict.
-fn write_verdict<W: Write>(verdict: Verdict, writer: &mut W) -> Result<Verdict, CommandFault>
+pub(crate) fn write_verdict<W: Write>(
+    verdict: Verdict,
+    writer: &mut W,
+) -> Result<Verdict, CommandFault>
     ensures same { IfOk result (λ written. written ≡ verdict) }
     ensures written { IfOk result (λ written. Appends (W.contents writer.old) (W.contents writer.new) (verdict_text verdict ++ codes "\n")) }
     ensures fault { IfErr result (λ fault. is_of_a_write fault ≡ true) }

@@ -3,8 +3,10 @@
 ghost use Rattle.std.specs.Prelude.{◌≡◌, ◌++◌, false, true, IfSome, codes};
 ghost use Rattle.lfi_commands.specs.Errors.{is_lost_of, writer_of};
 ghost use Rattle.lfi_commands.specs.Failures.{failure_line, Told};
+ghost use Rattle.lfi_commands.specs.Packing.{no_module_line};
 
 use crate::failure::Failure;
+use crate::packing::NoModule;
 use std::fmt::Display;
 use std::io::Write;
 
@@ -49,6 +51,16 @@ impl<W: Write> Errors<W> {
         ensures lost { is_lost_of self.old ≡ true → is_lost_of self.new ≡ true }
     {
         if writeln!(self.writer, "lfiload: {failure}").is_err() {
+            self.is_lost = true;
+        }
+    }
+
+    /// Tells by a line that the code in a file is no module.
+    pub fn tell_no_module(&mut self, no_module: NoModule<'_>)
+        ensures told { Told (is_lost_of self.new) (W.contents (writer_of self.old)) (W.contents (writer_of self.new)) (no_module_line no_module.entry) }
+        ensures lost { is_lost_of self.old ≡ true → is_lost_of self.new ≡ true }
+    {
+        if writeln!(self.writer, "lfiload: {no_module}").is_err() {
             self.is_lost = true;
         }
     }

@@ -30,7 +30,7 @@ fn open_input<D: Disk>(alloc: Global, disk: &D, path: &str) -> Result<Input<D::R
 }
 
 /// The path at this place.
-fn path_at<'a>(paths: &[&'a str], place: usize) -> &'a str
+pub(crate) fn path_at<'a>(paths: &[&'a str], place: usize) -> &'a str
     requires { place < length paths.now }
     ensures { slice_get paths.now place ≡ Some result }
 {

@@ -1,11 +1,14 @@
 //! The program, from its words to its ending.
 
-ghost use Rattle.std.specs.Prelude.{◌≡◌, ◌≤◌, ℕ, List, [], ◌∷◌, Option, IfOk, IfErr, OnErr, length, map, option_map, string_bytes};
+ghost use Rattle.std.specs.Prelude.{◌≡◌, ◌≤◌, ℕ, List, [], ◌∷◌, Option, IfOk, IfErr, IfSome, OnErr, ◌+◌, length, map, option_map, string_bytes};
 ghost use Rattle.lfi_command_line.specs.CommandLine.{IsLineFault};
 ghost use Rattle.lfi_commands.specs.Errors.{is_lost_of, writer_of};
+ghost use Rattle.lfi_commands.specs.Checking.{Checks};
+ghost use Rattle.lfi_commands.specs.Explaining.{WritesVerdict, FindsListing};
 ghost use Rattle.lfi_commands.specs.Failures.{FailsOn, FailsServing};
 ghost use Rattle.lfi_commands.specs.Images.{WritesImages};
 ghost use Rattle.lfi_commands.specs.inner.Opening.{IsInRange};
+ghost use Rattle.lfi_commands.specs.Packing.{FindsPacked};
 ghost use Rattle.lfi_commands.specs.Runs.{asked_images, folder_or_none, left, FailsAs, FindsServed, FindsVerdict, FindsReport, FindsRun, CarriesOut, Runs};
 
 use crate::commands::{CommandFault, check_file, load, serve};
@@ -13,10 +16,13 @@ use crate::device_cause::DeviceCause;
 use crate::disk::Disk;
 use crate::ending::Ending;
 use crate::errors::Errors;
+use crate::explaining::{check_explained, disassemble};
 use crate::failure::{Failure, OUTPUT};
 use crate::images::write_images;
 use crate::opening::{open, open_all};
-use lfi_command_line::{Line, LineFault, read_line};
+use crate::packing::{Stop, read_modules, write_stream};
+use crate::verdict::Verdict;
+use lfi_command_line::{Explain, Line, LineFault, read_line};
 use lfi_place::ModuleReport;
 use lfi_run::run_image;
 use lfi_threads::Notices;
@@ -28,21 +34,93 @@ use std::os::unix::net::UnixListener;
 use std::sync::Wait;
 use std::thread::Threads;
 
+/// Judges the code that the reader of a file has left, and writes what is found of it. Where nothing is to be explained,
+/// the code isn't kept.
+fn judge_file<D: Disk, O: Write>(
+    alloc: Global,
+    disk: &D,
+    reader: D::Reader,
+    how: Explain,
+    out: &mut O,
+) -> Result<Verdict, CommandFault>
+    ensures verdict { IfOk result (λ verdict. IfSome (D.Reader.remaining reader) (λ bytes. Checks bytes verdict)) }
+    ensures written { IfOk result (λ verdict. WritesVerdict how (D.Reader.remaining reader) verdict (O.contents out.old) (O.contents out.new)) }
+{
+    match how {
+        Explain::Nothing => {
+            let length = disk.length(&reader);
+            check_file(alloc, reader, length, out)
+        }
+        _ => check_explained(alloc, reader, how, out),
+    }
+}
+
 /// Judges the code in a file, and writes what is found of it.
 fn run_check<D: Disk, O: Write>(
     alloc: Global,
     disk: &D,
     path: &str,
+    how: Explain,
     out: &mut O,
 ) -> Result<Ending, Failure>
-    ensures found { IfOk result (FindsVerdict (D.file_at disk.now path.now) (O.contents out.old) (O.contents out.new)) }
+    ensures found { IfOk result (FindsVerdict how (D.file_at disk.now path.now) (O.contents out.old) (O.contents out.new)) }
     ensures failure { IfErr result (FailsOn (path.now ∷ [])) }
 {
     let reader = open(alloc, disk, path)?;
-    let length = disk.length(&reader);
-    match check_file(alloc, reader, length, out) {
+    match judge_file(alloc, disk, reader, how, out) {
         Ok(verdict) => Ok(Ending::of_verdict(&verdict)),
         Err(fault) => Err(Failure::of(alloc, fault, path)),
+    }
+}
+
+/// Lists the words of the code in a file.
+fn run_disassemble<D: Disk, O: Write>(
+    alloc: Global,
+    disk: &D,
+    path: &str,
+    out: &mut O,
+) -> Result<Ending, Failure>
+    ensures found { IfOk result (FindsListing (D.file_at disk.now path.now) (O.contents out.old) (O.contents out.new)) }
+    ensures failure { IfErr result (FailsOn (path.now ∷ [])) }
+{
+    let reader = open(alloc, disk, path)?;
+    match disassemble(alloc, reader, out) {
+        Ok(ending) => Ok(ending),
+        Err(fault) => Err(Failure::of(alloc, fault, path)),
+    }
+}
+
+/// Writes a stream of the code in these files, a module each, numbered from the first number on and entered at this word.
+/// All files are read before anything is written.
+fn run_pack<D: Disk, O: Write, E: Write>(
+    alloc: Global,
+    disk: &D,
+    first: usize,
+    entry: u32,
+    paths: &[&str],
+    out: &mut O,
+    errors: &mut Errors<E>,
+) -> Result<Ending, Failure>
+    requires numbers { first + length paths.now ≤ 16 }
+    ensures found { IfOk result (FindsPacked first entry (map (λ path. path.now) paths.now) (D.file_at disk.now)
+        (O.contents out.old) (O.contents out.new) (is_lost_of errors.new) (E.contents (writer_of errors.old)) (E.contents (writer_of errors.new))) }
+    ensures failure { IfErr result (FailsOn (map (λ path. path.now) paths.now)) }
+    ensures errors { OnErr result (errors.new ≡ errors.old) }
+{
+    let files = match read_modules(alloc, disk, paths, entry) {
+        Ok(files) => files,
+        Err(Stop::Failed(failure)) => return Err(failure),
+        Err(Stop::NoModule(no_module)) => {
+            errors.tell_no_module(no_module);
+            if !errors.is_lost() {
+                return Ok(Ending::NotWell);
+            }
+            return Ok(Ending::Failed);
+        }
+    };
+    match write_stream(first, entry, &files, out) {
+        Ok(()) => Ok(Ending::Well),
+        Err(_) => Err(Failure::writing(alloc, OUTPUT)),
     }
 }
 
@@ -189,7 +267,7 @@ fn run<S: Threads + Wait + Files + Net + Sync, D: Disk, N: Notices + Sync, O: Wr
     ensures errors { OnErr result (errors.new ≡ errors.old) }
 {
     match line {
-        Line::Check { file } => run_check(alloc, disk, file, out),
+        Line::Check { file, explain } => run_check(alloc, disk, file, explain, out),
         Line::Load {
             verifiers,
             out: folder,
@@ -215,6 +293,12 @@ fn run<S: Threads + Wait + Files + Net + Sync, D: Disk, N: Notices + Sync, O: Wr
             errors,
         ),
         Line::Run { image, steps } => run_run(alloc, disk, image, steps, out, errors),
+        Line::Disassemble { file } => run_disassemble(alloc, disk, file, out),
+        Line::Pack {
+            module,
+            entry,
+            codes,
+        } => run_pack(alloc, disk, module, entry, &codes, out, errors),
     }
 }
 
@@ -244,6 +328,12 @@ fn tell_fault<O: Write, E: Write>(
         }
         LineFault::TooManyStreams => {
             errors.write_line("lfiload: at most 8 streams");
+            if !errors.is_lost() {
+                return Ending::WrongWords;
+            }
+        }
+        LineFault::TooManyModules => {
+            errors.write_line("lfiload: at most 16 modules");
             if !errors.is_lost() {
                 return Ending::WrongWords;
             }

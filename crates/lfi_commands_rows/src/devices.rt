@@ -210,7 +210,11 @@ struct Answer {
     length: usize,
 }
 
-const ANSWERS: [Answer; 2] = [
+/// What is explained of a word that no instruction spells.
+const UNSPELLED: &str =
+    "word 0 rule 1\n  0x0000000100010000  00000000  .inst 0x00000000\n  an instruction of the profile spells each word; none spells this one\n";
+
+const ANSWERS: [Answer; 6] = [
     Answer {
         line: "lfiload check written.tmp/written.code",
         length: 16,
@@ -219,6 +223,22 @@ const ANSWERS: [Answer; 2] = [
         line: "lfiload load written.tmp/written.stream",
         length: ONE_RET_REPORT.len(),
     },
+    Answer {
+        line: "lfiload check --explain written.tmp/zero.code",
+        length: UNSPELLED.len(),
+    },
+    Answer {
+        line: "lfiload check --all written.tmp/zero.code",
+        length: UNSPELLED.len() + 17,
+    },
+    Answer {
+        line: "lfiload disassemble written.tmp/zero.code",
+        length: 56,
+    },
+    Answer {
+        line: "lfiload pack written.tmp/written.code",
+        length: ONE_RET.len(),
+    },
 ];
 
 #[test]
@@ -226,6 +246,7 @@ fn output_that_fails(rt: HostRuntime) -> Result<(), Fail> {
     begin(&rt, "written.tmp")?;
     fs::write(&rt, "written.tmp/written.code", RET.as_slice())?;
     fs::write(&rt, "written.tmp/written.stream", ONE_RET.as_slice())?;
+    fs::write(&rt, "written.tmp/zero.code", &[0, 0, 0, 0])?;
     for answer in ANSWERS {
         let line = answer.line;
         for left in 0..answer.length {
@@ -245,10 +266,13 @@ fn output_that_fails(rt: HostRuntime) -> Result<(), Fail> {
     Ok(())
 }
 
-const UNTOLD: [&str; 3] = [
+const UNTOLD: [&str; 6] = [
     "lfiload --help",
     "lfiload unknown",
     "lfiload check missing.code",
+    "lfiload --version",
+    "lfiload pack --module 15 a b",
+    "lfiload pack /dev/null",
 ];
 
 #[test]

@@ -8,9 +8,13 @@ mod devices;
 #[cfg(test)]
 mod disks;
 #[cfg(test)]
+mod explains;
+#[cfg(test)]
 mod images;
 #[cfg(test)]
 mod loads;
+#[cfg(test)]
+mod packs;
 #[cfg(test)]
 mod runs;
 #[cfg(test)]

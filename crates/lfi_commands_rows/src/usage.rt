@@ -3,7 +3,7 @@
 use crate::runs::run_line;
 use std::test::Fail;
 
-const WRONG: [&str; 24] = [
+const WRONG: [&str; 34] = [
     "lfiload",
     "lfiload check",
     "lfiload check a b",
@@ -26,6 +26,16 @@ const WRONG: [&str; 24] = [
     "lfiload run a --steps 1000000001",
     "lfiload run a --steps=-1",
     "lfiload run a --steps x",
+    "lfiload check --explain",
+    "lfiload check --explain=no a",
+    "lfiload check --all --all a",
+    "lfiload disassemble",
+    "lfiload disassemble a b",
+    "lfiload pack",
+    "lfiload pack --module 16 a",
+    "lfiload pack a --module x",
+    "lfiload pack a --entry 4194304",
+    "lfiload check --version",
     "lfiload help",
     "lfiload unknown a",
 ];
@@ -48,7 +58,7 @@ struct Help {
     text: &'static str,
 }
 
-const HELPS: [Help; 5] = [
+const HELPS: [Help; 7] = [
     Help {
         line: "lfiload --help",
         text: "Exit status:",
@@ -69,6 +79,14 @@ const HELPS: [Help; 5] = [
         line: "lfiload run --help",
         text: "lfiload run module-00.img --steps 1000",
     },
+    Help {
+        line: "lfiload disassemble --help",
+        text: "-> outside, word K",
+    },
+    Help {
+        line: "lfiload pack --help",
+        text: "lfiload: no word WORD in PATH",
+    },
 ];
 
 #[test]
@@ -80,6 +98,30 @@ fn wishes_for_help(rt: HostRuntime) -> Result<(), Fail> {
         assert!(rt; ran.err.is_empty(), "{line}");
         let text = String::from_utf8(ran.out)?;
         assert!(rt; text.contains(help.text), "{line}");
+        assert!(rt; text.contains("Example: lfiload "), "{line}");
+        assert!(rt; widest(text.as_str()) <= 100, "{line}");
+    }
+    Ok(())
+}
+
+/// How many bytes the longest line has.
+fn widest(text: &str) -> usize {
+    let mut most = 0;
+    for line in text.lines() {
+        most = line.len().max(most);
+    }
+    most
+}
+
+#[test]
+fn the_version(rt: HostRuntime) -> Result<(), Fail> {
+    for line in ["lfiload --version", "lfiload -V"] {
+        let ran = run_line(&rt, line)?;
+        assert!(rt; ran.status == 0 && ran.err.is_empty(), "{line}");
+        assert!(rt;
+            ran.out.as_slice() == b"lfiload 0.1.0\n".as_slice(),
+            "{line}"
+        );
     }
     Ok(())
 }

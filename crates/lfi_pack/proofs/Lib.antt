@@ -5,3 +5,4 @@ pub mod Whole
 pub mod Parts
 pub mod Shares
 pub mod Hearing
+pub mod Numbering

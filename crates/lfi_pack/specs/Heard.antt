@@ -1,5 +1,5 @@
 -- What a receiver hears of packed modules. (docs/DEFINITIONS.md, "Packing")
-use Rattle.std.specs.Prelude.{◌≡◌, ◌≢◌, ℕ, Bool, true, List, [], ◌∷◌, ◌++◌, Some}
+use Rattle.std.specs.Prelude.{◌≡◌, ◌≢◌, ℕ, ◌+◌, Bool, true, List, [], ◌∷◌, ◌++◌, length, Some}
 use Rattle.a64_word.specs.Words.{words_of}
 use Rattle.lfi_module.specs.Extents.{ExtentView}
 use Rattle.lfi_rules.specs.Verdicts.{all_words}
@@ -16,6 +16,13 @@ pub record PackedView : Type 0 where
   pub number : ℕ
   pub extent : ExtentView
   pub code : List ℕ
+
+-- the code of files, a module each: numbered from this number on, and all entered at the same word
+abbrev pub modules_from : (number entry : ℕ) → List (List ℕ) → List PackedView
+modules_from number entry [] = []
+modules_from number entry (code ∷ files) =
+    record { number = number; extent = record { words = length (words_of code); entry = entry }; code = code }
+    ∷ modules_from (number + 1) entry files
 
 -- The text is these modules, packed one after another.
 abbrev pub IsStream : List PackedView → List ℕ → Type 0

@@ -1,8 +1,11 @@
 -- What is given to a subcommand. Only private clauses and proofs use it.
-use Rattle.std.specs.Prelude.{◌≡◌, ⊤, ℕ, ◌<◌, List, codes, length, Some}
-use Rattle.clap.specs.Words.{IsUnsignedIn, Row, Text, all_of, first_of, one_of}
+use Rattle.std.specs.Prelude.{◌≡◌, ⊤, ℕ, ◌+◌, ◌<◌, List, [], codes, length, Some}
+use Rattle.clap.specs.Words.{IsUnsignedIn, Row, Text, all_of, fault_of, first_of, one_of, subcommand_of, subcommand_rows_of}
 use Rattle.lfi_command_line.specs.declared.fault.LineFault.{LineFault}
-use Rattle.lfi_command_line.specs.declared.fault.LineFault.TheVariants.{NoMemory, Help, Wrong, TooManyStreams}
+use Rattle.lfi_command_line.specs.declared.fault.LineFault.TheVariants.{NoMemory, Help, Wrong, TooManyStreams, TooManyModules}
+use Rattle.clap.specs.declared.parser.matches.ArgMatches.{ArgMatches}
+use Rattle.lfi_command_line.specs.Apps.{lfiload_app}
+use Rattle.lfi_command_line.specs.CommandLine.{IsNumberOr}
 
 -- what is given to this argument, if anything, is a number in the range
 abbrev pub IsNumberGiven : (least most : ℕ) → (id : Text) → List Row → Type 0
@@ -14,3 +17,17 @@ IsFaultOfLoad given NoMemory = ⊤
 IsFaultOfLoad given TooManyStreams = (streams : List Text) × (all_of (codes "STREAM") given ≡ Some streams) × (8 < length streams)
 IsFaultOfLoad given (Help error) = ⊥
 IsFaultOfLoad given (Wrong error) = ⊥
+IsFaultOfLoad given TooManyModules = ⊥
+
+-- there are more files than modules from the first one's number on, or no memory for a list of them
+abbrev pub IsFaultOfPack : List Row → LineFault → Type 0
+IsFaultOfPack given NoMemory = ⊤
+IsFaultOfPack given TooManyModules = (number : ℕ) × (files : List Text) × IsNumberOr 0 0 15 (first_of (codes "module") given) number
+    × (all_of (codes "CODE") given ≡ Some files) × (16 < number + length files)
+IsFaultOfPack given (Help error) = ⊥
+IsFaultOfPack given (Wrong error) = ⊥
+IsFaultOfPack given TooManyStreams = ⊥
+
+-- the parser finds nothing wrong with the words, and these are its matches: those of the subcommand that the words name
+abbrev pub AreTakenBy : List Text → ArgMatches → Type 0
+AreTakenBy words matches = (fault_of lfiload_app words ≡ []) × (subcommand_rows_of matches ≡ subcommand_of lfiload_app words)

@@ -1,7 +1,7 @@
 -- Inputs of files that were opened. Only private clauses and proofs use it.
-use Rattle.std.specs.Prelude.{◌≡◌, ⊤, ℕ, ◌≤◌, List, Option, Some, IfSome, slice_get, length}
+use Rattle.std.specs.Prelude.{◌≡◌, ⊤, ℕ, ◌+◌, ◌≤◌, List, Option, Some, IfSome, slice_get, length}
 use Rattle.lfi_command_line.specs.declared.line.Line.{Line}
-use Rattle.lfi_command_line.specs.declared.line.Line.TheVariants.{Check, Load, Serve, Run}
+use Rattle.lfi_command_line.specs.declared.line.Line.TheVariants.{Check, Load, Serve, Run, Disassemble, Pack}
 use Rattle.lfi_receive.specs.declared.input.Input.{Input}
 use Rattle.lfi_receive.specs.Inputs.{left_of}
 
@@ -14,9 +14,11 @@ pub record AreInputsOf {R : Type 0} (remaining : R → Option (List ℕ)) (texts
   pub all : length inputs ≡ length texts
   pub each : (c : ℕ) (input : Input R) (text : Option (List ℕ)) → slice_get inputs c ≡ Some input → slice_get texts c ≡ Some text → IsInputOf remaining text input
 
--- a line for 1 to 8 streams and verifiers, where it is one for streams
+-- a line for 1 to 8 streams and verifiers, where it is one for streams, and for modules up to the last one, where it packs
 abbrev pub IsInRange : Line → Type 0
-IsInRange (Check file) = ⊤
+IsInRange (Check file explain) = ⊤
 IsInRange (Load verifiers out streams) = ((1 ≤ verifiers) × (verifiers ≤ 8)) × ((1 ≤ length streams.items) × (length streams.items ≤ 8))
 IsInRange (Serve socket connections verifiers out) = ((1 ≤ verifiers) × (verifiers ≤ 8)) × ((1 ≤ connections) × (connections ≤ 8))
 IsInRange (Run image steps) = ⊤
+IsInRange (Disassemble file) = ⊤
+IsInRange (Pack first entry files) = first + length files.items ≤ 16

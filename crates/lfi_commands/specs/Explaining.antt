@@ -1,0 +1,41 @@
+-- What is written of code that is judged, with what is explained of it, and of code that is listed. (docs/DEFINITIONS.md, "The program")
+use Rattle.std.specs.Prelude.{◌≡◌, ℕ, List, ◌++◌, Option, IfSome, codes, length}
+use Rattle.std.specs.Io.KnownBytes.{Appends}
+use Rattle.a64_word.specs.Words.{words_of}
+use Rattle.lfi_rules.specs.declared.fault.Fault.{Fault}
+use Rattle.lfi_rules.specs.Texts.{fault_text}
+use Rattle.lfi_explain.specs.declared.explanation.Explanation.{Explanation}
+use Rattle.lfi_explain.specs.Explanations.{Explains, WritesRefusals, explanation_line}
+use Rattle.lfi_explain.specs.Listings.{WritesListing}
+use Rattle.lfi_command_line.specs.declared.line.Explain.{Explain}
+use Rattle.lfi_command_line.specs.declared.line.Explain.TheVariants.{Nothing, First, All}
+use Rattle.lfi_commands.specs.declared.verdict.Verdict.{Verdict}
+use Rattle.lfi_commands.specs.declared.verdict.Verdict.TheVariants.{Lawful, Refused, BadLength}
+use Rattle.lfi_commands.specs.declared.ending.Ending.{Ending}
+use Rattle.lfi_commands.specs.declared.ending.Ending.TheVariants.{Well, NotWell, WrongWords, Failed}
+use Rattle.lfi_commands.specs.Checking.{Checks, IsCode, verdict_text}
+
+-- Of a fault of this code, told as that of module 0, its line was written; or its explanation; or what is told of all words that break a rule, and how many they are.
+abbrev pub WritesFault : Explain → (code : List ℕ) → Fault → (old new : Option (List ℕ)) → Type 0
+WritesFault Nothing code fault old new = Appends old new (fault_text fault ++ codes "\n")
+WritesFault First code fault old new = (e : Explanation) × Explains (words_of code) 0 fault e × Appends old new (explanation_line e)
+WritesFault All code fault old new = (refused : ℕ) × WritesRefusals (words_of code) 0 old new refused
+
+-- The same of the code that was refused for this fault, whose bytes are these, where they are known.
+abbrev pub WritesRefused : Explain → (bytes : Option (List ℕ)) → Fault → (old new : Option (List ℕ)) → Type 0
+WritesRefused explain bytes fault old new =
+    (code : List ℕ) × IfSome bytes (λ all. all ≡ code) × Checks code (Refused fault) × WritesFault explain code fault old new
+
+-- What is written of a verdict: its line; where something is to be explained of code that is refused, that.
+abbrev pub WritesVerdict : Explain → (bytes : Option (List ℕ)) → Verdict → (old new : Option (List ℕ)) → Type 0
+WritesVerdict Nothing bytes verdict old new = Appends old new (verdict_text verdict ++ codes "\n")
+WritesVerdict First bytes (Refused fault) old new = WritesRefused First bytes fault old new
+WritesVerdict All bytes (Refused fault) old new = WritesRefused All bytes fault old new
+WritesVerdict explain bytes verdict old new = Appends old new (verdict_text verdict ++ codes "\n")
+
+-- Of the file that has these bytes, where they are known, all words were listed, as those of module 0; or it isn't code, and its line was written. By the ending.
+abbrev pub FindsListing : (bytes old new : Option (List ℕ)) → Ending → Type 0
+FindsListing bytes old new Well = (code : List ℕ) × IfSome bytes (λ all. all ≡ code) × IsCode code × WritesListing (words_of code) 0 old new
+FindsListing bytes old new NotWell = IfSome bytes (λ all. ¬ (IsCode all)) × Appends old new (codes "bad length\n")
+FindsListing bytes old new WrongWords = ⊥
+FindsListing bytes old new Failed = ⊥

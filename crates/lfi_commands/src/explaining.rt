@@ -1,0 +1,140 @@
+//! Verdicts that are explained, and listings.
+
+ghost use Rattle.std.specs.Prelude.{◌≡◌, ◌≤◌, Some, false, true, codes, length, IfOk, IfErr, IfSome, OnOk};
+ghost use Rattle.std.specs.Io.KnownBytes.{Appends};
+ghost use Rattle.a64_word.specs.Words.{words_of};
+ghost use Rattle.lfi_module.specs.Numbers.{most_words};
+ghost use Rattle.lfi_rules.specs.Faults.{FirstFault};
+ghost use Rattle.lfi_commands.specs.Checking.{Checks, IsCode};
+ghost use Rattle.lfi_commands.specs.Failures.{is_of_a_write};
+ghost use Rattle.lfi_commands.specs.Explaining.{WritesFault, WritesVerdict, FindsListing};
+
+use crate::code::Code;
+use crate::device_cause::DeviceCause;
+use crate::commands::{CommandFault, write_verdict};
+use crate::ending::Ending;
+use crate::verdict::{Verdict, judge_code};
+use crate::whole::read_code;
+use lfi_command_line::Explain;
+use lfi_explain::{explain, write_listing, write_refusals};
+use lfi_module::ModuleNumber;
+use lfi_rules::Fault;
+use std::alloc::Global;
+use std::io::{self, Read, Write};
+
+/// The slot in which code is told to lie: that of module 0, since a code file says none.
+fn slot() -> ModuleNumber
+    ensures { result ≡ 0 }
+{
+    ModuleNumber::at(0)
+}
+
+/// Writes what is asked of the first fault of this code.
+fn write_fault<W: Write>(
+    code: &Code<'_>,
+    fault: Fault,
+    how: Explain,
+    writer: &mut W,
+) -> io::Result<()>
+    requires fault { FirstFault (words_of code.now) (length (words_of code.now)) (Some fault) }
+    requires most { length (words_of code.now) ≤ most_words }
+    ensures { OnOk result (WritesFault how code.now fault (W.contents writer.old) (W.contents writer.new)) }
+{
+    match how {
+        Explain::Nothing => writeln!(writer, "{fault}"),
+        Explain::First => {
+            let explanation = explain(code, slot(), fault);
+            writeln!(writer, "{explanation}")
+        }
+        Explain::All => {
+            write_refusals(code, slot(), writer)?;
+            Ok(())
+        }
+    }
+}
+
+/// Judges code, and writes what is found of it.
+fn write_judged<W: Write>(
+    bytes: &[u8],
+    how: Explain,
+    writer: &mut W,
+) -> Result<Verdict, CommandFault>
+    requires { IsCode bytes.now }
+    ensures verdict { IfOk result (Checks bytes.now) }
+    ensures written { IfOk result (λ verdict. WritesVerdict how (Some bytes.now) verdict (W.contents writer.old) (W.contents writer.new)) }
+    ensures fault { IfErr result (λ fault. is_of_a_write fault ≡ true) }
+{
+    let verdict = judge_code(bytes);
+    let Verdict::Refused(fault) = verdict else {
+        return write_verdict(verdict, writer);
+    };
+    match write_fault(&Code::of(bytes), fault, how, writer) {
+        Ok(()) => Ok(verdict),
+        Err(error) => Err(CommandFault::NotWritten(DeviceCause::of(&error))),
+    }
+}
+
+/// Judges the code that a reader has left, up to its end, and writes what is found: its line, with the first fault explained,
+/// or each word that breaks a rule, where it is refused. The code is kept in memory meanwhile.
+///
+/// # Errors
+///
+/// Where a read or the write fails, or there is no memory for the code.
+pub fn check_explained<R: Read + Drop, W: Write>(
+    alloc: Global,
+    reader: R,
+    how: Explain,
+    writer: &mut W,
+) -> Result<Verdict, CommandFault>
+    ensures verdict { IfOk result (λ verdict. IfSome (R.remaining reader) (λ bytes. Checks bytes verdict)) }
+    ensures written { IfOk result (λ verdict. WritesVerdict how (R.remaining reader) verdict (W.contents writer.old) (W.contents writer.new)) }
+    ensures unwritten { IfErr result (λ fault. is_of_a_write fault ≡ false → writer.new ≡ writer.old) }
+{
+    match read_code(alloc, reader)? {
+        Some(bytes) => write_judged(&bytes, how, writer),
+        None => write_verdict(Verdict::BadLength, writer),
+    }
+}
+
+/// Writes a line for each word of this code.
+fn write_words<W: Write>(bytes: &[u8], writer: &mut W) -> Result<Ending, CommandFault>
+    requires { IsCode bytes.now }
+    ensures listed { IfOk result (FindsListing (Some bytes.now) (W.contents writer.old) (W.contents writer.new)) }
+    ensures fault { IfErr result (λ fault. is_of_a_write fault ≡ true) }
+{
+    match write_listing(&Code::of(bytes), slot(), writer) {
+        Ok(()) => Ok(Ending::Well),
+        Err(error) => Err(CommandFault::NotWritten(DeviceCause::of(&error))),
+    }
+}
+
+/// Writes the line of what isn't code.
+fn write_bad_length<W: Write>(writer: &mut W) -> Result<Ending, CommandFault>
+    ensures listed { IfOk result (λ ending. (ending ≡ Ending.NotWell) × Appends (W.contents writer.old) (W.contents writer.new) (codes "bad length\n")) }
+    ensures fault { IfErr result (λ fault. is_of_a_write fault ≡ true) }
+{
+    match writer.write_all(b"bad length\n") {
+        Ok(()) => Ok(Ending::NotWell),
+        Err(error) => Err(CommandFault::NotWritten(DeviceCause::of(&error))),
+    }
+}
+
+/// Writes a line for each word of the code that a reader has left, up to its end: its place, address, text, where it branches
+/// to and what it opens; or one line, where that isn't code.
+///
+/// # Errors
+///
+/// Where a read or a write fails, or there is no memory for the code.
+pub fn disassemble<R: Read + Drop, W: Write>(
+    alloc: Global,
+    reader: R,
+    writer: &mut W,
+) -> Result<Ending, CommandFault>
+    ensures listed { IfOk result (FindsListing (R.remaining reader) (W.contents writer.old) (W.contents writer.new)) }
+    ensures unwritten { IfErr result (λ fault. is_of_a_write fault ≡ false → writer.new ≡ writer.old) }
+{
+    match read_code(alloc, reader)? {
+        Some(bytes) => write_words(&bytes, writer),
+        None => write_bad_length(writer),
+    }
+}
