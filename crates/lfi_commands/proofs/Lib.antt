@@ -5,3 +5,4 @@ mod Inputs
 mod Joined
 mod Paths
 mod Spelled
+mod Telling

@@ -3,5 +3,6 @@ pub mod Endings
 pub mod Errors
 pub mod Failures
 pub mod Images
+pub mod Refused
 pub mod Runs
 pub mod inner

@@ -18,6 +18,7 @@ use Rattle.lfi_commands.specs.Checking.{Checks, verdict_text}
 use Rattle.lfi_commands.specs.Endings.{ending_of, ending_of_run, EndsLoad}
 use Rattle.lfi_commands.specs.Failures.{failure_line, FailsOn, FailsServing, Told}
 use Rattle.lfi_commands.specs.Images.{images_in, WritesImages}
+use Rattle.lfi_commands.specs.Refused.{TellAsked}
 use Rattle.lfi_model.specs.Texts.{summary_text}
 use Rattle.lfi_run.specs.declared.image_run.ImageRun.{ImageRun}
 use Rattle.lfi_run.specs.Runs.{CameOf}
@@ -54,11 +55,14 @@ left out put is_lost errors = record { out = out; put = put; is_lost = is_lost; 
 abbrev pub AreKnown : List (Option (List ℕ)) → (ℕ → List ℕ) → Type 0
 AreKnown streams bytes = (c : ℕ) (stream : Option (List ℕ)) → slice_get streams c ≡ Some stream → stream ≡ Some (bytes c)
 
--- Of streams that have these bytes, where they are known, one report was found; its text was written, its images were put into the folder, and it gives the ending.
-pub record FindsReport (streams : List (Option (List ℕ))) (folder : Option (List ℕ)) (old new : Left) (ending : Ending) : Type 0 where
+-- Of streams that have these bytes, where they are known, one report was found; its text was written, then what is told of
+-- its refused modules, where that is asked for, its images were put into the folder, and it gives the ending.
+pub record FindsReport (streams : List (Option (List ℕ))) (folder : Option (List ℕ)) (explain : Bool) (old new : Left) (ending : Ending) : Type 0 where
   pub report : Report
   pub loaded : (bytes : ℕ → List ℕ) → AreKnown streams bytes → IsLoaded (length streams) bytes report
-  pub written : Appends old.out new.out (summary_text (summary_of report))
+  pub told : List ℕ
+  pub tells : TellAsked explain report.modules told
+  pub written : Appends old.out new.out (summary_text (summary_of report) ++ told)
   pub all : Bool
   pub images : WritesImages (folder_or_none folder) (asked_images folder report.modules) old.put new.put new.is_lost old.errors new.errors all
   pub ends : EndsLoad report true all ending
@@ -89,7 +93,7 @@ pub record FindsRun (bytes : Option (List ℕ)) (steps : ℕ) (out_old out_new :
 -- What the line asks for was carried out, with this ending.
 abbrev pub CarriesOut : Line → (List ℕ → Option (List ℕ)) → (old new : Left) → Ending → Type 0
 CarriesOut (Check file) file_at old new ending = FindsVerdict (file_at file.now) old.out new.out ending × (new.put ≡ old.put) × (new.errors ≡ old.errors)
-CarriesOut (Load verifiers folder streams) file_at old new ending = FindsReport (map (λ s. file_at s.now) streams.items) (option_map (λ s. s.now) folder) old new ending
+CarriesOut (Load verifiers folder streams) file_at old new ending = FindsReport (map (λ s. file_at s.now) streams.items) (option_map (λ s. s.now) folder) false old new ending
 CarriesOut (Serve socket connections verifiers folder) file_at old new ending = FindsServed connections (option_map (λ s. s.now) folder) old new ending
 CarriesOut (Run image steps) file_at old new ending =
     FindsRun (file_at image.now) steps old.out new.out new.is_lost old.errors new.errors ending × (new.put ≡ old.put)

@@ -13,6 +13,7 @@ mod notices;
 mod opening;
 mod pieces;
 mod program;
+mod refused;
 mod verdict;
 
 pub use code::{Code, MOST_BYTES};
@@ -24,4 +25,5 @@ pub use failure::Failure;
 pub use images::write_images;
 pub use notices::WrittenNotices;
 pub use program::run_words;
+pub use refused::write_refused;
 pub use verdict::{Verdict, judge_code};

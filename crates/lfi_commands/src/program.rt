@@ -15,6 +15,7 @@ use crate::errors::Errors;
 use crate::failure::{Failure, OUTPUT};
 use crate::images::write_images;
 use crate::opening::{open, open_all};
+use crate::refused::write_asked_refused;
 use lfi_command_line::{Line, LineFault, read_line};
 use lfi_place::ModuleReport;
 use lfi_run::run_image;
@@ -63,8 +64,8 @@ fn write_asked_images<D: Disk, E: Write>(
     }
 }
 
-/// Loads the modules of the streams in these files, with so many verifiers, writes the report, and writes the whole images
-/// to a folder where one is named.
+/// Loads the modules of the streams in these files, with so many verifiers, writes the report, then what is told of refused
+/// modules where that is asked for, and writes the whole images to a folder where one is named.
 fn run_load<S: Threads + Wait + Files + Net + Sync, D: Disk, N: Notices + Sync, O: Write, E: Write>(
     rt: &S,
     alloc: Global,
@@ -72,13 +73,14 @@ fn run_load<S: Threads + Wait + Files + Net + Sync, D: Disk, N: Notices + Sync, 
     notices: &N,
     verifiers: usize,
     folder: Option<&str>,
+    explain: bool,
     paths: &[&str],
     out: &mut O,
     errors: &mut Errors<E>,
 ) -> Result<Ending, Failure>
     requires verifiers { (1 ≤ verifiers) × (verifiers ≤ 8) }
     requires connections { (1 ≤ length paths.now) × (length paths.now ≤ 8) }
-    ensures found { IfOk result (FindsReport (map (λ path. D.file_at disk.old path.now) paths.now) (option_map (λ s. s.now) folder.entry)
+    ensures found { IfOk result (FindsReport (map (λ path. D.file_at disk.old path.now) paths.now) (option_map (λ s. s.now) folder.entry) explain
         (left (O.contents out.old) (D.put_files disk.old) (is_lost_of errors.old) (E.contents (writer_of errors.old)))
         (left (O.contents out.new) (D.put_files disk.new) (is_lost_of errors.new) (E.contents (writer_of errors.new)))) }
     ensures failure { IfErr result (FailsOn (map (λ path. path.now) paths.now)) }
@@ -91,6 +93,10 @@ fn run_load<S: Threads + Wait + Files + Net + Sync, D: Disk, N: Notices + Sync, 
         Err(CommandFault::NotWritten) => return Err(Failure::writing(alloc, OUTPUT)),
         Err(_) => return Err(Failure::NoMemory),
     };
+    match write_asked_refused(explain, &report.modules, out) {
+        Ok(()) => {}
+        Err(_) => return Err(Failure::writing(alloc, OUTPUT)),
+    }
     let all = write_asked_images(alloc, disk, folder, &report.modules, errors);
     Ok(Ending::of_load(&report, true, all))
 }
@@ -193,7 +199,7 @@ fn run<S: Threads + Wait + Files + Net + Sync, D: Disk, N: Notices + Sync, O: Wr
             out: folder,
             streams,
         } => run_load(
-            rt, alloc, disk, notices, verifiers, folder, &streams, out, errors,
+            rt, alloc, disk, notices, verifiers, folder, false, &streams, out, errors,
         ),
         Line::Serve {
             socket,
