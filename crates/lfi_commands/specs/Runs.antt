@@ -67,11 +67,14 @@ pub record FindsReport (streams : List (Option (List ℕ))) (folder : Option (Li
   pub images : WritesImages (folder_or_none folder) (asked_images folder report.modules) old.put new.put new.is_lost old.errors new.errors all
   pub ends : EndsLoad report true all ending
 
--- Of what so many connections sent one report was found; its text was written, its images were put into the folder, and it gives the ending.
-pub record FindsServed (connections : ℕ) (folder : Option (List ℕ)) (old new : Left) (ending : Ending) : Type 0 where
+-- Of what so many connections sent one report was found; its text was written, then what is told of its refused modules,
+-- where that is asked for, its images were put into the folder, and it gives the ending.
+pub record FindsServed (connections : ℕ) (folder : Option (List ℕ)) (explain : Bool) (old new : Left) (ending : Ending) : Type 0 where
   pub report : Report
   pub served : IsServed connections report
-  pub written : Appends old.out new.out (summary_text (summary_of report))
+  pub told : List ℕ
+  pub tells : TellAsked explain report.modules told
+  pub written : Appends old.out new.out (summary_text (summary_of report) ++ told)
   pub all_taken : Bool
   pub all : Bool
   pub images : WritesImages (folder_or_none folder) (asked_images folder report.modules) old.put new.put new.is_lost old.errors new.errors all
@@ -94,7 +97,7 @@ pub record FindsRun (bytes : Option (List ℕ)) (steps : ℕ) (out_old out_new :
 abbrev pub CarriesOut : Line → (List ℕ → Option (List ℕ)) → (old new : Left) → Ending → Type 0
 CarriesOut (Check file) file_at old new ending = FindsVerdict (file_at file.now) old.out new.out ending × (new.put ≡ old.put) × (new.errors ≡ old.errors)
 CarriesOut (Load verifiers folder streams) file_at old new ending = FindsReport (map (λ s. file_at s.now) streams.items) (option_map (λ s. s.now) folder) false old new ending
-CarriesOut (Serve socket connections verifiers folder) file_at old new ending = FindsServed connections (option_map (λ s. s.now) folder) old new ending
+CarriesOut (Serve socket connections verifiers folder) file_at old new ending = FindsServed connections (option_map (λ s. s.now) folder) false old new ending
 CarriesOut (Run image steps) file_at old new ending =
     FindsRun (file_at image.now) steps old.out new.out new.is_lost old.errors new.errors ending × (new.put ≡ old.put)
 

@@ -102,7 +102,7 @@ fn run_load<S: Threads + Wait + Files + Net + Sync, D: Disk, N: Notices + Sync, 
 }
 
 /// Loads the modules of what so many connections send over a socket at this path, with so many verifiers, writes the report,
-/// and writes the whole images to a folder where one is named.
+/// then what is told of refused modules where that is asked for, and writes the whole images to a folder where one is named.
 fn run_serve<
     S: Threads + Wait + Files + Net + Sync,
     D: Disk,
@@ -118,12 +118,13 @@ fn run_serve<
     connections: usize,
     verifiers: usize,
     folder: Option<&str>,
+    explain: bool,
     out: &mut O,
     errors: &mut Errors<E>,
 ) -> Result<Ending, Failure>
     requires verifiers { (1 ≤ verifiers) × (verifiers ≤ 8) }
     requires connections { (1 ≤ connections) × (connections ≤ 8) }
-    ensures found { IfOk result (FindsServed connections (option_map (λ s. s.now) folder.entry)
+    ensures found { IfOk result (FindsServed connections (option_map (λ s. s.now) folder.entry) explain
         (left (O.contents out.old) (D.put_files disk.old) (is_lost_of errors.old) (E.contents (writer_of errors.old)))
         (left (O.contents out.new) (D.put_files disk.new) (is_lost_of errors.new) (E.contents (writer_of errors.new)))) }
     ensures failure { IfErr result FailsServing }
@@ -147,6 +148,10 @@ fn run_serve<
         Err(CommandFault::NotWritten) => return Err(Failure::writing(alloc, OUTPUT)),
         Err(_) => return Err(Failure::NoMemory),
     };
+    match write_asked_refused(explain, &served.report.modules, out) {
+        Ok(()) => {}
+        Err(_) => return Err(Failure::writing(alloc, OUTPUT)),
+    }
     let all = write_asked_images(alloc, disk, folder, &served.report.modules, errors);
     Ok(Ending::of_load(&served.report, served.all_accepted, all))
 }
@@ -215,6 +220,7 @@ fn run<S: Threads + Wait + Files + Net + Sync, D: Disk, N: Notices + Sync, O: Wr
             connections,
             verifiers,
             folder,
+            false,
             out,
             errors,
         ),
