@@ -45,9 +45,9 @@ map_all f xs k enough = ap (map f) (all_taken xs k enough)
 
 -- what is told of one path is told of one of all
 pub tells_one : {A : Type 0} (f : A → List ℕ) (xs : List A) (k : ℕ) (x : A) (failure : Failure) → slice_get xs k ≡ Some x → TellsRead (f x) failure → TellsReadOfOne (map f xs) failure
-tells_one f xs k x (CannotRead told) at tells = (k, slice_get-map f xs k ∙ ap (option_map f) at ∙ ap Some (sym tells))
-tells_one f xs k x (CannotWrite told) at tells = absurd tells
-tells_one f xs k x CannotListen at tells = absurd tells
+tells_one f xs k x (CannotRead told cause) at tells = (k, slice_get-map f xs k ∙ ap (option_map f) at ∙ ap Some (sym tells))
+tells_one f xs k x (CannotWrite told cause) at tells = absurd tells
+tells_one f xs k x (CannotListen cause) at tells = absurd tells
 tells_one f xs k x NoMemory at tells = tt
 
 element : {A : Type 0} (xs : List A) (k : ℕ) → k < length xs → (x : A) × (slice_get xs k ≡ Some x)

@@ -1,3 +1,4 @@
+pub mod Causes
 pub mod Checking
 pub mod Endings
 pub mod Errors

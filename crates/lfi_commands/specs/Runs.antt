@@ -114,9 +114,9 @@ CarriesOutWords words file_at old new ending = (line : Line) × IsLine words lin
 
 -- It tells of a fault of the line that the words ask for, or of the output, or of no memory.
 abbrev pub FailsBy : List (List ℕ) → Failure → Type 0
-FailsBy words (CannotRead told) = (line : Line) × IsLine words line × FailsAs line (CannotRead told)
-FailsBy words (CannotWrite told) = string_bytes told ≡ codes "standard output"
-FailsBy words CannotListen = (line : Line) × IsLine words line × FailsAs line CannotListen
+FailsBy words (CannotRead told cause) = (line : Line) × IsLine words line × FailsAs line (CannotRead told cause)
+FailsBy words (CannotWrite told cause) = string_bytes told ≡ codes "standard output"
+FailsBy words (CannotListen cause) = (line : Line) × IsLine words line × FailsAs line (CannotListen cause)
 FailsBy words NoMemory = ⊤
 
 -- A failure was told, unless it is lost, and no file was put.

@@ -1,6 +1,6 @@
 //! The commands, over any reader and writer.
 
-ghost use Rattle.std.specs.Prelude.{◌≡◌, ◌≢◌, ℕ, List, Some, ◌≤◌, ◌++◌, IfOk, IfErr, IfSome, codes, length, slice_get};
+ghost use Rattle.std.specs.Prelude.{◌≡◌, ℕ, List, Some, true, false, ◌≤◌, ◌++◌, IfOk, IfErr, IfSome, codes, length, slice_get};
 ghost use Rattle.lfi_module.specs.Numbers.{most_words};
 ghost use Rattle.std.specs.Io.KnownBytes.{Appends};
 ghost use Rattle.lfi_receive.specs.Inputs.{left_of};
@@ -8,10 +8,12 @@ ghost use Rattle.lfi_receive.specs.declared.input.Input.{Input};
 ghost use Rattle.lfi_stage.specs.Stages.{IsLoaded};
 ghost use Rattle.lfi_threads.specs.Served.{IsServed};
 ghost use Rattle.lfi_commands.specs.Checking.{Checks, verdict_text};
+ghost use Rattle.lfi_commands.specs.Failures.{is_of_a_write};
 ghost use Rattle.lfi_model.specs.Texts.{summary_text};
 ghost use Rattle.lfi_stage.specs.Summaries.{summary_of};
 
 use crate::code::MOST_BYTES;
+use crate::device_cause::DeviceCause;
 use crate::pieces::judge_pieces;
 use crate::verdict::{Verdict, judge_code};
 use a64_word::WORD_BYTES;
@@ -31,24 +33,33 @@ use std::thread::Threads;
 pub enum CommandFault {
     /// There was no memory.
     NoMemory,
-    /// A read failed.
-    NotRead,
-    /// A write failed.
-    NotWritten,
+    /// A read failed, for this cause.
+    NotRead(DeviceCause),
+    /// A write failed, for this cause.
+    NotWritten(DeviceCause),
+}
+
+impl CommandFault {
+    /// That of a read.
+    pub(crate) fn of_read(error: &io::Error) -> CommandFault
+        ensures { is_of_a_write result ≡ false }
+    {
+        match error.kind() {
+            io::ErrorKind::OutOfMemory => CommandFault::NoMemory,
+            _ => CommandFault::NotRead(DeviceCause::of(error)),
+        }
+    }
 }
 
 /// All the bytes that a reader has left.
 fn read_all<R: Read + Drop>(alloc: Global, mut reader: R) -> Result<Vec<u8>, CommandFault>
     ensures all { IfOk result (λ bytes. IfSome (R.remaining reader) (λ all. bytes.items ≡ all)) }
-    ensures fault { IfErr result (λ fault. fault ≢ CommandFault.NotWritten) }
+    ensures fault { IfErr result (λ fault. is_of_a_write fault ≡ false) }
 {
     let mut bytes = Vec::new(alloc);
     match reader.read_to_end(&mut bytes) {
         Ok(_) => Ok(bytes),
-        Err(error) => match error.kind() {
-            io::ErrorKind::OutOfMemory => Err(CommandFault::NoMemory),
-            _ => Err(CommandFault::NotRead),
-        },
+        Err(error) => Err(CommandFault::of_read(&error)),
     }
 }
 
@@ -66,7 +77,7 @@ pub fn check<R: Read + Drop, W: Write>(
 ) -> Result<Verdict, CommandFault>
     ensures verdict { IfOk result (λ verdict. IfSome (R.remaining reader) (λ bytes. Checks bytes verdict)) }
     ensures written { IfOk result (λ verdict. Appends (W.contents writer.old) (W.contents writer.new) (verdict_text verdict ++ codes "\n")) }
-    ensures unwritten { IfErr result (λ fault. fault ≢ CommandFault.NotWritten → writer.new ≡ writer.old) }
+    ensures unwritten { IfErr result (λ fault. is_of_a_write fault ≡ false → writer.new ≡ writer.old) }
 {
     let bytes = read_all(alloc, reader.take(MOST_BYTES as u64 + 1))?;
     write_verdict(judge_code(&bytes), writer)
@@ -76,11 +87,11 @@ pub fn check<R: Read + Drop, W: Write>(
 fn write_verdict<W: Write>(verdict: Verdict, writer: &mut W) -> Result<Verdict, CommandFault>
     ensures same { IfOk result (λ written. written ≡ verdict) }
     ensures written { IfOk result (λ written. Appends (W.contents writer.old) (W.contents writer.new) (verdict_text verdict ++ codes "\n")) }
-    ensures fault { IfErr result (λ fault. fault ≡ CommandFault.NotWritten) }
+    ensures fault { IfErr result (λ fault. is_of_a_write fault ≡ true) }
 {
     match writeln!(writer, "{verdict}") {
         Ok(()) => Ok(verdict),
-        Err(_) => Err(CommandFault::NotWritten),
+        Err(error) => Err(CommandFault::NotWritten(DeviceCause::of(&error))),
     }
 }
 
@@ -109,7 +120,7 @@ pub fn check_file<R: Read + Drop, W: Write>(
 ) -> Result<Verdict, CommandFault>
     ensures verdict { IfOk result (λ verdict. IfSome (R.remaining reader) (λ bytes. Checks bytes verdict)) }
     ensures written { IfOk result (λ verdict. Appends (W.contents writer.old) (W.contents writer.new) (verdict_text verdict ++ codes "\n")) }
-    ensures unwritten { IfErr result (λ fault. fault ≢ CommandFault.NotWritten → writer.new ≡ writer.old) }
+    ensures unwritten { IfErr result (λ fault. is_of_a_write fault ≡ false → writer.new ≡ writer.old) }
 {
     match words_in(length) {
         Some(words) => {
@@ -124,12 +135,12 @@ pub fn check_file<R: Read + Drop, W: Write>(
 fn write_report<W: Write>(report: Report, writer: &mut W) -> Result<Report, CommandFault>
     ensures same { IfOk result (λ written. written ≡ report) }
     ensures written { IfOk result (λ written. Appends (W.contents writer.old) (W.contents writer.new) (summary_text (summary_of written))) }
-    ensures fault { IfErr result (λ fault. fault ≡ CommandFault.NotWritten) }
+    ensures fault { IfErr result (λ fault. is_of_a_write fault ≡ true) }
 {
     let summary = report.summary();
     match write!(writer, "{summary}") {
         Ok(()) => Ok(report),
-        Err(_) => Err(CommandFault::NotWritten),
+        Err(error) => Err(CommandFault::NotWritten(DeviceCause::of(&error))),
     }
 }
 
@@ -152,7 +163,7 @@ pub fn load<S: Threads + Wait + Sync, R: Read + Send + Drop, N: Notices + Sync, 
     requires verifiers { (1 ≤ verifiers) × (verifiers ≤ 8) }
     ensures report { IfOk result (λ report. (texts : ℕ → List ℕ) → ((c : ℕ) (input : Input R) → slice_get inputs.items c ≡ Some input → left_of R.remaining input ≡ Some (texts c)) → IsLoaded (length inputs.items) texts report) }
     ensures written { IfOk result (λ report. Appends (W.contents writer.old) (W.contents writer.new) (summary_text (summary_of report))) }
-    ensures unwritten { IfErr result (λ fault. fault ≢ CommandFault.NotWritten → writer.new ≡ writer.old) }
+    ensures unwritten { IfErr result (λ fault. is_of_a_write fault ≡ false → writer.new ≡ writer.old) }
 {
     match load_all(rt, alloc, inputs, verifiers, &OpenGate, notices) {
         Ok(report) => write_report(report, writer),
@@ -181,7 +192,7 @@ pub fn serve<S: Threads + Wait + Files + Sync, N: Notices + Sync, W: Write>(
     requires verifiers { (1 ≤ verifiers) × (verifiers ≤ 8) }
     ensures report { IfOk result (λ served. IsServed connections served.report) }
     ensures written { IfOk result (λ served. Appends (W.contents writer.old) (W.contents writer.new) (summary_text (summary_of served.report))) }
-    ensures unwritten { IfErr result (λ fault. fault ≢ CommandFault.NotWritten → writer.new ≡ writer.old) }
+    ensures unwritten { IfErr result (λ fault. is_of_a_write fault ≡ false → writer.new ≡ writer.old) }
 {
     let Ok(
         Served {

@@ -6,7 +6,7 @@ ghost use Rattle.lfi_commands.specs.Images.{Puts};
 
 use lfi_image::{CompleteImage, write_image};
 use std::fs::{File, Files, OpenFile};
-use std::io::{self, Read};
+use std::io::{self, Read, Write};
 
 /// Where the commands find their input, and put the images.
 pub trait Disk {
@@ -50,6 +50,27 @@ pub struct SystemDisk<'a, R> {
     pub rt: &'a R,
 }
 
+/// A writer to a file, which keeps the error of the last write that failed.
+#[derive(Drop)]
+struct Telling<'a> {
+    file: &'a mut File,
+    error: Option<io::Error>,
+}
+
+impl Write for Telling<'_> {
+    fn write(&mut self, buf: &[u8]) -> io::Result<usize> {
+        let written = self.file.write(buf);
+        if let Err(error) = &written {
+            self.error = Some(*error);
+        }
+        written
+    }
+
+    fn flush(&mut self) -> io::Result<()> {
+        self.file.flush()
+    }
+}
+
 impl<R: Files<File = File>> Disk for SystemDisk<'_, R> {
     type Reader = File;
 
@@ -66,9 +87,14 @@ impl<R: Files<File = File>> Disk for SystemDisk<'_, R> {
 
     fn put_image(&mut self, path: &str, image: &CompleteImage) -> io::Result<()> {
         let mut file = File::create(self.rt, path)?;
-        match write_image(image, &mut file) {
-            Ok(()) => Ok(()),
-            Err(_) => Err(io::Error::from(io::ErrorKind::Other)),
+        let mut telling = Telling {
+            file: &mut file,
+            error: None,
+        };
+        match (write_image(image, &mut telling), telling.error) {
+            (Ok(()), _) => Ok(()),
+            (Err(_), Some(error)) => Err(error),
+            (Err(_), None) => Err(io::Error::from(io::ErrorKind::Other)),
         }
     }
 }

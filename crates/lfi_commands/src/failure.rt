@@ -1,9 +1,12 @@
 //! Why the program fails.
 
 ghost use Rattle.std.specs.Prelude.{Some};
-ghost use Rattle.lfi_commands.specs.Failures.{failure_text, TellsRead, TellsWrite, TellsOf};
+ghost use Rattle.std.specs.IoError.{error_kind};
+ghost use Rattle.lfi_commands.specs.Causes.{cause_of};
+ghost use Rattle.lfi_commands.specs.Failures.{failure_text, HasCause, TellsRead, TellsWrite, TellsOf};
 
 use crate::commands::CommandFault;
+use crate::device_cause::DeviceCause;
 use std::alloc::{AllocError, Global};
 use std::{fmt, io};
 
@@ -11,11 +14,11 @@ use std::{fmt, io};
 #[derive(Debug, Drop)]
 pub enum Failure {
     /// The file at this path can't be read.
-    CannotRead(String),
+    CannotRead(String, DeviceCause),
     /// The file at this path can't be written.
-    CannotWrite(String),
+    CannotWrite(String, DeviceCause),
     /// It can't be listened at the path of a socket.
-    CannotListen,
+    CannotListen(DeviceCause),
     /// There was no memory.
     NoMemory,
 }
@@ -25,9 +28,9 @@ impl fmt::Display for Failure {
 
     fn fmt<W: fmt::Write>(&self, f: &mut fmt::Formatter<W>) -> fmt::Result {
         match self {
-            Failure::CannotRead(path) => write!(f, "cannot read {path}"),
-            Failure::CannotWrite(path) => write!(f, "cannot write {path}"),
-            Failure::CannotListen => write!(f, "cannot listen"),
+            Failure::CannotRead(path, cause) => write!(f, "cannot read {path}{cause}"),
+            Failure::CannotWrite(path, cause) => write!(f, "cannot write {path}{cause}"),
+            Failure::CannotListen(cause) => write!(f, "cannot listen{cause}"),
             Failure::NoMemory => write!(f, "no memory"),
         }
     }
@@ -50,20 +53,22 @@ pub(crate) const OUTPUT: &str = "standard output";
 impl Failure {
     /// What a failed read of the file at this path says.
     pub fn reading(alloc: Global, path: &str, error: io::Error) -> Failure
-        ensures { TellsRead path.now result }
+        ensures read { TellsRead path.now result }
+        ensures cause { HasCause (cause_of (error_kind error)) result }
     {
         match error.kind() {
             io::ErrorKind::OutOfMemory => Failure::NoMemory,
-            _ => Failure::of(alloc, CommandFault::NotRead, path),
+            _ => Failure::of(alloc, CommandFault::NotRead(DeviceCause::of(&error)), path),
         }
     }
 
     /// What a failed write of the file at this path says.
-    pub fn writing(alloc: Global, path: &str) -> Failure
-        ensures { TellsWrite path.now result }
+    pub fn writing(alloc: Global, path: &str, cause: DeviceCause) -> Failure
+        ensures write { TellsWrite path.now result }
+        ensures cause { HasCause cause result }
     {
         match String::from_str(alloc, path) {
-            Ok(path) => Failure::CannotWrite(path),
+            Ok(path) => Failure::CannotWrite(path, cause),
             Err(_) => Failure::NoMemory,
         }
     }
@@ -74,9 +79,9 @@ impl Failure {
     {
         match fault {
             CommandFault::NoMemory => Failure::NoMemory,
-            CommandFault::NotWritten => Failure::writing(alloc, OUTPUT),
-            CommandFault::NotRead => match String::from_str(alloc, path) {
-                Ok(path) => Failure::CannotRead(path),
+            CommandFault::NotWritten(cause) => Failure::writing(alloc, OUTPUT, cause),
+            CommandFault::NotRead(cause) => match String::from_str(alloc, path) {
+                Ok(path) => Failure::CannotRead(path, cause),
                 Err(_) => Failure::NoMemory,
             },
         }

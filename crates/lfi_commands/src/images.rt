@@ -5,6 +5,7 @@ ghost use Rattle.lfi_commands.specs.Images.{image_file, image_in, images_in, ima
 ghost use Rattle.lfi_commands.specs.Errors.{is_lost_of, writer_of};
 ghost use Rattle.lfi_commands.specs.Failures.{TellsWrite};
 
+use crate::device_cause::DeviceCause;
 use crate::disk::Disk;
 use crate::errors::Errors;
 use crate::failure::Failure;
@@ -35,7 +36,7 @@ fn put<D: Disk>(
     let path = image_path(alloc, folder, image)?;
     match disk.put_image(path.as_str(), image) {
         Ok(()) => Ok(()),
-        Err(_) => Err(Failure::writing(alloc, path.as_str())),
+        Err(error) => Err(Failure::writing(alloc, path.as_str(), DeviceCause::of(&error))),
     }
 }
 

@@ -4,6 +4,7 @@
 
 mod code;
 mod commands;
+mod device_cause;
 mod disk;
 mod ending;
 mod errors;
@@ -18,6 +19,7 @@ mod verdict;
 
 pub use code::{Code, MOST_BYTES};
 pub use commands::{CommandFault, check, check_file, load, serve};
+pub use device_cause::DeviceCause;
 pub use disk::{Disk, SystemDisk};
 pub use ending::Ending;
 pub use errors::Errors;

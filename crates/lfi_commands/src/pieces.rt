@@ -1,17 +1,19 @@
 //! Code that is judged piece by piece, as it is read.
 
-ghost use Rattle.std.specs.Prelude.{◌≡◌, ◌≢◌, ◌+◌, ◌*◌, ◌/◌, ◌%◌, ◌<◌, ◌≤◌, ℕ, List, [], ◌++◌, length, IfOk, IfErr, IfSome, OnOk, IsTrue};
+ghost use Rattle.std.specs.Prelude.{◌≡◌, ◌+◌, ◌*◌, ◌/◌, ◌%◌, ◌<◌, ◌≤◌, ℕ, List, [], ◌++◌, length, IfOk, IfErr, IfSome, OnOk, IsTrue, false};
 ghost use Rattle.std.specs.Io.KnownBytes.{Consumes, IsAtEnd};
 ghost use Rattle.lfi_module.specs.Numbers.{most_words};
 ghost use Rattle.lfi_commands.specs.Checking.{Checks};
+ghost use Rattle.lfi_commands.specs.Failures.{is_of_a_write};
 
 use crate::code::Code;
 use crate::commands::CommandFault;
+use crate::device_cause::DeviceCause;
 use crate::verdict::Verdict;
 use a64_word::WORD_BYTES;
 use lfi_rules::{Fault, Need, fault_after, judge};
 use std::alloc::Global;
-use std::io::{self, Read};
+use std::io::Read;
 
 /// How many bytes are read at once.
 const PIECE_BYTES: usize = 65_536;
@@ -30,16 +32,6 @@ struct Beginning {
 }
 
 ghost use Rattle.lfi_commands.specs.inner.Pieces.{Begins, IsWholeModule, verdict_of};
-
-/// What a failed read says.
-fn fault_of_read(error: io::Error) -> CommandFault
-    ensures { result ≢ CommandFault.NotWritten }
-{
-    match error.kind() {
-        io::ErrorKind::OutOfMemory => CommandFault::NoMemory,
-        _ => CommandFault::NotRead,
-    }
-}
 
 impl Beginning {
     /// That of a module of so many words, none of which has been judged.
@@ -109,11 +101,11 @@ fn next_piece<R: Read>(
     ensures begins { IfOk result (λ next. (bytes : List ℕ) → Begins beginning bytes → Begins next (bytes ++ piece.new)) }
     ensures judged { IfOk result (λ next. 4 * next.judged ≡ 4 * beginning.judged + length piece.old) }
     ensures words { IfOk result (λ next. next.words ≡ beginning.words) }
-    ensures fault { IfErr result (λ fault. fault ≢ CommandFault.NotWritten) }
+    ensures fault { IfErr result (λ fault. is_of_a_write fault ≡ false) }
 {
     match reader.read_exact(piece) {
         Ok(()) => Ok(beginning.with(piece)),
-        Err(error) => Err(fault_of_read(error)),
+        Err(error) => Err(CommandFault::of_read(&error)),
     }
 }
 
@@ -128,7 +120,7 @@ fn judge_words<R: Read>(
     requires some { 1 ≤ words }
     requires most { words ≤ most_words }
     ensures begins { IfOk result (λ all. IsWholeModule (R.remaining reader.old) (R.remaining reader.new) all words) }
-    ensures fault { IfErr result (λ fault. fault ≢ CommandFault.NotWritten) }
+    ensures fault { IfErr result (λ fault. is_of_a_write fault ≡ false) }
 {
     let mut beginning = Beginning::none(words);
     while beginning.judged < words {
@@ -142,12 +134,12 @@ fn judge_words<R: Read>(
 /// Whether a reader has no byte left.
 fn is_at_end<R: Read + Drop>(alloc: Global, reader: R) -> Result<bool, CommandFault>
     ensures end { IfOk result (λ end. IsTrue end → IsAtEnd (R.remaining reader)) }
-    ensures fault { IfErr result (λ fault. fault ≢ CommandFault.NotWritten) }
+    ensures fault { IfErr result (λ fault. is_of_a_write fault ≡ false) }
 {
     let mut rest = Vec::new(alloc);
     match reader.take(1).read_to_end(&mut rest) {
         Ok(_) => Ok(rest.is_empty()),
-        Err(error) => Err(fault_of_read(error)),
+        Err(error) => Err(CommandFault::of_read(&error)),
     }
 }
 
@@ -170,12 +162,12 @@ pub fn judge_pieces<R: Read + Drop>(
     requires some { 1 ≤ words }
     requires most { words ≤ most_words }
     ensures verdict { IfOk result (λ verdict. IfSome (R.remaining reader) (λ bytes. Checks bytes verdict)) }
-    ensures fault { IfErr result (λ fault. fault ≢ CommandFault.NotWritten) }
+    ensures fault { IfErr result (λ fault. is_of_a_write fault ≡ false) }
 {
     let mut buffer = buffer(alloc, PIECE_BYTES)?;
     let all = judge_words(&mut reader, &mut buffer, words)?;
     if !is_at_end(alloc, reader)? {
-        return Err(CommandFault::NotRead);
+        return Err(CommandFault::NotRead(DeviceCause::Other));
     }
     Ok(verdict_of(all.fault, words))
 }

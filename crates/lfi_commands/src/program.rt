@@ -9,6 +9,7 @@ ghost use Rattle.lfi_commands.specs.inner.Opening.{IsInRange};
 ghost use Rattle.lfi_commands.specs.Runs.{asked_images, folder_or_none, left, FailsAs, FindsServed, FindsVerdict, FindsReport, FindsRun, CarriesOut, Runs};
 
 use crate::commands::{CommandFault, check_file, load, serve};
+use crate::device_cause::DeviceCause;
 use crate::disk::Disk;
 use crate::ending::Ending;
 use crate::errors::Errors;
@@ -90,7 +91,7 @@ fn run_load<S: Threads + Wait + Files + Net + Sync, D: Disk, N: Notices + Sync, 
     let inputs = open_all(alloc, disk, paths)?;
     let report = match load(rt, alloc, inputs, verifiers, notices, out) {
         Ok(report) => report,
-        Err(CommandFault::NotWritten) => return Err(Failure::writing(alloc, OUTPUT)),
+        Err(CommandFault::NotWritten(cause)) => return Err(Failure::writing(alloc, OUTPUT, cause)),
         Err(_) => return Err(Failure::NoMemory),
     };
     match write_asked_refused(explain, &report.modules, out) {
@@ -131,8 +132,9 @@ fn run_serve<
     ensures disk { OnErr result (disk.new ≡ disk.old) }
     ensures errors { OnErr result (errors.new ≡ errors.old) }
 {
-    let Ok(listener) = UnixListener::bind(rt, socket) else {
-        return Err(Failure::CannotListen);
+    let listener = match UnixListener::bind(rt, socket) {
+        Ok(listener) => listener,
+        Err(error) => return Err(Failure::CannotListen(DeviceCause::of(&error))),
     };
     let served = match serve(
         rt,
@@ -145,7 +147,7 @@ fn run_serve<
         out,
     ) {
         Ok(served) => served,
-        Err(CommandFault::NotWritten) => return Err(Failure::writing(alloc, OUTPUT)),
+        Err(CommandFault::NotWritten(cause)) => return Err(Failure::writing(alloc, OUTPUT, cause)),
         Err(_) => return Err(Failure::NoMemory),
     };
     match write_asked_refused(explain, &served.report.modules, out) {
@@ -244,7 +246,7 @@ fn tell_fault<O: Write, E: Write>(
         LineFault::NoMemory => errors.tell(&Failure::NoMemory),
         LineFault::Help(text) => match write!(out, "{text}") {
             Ok(()) => return Ending::Well,
-            Err(_) => errors.tell(&Failure::writing(alloc, OUTPUT)),
+            Err(error) => errors.tell(&Failure::writing(alloc, OUTPUT, DeviceCause::of(&error))),
         },
         LineFault::Wrong(text) => {
             errors.write_text(text);

@@ -39,7 +39,7 @@ const RUNS: [Run; 6] = [
         line: "lfiload check missing.code",
         status: 3,
         out: "",
-        err: "lfiload: cannot read missing.code\n",
+        err: "lfiload: cannot read missing.code\n  No such file or directory\n",
     },
 ];
 

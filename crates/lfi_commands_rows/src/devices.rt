@@ -3,7 +3,10 @@
 ghost use Rattle.std.specs.Prelude.{◌≡◌, IfOk, length};
 
 use crate::runs::{ONE_RET, ONE_RET_REPORT, RET, begin, run_over};
-use lfi_commands::{CommandFault, Ending, Errors, SystemDisk, Verdict, check, check_file, load};
+use lfi_commands::{
+    CommandFault, DeviceCause, Ending, Errors, Failure, SystemDisk, Verdict, check, check_file,
+    load,
+};
 use lfi_model::Outcome;
 use lfi_receive::Input;
 use lfi_threads::NoNotices;
@@ -62,8 +65,11 @@ const TWO_RETS: [u8; 8] = [0xC0, 0x03, 0x5F, 0xD6, 0xC0, 0x03, 0x5F, 0xD6];
 const LENGTHS: [(Option<u64>, Result<Verdict, CommandFault>); 6] = [
     (None, Ok(Verdict::Lawful { words: 2 })),
     (Some(8), Ok(Verdict::Lawful { words: 2 })),
-    (Some(4), Err(CommandFault::NotRead)),
-    (Some(12), Err(CommandFault::NotRead)),
+    (Some(4), Err(CommandFault::NotRead(DeviceCause::Other))),
+    (
+        Some(12),
+        Err(CommandFault::NotRead(DeviceCause::EndedEarly)),
+    ),
     (Some(0), Ok(Verdict::Lawful { words: 2 })),
     (Some(7), Ok(Verdict::Lawful { words: 2 })),
 ];
@@ -152,7 +158,10 @@ fn reads_that_fail(rt: HostRuntime) -> Result<(), Fail> {
             left,
         };
         let verdict = check(rt.alloc(), code, &mut out);
-        assert!(rt; verdict == Err(CommandFault::NotRead), "{left}");
+        assert!(rt;
+            verdict == Err(CommandFault::NotRead(DeviceCause::Other)),
+            "{left}"
+        );
     }
     assert!(rt; out.is_empty());
     Ok(())
@@ -226,7 +235,8 @@ fn output_that_fails(rt: HostRuntime) -> Result<(), Fail> {
             let ending = run_over(&rt, rt.alloc(), &mut disk, line, &mut out, &mut errors)?;
             assert!(rt; ending == Ending::Failed, "{line}");
             assert!(rt;
-                errors.writer().as_slice() == b"lfiload: cannot write standard output\n".as_slice(),
+                errors.writer().as_slice()
+                    == b"lfiload: cannot write standard output\n  No space left on device\n".as_slice(),
                 "{line}"
             );
         }
@@ -250,6 +260,43 @@ fn errors_that_fail(rt: HostRuntime) -> Result<(), Fail> {
         let ending = run_over(&rt, rt.alloc(), &mut disk, line, &mut out, &mut errors)?;
         assert!(rt; ending == Ending::Failed, "{line}");
         assert!(rt; errors.is_lost(), "{line}");
+    }
+    Ok(())
+}
+
+/// What follows a failure's line, by the kind of the system's error.
+const CAUSES: [(io::ErrorKind, &str); 15] = [
+    (io::ErrorKind::NotFound, "\n  No such file or directory"),
+    (io::ErrorKind::PermissionDenied, "\n  Permission denied"),
+    (io::ErrorKind::IsADirectory, "\n  Is a directory"),
+    (io::ErrorKind::NotADirectory, "\n  Not a directory"),
+    (
+        io::ErrorKind::FilesystemLoop,
+        "\n  Too many levels of symbolic links",
+    ),
+    (io::ErrorKind::InvalidFilename, "\n  File name too long"),
+    (
+        io::ErrorKind::ReadOnlyFilesystem,
+        "\n  Read-only file system",
+    ),
+    (io::ErrorKind::StorageFull, "\n  No space left on device"),
+    (io::ErrorKind::QuotaExceeded, "\n  Disk quota exceeded"),
+    (io::ErrorKind::FileTooLarge, "\n  File too large"),
+    (io::ErrorKind::BrokenPipe, "\n  Broken pipe"),
+    (io::ErrorKind::AddrInUse, "\n  Address already in use"),
+    (io::ErrorKind::UnexpectedEof, "\n  The file ended early"),
+    (io::ErrorKind::Other, ""),
+    (io::ErrorKind::Uncategorized, ""),
+];
+
+#[test]
+fn causes(rt: HostRuntime) -> Result<(), Fail> {
+    for (kind, text) in CAUSES {
+        let cause = DeviceCause::of(&io::Error::from(kind));
+        let failure = Failure::writing(rt.alloc(), "a.img", cause);
+        let told = format!(in rt.alloc(); "{failure}")?;
+        let expected = format!(in rt.alloc(); "cannot write a.img{text}")?;
+        assert!(rt; told.as_str() == expected.as_str(), "{text}");
     }
     Ok(())
 }

@@ -86,7 +86,8 @@ fn a_full_disk(rt: HostRuntime) -> Result<(), Fail> {
     assert!(rt; ending == Ending::Failed);
     assert!(rt; out.as_slice() == ONE_RET_REPORT.as_bytes());
     assert!(rt;
-        errors.writer().as_slice() == b"lfiload: cannot write folder/module-00.img\n".as_slice()
+        errors.writer().as_slice()
+            == b"lfiload: cannot write folder/module-00.img\n  No space left on device\n".as_slice()
     );
     assert!(rt; disk.put.is_empty());
     Ok(())

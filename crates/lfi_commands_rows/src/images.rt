@@ -246,7 +246,7 @@ const RUNS: [Run; 4] = [
         line: "lfiload run missing.img --steps 5",
         status: 3,
         out: "",
-        err: "lfiload: cannot read missing.img\n",
+        err: "lfiload: cannot read missing.img\n  No such file or directory\n",
     },
 ];
 

@@ -23,7 +23,7 @@ const RUNS: [Run; 8] = [
         line: "lfiload load --out nowhere loaded.tmp/one_ret.stream",
         status: 3,
         out: ONE_RET_REPORT,
-        err: "lfiload: cannot write nowhere/module-00.img\n",
+        err: "lfiload: cannot write nowhere/module-00.img\n  No such file or directory\n",
     },
     Run {
         line: "lfiload load loaded.tmp/cut.stream",
@@ -47,7 +47,7 @@ const RUNS: [Run; 8] = [
         line: "lfiload load missing.stream",
         status: 3,
         out: "",
-        err: "lfiload: cannot read missing.stream\n",
+        err: "lfiload: cannot read missing.stream\n  No such file or directory\n",
     },
     // A folder is opened, and then can't be read.
     Run {
@@ -110,7 +110,7 @@ const SEVERAL: [Run; 7] = [
         line: "lfiload load several.tmp/0 missing.a several.tmp/cut missing.b",
         status: 3,
         out: "",
-        err: "lfiload: cannot read missing.a\n",
+        err: "lfiload: cannot read missing.a\n  No such file or directory\n",
     },
     Run {
         line: "lfiload load several.tmp/3 several.tmp several.tmp/0",
@@ -159,7 +159,8 @@ fn a_full_device(rt: HostRuntime) -> Result<(), Fail> {
     assert!(rt; ran.status == 3);
     assert!(rt; ran.out.as_slice() == ONE_RET_REPORT.as_bytes());
     assert!(rt;
-        ran.err.as_slice() == b"lfiload: cannot write device.tmp/module-00.img\n".as_slice()
+        ran.err.as_slice()
+            == b"lfiload: cannot write device.tmp/module-00.img\n  No space left on device\n".as_slice()
     );
     fs::remove_dir_all(&rt, "device.tmp")?;
     Ok(())

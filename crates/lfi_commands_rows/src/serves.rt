@@ -13,14 +13,14 @@ const RUNS: [Run; 2] = [
         line: "lfiload serve --socket nowhere/socket --connections 1",
         status: 3,
         out: "",
-        err: "lfiload: cannot listen\n",
+        err: "lfiload: cannot listen\n  No such file or directory\n",
     },
     // A file is there, and stays.
     Run {
         line: "lfiload serve --connections 8 --verifiers 8 --socket there.tmp/file --out there.tmp",
         status: 3,
         out: "",
-        err: "lfiload: cannot listen\n",
+        err: "lfiload: cannot listen\n  Address already in use\n",
     },
 ];
 
