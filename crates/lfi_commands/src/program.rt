@@ -96,7 +96,7 @@ fn run_load<S: Threads + Wait + Files + Net + Sync, D: Disk, N: Notices + Sync, 
     };
     match write_asked_refused(explain, &report.modules, out) {
         Ok(()) => {}
-        Err(_) => return Err(Failure::writing(alloc, OUTPUT)),
+        Err(error) => return Err(Failure::writing(alloc, OUTPUT, DeviceCause::of(&error))),
     }
     let all = write_asked_images(alloc, disk, folder, &report.modules, errors);
     Ok(Ending::of_load(&report, true, all))
@@ -152,7 +152,7 @@ fn run_serve<
     };
     match write_asked_refused(explain, &served.report.modules, out) {
         Ok(()) => {}
-        Err(_) => return Err(Failure::writing(alloc, OUTPUT)),
+        Err(error) => return Err(Failure::writing(alloc, OUTPUT, DeviceCause::of(&error))),
     }
     let all = write_asked_images(alloc, disk, folder, &served.report.modules, errors);
     Ok(Ending::of_load(&served.report, served.all_accepted, all))
