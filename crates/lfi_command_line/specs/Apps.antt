@@ -37,15 +37,16 @@ flag_rule name = record (new_rule name) { long = Some name; action = Some SetTru
 abbrev pub check_app : App
 check_app = with_rule (with_rule (with_rule (new_app (codes "check")) (flag_rule (codes "explain"))) (flag_rule (codes "all"))) (required_rule (codes "FILE"))
 
--- `load [--verifiers V] [--out DIR] STREAM..`
+-- `load [--verifiers V] [--out DIR] [--explain] STREAM..`
 abbrev pub load_app : App
-load_app = with_rule (with_rule (with_rule (new_app (codes "load")) (number_rule (codes "verifiers") (Unsigned 1 8))) (option_rule (codes "out"))) (several_rule (codes "STREAM"))
+load_app = with_rule (with_rule (with_rule (with_rule (new_app (codes "load")) (number_rule (codes "verifiers") (Unsigned 1 8))) (option_rule (codes "out"))) (several_rule (codes "STREAM")))
+    (flag_rule (codes "explain"))
 
--- `serve --socket P --connections C [--verifiers V] [--out DIR]`
+-- `serve --socket P --connections C [--verifiers V] [--out DIR] [--explain]`
 abbrev pub serve_app : App
-serve_app = with_rule (with_rule (with_rule (with_rule (new_app (codes "serve"))
+serve_app = with_rule (with_rule (with_rule (with_rule (with_rule (new_app (codes "serve"))
     (needed (option_rule (codes "socket")))) (needed (number_rule (codes "connections") (Unsigned 1 8))))
-    (number_rule (codes "verifiers") (Unsigned 1 8))) (option_rule (codes "out"))
+    (number_rule (codes "verifiers") (Unsigned 1 8))) (option_rule (codes "out"))) (flag_rule (codes "explain"))
 
 -- `run IMAGE --steps N`
 abbrev pub run_app : App

@@ -41,10 +41,10 @@ IsExplain given explain =
 -- a subcommand of this name, with what was given to it, asks for this line
 abbrev pub IsAskedBy : (name : Text) → List Row → Line → Type 0
 IsAskedBy name given (Check file explain) = (name ≡ codes "check") × (first_of (codes "FILE") given ≡ Some file.now) × IsExplain given explain
-IsAskedBy name given (Load verifiers out streams) = (name ≡ codes "load") × IsNumberOr 2 1 8 (first_of (codes "verifiers") given) verifiers
+IsAskedBy name given (Load verifiers out explain streams) = (name ≡ codes "load") × IsFlag (one_of (codes "explain") given) explain × IsNumberOr 2 1 8 (first_of (codes "verifiers") given) verifiers
     × (first_of (codes "out") given ≡ option_map (λ s. s.now) out)
     × (all_of (codes "STREAM") given ≡ Some (map (λ s. s.now) streams.items)) × (1 ≤ length streams.items) × (length streams.items ≤ 8)
-IsAskedBy name given (Serve socket connections verifiers out) = (name ≡ codes "serve") × (first_of (codes "socket") given ≡ Some socket.now)
+IsAskedBy name given (Serve socket connections verifiers out explain) = (name ≡ codes "serve") × IsFlag (one_of (codes "explain") given) explain × (first_of (codes "socket") given ≡ Some socket.now)
     × ((text : Text) × (first_of (codes "connections") given ≡ Some text) × IsNumber 1 8 text connections)
     × IsNumberOr 2 1 8 (first_of (codes "verifiers") given) verifiers × (first_of (codes "out") given ≡ option_map (λ s. s.now) out)
 IsAskedBy name given (Run image steps) = (name ≡ codes "run") × (first_of (codes "IMAGE") given ≡ Some image.now)

@@ -108,12 +108,14 @@ fn load_command<'a>(alloc: Global) -> Result<Command<'a>, AllocError>
     );
     let out = option_argument(alloc, "out", "DIR", help::OUT);
     let streams = several_arguments(alloc, "STREAM", help::STREAM);
+    let explain = flag(alloc, "explain", help::EXPLAIN_MODULES);
     Command::new(alloc, "load")
         .about("Loads the modules of streams, and prints the report")
         .after_help(help::LOAD)
         .arg(verifiers)?
         .arg(out)?
-        .arg(streams)
+        .arg(streams)?
+        .arg(explain)
 }
 
 /// The command `serve` and its words.
@@ -137,13 +139,15 @@ fn serve_command<'a>(alloc: Global) -> Result<Command<'a>, AllocError>
         (1, MOST_VERIFIERS),
     );
     let out = option_argument(alloc, "out", "DIR", help::OUT);
+    let explain = flag(alloc, "explain", help::EXPLAIN_MODULES);
     Command::new(alloc, "serve")
         .about("Loads the modules of streams that come over a Unix socket, and prints the report")
         .after_help(help::SERVE)
         .arg(socket)?
         .arg(connections)?
         .arg(verifiers)?
-        .arg(out)
+        .arg(out)?
+        .arg(explain)
 }
 
 /// The command `run` and its words.

@@ -77,6 +77,7 @@ pub(crate) fn load_line<'a>(alloc: Global, load: &ArgMatches<'a>) -> Result<Line
     Ok(Line::Load {
         verifiers: number_or(load, "verifiers", VERIFIERS) as usize,
         out: load.get_str("out"),
+        explain: is_given(load, "explain"),
         streams,
     })
 }
@@ -94,6 +95,7 @@ pub(crate) fn serve_line<'a>(serve: &ArgMatches<'a>) -> Line<'a>
         connections: number_or(serve, "connections", 0) as usize,
         verifiers: number_or(serve, "verifiers", VERIFIERS) as usize,
         out: serve.get_str("out"),
+        explain: is_given(serve, "explain"),
     }
 }
 

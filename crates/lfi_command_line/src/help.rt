@@ -19,6 +19,9 @@ pub const FILE: &str = "plain code words, the lowest byte first";
 /// Of `--explain`.
 pub const EXPLAIN: &str = "also say what the word at fault does, and what its rule asks";
 
+/// Of `--explain`, where modules are loaded.
+pub const EXPLAIN_MODULES: &str = "also say what the first word at fault of each refused module does";
+
 /// Of `--all`.
 pub const ALL: &str = "say so of each word that breaks a rule, and how many they are";
 
@@ -88,6 +91,13 @@ pub const LOAD: &str =
 Each stream is a connection, numbered from 0 in the order of the words. The first that opens a
 module is the one that it is loaded from. The status is 0 where each module is complete and no
 connection has a fault, 3 where a read failed, else 1.
+
+With --explain, these lines follow for each module M that was refused:
+  module M: word K rule R   Its first fault.
+  0xADDRESS  WORD  TEXT     The word: its address in the module's slot, its value in hexadecimal
+                            digits, its assembly text. Where the rule is on what follows a word,
+                            the line of the word before stands above it.
+  A sentence                What the rule asks, and what the word does.
 
 With --out DIR, the image of each complete module M is written to DIR/module-MM.img, M in two
 digits.

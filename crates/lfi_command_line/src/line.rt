@@ -30,19 +30,23 @@ pub enum Line<'a> {
         explain: Explain,
     },
     /// To load the modules of the streams in 1 to 8 files, one connection each, with so many
-    /// verifiers, 1 to 8, and to write the whole images into a folder.
+    /// verifiers, 1 to 8, to explain why modules are refused, and to write the whole images into a
+    /// folder.
     Load {
         verifiers: usize,
         out: Option<&'a str>,
+        explain: bool,
         streams: Vec<&'a str>,
     },
     /// To listen at a socket's path, to load the modules of the streams of so many connections, 1 to
-    /// 8, with so many verifiers, 1 to 8, and to write the whole images into a folder.
+    /// 8, with so many verifiers, 1 to 8, to explain why modules are refused, and to write the whole
+    /// images into a folder.
     Serve {
         socket: &'a str,
         connections: usize,
         verifiers: usize,
         out: Option<&'a str>,
+        explain: bool,
     },
     /// To run the image in a file for at most so many steps, 0 to 1,000,000,000.
     Run {

@@ -10,8 +10,8 @@ use Rattle.lfi_commands.specs.Runs.{FailsAs, FailsBy}
 pub fails_by : (words : List (List ℕ)) (line : Line) (failure : Failure) → IsLine words line → FailsAs line failure → FailsBy words failure
 fails_by words line (CannotRead told cause) is fails = (line, is, fails)
 fails_by words (Check file explain) (CannotWrite told cause) is fails = fails
-fails_by words (Load verifiers folder streams) (CannotWrite told cause) is fails = fails
-fails_by words (Serve socket connections verifiers folder) (CannotWrite told cause) is fails = fails
+fails_by words (Load verifiers folder explain streams) (CannotWrite told cause) is fails = fails
+fails_by words (Serve socket connections verifiers folder explain) (CannotWrite told cause) is fails = fails
 fails_by words (Run image steps) (CannotWrite told cause) is fails = fails
 fails_by words (Disassemble file) (CannotWrite told cause) is fails = fails
 fails_by words (Pack first entry files) (CannotWrite told cause) is fails = fails

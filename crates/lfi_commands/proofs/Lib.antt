@@ -7,3 +7,4 @@ mod Joined
 mod Paths
 mod Spelled
 mod Streams
+mod Telling

@@ -6,5 +6,6 @@ pub mod Explaining
 pub mod Failures
 pub mod Images
 pub mod Packing
+pub mod Refused
 pub mod Runs
 pub mod inner

@@ -21,6 +21,7 @@ use Rattle.lfi_commands.specs.Failures.{failure_line, FailsOn, FailsServing, Tol
 use Rattle.lfi_commands.specs.Explaining.{FindsListing, WritesVerdict}
 use Rattle.lfi_commands.specs.Images.{images_in, WritesImages}
 use Rattle.lfi_commands.specs.Packing.{FindsPacked}
+use Rattle.lfi_commands.specs.Refused.{TellAsked}
 use Rattle.lfi_model.specs.Texts.{summary_text}
 use Rattle.lfi_run.specs.declared.image_run.ImageRun.{ImageRun}
 use Rattle.lfi_run.specs.Runs.{CameOf}
@@ -57,20 +58,26 @@ left out put is_lost errors = record { out = out; put = put; is_lost = is_lost; 
 abbrev pub AreKnown : List (Option (List ℕ)) → (ℕ → List ℕ) → Type 0
 AreKnown streams bytes = (c : ℕ) (stream : Option (List ℕ)) → slice_get streams c ≡ Some stream → stream ≡ Some (bytes c)
 
--- Of streams that have these bytes, where they are known, one report was found; its text was written, its images were put into the folder, and it gives the ending.
-pub record FindsReport (streams : List (Option (List ℕ))) (folder : Option (List ℕ)) (old new : Left) (ending : Ending) : Type 0 where
+-- Of streams that have these bytes, where they are known, one report was found; its text was written, then what is told of
+-- its refused modules, where that is asked for, its images were put into the folder, and it gives the ending.
+pub record FindsReport (streams : List (Option (List ℕ))) (folder : Option (List ℕ)) (explain : Bool) (old new : Left) (ending : Ending) : Type 0 where
   pub report : Report
   pub loaded : (bytes : ℕ → List ℕ) → AreKnown streams bytes → IsLoaded (length streams) bytes report
-  pub written : Appends old.out new.out (summary_text (summary_of report))
+  pub told : List ℕ
+  pub tells : TellAsked explain report.modules told
+  pub written : Appends old.out new.out (summary_text (summary_of report) ++ told)
   pub all : Bool
   pub images : WritesImages (folder_or_none folder) (asked_images folder report.modules) old.put new.put new.is_lost old.errors new.errors all
   pub ends : EndsLoad report true all ending
 
--- Of what so many connections sent one report was found; its text was written, its images were put into the folder, and it gives the ending.
-pub record FindsServed (connections : ℕ) (folder : Option (List ℕ)) (old new : Left) (ending : Ending) : Type 0 where
+-- Of what so many connections sent one report was found; its text was written, then what is told of its refused modules,
+-- where that is asked for, its images were put into the folder, and it gives the ending.
+pub record FindsServed (connections : ℕ) (folder : Option (List ℕ)) (explain : Bool) (old new : Left) (ending : Ending) : Type 0 where
   pub report : Report
   pub served : IsServed connections report
-  pub written : Appends old.out new.out (summary_text (summary_of report))
+  pub told : List ℕ
+  pub tells : TellAsked explain report.modules told
+  pub written : Appends old.out new.out (summary_text (summary_of report) ++ told)
   pub all_taken : Bool
   pub all : Bool
   pub images : WritesImages (folder_or_none folder) (asked_images folder report.modules) old.put new.put new.is_lost old.errors new.errors all
@@ -93,8 +100,8 @@ pub record FindsRun (bytes : Option (List ℕ)) (steps : ℕ) (out_old out_new :
 abbrev pub CarriesOut : Line → (List ℕ → Option (List ℕ)) → (old new : Left) → Ending → Type 0
 CarriesOut (Check file explain) file_at old new ending =
     FindsVerdict explain (file_at file.now) old.out new.out ending × (new.put ≡ old.put) × (new.errors ≡ old.errors)
-CarriesOut (Load verifiers folder streams) file_at old new ending = FindsReport (map (λ s. file_at s.now) streams.items) (option_map (λ s. s.now) folder) old new ending
-CarriesOut (Serve socket connections verifiers folder) file_at old new ending = FindsServed connections (option_map (λ s. s.now) folder) old new ending
+CarriesOut (Load verifiers folder explain streams) file_at old new ending = FindsReport (map (λ s. file_at s.now) streams.items) (option_map (λ s. s.now) folder) explain old new ending
+CarriesOut (Serve socket connections verifiers folder explain) file_at old new ending = FindsServed connections (option_map (λ s. s.now) folder) explain old new ending
 CarriesOut (Run image steps) file_at old new ending =
     FindsRun (file_at image.now) steps old.out new.out new.is_lost old.errors new.errors ending × (new.put ≡ old.put)
 CarriesOut (Disassemble file) file_at old new ending =
@@ -105,8 +112,8 @@ CarriesOut (Pack first entry files) file_at old new ending =
 -- it tells of a fault of what the line asks for: of a file that it names, of the output, of the socket
 abbrev pub FailsAs : Line → Failure → Type 0
 FailsAs (Check file explain) = FailsOn (file.now ∷ [])
-FailsAs (Load verifiers folder streams) = FailsOn (map (λ s. s.now) streams.items)
-FailsAs (Serve socket connections verifiers folder) = FailsServing
+FailsAs (Load verifiers folder explain streams) = FailsOn (map (λ s. s.now) streams.items)
+FailsAs (Serve socket connections verifiers folder explain) = FailsServing
 FailsAs (Run image steps) = FailsOn (image.now ∷ [])
 FailsAs (Disassemble file) = FailsOn (file.now ∷ [])
 FailsAs (Pack first entry files) = FailsOn (map (λ s. s.now) files.items)

@@ -16,6 +16,7 @@ mod opening;
 mod packing;
 mod pieces;
 mod program;
+mod refused;
 mod verdict;
 mod whole;
 
@@ -31,4 +32,5 @@ pub use images::write_images;
 pub use notices::WrittenNotices;
 pub use packing::NoModule;
 pub use program::run_words;
+pub use refused::write_refused;
 pub use verdict::{Verdict, judge_code};

@@ -21,6 +21,7 @@ use crate::failure::{Failure, OUTPUT};
 use crate::images::write_images;
 use crate::opening::{open, open_all};
 use crate::packing::{Stop, read_modules, write_stream};
+use crate::refused::write_asked_refused;
 use crate::verdict::Verdict;
 use lfi_command_line::{Explain, Line, LineFault, read_line};
 use lfi_place::ModuleReport;
@@ -120,7 +121,8 @@ fn run_pack<D: Disk, O: Write, E: Write>(
     };
     match write_stream(first, entry, &files, out) {
         Ok(()) => Ok(Ending::Well),
-        Err(_) => Err(Failure::writing(alloc, OUTPUT)),
+        Err(CommandFault::NotWritten(cause)) => Err(Failure::writing(alloc, OUTPUT, cause)),
+        Err(_) => Err(Failure::NoMemory),
     }
 }
 
@@ -142,8 +144,8 @@ fn write_asked_images<D: Disk, E: Write>(
     }
 }
 
-/// Loads the modules of the streams in these files, with so many verifiers, writes the report, and writes the whole images
-/// to a folder where one is named.
+/// Loads the modules of the streams in these files, with so many verifiers, writes the report, then what is told of refused
+/// modules where that is asked for, and writes the whole images to a folder where one is named.
 fn run_load<S: Threads + Wait + Files + Net + Sync, D: Disk, N: Notices + Sync, O: Write, E: Write>(
     rt: &S,
     alloc: Global,
@@ -151,13 +153,14 @@ fn run_load<S: Threads + Wait + Files + Net + Sync, D: Disk, N: Notices + Sync, 
     notices: &N,
     verifiers: usize,
     folder: Option<&str>,
+    explain: bool,
     paths: &[&str],
     out: &mut O,
     errors: &mut Errors<E>,
 ) -> Result<Ending, Failure>
     requires verifiers { (1 ≤ verifiers) × (verifiers ≤ 8) }
     requires connections { (1 ≤ length paths.now) × (length paths.now ≤ 8) }
-    ensures found { IfOk result (FindsReport (map (λ path. D.file_at disk.old path.now) paths.now) (option_map (λ s. s.now) folder.entry)
+    ensures found { IfOk result (FindsReport (map (λ path. D.file_at disk.old path.now) paths.now) (option_map (λ s. s.now) folder.entry) explain
         (left (O.contents out.old) (D.put_files disk.old) (is_lost_of errors.old) (E.contents (writer_of errors.old)))
         (left (O.contents out.new) (D.put_files disk.new) (is_lost_of errors.new) (E.contents (writer_of errors.new)))) }
     ensures failure { IfErr result (FailsOn (map (λ path. path.now) paths.now)) }
@@ -170,12 +173,16 @@ fn run_load<S: Threads + Wait + Files + Net + Sync, D: Disk, N: Notices + Sync, 
         Err(CommandFault::NotWritten(cause)) => return Err(Failure::writing(alloc, OUTPUT, cause)),
         Err(_) => return Err(Failure::NoMemory),
     };
+    match write_asked_refused(explain, &report.modules, out) {
+        Ok(()) => {}
+        Err(error) => return Err(Failure::writing(alloc, OUTPUT, DeviceCause::of(&error))),
+    }
     let all = write_asked_images(alloc, disk, folder, &report.modules, errors);
     Ok(Ending::of_load(&report, true, all))
 }
 
 /// Loads the modules of what so many connections send over a socket at this path, with so many verifiers, writes the report,
-/// and writes the whole images to a folder where one is named.
+/// then what is told of refused modules where that is asked for, and writes the whole images to a folder where one is named.
 fn run_serve<
     S: Threads + Wait + Files + Net + Sync,
     D: Disk,
@@ -191,12 +198,13 @@ fn run_serve<
     connections: usize,
     verifiers: usize,
     folder: Option<&str>,
+    explain: bool,
     out: &mut O,
     errors: &mut Errors<E>,
 ) -> Result<Ending, Failure>
     requires verifiers { (1 ≤ verifiers) × (verifiers ≤ 8) }
     requires connections { (1 ≤ connections) × (connections ≤ 8) }
-    ensures found { IfOk result (FindsServed connections (option_map (λ s. s.now) folder.entry)
+    ensures found { IfOk result (FindsServed connections (option_map (λ s. s.now) folder.entry) explain
         (left (O.contents out.old) (D.put_files disk.old) (is_lost_of errors.old) (E.contents (writer_of errors.old)))
         (left (O.contents out.new) (D.put_files disk.new) (is_lost_of errors.new) (E.contents (writer_of errors.new)))) }
     ensures failure { IfErr result FailsServing }
@@ -221,6 +229,10 @@ fn run_serve<
         Err(CommandFault::NotWritten(cause)) => return Err(Failure::writing(alloc, OUTPUT, cause)),
         Err(_) => return Err(Failure::NoMemory),
     };
+    match write_asked_refused(explain, &served.report.modules, out) {
+        Ok(()) => {}
+        Err(error) => return Err(Failure::writing(alloc, OUTPUT, DeviceCause::of(&error))),
+    }
     let all = write_asked_images(alloc, disk, folder, &served.report.modules, errors);
     Ok(Ending::of_load(&served.report, served.all_accepted, all))
 }
@@ -271,15 +283,17 @@ fn run<S: Threads + Wait + Files + Net + Sync, D: Disk, N: Notices + Sync, O: Wr
         Line::Load {
             verifiers,
             out: folder,
+            explain,
             streams,
         } => run_load(
-            rt, alloc, disk, notices, verifiers, folder, &streams, out, errors,
+            rt, alloc, disk, notices, verifiers, folder, explain, &streams, out, errors,
         ),
         Line::Serve {
             socket,
             connections,
             verifiers,
             out: folder,
+            explain,
         } => run_serve(
             rt,
             alloc,
@@ -289,6 +303,7 @@ fn run<S: Threads + Wait + Files + Net + Sync, D: Disk, N: Notices + Sync, O: Wr
             connections,
             verifiers,
             folder,
+            explain,
             out,
             errors,
         ),

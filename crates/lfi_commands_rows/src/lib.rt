@@ -16,6 +16,8 @@ mod loads;
 #[cfg(test)]
 mod packs;
 #[cfg(test)]
+mod refused;
+#[cfg(test)]
 mod runs;
 #[cfg(test)]
 mod serves;

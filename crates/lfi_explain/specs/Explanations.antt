@@ -1,5 +1,5 @@
 -- What is told of a fault, and of all words that break a rule.
-use Rattle.std.specs.Prelude.{◌≡◌, ℕ, zero, suc, ◌+◌, ◌-◌, Bool, true, false, ◌&&◌, not, if◌then◌else◌, List, [], ◌∷◌, ◌++◌, length, flat_map, slice_get, codes, decimal, Option, Some, None}
+use Rattle.std.specs.Prelude.{◌≡◌, ℕ, zero, suc, ◌-◌, Bool, true, false, ◌&&◌, not, if◌then◌else◌, List, [], ◌∷◌, ◌++◌, length, flat_map, slice_get, codes, decimal, Option, Some, None}
 use Rattle.std.specs.Io.KnownBytes.{Appends}
 use Rattle.lfi_rules.specs.declared.rule.Rule.{Rule}
 use Rattle.lfi_rules.specs.declared.rule.Rule.TheVariants.{NeedMet}
@@ -35,17 +35,29 @@ explanation_text e =
     ++ sentence_text e
 
 -- the word before place k, if there is one
-abbrev pub IsBefore : List ℕ → (k : ℕ) → Option Spelling → Type 0
-IsBefore ws k None = k ≡ 0
-IsBefore ws k (Some before) = (j word : ℕ) × (k ≡ j + 1) × (slice_get ws j ≡ Some word) × IsSpelling word before
+abbrev pub word_before : List ℕ → (k : ℕ) → Option ℕ
+word_before ws zero = None
+word_before ws (suc j) = slice_get ws j
+
+-- the word with what spells it, if there is a word
+abbrev pub IsSpellingIf : Option ℕ → Option Spelling → Type 0
+IsSpellingIf None None = Unit {0}
+IsSpellingIf (Some word) (Some spelling) = IsSpelling word spelling
+IsSpellingIf _ _ = ⊥
+
+-- It tells this fault of a module of n words in a slot, which has this word at the fault's place, and this one before it.
+pub record ExplainsWord (slot n : ℕ) (fault : Fault) (word : ℕ) (earlier : Option ℕ) (e : Explanation) : Type 0 where
+  pub same_fault : e.fault ≡ fault
+  pub same_slot : e.slot ≡ slot
+  pub count : e.words ≡ n
+  pub at : IsSpelling word e.at
+  pub before : IsSpellingIf earlier e.before
 
 -- It tells this fault of the words of a module in a slot.
 pub record Explains (ws : List ℕ) (slot : ℕ) (fault : Fault) (e : Explanation) : Type 0 where
-  pub same_fault : e.fault ≡ fault
-  pub same_slot : e.slot ≡ slot
-  pub count : e.words ≡ length ws
-  pub at : (word : ℕ) → slice_get ws fault.word ≡ Some word → IsSpelling word e.at
-  pub before : IsBefore ws fault.word e.before
+  pub word : ℕ
+  pub here : slice_get ws fault.word ≡ Some word
+  pub tells : ExplainsWord slot (length ws) fault word (word_before ws fault.word) e
 
 -- Of place k the least rule that its word breaks is told; nothing, where it breaks none.
 abbrev pub IsToldAt : List ℕ → (slot k : ℕ) → Option Explanation → Type 0

@@ -9,7 +9,7 @@ use crate::located::Located;
 use crate::sentence::Sentence;
 use crate::spelling::Spelling;
 use a64_word::Words;
-use lfi_module::ModuleNumber;
+use lfi_module::{ModuleNumber, WordCount};
 use lfi_rules::{Fault, Need, Rule};
 use std::fmt;
 
@@ -96,15 +96,45 @@ impl fmt::Display for Explanation {
     }
 }
 
-/// The word before a place, with what spells it, if there is one.
-fn spelling_before<W: Words>(words: &W, place: usize) -> Option<Spelling>
+/// A word with what spells it, if there is a word.
+fn spelling_of(word: Option<u32>) -> Option<Spelling>
+    ensures { spec.IsSpellingIf word result }
+{
+    match word {
+        Some(word) => Some(Spelling::of(word)),
+        None => None,
+    }
+}
+
+/// What is told of a fault of a module of so many words in a slot: of the word at its place, and of the one before it, if
+/// there is one.
+pub fn explain_word(
+    slot: ModuleNumber,
+    words: WordCount,
+    fault: Fault,
+    word: u32,
+    before: Option<u32>,
+) -> Explanation
+    ensures { spec.ExplainsWord slot words fault word before result }
+{
+    Explanation {
+        fault,
+        slot,
+        words: words.number(),
+        at: Spelling::of(word),
+        before: spelling_of(before),
+    }
+}
+
+/// The word before a place, if there is one.
+fn word_before<W: Words>(words: &W, place: usize) -> Option<u32>
     requires { place < length (W.words words.now) }
-    ensures { spec.IsBefore (W.words words.now) place result }
+    ensures { result ≡ spec.word_before (W.words words.now) place }
 {
     if place == 0 {
         None
     } else {
-        Some(Spelling::of(words.word(place - 1)))
+        Some(words.word(place - 1))
     }
 }
 
@@ -115,11 +145,7 @@ pub fn explain<W: Words>(words: &W, slot: ModuleNumber, fault: Fault) -> Explana
     ensures { spec.Explains (W.words words.now) slot fault result }
 {
     let place = fault.word as usize;
-    Explanation {
-        fault,
-        slot,
-        words: words.count() as u32,
-        at: Spelling::of(words.word(place)),
-        before: spelling_before(words, place),
-    }
+    let count = WordCount::of(words.count() as u32);
+    let word = words.word(place);
+    explain_word(slot, count, fault, word, word_before(words, place))
 }

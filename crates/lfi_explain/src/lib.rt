@@ -11,7 +11,7 @@ mod refusals;
 mod sentence;
 mod spelling;
 
-pub use explanation::{Explanation, explain};
+pub use explanation::{Explanation, explain, explain_word};
 pub use listing::{ListedWord, write_listing};
 pub use located::Located;
 pub use refusals::write_refusals;

@@ -1,8 +1,8 @@
 //! Explanations, written out by hand from the rules (docs/DEFINITIONS.md, "Rules"), and all words of a module that break one.
 ghost use Rattle.std.specs.Prelude.{◌<◌};
 
-use lfi_explain::{explain, write_refusals};
-use lfi_module::ModuleNumber;
+use lfi_explain::{explain, explain_word, write_refusals};
+use lfi_module::{ModuleNumber, WordCount};
 use lfi_rules::{Fault, Rule};
 use std::alloc::{AllocError, Global};
 use std::io::{self, Write};
@@ -138,6 +138,38 @@ fn each_rule(rt: HostRuntime) -> Result<(), Fail> {
             );
         }
     }
+    Ok(())
+}
+
+/// The first word of a module's second page, in slot 3, and the last of the page before: LDR X30, [X21, #8] and NOP.
+const AT_A_SEAM: &str =
+    "word 1024 rule 10\n  0x0000000700010ffc  f94006be  ldr x30, [x21, #8]\n  0x0000000700011000  d503201f  nop\n  a load of a table entry into x30 is followed by blr x30; this word isn't that";
+
+/// A branch past the last word of a module of 2,049 words, which is its first: B .+8,196.
+const AT_THE_START: &str =
+    "word 0 rule 8\n  0x0000000100010000  14000801  b .+8196\n  a direct branch goes to a word of the module; it has 2049, and this one goes to word 2049";
+
+#[test]
+fn of_words_alone(rt: HostRuntime) -> Result<(), Fail> {
+    let words = WordCount::of(2049);
+    let unmet = Fault {
+        word: 1024,
+        rule: Rule::NeedMet,
+    };
+    let outside = Fault {
+        word: 0,
+        rule: Rule::TargetInside,
+    };
+    let seam = explain_word(
+        ModuleNumber::at(3),
+        words,
+        unmet,
+        0xD503201F,
+        Some(0xF94006BE),
+    );
+    let start = explain_word(ModuleNumber::at(0), words, outside, 0x14000801, None);
+    assert!(rt; seam.to_string(rt.alloc())?.as_str() == AT_A_SEAM);
+    assert!(rt; start.to_string(rt.alloc())?.as_str() == AT_THE_START);
     Ok(())
 }
 

@@ -10,7 +10,7 @@ use std::test::Fail;
 pub const WORDS: u32 = 2049;
 
 /// NOP.
-const NOP: u32 = 0xD503_201F;
+pub const NOP: u32 = 0xD503_201F;
 
 /// SVC #0, which isn't in the profile.
 pub const UNKNOWN: u32 = 0xD400_0001;
@@ -18,7 +18,7 @@ pub const UNKNOWN: u32 = 0xD400_0001;
 /// What an item of the module brings.
 #[derive(Clone, Copy, Debug, PartialEq, Eq)]
 pub enum Part {
-    /// The Open, with entry 7.
+    /// The Open, with entry 7, or that of the last word.
     Open,
     /// A page of NOPs, by its index, with this word at its end.
     Page(u32, u32),
@@ -78,7 +78,8 @@ fn end(words: WordCount, pages: u32, reason: Reason) -> Result<Item, Fail> {
 pub fn item_of(alloc: Global, words: WordCount, part: Part) -> Result<Item, Fail> {
     match part {
         Part::Open => {
-            let extent = Extent::new(words, 7).ok_or("no word 7")?;
+            let entry = 7.min(words.number() - 1);
+            let extent = Extent::new(words, entry).ok_or("no such word")?;
             Ok(Item {
                 module: module(),
                 ordinal: 0,

@@ -1,10 +1,10 @@
 //! Sequences: the items of a module in every order, twice, past an End, and of other words.
 
-use crate::items::{Part, UNKNOWN, WORDS, item_of, judged, mark, module};
+use crate::items::{NOP, Part, UNKNOWN, WORDS, item_of, judged, mark, module};
 use lfi_image::CompleteImage;
 use lfi_model::{Outcome, Reason};
 use lfi_module::WordCount;
-use lfi_place::{ImageState, ModuleReport, Sequence};
+use lfi_place::{ImageState, ModuleReport, RefusedWord, Sequence};
 use lfi_rules::{Fault, Rule};
 use std::alloc::Global;
 use std::test::Fail;
@@ -74,6 +74,11 @@ fn part(report: ModuleReport) -> Result<u32, Fail> {
     }
 }
 
+/// The word that a module was refused for, and the one before it.
+fn refused(word: u32, before: Option<u32>) -> Option<RefusedWord> {
+    Some(RefusedWord { word, before })
+}
+
 #[test]
 fn each_order_is_another(rt: HostRuntime) -> Result<(), Fail> {
     let mut seen = Vec::new(rt.alloc());
@@ -117,8 +122,42 @@ fn every_order_finds_the_same_fault(rt: HostRuntime) -> Result<(), Fail> {
     for number in 0..120 {
         let report = placed_by(rt.alloc(), &UNLAWFUL, number)?;
         assert_eq!(rt; report.outcome, Outcome::Refused(unknown), "{number}");
+        assert_eq!(rt; report.refused, refused(UNKNOWN, Some(NOP)), "{number}");
         assert_eq!(rt; part(report)?, 1024, "{number}");
     }
+    Ok(())
+}
+
+// The first page ends with LDR X30, [X21], which only BLR X30 may follow.
+#[test]
+fn a_need_is_unmet_by_the_next_page(rt: HostRuntime) -> Result<(), Fail> {
+    let [open, _, second, third, end] = LAWFUL;
+    let first = Part::Page(0, 0xF940_02BE);
+    let report = placed(rt.alloc(), &[open, first, second, third, end])?;
+    let unmet = Fault {
+        word: 1024,
+        rule: Rule::NeedMet,
+    };
+    assert_eq!(rt; report.outcome, Outcome::Refused(unmet));
+    assert_eq!(rt; report.refused, refused(NOP, Some(0xF940_02BE)));
+    assert_eq!(rt; part(report)?, 1024);
+    Ok(())
+}
+
+#[test]
+fn nothing_is_before_the_first_word(rt: HostRuntime) -> Result<(), Fail> {
+    let words = WordCount::of(1);
+    let mut sequence = Sequence::new(rt.alloc(), module())?;
+    for part in [
+        Part::Open,
+        Part::Page(0, UNKNOWN),
+        Part::End(1, Reason::Close),
+    ] {
+        sequence.handle(item_of(rt.alloc(), words, part)?.judge());
+    }
+    let report = sequence.into_report();
+    assert_eq!(rt; report.refused, refused(UNKNOWN, None));
+    assert_eq!(rt; part(report)?, 0);
     Ok(())
 }
 
@@ -147,6 +186,7 @@ fn nothing_follows_an_end(rt: HostRuntime) -> Result<(), Fail> {
     for parts in [[open, first, end, third], [third, end, first, open]] {
         let report = placed(rt.alloc(), &parts)?;
         assert_eq!(rt; report.outcome, Outcome::PageFault(2));
+        assert!(rt; report.refused.is_none());
         assert_eq!(rt; part(report)?, 1024);
     }
     Ok(())

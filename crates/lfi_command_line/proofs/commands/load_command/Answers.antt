@@ -10,4 +10,5 @@ returns c =
     let new_is : Makes (new_app (codes "load")) c.after_help.result = search rules in
     let first = with_argument new_is c.number_argument-verifiers.ensures.rule c.number_argument-verifiers.ensures.local c.in_ok-arg.ensures in
     let second = with_argument first c.option_argument-out.ensures.rule c.option_argument-out.ensures.local c.in_ok-arg-2.ensures in
-    IfOk-weaker c.arg-3.result _ _ (λ made added. with_argument second c.several_arguments-streams.ensures.rule c.several_arguments-streams.ensures.local added) c.arg-3.ensures
+    let third = with_argument second c.several_arguments-streams.ensures.rule c.several_arguments-streams.ensures.local c.in_ok-arg-3.ensures in
+    IfOk-weaker c.arg-4.result _ _ (λ made added. with_argument third c.flag-explain.ensures.rule c.flag-explain.ensures.local added) c.arg-4.ensures

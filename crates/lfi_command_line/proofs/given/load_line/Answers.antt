@@ -28,6 +28,7 @@ returns-clause-line c =
     let values : all.0 ≡ map (λ s. s.now) paths = some_same (sym all.1 ∙ same) in
     let count : length all.0 ≡ length paths = ap length values ∙ map_length (λ s. s.now) paths in (
       refl,
+      c.is_given.ensures,
       c.number_or.ensures 1 8 c.requires.verifiers,
       sym (first_value-rows (found_of c.args.load.now) (codes "out")) ∙ sym c.get_str.ensures,
       same ∙ ap (λ xs. Some (map (λ s. s.now) xs)) (sym items),

@@ -1,12 +1,20 @@
+use Rattle.std.proofs.KnownBytes.{Appends-trans}
+use Rattle.lfi_model.specs.Texts.{summary_text}
+use Rattle.lfi_stage.specs.Summaries.{summary_of}
 use Rattle.lfi_commands.proofs.program.run_serve.Goals as goal
 
 pub returns-clause-found : goal.returns-clause-found
-returns-clause-found g c = record {
-  report = c.in-Ok-serve.served.report;
-  served = c.in-Ok-serve.ensures.report;
-  written = c.in-Ok-serve.ensures.written;
-  all_taken = c.in-Ok-serve.served.all_accepted;
-  all = c.write_asked_images-all.result;
-  images = c.write_asked_images-all.ensures;
-  ends = c.of_load.ensures;
-}
+returns-clause-found g c =
+    let told = c.in-Ok-write_asked_refused.ensures in
+    record {
+      report = c.in-Ok-serve.served.report;
+      served = c.in-Ok-serve.ensures.report;
+      told = told.0;
+      tells = told.1;
+      written = Appends-trans (g.O.Write.contents c.args.out.now) (g.O.Write.contents c.serve.new.writer) (g.O.Write.contents c.write_asked_refused.new.out)
+          (summary_text (summary_of c.in-Ok-serve.served.report)) told.0 c.in-Ok-serve.ensures.written told.2;
+      all_taken = c.in-Ok-serve.served.all_accepted;
+      all = c.write_asked_images-all.result;
+      images = c.write_asked_images-all.ensures;
+      ends = c.of_load.ensures;
+    }

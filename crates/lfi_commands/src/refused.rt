@@ -1,0 +1,76 @@
+//! What is told of refused modules.
+
+ghost use Rattle.std.specs.Prelude.{◌≡◌, ◌++◌, ℕ, List, IfOk, OnOk};
+ghost use Rattle.std.specs.Io.KnownBytes.{Appends};
+ghost use Rattle.lfi_commands.specs.Refused.{IsRefusal, refusal_lines, TellRefused, TellAsked};
+
+use lfi_explain::{Explanation, explain_word};
+use lfi_model::Outcome;
+use lfi_place::{ImageState, ModuleReport};
+use std::io::{self, Write};
+
+/// What is told of a module's fault, where it was refused.
+fn refusal_of(report: &ModuleReport) -> Option<Explanation>
+    ensures { IsRefusal report.now.outcome report.now.refused report.now.image result }
+{
+    let Outcome::Refused(fault) = report.outcome else {
+        return None;
+    };
+    let refused = report.refused?;
+    let ImageState::Part(builder) = &report.image else {
+        return None;
+    };
+    Some(explain_word(
+        builder.slot(),
+        builder.words(),
+        fault,
+        refused.word,
+        refused.before,
+    ))
+}
+
+/// Writes what is told of a module, if anything is.
+fn write_refusal<W: Write>(told: Option<Explanation>, out: &mut W) -> io::Result<()>
+    ensures { OnOk result (Appends (W.contents out.old) (W.contents out.new) (refusal_lines told)) }
+{
+    match told {
+        Some(explanation) => {
+            let module = explanation.slot.number();
+            writeln!(out, "module {module}: {explanation}")
+        }
+        None => Ok(()),
+    }
+}
+
+/// Writes what is told of each of these modules that was refused, in order: `module 1: `, and then the explanation of its
+/// fault, in the module's own slot.
+///
+/// # Errors
+///
+/// Where a write fails.
+pub fn write_refused<W: Write>(modules: &[ModuleReport], out: &mut W) -> io::Result<()>
+    ensures { IfOk result (λ _. (text : List ℕ) × TellRefused modules.now text × Appends (W.contents out.old) (W.contents out.new) text) }
+{
+    for report in modules {
+        write_refusal(refusal_of(report), out)?;
+    }
+    Ok(())
+}
+
+/// Writes so of these modules, where that is asked for, and else nothing.
+///
+/// # Errors
+///
+/// Where a write fails.
+pub(crate) fn write_asked_refused<W: Write>(
+    explain: bool,
+    modules: &[ModuleReport],
+    out: &mut W,
+) -> io::Result<()>
+    ensures { IfOk result (λ _. (text : List ℕ) × TellAsked explain modules.now text × Appends (W.contents out.old) (W.contents out.new) text) }
+{
+    if !explain {
+        return Ok(());
+    }
+    write_refused(modules, out)
+}
