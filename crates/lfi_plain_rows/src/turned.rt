@@ -131,6 +131,7 @@ pub fn settled<S: Wait + AllocGlobal>(rt: &S, stage: Stage) -> Result<String, Al
     let Stage {
         receivers,
         verifiers,
+        watchers: _,
         sequencers,
         shared,
     } = stage;

@@ -5,21 +5,20 @@ ghost use Rattle.lfi_receive.specs.declared.receiver.Receiver.{Receiver};
 ghost use Rattle.lfi_stage.specs.Parts.{IsReceiver};
 ghost use Rattle.lfi_stage.specs.Stages.{IsFresh};
 ghost use Rattle.lfi_threads.specs.Served.{IsServed};
-ghost use Rattle.lfi_place.specs.declared.verifier.Verifier.{Verifier};
 ghost use Rattle.lfi_threads.specs.inner.Running.{AreReady, HaveServed};
-ghost use Rattle.lfi_threads.specs.inner.Workers.{IsVerifierOf};
+ghost use Rattle.lfi_threads.specs.inner.Workers.{AreSeated};
 
 use crate::client::{Client, Streams};
 use crate::ends::Ends;
 use crate::joining::keep;
 use crate::notices::Notices;
 use crate::promises::{Place, ReceiverThread, VerifierThread};
-use crate::running::{Parts, join_parts};
+use crate::running::{Parts, Ready, SeatedVerifiers, join_parts, make_ready};
 use crate::starting::{start_receiver, start_sequencers, start_verifiers};
-use lfi_place::{Gate, Verifier};
+use lfi_place::Gate;
 use lfi_receive::{Input, Receiver};
+use lfi_stage::Shared;
 use lfi_stage::settle::{Report, settle};
-use lfi_stage::{Shared, Stage};
 use std::alloc::{AllocError, Global};
 use std::fs::Files;
 use std::os::unix::net::UnixListener;
@@ -102,7 +101,7 @@ fn take_clients<'s, 'e: 's, S: Threads + Wait + Files + Sync, G: Gate + Sync, N:
     alloc: Global,
     shared: &'e Shared,
     ends: &'e Ends,
-    verifiers: Vec<Verifier>,
+    verifiers: SeatedVerifiers,
     receivers: Vec<Receiver>,
     listener: &UnixListener,
     path: &str,
@@ -112,12 +111,12 @@ fn take_clients<'s, 'e: 's, S: Threads + Wait + Files + Sync, G: Gate + Sync, N:
     verifying: &mut Vec<VerifierThread<'e>>,
     receiving: &mut Vec<ReceiverThread<'e, Client<'e>>>,
 ) -> Option<bool>
-    requires verifiers { (k : ℕ) (v : Verifier) → slice_get verifiers.items k ≡ Some v → IsVerifierOf shared.now k v }
+    requires verifiers { AreSeated shared.now verifiers }
     requires receivers { (k : ℕ) (r : Receiver) → slice_get receivers.items k ≡ Some r → IsReceiver shared.now k r × IsFresh r }
     requires none { (verifying.old.items ≡ []) × (receiving.old.items ≡ []) }
     ensures verifying { (k : ℕ) (h : _) → slice_get verifying.new.items k ≡ Some h → (h.promise.place.shared.now ≡ shared.now) × (h.promise.place.number ≡ k) }
     ensures receiving { (k : ℕ) (h : _) → slice_get receiving.new.items k ≡ Some h → (h.promise.place.shared.now ≡ shared.now) × (h.promise.place.number ≡ k) }
-    ensures all { IfSome result (λ accepted. (length verifying.new.items ≡ length verifiers.items) × (length receiving.new.items ≡ length receivers.items)) }
+    ensures all { IfSome result (λ accepted. (length verifying.new.items ≡ length verifiers.verifiers.items) × (length receiving.new.items ≡ length receivers.items)) }
 {
     let started = start_verifiers(scope, rt, shared, ends, gate, verifiers, verifying);
     ends.go();
@@ -143,21 +142,21 @@ fn serve_in<'s, 'e: 's, S: Threads + Wait + Files + Sync, G: Gate + Sync, N: Not
     alloc: Global,
     shared: &'e Shared,
     ends: &'e Ends,
-    parts: Parts,
+    ready: Ready,
     listener: &UnixListener,
     path: &str,
     streams: &'e Streams,
     gate: &'e G,
     notices: &'e N,
 ) -> Option<(Parts, bool)>
-    requires ready { (count : ℕ) × AreReady shared.now count parts }
-    ensures { IfSome result (λ back. HaveServed shared.now (length parts.receivers.items) back.0) }
+    requires ready { (count : ℕ) × AreReady shared.now count ready }
+    ensures { IfSome result (λ back. HaveServed shared.now (length ready.receivers.items) back.0) }
 {
-    let Parts {
+    let Ready {
         receivers,
         verifiers,
         sequencers,
-    } = parts;
+    } = ready;
     let mut verifying = Vec::new(alloc);
     let mut receiving = Vec::new(alloc);
     let Some(placing) = start_sequencers(scope, rt, shared, ends, sequencers) else {
@@ -190,14 +189,14 @@ fn serve_with<S: Threads + Wait + Files + Sync, G: Gate + Sync, N: Notices + Syn
     rt: &S,
     alloc: Global,
     shared: &Shared,
-    parts: Parts,
+    ready: Ready,
     listener: &UnixListener,
     path: &str,
     gate: &G,
     notices: &N,
 ) -> Option<(Parts, bool)>
-    requires ready { (count : ℕ) × AreReady shared.now count parts }
-    ensures { IfSome result (λ back. HaveServed shared.now (length parts.receivers.items) back.0) }
+    requires ready { (count : ℕ) × AreReady shared.now count ready }
+    ensures { IfSome result (λ back. HaveServed shared.now (length ready.receivers.items) back.0) }
 {
     let ends = Ends::new();
     let ends = &ends;
@@ -207,11 +206,11 @@ fn serve_with<S: Threads + Wait + Files + Sync, G: Gate + Sync, N: Notices + Syn
         thread::scope_env(),
         rt,
         move |scope| -> Option<(Parts, bool)>
-            requires { (count : ℕ) × AreReady shared.now count parts }
-            ensures { IfSome result (λ back. HaveServed shared.entry.now (length parts.receivers.items) back.0) }
+            requires { (count : ℕ) × AreReady shared.now count ready }
+            ensures { IfSome result (λ back. HaveServed shared.entry.now (length ready.receivers.items) back.0) }
         {
             serve_in(
-                scope, rt, alloc, shared, ends, parts, listener, path, streams, gate, notices,
+                scope, rt, alloc, shared, ends, ready, listener, path, streams, gate, notices,
             )
         },
     )
@@ -242,23 +241,12 @@ pub fn serve_on<S: Threads + Wait + Files + Sync, G: Gate + Sync, N: Notices + S
     requires verifiers { (1 ≤ verifiers) × (verifiers ≤ 8) }
     ensures { IfOk result (λ served. IsServed connections served.report) }
 {
-    let Ok(stage) = Stage::new(alloc, connections, verifiers) else {
+    let Ok((ready, shared)) = make_ready(alloc, connections, verifiers) else {
         let _ = fs::remove_file(rt, path);
         return Err(AllocError);
     };
-    let Stage {
-        receivers,
-        verifiers,
-        sequencers,
-        shared,
-    } = stage;
-    let parts = Parts {
-        receivers,
-        verifiers,
-        sequencers,
-    };
     let Some((parts, all_accepted)) = serve_with(
-        rt, alloc, &shared, parts, &listener, path, gate, notices,
+        rt, alloc, &shared, ready, &listener, path, gate, notices,
     ) else {
         return Err(AllocError);
     };

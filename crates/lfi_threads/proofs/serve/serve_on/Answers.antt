@@ -10,7 +10,7 @@ returns g c =
     let told = told_by rs (λ k r text. StandsFor r text) back.stand in
     record {
       receivers = rs;
-      all = back.counted ∙ c.in-Ok.ensures.receiver_count;
+      all = back.counted ∙ c.in-Ok.ensures.counted;
       texts = told.0;
       stands = told.1;
       reports = c.settle-report.ensures told.0 told.1;
