@@ -64,7 +64,8 @@ pub fn phase(stage: &mut Stage, number: usize, module: ModuleNumber) -> Phase
     requires number { number < 2 }
     ensures { IsPair stage.new }
 {
-    stage.receivers[number].look(&stage.shared.board, module)
+    let shared = &stage.shared;
+    stage.receivers[number].look(&shared.board, module)
 }
 
 /// One turn of a verifier.
