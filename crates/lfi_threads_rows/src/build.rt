@@ -57,7 +57,11 @@ impl Message {
 fn push(bytes: &mut Vec<u8>, message: &Message) -> Result<(), AllocError> {
     bytes.extend_from_slice(&message.header)?;
     for place in 0..message.words {
-        let word = if place == message.place { message.word } else { NOP };
+        let word = if place == message.place {
+            message.word
+        } else {
+            NOP
+        };
         bytes.extend_from_slice(&word.to_le_bytes())?;
     }
     Ok(())

@@ -84,53 +84,12 @@ fn send_all<S: Net + AllocGlobal>(
     Ok(())
 }
 
-/// What is told of these texts, of 1 to 8, whose clients send them in pieces of these sizes.
-fn served_beside<S: Threads + Wait + Files + Net + Sync + AllocGlobal>(
-    rt: &S,
-    path: &str,
-    texts: &[Vec<u8>],
-    sizes: &[usize],
-) -> io::Result<(String, bool)> {
-    let listener = UnixListener::bind(rt, path)?;
-    let (told, sent) = join(
-        rt,
-        || served(rt, listener, path, texts.len()),
-        || send_all(rt, path, texts, sizes),
-    );
-    sent?;
-    told
-}
-
 /// Two whole modules, number 0 and number 3.
-fn modules_0_and_3(alloc: Global) -> Result<[Vec<u8>; 2], AllocError> {
-    Ok([one_word(alloc, 0, RET)?, one_word(alloc, 3, RET)?])
+fn modules_0_and_3(alloc: Global) -> Result<Vec<Vec<u8>>, AllocError> {
+    Ok(Vec::from_array(alloc, [one_word(alloc, 0, RET)?, one_word(alloc, 3, RET)?])?)
 }
 
 const BOTH: &str = "module 0: complete, 1 words\nmodule 3: complete, 1 words\nstrays 0\n";
-
-#[test]
-fn two_clients(rt: HostRuntime) -> Result<(), Fail> {
-    let path = "two_clients.socket";
-    let texts = modules_0_and_3(rt.alloc())?;
-    let (report, all_accepted) = served_beside(&rt, path, &texts, &[4096])?;
-    assert_eq!(rt; report.as_str(), BOTH);
-    assert!(rt; all_accepted);
-    assert!(rt; fs::metadata(&rt, path).is_err());
-    Ok(())
-}
-
-#[test]
-fn a_client_that_goes_away_in_the_middle(rt: HostRuntime) -> Result<(), Fail> {
-    let texts = [one_word(rt.alloc(), 0, RET)?];
-    let sizes = [7, 7, 7, 7, 2];
-    let (report, all_accepted) = served_beside(&rt, "goes_away.socket", &texts, &sizes)?;
-    assert_eq!(rt;
-        report.as_str(),
-        "module 0: lost, fault 9\nconnection 0: fault 9\nstrays 0\n"
-    );
-    assert!(rt; all_accepted);
-    Ok(())
-}
 
 /// Modules 0 to 7, each of 1,030 NOPs and in a text of its own.
 fn eight_of_two_pages(alloc: Global) -> Result<Vec<Vec<u8>>, AllocError> {
@@ -155,20 +114,64 @@ module 7: complete, 1030 words
 strays 0
 ";
 
-#[test]
-fn eight_clients_that_write_in_pieces(rt: HostRuntime) -> Result<(), Fail> {
-    let texts = eight_of_two_pages(rt.alloc())?;
-    let sizes = [1, 2, 11, 100, 1000, 4096, 3, 4096, 4096];
-    let (report, _) = served_beside(&rt, "in_pieces.socket", texts.as_slice(), &sizes)?;
-    assert_eq!(rt; report.as_str(), EIGHT);
-    Ok(())
+#[derive(Clone, Copy)]
+enum Case {
+    TwoClients,
+    GoesAway,
+    InPieces,
+    SendsNothing,
+}
+
+/// The cases, each with the sizes of its clients' pieces, and what is told.
+const CASES: [(Case, &[usize], &str); 4] = [
+    (Case::TwoClients, &[4096], BOTH),
+    (
+        Case::GoesAway,
+        &[7, 7, 7, 7, 2],
+        "module 0: lost, fault 9\nconnection 0: fault 9\nstrays 0\n",
+    ),
+    (
+        Case::InPieces,
+        &[1, 2, 11, 100, 1000, 4096, 3, 4096, 4096],
+        EIGHT,
+    ),
+    (
+        Case::SendsNothing,
+        &[4096],
+        "module 5: complete, 1 words\nstrays 0\n",
+    ),
+];
+
+/// The texts of a case's clients, of which all or the first bytes are sent.
+fn texts_of(alloc: Global, case: Case) -> Result<Vec<Vec<u8>>, AllocError> {
+    match case {
+        Case::TwoClients => modules_0_and_3(alloc),
+        Case::GoesAway => Ok(Vec::from_array(alloc, [one_word(alloc, 0, RET)?])?),
+        Case::InPieces => eight_of_two_pages(alloc),
+        Case::SendsNothing => Ok(Vec::from_array(
+            alloc,
+            [Vec::new(alloc), one_word(alloc, 5, RET)?],
+        )?),
+    }
 }
 
 #[test]
-fn a_client_that_sends_nothing(rt: HostRuntime) -> Result<(), Fail> {
-    let texts = [Vec::new(rt.alloc()), one_word(rt.alloc(), 5, RET)?];
-    let (report, _) = served_beside(&rt, "nothing.socket", &texts, &[4096])?;
-    assert_eq!(rt; report.as_str(), "module 5: complete, 1 words\nstrays 0\n");
+fn clients_beside_each_other(rt: HostRuntime) -> Result<(), Fail> {
+    let path = "beside.socket";
+    for (case, sizes, want) in CASES {
+        let texts = texts_of(rt.alloc(), case)?;
+        let listener = UnixListener::bind(&rt, path)?;
+        let (told, sent) = join(
+            &rt,
+            || served(&rt, listener, path, texts.len()),
+            || send_all(&rt, path, texts.as_slice(), sizes),
+        );
+        sent?;
+        let (report, all_accepted) = told?;
+        assert_eq!(rt; report.as_str(), want);
+        assert!(rt; all_accepted);
+        assert!(rt; fs::metadata(&rt, path).is_err());
+    }
     Ok(())
 }
 
@@ -176,7 +179,7 @@ fn a_client_that_sends_nothing(rt: HostRuntime) -> Result<(), Fail> {
 fn a_client_more_than_are_taken(rt: HostRuntime) -> Result<(), Fail> {
     let path = "one_more.socket";
     let listener = UnixListener::bind(&rt, path)?;
-    send_all(&rt, path, &modules_0_and_3(rt.alloc())?, &[4096])?;
+    send_all(&rt, path, modules_0_and_3(rt.alloc())?.as_slice(), &[4096])?;
     let mut third = UnixStream::connect(&rt, path)?;
     let (report, all_accepted) = served(&rt, listener, path, 2)?;
     assert_eq!(rt; report.as_str(), BOTH);

@@ -112,16 +112,16 @@ impl Notices for Counted {
 
 /// A text, and then headers that are strays, until a notice has come.
 #[derive(Drop)]
-struct UntilNoticed<'t, 'n> {
-    text: Pieces<'t>,
-    notices: &'n Counted,
+struct UntilNoticed<'a> {
+    text: Pieces<'a>,
+    notices: &'a Counted,
     turns: u32,
 }
 
 /// Closes module 9, which nobody opened.
 const STRAY: [u8; 12] = [3, 0, 9, 0, 0, 0, 0, 0, 0, 0, 0, 0];
 
-impl<'t, 'n> Read for UntilNoticed<'t, 'n> {
+impl<'a> Read for UntilNoticed<'a> {
     fn read(&mut self, buf: &mut [u8]) -> io::Result<usize> {
         let done = self.notices.count.load(Ordering::SeqCst) != 0 || self.turns == 0;
         if !self.text.left.is_empty() || done || buf.len() < 12 {
@@ -133,19 +133,15 @@ impl<'t, 'n> Read for UntilNoticed<'t, 'n> {
     }
 }
 
-/// The text of the report on a module that is refused and the strays that follow it, until a notice
-/// has come.
+/// The text of the report on this text and the strays that follow it, until a notice has come.
 fn loaded_until_noticed<S: Threads + Wait + Sync + AllocGlobal>(
     rt: &S,
+    left: &[u8],
     notices: &Counted,
 ) -> Result<String, AllocError> {
-    let bytes = two_pages(rt.alloc(), 0xD4000001, NOP)?;
-    let left = Pieces {
-        left: bytes.as_slice(),
-        most: 4096,
-    };
+    let text = Pieces { left, most: 4096 };
     let reader = UntilNoticed {
-        text: left,
+        text,
         notices,
         turns: TURNS,
     };
@@ -160,7 +156,8 @@ fn a_refused_module_is_told_of_once(rt: HostRuntime) -> Result<(), Fail> {
         count: AtomicU64::new(0),
         module: AtomicU64::new(0),
     };
-    let report = loaded_until_noticed(&rt, &notices)?;
+    let text = two_pages(rt.alloc(), 0xD4000001, NOP)?;
+    let report = loaded_until_noticed(&rt, text.as_slice(), &notices)?;
     assert!(rt;
         report
             .as_str()

@@ -219,9 +219,7 @@ fn that_meet<'a>(
 
 /// The text of the report on two streams whose readers wait for each other, and how many of them
 /// met the other.
-fn met_report<S: Threads + Wait + Sync + AllocGlobal>(
-    rt: &S,
-) -> Result<(String, u64), AllocError> {
+fn met_report<S: Threads + Wait + Sync + AllocGlobal>(rt: &S) -> Result<(String, u64), AllocError> {
     let first = one_word(rt.alloc(), 0, RET)?;
     let second = one_word(rt.alloc(), 1, NOP)?;
     let begun = [AtomicU64::new(0), AtomicU64::new(0)];
