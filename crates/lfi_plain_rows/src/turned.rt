@@ -64,7 +64,8 @@ pub fn phase(stage: &mut Stage, number: usize, module: ModuleNumber) -> Phase
     requires number { number < 2 }
     ensures { IsPair stage.new }
 {
-    stage.receivers[number].look(&stage.shared.board, module)
+    let shared = &stage.shared;
+    stage.receivers[number].look(&shared.board, module)
 }
 
 /// One turn of a verifier.
@@ -131,6 +132,7 @@ pub fn settled<S: Wait + AllocGlobal>(rt: &S, stage: Stage) -> Result<String, Al
     let Stage {
         receivers,
         verifiers,
+        watchers: _,
         sequencers,
         shared,
     } = stage;

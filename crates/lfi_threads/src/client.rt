@@ -1,5 +1,8 @@
 //! The clients of a socket, and their streams.
 
+ghost use Rattle.std.specs.Prelude.{◌≡◌, [], Some, false};
+ghost use Rattle.lfi_threads.specs.inner.Clients.{sent_by};
+
 use lfi_model::CONNECTIONS;
 use std::io::{self, Read};
 use std::net::Shutdown;
@@ -66,7 +69,9 @@ pub(crate) enum Client<'a> {
 }
 
 impl<'a> Client<'a> {
-    pub(crate) fn is_present(&self) -> bool {
+    pub(crate) fn is_present(&self) -> bool
+        ensures absent { result ≡ false → sent_by self.now ≡ Some [] }
+    {
         match self {
             Client::Present(_) => true,
             Client::Absent => false,
@@ -75,6 +80,8 @@ impl<'a> Client<'a> {
 }
 
 impl<'a> Read for Client<'a> {
+    ghost remaining = { sent_by };
+
     fn read(&mut self, buf: &mut [u8]) -> io::Result<usize> {
         match self {
             Client::Present(stream) => {

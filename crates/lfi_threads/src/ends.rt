@@ -10,11 +10,9 @@ const STARTING: u64 = 0;
 
 const RUNNING: u64 = 1;
 
-const HEARD: u64 = 2;
+const VERIFIED: u64 = 2;
 
-const VERIFIED: u64 = 3;
-
-const STOPPED: u64 = 4;
+const STOPPED: u64 = 3;
 
 /// How often a thread that has nothing to do lets others go on before it sleeps.
 const YIELDS: u32 = 64;
@@ -41,11 +39,6 @@ impl Ends {
         self.tell(RUNNING);
     }
 
-    /// All receivers' threads have ended.
-    pub(crate) fn heard(&self) {
-        self.tell(HEARD);
-    }
-
     /// All verifiers' threads have ended.
     pub(crate) fn verified(&self) {
         self.tell(VERIFIED);
@@ -66,10 +59,6 @@ impl Ends {
         }
     }
 
-    pub(crate) fn are_heard(&self) -> bool {
-        self.word.load(Ordering::SeqCst) >= HEARD
-    }
-
     pub(crate) fn are_verified(&self) -> bool {
         self.word.load(Ordering::SeqCst) >= VERIFIED
     }
@@ -78,9 +67,14 @@ impl Ends {
         self.word.load(Ordering::SeqCst) == STOPPED
     }
 
+    /// Wakes all threads that sleep.
+    pub(crate) fn wake(&self) {
+        self.word.wake_all();
+    }
+
     fn tell(&self, how_far: u64) {
         self.word.fetch_max(how_far, Ordering::SeqCst);
-        self.word.wake_all();
+        self.wake();
     }
 
     /// Sleeps for a short time, unless the word changes.

@@ -1,11 +1,11 @@
 //! Verifiers beside each other, and notices of refused modules.
 
-use crate::build::{NOP, Text};
-use crate::inputs::{Pieces, TURNS, loaded};
+use crate::build::{NOP, close, open, page, text};
+use crate::inputs::{Pieces, TURNS, loaded, reported};
 use lfi_module::ModuleNumber;
 use lfi_place::{Gate, OpenGate};
 use lfi_receive::Input;
-use lfi_threads::{NoNotices, Notices, load_all};
+use lfi_threads::Notices;
 use std::alloc::{AllocError, Global};
 use std::io::{self, Read};
 use std::sync::Wait;
@@ -53,22 +53,27 @@ impl Gate for SecondFirst {
 }
 
 /// A module of 1,025 NOPs, but for its words 5 and 1,024.
-fn two_pages(alloc: Global, fifth: u32, last: u32) -> Result<Text, AllocError> {
-    let mut words = [NOP; 1024];
-    words[5] = fifth;
-    let mut text = Text::new(alloc);
-    text.open(0, 1025)?;
-    text.page(0, 0, &words)?;
-    text.page(0, 1, &[last])?;
-    text.close(0)?;
-    Ok(text)
+fn two_pages(alloc: Global, fifth: u32, last: u32) -> Result<Vec<u8>, AllocError> {
+    let first = page(0, 0, 1024).with(5, fifth);
+    let second = page(0, 1, 1).with(0, last);
+    text(alloc, &[open(0, 1025), first, second, close(0)])
+}
+
+/// The text of the report on such a module, of which page 1 is judged first.
+fn second_first<S: Threads + Wait + Sync + AllocGlobal>(
+    rt: &S,
+    fifth: u32,
+    last: u32,
+    gate: &SecondFirst,
+) -> Result<String, AllocError> {
+    let texts = [two_pages(rt.alloc(), fifth, last)?];
+    loaded(rt, &texts, 4096, 2, gate)
 }
 
 #[test]
 fn page_1_is_judged_first(rt: HostRuntime) -> Result<(), Fail> {
-    let texts = [two_pages(rt.alloc(), NOP, NOP)?];
     let gate = SecondFirst::new();
-    let report = loaded(&rt, &texts, 4096, 2, &gate, &NoNotices)?;
+    let report = second_first(&rt, NOP, NOP, &gate)?;
     assert_eq!(rt;
         report.as_str(),
         "module 0: complete, 1025 words\nstrays 0\n"
@@ -80,9 +85,8 @@ fn page_1_is_judged_first(rt: HostRuntime) -> Result<(), Fail> {
 
 #[test]
 fn the_first_fault_of_a_module_judged_out_of_order(rt: HostRuntime) -> Result<(), Fail> {
-    let texts = [two_pages(rt.alloc(), 0xD4000001, 0xAA0003F5)?];
     let gate = SecondFirst::new();
-    let report = loaded(&rt, &texts, 4096, 2, &gate, &NoNotices)?;
+    let report = second_first(&rt, 0xD4000001, 0xAA0003F5, &gate)?;
     assert_eq!(rt;
         report.as_str(),
         "module 0: refused, word 5 rule 1\nstrays 0\n"
@@ -132,32 +136,28 @@ impl<'a> Read for UntilNoticed<'a> {
 /// The text of the report on this text and the strays that follow it, until a notice has come.
 fn loaded_until_noticed<S: Threads + Wait + Sync + AllocGlobal>(
     rt: &S,
-    text: &Text,
+    left: &[u8],
     notices: &Counted,
 ) -> Result<String, AllocError> {
-    let left = Pieces {
-        left: text.bytes.as_slice(),
-        most: 4096,
-    };
+    let text = Pieces { left, most: 4096 };
     let reader = UntilNoticed {
-        text: left,
+        text,
         notices,
         turns: TURNS,
     };
     let mut inputs = Vec::new(rt.alloc());
     inputs.push(Input::new(rt.alloc(), reader)?)?;
-    let summary = load_all(rt, rt.alloc(), inputs, 2, &OpenGate, notices)?.summary();
-    format!(in rt.alloc(); "{summary}")
+    reported(rt, inputs, 2, &OpenGate, notices)
 }
 
 #[test]
 fn a_refused_module_is_told_of_once(rt: HostRuntime) -> Result<(), Fail> {
-    let text = two_pages(rt.alloc(), 0xD4000001, NOP)?;
     let notices = Counted {
         count: AtomicU64::new(0),
         module: AtomicU64::new(0),
     };
-    let report = loaded_until_noticed(&rt, &text, &notices)?;
+    let text = two_pages(rt.alloc(), 0xD4000001, NOP)?;
+    let report = loaded_until_noticed(&rt, text.as_slice(), &notices)?;
     assert!(rt;
         report
             .as_str()

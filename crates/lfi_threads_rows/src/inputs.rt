@@ -2,8 +2,7 @@
 
 ghost use Rattle.std.specs.Prelude.{◌≤◌};
 
-use crate::build::{NOP, RET, Text, one_word};
-use lfi_module::ModuleNumber;
+use crate::build::{NOP, RET, close, one_word, open, page, text};
 use lfi_place::{Gate, OpenGate};
 use lfi_receive::Input;
 use lfi_threads::{NoNotices, Notices, load_all};
@@ -33,23 +32,22 @@ impl<'a> Read for Pieces<'a> {
     }
 }
 
-/// The text of the report on these texts, of which it takes at most eight, each in pieces of so
-/// many bytes; nothing where there is none.
-pub fn loaded<S: Threads + Wait + Sync + AllocGlobal, G: Gate + Sync, N: Notices + Sync>(
+/// The text of the report on these inputs, of which it takes at most eight; nothing where there is
+/// none.
+pub fn reported<
+    S: Threads + Wait + Sync + AllocGlobal,
+    R: Read + Send + Drop,
+    G: Gate + Sync,
+    N: Notices + Sync,
+>(
     rt: &S,
-    texts: &[Text],
-    most: usize,
+    mut inputs: Vec<Input<R>>,
     verifiers: usize,
     gate: &G,
     notices: &N,
 ) -> Result<String, AllocError>
     requires verifiers { (1 ≤ verifiers) × (verifiers ≤ 8) }
 {
-    let mut inputs = Vec::new(rt.alloc());
-    for text in texts {
-        let left = text.bytes.as_slice();
-        inputs.push(Input::new(rt.alloc(), Pieces { left, most })?)?;
-    }
     inputs.truncate(8);
     if inputs.is_empty() {
         return Ok(String::new(rt.alloc()));
@@ -58,57 +56,118 @@ pub fn loaded<S: Threads + Wait + Sync + AllocGlobal, G: Gate + Sync, N: Notices
     format!(in rt.alloc(); "{summary}")
 }
 
-/// Two modules of 2,049 NOPs each, from this one on, whose pages come in turns.
-fn two_modules(alloc: Global, first: u16) -> Result<Text, AllocError> {
-    let words = [NOP; 1024];
-    let second = first.saturating_add(1);
-    let mut text = Text::new(alloc);
-    text.open(first, 2049)?;
-    text.open(second, 2049)?;
-    for index in 0..2u32 {
-        text.page(first, index, &words)?;
-        text.page(second, index, &words)?;
+/// These texts as inputs, each in pieces of so many bytes.
+fn in_pieces(
+    alloc: Global,
+    texts: &[Vec<u8>],
+    most: usize,
+) -> Result<Vec<Input<Pieces<'_>>>, AllocError> {
+    let mut inputs = Vec::new(alloc);
+    for text in texts {
+        let left = text.as_slice();
+        inputs.push(Input::new(alloc, Pieces { left, most })?)?;
     }
-    text.page(second, 2, &[NOP])?;
-    text.page(first, 2, &[NOP])?;
-    text.close(first)?;
-    text.close(second)?;
-    Ok(text)
+    Ok(inputs)
+}
+
+/// The text of the report on these texts, each in pieces of so many bytes.
+pub fn loaded<S: Threads + Wait + Sync + AllocGlobal, G: Gate + Sync>(
+    rt: &S,
+    texts: &[Vec<u8>],
+    most: usize,
+    verifiers: usize,
+    gate: &G,
+) -> Result<String, AllocError>
+    requires verifiers { (1 ≤ verifiers) × (verifiers ≤ 8) }
+{
+    let inputs = in_pieces(rt.alloc(), texts, most)?;
+    reported(rt, inputs, verifiers, gate, &NoNotices)
+}
+
+/// Two modules of 2,049 NOPs each, numbers 2 n and 2 n + 1, whose pages come in turns.
+fn two_modules(alloc: Global, n: u16) -> Result<Vec<u8>, AllocError> {
+    let (first, second) = (n.saturating_mul(2), n.saturating_mul(2).saturating_add(1));
+    text(
+        alloc,
+        &[
+            open(first, 2049),
+            open(second, 2049),
+            page(first, 0, 1024),
+            page(second, 0, 1024),
+            page(first, 1, 1024),
+            page(second, 1, 1024),
+            page(second, 2, 1),
+            page(first, 2, 1),
+            close(first),
+            close(second),
+        ],
+    )
+}
+
+const SIXTEEN: &str = "\
+module 0: complete, 2049 words
+module 1: complete, 2049 words
+module 2: complete, 2049 words
+module 3: complete, 2049 words
+module 4: complete, 2049 words
+module 5: complete, 2049 words
+module 6: complete, 2049 words
+module 7: complete, 2049 words
+module 8: complete, 2049 words
+module 9: complete, 2049 words
+module 10: complete, 2049 words
+module 11: complete, 2049 words
+module 12: complete, 2049 words
+module 13: complete, 2049 words
+module 14: complete, 2049 words
+module 15: complete, 2049 words
+strays 0
+";
+
+/// The first of these lengths of pieces at which eight streams of two modules are told otherwise.
+fn first_otherwise<S: Threads + Wait + Sync + AllocGlobal>(
+    rt: &S,
+    lengths: &[usize],
+) -> Result<Option<usize>, AllocError> {
+    let mut texts = Vec::new(rt.alloc());
+    for number in 0..8u16 {
+        texts.push(two_modules(rt.alloc(), number)?)?;
+    }
+    for most in lengths {
+        if loaded(rt, texts.as_slice(), *most, 8, &OpenGate)?.as_str() != SIXTEEN {
+            return Ok(Some(*most));
+        }
+    }
+    Ok(None)
 }
 
 #[test]
 fn eight_streams_of_two_modules(rt: HostRuntime) -> Result<(), Fail> {
-    let mut texts = Vec::new(rt.alloc());
-    let mut want = String::new(rt.alloc());
-    for number in 0..8u16 {
-        texts.push(two_modules(rt.alloc(), 2 * number)?)?;
-    }
-    for module in 0..16 {
-        let line = format!(in rt.alloc(); "module {module}: complete, 2049 words\n")?;
-        want.push_str(line.as_str())?;
-    }
-    want.push_str("strays 0\n")?;
-    for most in [4096usize, 5000, 13] {
-        let report = loaded(&rt, texts.as_slice(), most, 8, &OpenGate, &NoNotices)?;
-        assert_eq!(rt; report.as_str(), want.as_str(), "pieces of {most}");
-    }
+    assert_eq!(rt; first_otherwise(&rt, &[4096, 5000, 13])?, None);
     Ok(())
+}
+
+/// The first number of verifiers with which a stream that is cut off is told otherwise, between a
+/// whole one and an empty one.
+fn first_verifiers_otherwise<S: Threads + Wait + Sync + AllocGlobal>(
+    rt: &S,
+) -> Result<Option<usize>, AllocError> {
+    let mut cut = one_word(rt.alloc(), 0, RET)?;
+    cut.truncate(30);
+    let texts = [one_word(rt.alloc(), 5, RET)?, cut, Vec::new(rt.alloc())];
+    let want =
+        "module 0: lost, fault 9\nmodule 5: complete, 1 words\nconnection 1: fault 9\nstrays 0\n";
+    for verifiers in 1..=8usize {
+        if loaded(rt, &texts, 7, verifiers, &OpenGate)?.as_str() != want {
+            return Ok(Some(verifiers));
+        }
+    }
+    Ok(None)
 }
 
 #[test]
 fn one_that_is_cut_off_beside_others(rt: HostRuntime) -> Result<(), Fail> {
-    let mut cut = one_word(rt.alloc(), 0, RET)?;
-    cut.bytes.truncate(30);
-    let mut texts = Vec::new(rt.alloc());
-    texts.push(one_word(rt.alloc(), 5, RET)?)?;
-    texts.push(cut)?;
-    texts.push(Text::new(rt.alloc()))?;
-    let want =
-        "module 0: lost, fault 9\nmodule 5: complete, 1 words\nconnection 1: fault 9\nstrays 0\n";
-    for verifiers in 1..=8usize {
-        let report = loaded(&rt, texts.as_slice(), 7, verifiers, &OpenGate, &NoNotices)?;
-        assert_eq!(rt; report.as_str(), want, "{verifiers} verifiers");
-    }
+    assert_eq!(rt; first_verifiers_otherwise(&rt)?, None);
     Ok(())
 }
 
@@ -135,33 +194,49 @@ impl<'a> Read for Meeting<'a> {
     }
 }
 
-#[test]
-fn two_readers_that_wait_for_each_other(rt: HostRuntime) -> Result<(), Fail> {
-    let first = one_word(rt.alloc(), 0, RET)?;
-    let second = one_word(rt.alloc(), 1, NOP)?;
-    let words = [AtomicU64::new(0), AtomicU64::new(0), AtomicU64::new(0)];
-    let [one, two, met] = &words;
-    let mut inputs = Vec::new(rt.alloc());
-    for (text, mine, other) in [(&first, one, two), (&second, two, one)] {
-        let text = Pieces {
-            left: text.bytes.as_slice(),
-            most: 4096,
-        };
+/// Two texts as inputs, each of which waits for the other at its first read. Those that met are
+/// counted.
+fn that_meet<'a>(
+    alloc: Global,
+    texts: [&'a [u8]; 2],
+    begun: &'a [AtomicU64; 2],
+    met: &'a AtomicU64,
+) -> Result<Vec<Input<Meeting<'a>>>, AllocError> {
+    let [one, two] = begun;
+    let mut inputs = Vec::new(alloc);
+    for (left, mine, other) in [(texts[0], one, two), (texts[1], two, one)] {
+        let text = Pieces { left, most: 4096 };
         let reader = Meeting {
             text,
             mine,
             other,
             met,
         };
-        inputs.push(Input::new(rt.alloc(), reader)?)?;
+        inputs.push(Input::new(alloc, reader)?)?;
     }
-    assert!(rt; inputs.len() == 2);
-    let summary = load_all(&rt, rt.alloc(), inputs, 2, &OpenGate, &NoNotices)?.summary();
-    let report = format!(in rt.alloc(); "{summary}")?;
+    Ok(inputs)
+}
+
+/// The text of the report on two streams whose readers wait for each other, and how many of them
+/// met the other.
+fn met_report<S: Threads + Wait + Sync + AllocGlobal>(rt: &S) -> Result<(String, u64), AllocError> {
+    let first = one_word(rt.alloc(), 0, RET)?;
+    let second = one_word(rt.alloc(), 1, NOP)?;
+    let begun = [AtomicU64::new(0), AtomicU64::new(0)];
+    let met = AtomicU64::new(0);
+    let texts = [first.as_slice(), second.as_slice()];
+    let inputs = that_meet(rt.alloc(), texts, &begun, &met)?;
+    let report = reported(rt, inputs, 2, &OpenGate, &NoNotices)?;
+    Ok((report, met.load(Ordering::SeqCst)))
+}
+
+#[test]
+fn two_readers_that_wait_for_each_other(rt: HostRuntime) -> Result<(), Fail> {
+    let (report, met) = met_report(&rt)?;
     assert_eq!(rt;
         report.as_str(),
         "module 0: complete, 1 words\nmodule 1: complete, 1 words\nstrays 0\n"
     );
-    assert_eq!(rt; met.load(Ordering::SeqCst), 2);
+    assert_eq!(rt; met, 2);
     Ok(())
 }
