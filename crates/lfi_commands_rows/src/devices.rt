@@ -203,6 +203,14 @@ fn a_stream_whose_reads_fail(rt: HostRuntime) -> Result<(), Fail> {
     Ok(())
 }
 
+/// The stream of module 0 with one word that no instruction spells.
+const ZERO: [u8; 40] = [
+    1, 0, 0, 0, 1, 0, 0, 0, 0, 0, 0, 0, // Open of module 0: 1 word, entry 0
+    2, 0, 0, 0, 0, 0, 0, 0, 4, 0, 0, 0, // Page 0, 4 bytes
+    0, 0, 0, 0, // no instruction
+    3, 0, 0, 0, 0, 0, 0, 0, 0, 0, 0, 0, // Close
+];
+
 /// A line, and how many bytes its answer has.
 #[derive(Clone, Copy)]
 struct Answer {
@@ -214,7 +222,10 @@ struct Answer {
 const UNSPELLED: &str =
     "word 0 rule 1\n  0x0000000100010000  00000000  .inst 0x00000000\n  an instruction of the profile spells each word; none spells this one\n";
 
-const ANSWERS: [Answer; 6] = [
+/// The report on a module with that word.
+const REFUSED: &str = "module 0: refused, word 0 rule 1\nstrays 0\n";
+
+const ANSWERS: [Answer; 7] = [
     Answer {
         line: "lfiload check written.tmp/written.code",
         length: 16,
@@ -222,6 +233,10 @@ const ANSWERS: [Answer; 6] = [
     Answer {
         line: "lfiload load written.tmp/written.stream",
         length: ONE_RET_REPORT.len(),
+    },
+    Answer {
+        line: "lfiload load --explain written.tmp/zero.stream",
+        length: REFUSED.len() + 10 + UNSPELLED.len(),
     },
     Answer {
         line: "lfiload check --explain written.tmp/zero.code",
@@ -247,6 +262,7 @@ fn output_that_fails(rt: HostRuntime) -> Result<(), Fail> {
     fs::write(&rt, "written.tmp/written.code", RET.as_slice())?;
     fs::write(&rt, "written.tmp/written.stream", ONE_RET.as_slice())?;
     fs::write(&rt, "written.tmp/zero.code", &[0, 0, 0, 0])?;
+    fs::write(&rt, "written.tmp/zero.stream", ZERO.as_slice())?;
     for answer in ANSWERS {
         let line = answer.line;
         for left in 0..answer.length {
