@@ -1,6 +1,5 @@
 -- A stream of modules, one module more.
 use Rattle.std.proofs.Common.{◌≡◌, ◌∙◌, ℕ, zero, suc, ◌+◌, ◌<◌, List, [], ◌∷◌, ◌++◌, Option, Some, length, IfSome, length-append, take, map, slice_get, refl, sym, ap, subst, arith, append-nil, append_assoc}
-use Rattle.std.specs.Io.KnownBytes.{Appends}
 use Rattle.std.proofs.KnownBytes.{Appends-trans}
 use Rattle.std.proofs.lemmas.Option.{none-some, slice_get_within}
 use Rattle.a64_word.specs.Words.{words_of}

@@ -1,5 +1,5 @@
 -- What is written of code that is judged, with what is explained of it, and of code that is listed. (docs/DEFINITIONS.md, "The program")
-use Rattle.std.specs.Prelude.{◌≡◌, ℕ, List, ◌++◌, Option, IfSome, codes, length}
+use Rattle.std.specs.Prelude.{◌≡◌, ℕ, List, ◌++◌, Option, IfSome, codes}
 use Rattle.std.specs.Io.KnownBytes.{Appends}
 use Rattle.a64_word.specs.Words.{words_of}
 use Rattle.lfi_rules.specs.declared.fault.Fault.{Fault}
@@ -10,7 +10,7 @@ use Rattle.lfi_explain.specs.Listings.{WritesListing}
 use Rattle.lfi_command_line.specs.declared.line.Explain.{Explain}
 use Rattle.lfi_command_line.specs.declared.line.Explain.TheVariants.{Nothing, First, All}
 use Rattle.lfi_commands.specs.declared.verdict.Verdict.{Verdict}
-use Rattle.lfi_commands.specs.declared.verdict.Verdict.TheVariants.{Lawful, Refused, BadLength}
+use Rattle.lfi_commands.specs.declared.verdict.Verdict.TheVariants.{Refused}
 use Rattle.lfi_commands.specs.declared.ending.Ending.{Ending}
 use Rattle.lfi_commands.specs.declared.ending.Ending.TheVariants.{Well, NotWell, WrongWords, Failed}
 use Rattle.lfi_commands.specs.Checking.{Checks, IsCode, verdict_text}

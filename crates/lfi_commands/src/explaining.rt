@@ -31,6 +31,7 @@ fn slot() -> ModuleNumber
 
 /// Writes what is asked of the first fault of this code.
 fn write_fault<W: Write>(
+    alloc: Global,
     code: &Code<'_>,
     fault: Fault,
     how: Explain,
@@ -47,7 +48,7 @@ fn write_fault<W: Write>(
             writeln!(writer, "{explanation}")
         }
         Explain::All => {
-            write_refusals(code, slot(), writer)?;
+            write_refusals(alloc, code, slot(), writer)?;
             Ok(())
         }
     }
@@ -55,6 +56,7 @@ fn write_fault<W: Write>(
 
 /// Judges code, and writes what is found of it.
 fn write_judged<W: Write>(
+    alloc: Global,
     bytes: &[u8],
     how: Explain,
     writer: &mut W,
@@ -68,7 +70,7 @@ fn write_judged<W: Write>(
     let Verdict::Refused(fault) = verdict else {
         return write_verdict(verdict, writer);
     };
-    match write_fault(&Code::of(bytes), fault, how, writer) {
+    match write_fault(alloc, &Code::of(bytes), fault, how, writer) {
         Ok(()) => Ok(verdict),
         Err(error) => Err(CommandFault::NotWritten(DeviceCause::of(&error))),
     }
@@ -91,18 +93,22 @@ pub fn check_explained<R: Read + Drop, W: Write>(
     ensures unwritten { IfErr result (λ fault. is_of_a_write fault ≡ false → writer.new ≡ writer.old) }
 {
     match read_code(alloc, reader)? {
-        Some(bytes) => write_judged(&bytes, how, writer),
+        Some(bytes) => write_judged(alloc, &bytes, how, writer),
         None => write_verdict(Verdict::BadLength, writer),
     }
 }
 
 /// Writes a line for each word of this code.
-fn write_words<W: Write>(bytes: &[u8], writer: &mut W) -> Result<Ending, CommandFault>
+fn write_words<W: Write>(
+    alloc: Global,
+    bytes: &[u8],
+    writer: &mut W,
+) -> Result<Ending, CommandFault>
     requires { IsCode bytes.now }
     ensures listed { IfOk result (FindsListing (Some bytes.now) (W.contents writer.old) (W.contents writer.new)) }
     ensures fault { IfErr result (λ fault. is_of_a_write fault ≡ true) }
 {
-    match write_listing(&Code::of(bytes), slot(), writer) {
+    match write_listing(alloc, &Code::of(bytes), slot(), writer) {
         Ok(()) => Ok(Ending::Well),
         Err(error) => Err(CommandFault::NotWritten(DeviceCause::of(&error))),
     }
@@ -134,7 +140,7 @@ pub fn disassemble<R: Read + Drop, W: Write>(
     ensures unwritten { IfErr result (λ fault. is_of_a_write fault ≡ false → writer.new ≡ writer.old) }
 {
     match read_code(alloc, reader)? {
-        Some(bytes) => write_words(&bytes, writer),
+        Some(bytes) => write_words(alloc, &bytes, writer),
         None => write_bad_length(writer),
     }
 }

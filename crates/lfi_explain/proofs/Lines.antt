@@ -1,10 +1,10 @@
 -- Lines written one after another.
 use Rattle.std.proofs.Common.{rules, add-one, ◌≡◌, ℕ, zero, suc, ◌+◌, ◌≤◌, List, [], ◌∷◌, ◌++◌, length, Option, Some, None, refl, sym, ◌∙◌, ap, subst, arith}
 use Rattle.std.specs.Prelude.{flat_map}
-use Rattle.std.specs.Io.KnownBytes.{Appends}
-use Rattle.std.proofs.KnownBytes.{Appends-trans}
+use Rattle.std.specs.Io.KnownBytes.{Appends, Keeps, append_known}
+use Rattle.std.proofs.KnownBytes.{Appends-kept, Appends-trans, Keeps-refl, append_known-grown}
 use Rattle.std.proofs.lemmas.Grind.{flat_map-append}
-use Rattle.std.proofs.lemmas.List.{length-append, append-nil}
+use Rattle.std.proofs.lemmas.List.{length-append, append-nil, append_assoc}
 use Rattle.lfi_explain.specs.declared.explanation.Explanation.{Explanation}
 use Rattle.lfi_explain.specs.declared.listing.ListedWord.{ListedWord}
 use Rattle.lfi_explain.specs.Explanations.{AreTold, IsToldAt, one_or_none}
@@ -40,3 +40,29 @@ told_count ws slot (suc k) told is =
 
 pub one_line : {X : Type 0} (line : X → List ℕ) (a b : Option (List ℕ)) (x : X) → Appends a b (line x) → Appends a b (flat_map line (x ∷ []))
 one_line line a b x p = subst (λ bytes. Appends a b bytes) (sym (append-nil (line x))) p
+
+-- some bytes more are kept, and perhaps all written
+pub kept_more : {X : Type 0} (line : X → List ℕ) (a b c : Option (List ℕ)) (kept more left : List ℕ) (before here : List X)
+    → Appends a (append_known b kept) (flat_map line before) → Appends (Some kept) (Some more) (flat_map line here) → Keeps (append_known b more) (append_known c left)
+    → Appends a (append_known c left) (flat_map line (before ++ here))
+kept_more line a b c kept more left before here done one moved =
+    let grown : Appends (append_known b kept) (append_known b more) (flat_map line here) = append_known-grown (append_known b kept) b kept more (flat_map line here) (Keeps-refl (append_known b kept)) one in
+    Appends-kept a (append_known b more) (append_known c left) (flat_map line (before ++ here))
+    (appends_more line a (append_known b kept) (append_known b more) before here done grown) moved
+
+nothing_known : (b : Option (List ℕ)) (left : List ℕ) → left ≡ [] → append_known b left ≡ b
+nothing_known None left none = refl
+nothing_known (Some xs) left none = rw none (ap Some (append-nil xs))
+
+-- nothing is kept any more
+pub all_written : (a b c : Option (List ℕ)) (kept left bytes : List ℕ) → Appends a (append_known b kept) bytes → Keeps (append_known b kept) (append_known c left) → left ≡ [] → Appends a c bytes
+all_written a b c kept left bytes done moved none =
+    subst (λ o. Appends a o bytes) (nothing_known c left none) (Appends-kept a (append_known b kept) (append_known c left) bytes done moved)
+
+-- one text more is kept
+pub text_kept : (a b : Option (List ℕ)) (kept more bytes text : List ℕ) → Appends a (append_known b kept) bytes → Appends (Some kept) (Some more) text → Appends a (append_known b more) (bytes ++ text)
+text_kept a b kept more bytes text done one =
+    Appends-trans a (append_known b kept) (append_known b more) bytes text done (append_known-grown (append_known b kept) b kept more text (Keeps-refl (append_known b kept)) one)
+
+pub then_three : (ws xs ys zs : List ℕ) → ws ++ (xs ++ ys ++ zs) ≡ ws ++ xs ++ ys ++ zs
+then_three ws xs ys zs = sym (append_assoc ws (xs ++ ys) zs) ∙ ap (λ l. l ++ zs) (sym (append_assoc ws xs ys))

@@ -5,6 +5,7 @@
 
 mod digits;
 mod explanation;
+mod kept;
 mod listing;
 mod located;
 mod refusals;

@@ -6,12 +6,14 @@ ghost use Rattle.lfi_module.specs.Numbers.{most_words};
 ghost use Rattle.lfi_explain.specs.Listings as spec;
 
 use crate::digits::PlaceColumn;
+use crate::kept::{no_lines, write_kept, write_many};
 use crate::located::Located;
 use crate::sentence::Meeting;
 use crate::spelling::Spelling;
 use a64_word::Words;
 use lfi_module::ModuleNumber;
 use lfi_rules::Need;
+use std::alloc::Global;
 use std::fmt;
 use std::io::{self, Write};
 
@@ -110,8 +112,9 @@ fn write_listed<W: Write>(listed: ListedWord, out: &mut W) -> io::Result<()>
 ///
 /// # Errors
 ///
-/// Where a write fails.
+/// Where a write fails, or there is no memory for some lines. Not all of them were written then.
 pub fn write_listing<L: Words, W: Write>(
+    alloc: Global,
     words: &L,
     slot: ModuleNumber,
     out: &mut W,
@@ -119,8 +122,10 @@ pub fn write_listing<L: Words, W: Write>(
     requires most { length (L.words words.now) ≤ most_words }
     ensures { OnOk result (spec.WritesListing (L.words words.now) slot (W.contents out.old) (W.contents out.new)) }
 {
+    let mut kept = no_lines(alloc)?;
     for place in 0..words.count() {
-        write_listed(listed_at(words, slot, place), out)?;
+        write_listed(listed_at(words, slot, place), &mut kept)?;
+        write_many(&mut kept, out)?;
     }
-    Ok(())
+    write_kept(&mut kept, out)
 }

@@ -1,14 +1,16 @@
 //! All words of a module that break a rule.
 
-ghost use Rattle.std.specs.Prelude.{◌≡◌, ◌<◌, ◌≤◌, length, flat_map, OnOk, IfOk};
+ghost use Rattle.std.specs.Prelude.{◌≡◌, ◌<◌, ◌≤◌, ◌++◌, codes, decimal, length, flat_map, OnOk, IfOk};
 ghost use Rattle.std.specs.Io.KnownBytes.{Appends};
 ghost use Rattle.lfi_module.specs.Numbers.{most_words};
 ghost use Rattle.lfi_explain.specs.Explanations as spec;
 
 use crate::explanation::{Explanation, explain};
+use crate::kept::{no_lines, write_kept, write_many};
 use a64_word::Words;
 use lfi_module::ModuleNumber;
 use lfi_rules::{Fault, broken_at};
+use std::alloc::Global;
 use std::io::{self, Write};
 
 /// What is told of the word at a place, where it breaks a rule: of those that it breaks, the one with the least number.
@@ -36,13 +38,21 @@ fn write_told<W: Write>(told: Option<Explanation>, out: &mut W) -> io::Result<u3
     }
 }
 
+/// Writes the line with how many words are refused.
+fn write_count<W: Write>(refused: u32, out: &mut W) -> io::Result<()>
+    ensures { OnOk result (Appends (W.contents out.old) (W.contents out.new) (codes "words refused: " ++ decimal refused ++ codes "\n")) }
+{
+    writeln!(out, "words refused: {refused}")
+}
+
 /// Writes what is told of each word of a module in a slot that breaks a rule, in order; then a line with how many these are,
 /// as `words refused: 2`. Gives how many.
 ///
 /// # Errors
 ///
-/// Where a write fails.
+/// Where a write fails, or there is no memory for some lines. Not all of them were written then.
 pub fn write_refusals<L: Words, W: Write>(
+    alloc: Global,
     words: &L,
     slot: ModuleNumber,
     out: &mut W,
@@ -50,10 +60,13 @@ pub fn write_refusals<L: Words, W: Write>(
     requires most { length (L.words words.now) ≤ most_words }
     ensures { IfOk result (spec.WritesRefusals (L.words words.now) slot (W.contents out.old) (W.contents out.new)) }
 {
+    let mut kept = no_lines(alloc)?;
     let mut refused = 0;
     for place in 0..words.count() {
-        refused += write_told(explained_at(words, slot, place), out)?;
+        refused += write_told(explained_at(words, slot, place), &mut kept)?;
+        write_many(&mut kept, out)?;
     }
-    writeln!(out, "words refused: {refused}")?;
+    write_count(refused, &mut kept)?;
+    write_kept(&mut kept, out)?;
     Ok(refused)
 }

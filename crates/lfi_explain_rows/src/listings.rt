@@ -28,7 +28,7 @@ const LISTING: &str =
 fn lists_words(rt: HostRuntime) -> Result<(), Fail> {
     let words = Vec::from_array(rt.alloc(), WORDS)?;
     let mut out = Vec::new(rt.alloc());
-    write_listing(&words, ModuleNumber::at(0), &mut out)?;
+    write_listing(rt.alloc(), &words, ModuleNumber::at(0), &mut out)?;
     assert!(rt; out.as_slice() == LISTING.as_bytes());
     Ok(())
 }

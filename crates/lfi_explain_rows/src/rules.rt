@@ -184,7 +184,7 @@ const OF_THREE: &str =
 fn all_of_three(rt: HostRuntime) -> Result<(), Fail> {
     let words = Vec::from_array(rt.alloc(), THREE)?;
     let mut out = Vec::new(rt.alloc());
-    let refused = write_refusals(&words, ModuleNumber::at(1), &mut out)?;
+    let refused = write_refusals(rt.alloc(), &words, ModuleNumber::at(1), &mut out)?;
     assert!(rt; refused == 3);
     assert!(rt; out.as_slice() == OF_THREE.as_bytes());
     Ok(())
@@ -195,7 +195,7 @@ fn all_of_three(rt: HostRuntime) -> Result<(), Fail> {
 fn none_of_lawful_words(rt: HostRuntime) -> Result<(), Fail> {
     let words = Vec::from_array(rt.alloc(), [0xD503201F, 0xD65F03C0])?;
     let mut out = Vec::new(rt.alloc());
-    let refused = write_refusals(&words, ModuleNumber::at(0), &mut out)?;
+    let refused = write_refusals(rt.alloc(), &words, ModuleNumber::at(0), &mut out)?;
     assert!(rt; refused == 0);
     assert!(rt; out.as_slice() == b"words refused: 0\n".as_slice());
     Ok(())
@@ -218,7 +218,7 @@ impl Write for FullWriter {
 #[test]
 fn refusals_that_fail(rt: HostRuntime) -> Result<(), Fail> {
     let words = Vec::from_array(rt.alloc(), THREE)?;
-    let written = write_refusals(&words, ModuleNumber::at(1), &mut FullWriter);
+    let written = write_refusals(rt.alloc(), &words, ModuleNumber::at(1), &mut FullWriter);
     assert!(rt; written.is_err());
     Ok(())
 }

@@ -1,7 +1,6 @@
 -- Modules that are numbered from some number on.
-use Rattle.std.proofs.Common.{◌≡◌, ◌<◌, ◌+◌, ℕ, List, [], ◌∷◌, arith, inl, inr, refl, sym, ap, ◌∙◌}
-use Rattle.lfi_model.specs.Modules.{Member}
-use Rattle.lfi_pack.specs.Heard.{PackedView, NoneIs, AreDistinct, modules_from}
+use Rattle.std.proofs.Common.{◌≡◌, ◌<◌, ◌+◌, ℕ, List, [], ◌∷◌, arith, inl, inr, ap, ◌∙◌}
+use Rattle.lfi_pack.specs.Heard.{NoneIs, AreDistinct, modules_from}
 
 -- none of them has a lower number
 lower : (m number entry : ℕ) (files : List (List ℕ)) → m < number → NoneIs m (modules_from number entry files)

@@ -1,4 +1,4 @@
-use Rattle.std.proofs.Common.{◌≡◌, ◌∙◌, ◌≤◌, length, map, Some, codes, option_map, is_some, refl, sym, ap, arith}
+use Rattle.std.proofs.Common.{◌≡◌, ◌∙◌, length, map, Some, codes, option_map, is_some, refl, sym, ap, arith}
 use Rattle.clap.specs.Words.{all_of, first_of, found_of, rows_of}
 use Rattle.clap.proofs.CallerLemmas.{some_of_text}
 use Rattle.clap.proofs.WalkLemmas.{raw_values-rows}

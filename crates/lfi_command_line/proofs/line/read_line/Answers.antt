@@ -1,7 +1,6 @@
-use Rattle.std.proofs.Common.{◌≡◌, ◌∙◌, IfSome, List, Some, refl, sym, subst, codes, map, option_map, string_bytes, true, true≢false}
+use Rattle.std.proofs.Common.{◌≡◌, IfSome, List, Some, refl, sym, subst, codes, map, option_map, string_bytes, true≢false}
 use Rattle.std.proofs.lemmas.Result.{IfOk-weaker, IfErr-weaker}
 use Rattle.clap.specs.Words.{Text, found_of, rows_of, subcommand_rows_of}
-use Rattle.lfi_command_line.specs.CommandLine.{AreTakenFor}
 use Rattle.lfi_command_line.proofs.Asked.{given_of, load_fault, pack_fault, run_met, taken_for}
 use Rattle.lfi_command_line.proofs.line.read_line.Goals as goal
 

@@ -1,4 +1,4 @@
-use Rattle.std.proofs.Common.{◌≡◌, ◌≤◌, List, Option, ℕ, length, refl, subst, sym}
+use Rattle.std.proofs.Common.{◌≤◌, length, subst, sym}
 use Rattle.a64_word.specs.Words.{words_of}
 use Rattle.lfi_module.specs.Numbers.{most_words}
 use Rattle.lfi_commands.specs.Explaining.{WritesFault}

@@ -1,7 +1,9 @@
-use Rattle.std.proofs.Common.{◌++◌, arith}
+use Rattle.std.proofs.Common.{rules, ◌≡◌, ◌++◌, arith, codes, length, subst}
+use Rattle.std.specs.Prelude.{decimal, flat_map}
+use Rattle.std.specs.Io.KnownBytes.{Appends}
 use Rattle.std.proofs.lemmas.List.{length-append}
-use Rattle.lfi_explain.specs.Explanations.{explanation_line, one_or_none}
-use Rattle.lfi_explain.proofs.Lines.{appends_more, told_more, told_count, one_at_most}
+use Rattle.lfi_explain.specs.Explanations.{AreTold, explanation_line, one_or_none}
+use Rattle.lfi_explain.proofs.Lines.{all_written, kept_more, then_three, text_kept, told_more, told_count, one_at_most}
 use Rattle.lfi_explain.proofs.refusals.write_refusals.Goals as goal
 
 pub overflow_add-refused : goal.overflow_add-refused
@@ -21,5 +23,25 @@ loop-place-preserved g c =
       done.0 ++ one_or_none here,
       told_more ws c.args.slot c.loop-place.place done.0 here done.1 c.explained_at.ensures,
       omega (arith, longer, done.2, c.in_ok-refused.ensures.count),
-      appends_more explanation_line (g.W.Write.contents c.args.out.now) (g.W.Write.contents c.loop-place.out) (g.W.Write.contents c.write_told.new.out) done.0 (one_or_none here) done.3 c.in_ok-refused.ensures.written,
+      kept_more explanation_line (g.W.Write.contents c.args.out.now) (g.W.Write.contents c.loop-place.out) (g.W.Write.contents c.write_many.new.out) c.loop-place.kept.items
+          c.write_told.new.out.items c.write_many.new.kept.items done.0 (one_or_none here) done.3 c.in_ok-refused.ensures.written c.in_ok-write_many.ensures,
+    )
+
+pub returns : goal.returns
+returns g c =
+    let ws = g.L.Words.words c.args.words.now in
+    let done = c.loop-place.invariant in
+    let same : c.loop-place.place ≡ length ws = search rules in
+    let old = g.W.Write.contents c.args.out.now in
+    let half = g.W.Write.contents c.loop-place.out in
+    let new = g.W.Write.contents c.write_kept.new.out in
+    let more = c.write_count.new.out.items in
+    let lines = flat_map explanation_line done.0 in
+    let text = codes "words refused: " ++ decimal c.loop-place.refused ++ codes "\n" in
+    let all = all_written old half new more c.write_kept.new.kept.items (lines ++ text) (text_kept old half c.loop-place.kept.items more lines text done.3 c.in_ok-write_count.ensures)
+    c.in_ok-write_kept.ensures.moved c.in_ok-write_kept.ensures.none in (
+      done.0,
+      subst (λ k. AreTold ws c.args.slot k done.0) same done.1,
+      done.2,
+      subst (λ bytes. Appends old new bytes) (then_three lines (codes "words refused: ") (decimal c.loop-place.refused) (codes "\n")) all,
     )

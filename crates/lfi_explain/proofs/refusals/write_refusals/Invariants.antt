@@ -1,6 +1,6 @@
 use Rattle.std.proofs.Common.{◌≡◌, List, length}
 use Rattle.std.specs.Prelude.{flat_map}
-use Rattle.std.specs.Io.KnownBytes.{Appends}
+use Rattle.std.specs.Io.KnownBytes.{Appends, append_known}
 use Rattle.lfi_explain.specs.declared.explanation.Explanation.{Explanation}
 use Rattle.lfi_explain.specs.Explanations.{AreTold, explanation_line}
 use Rattle.lfi_explain.proofs.refusals.write_refusals.Given as goal
@@ -8,4 +8,4 @@ use Rattle.lfi_explain.proofs.refusals.write_refusals.Given as goal
 abbrev pub invariant-loop-place : goal.invariant-loop-place
 invariant-loop-place g l =
     (told : List Explanation) × AreTold (g.L.Words.words l.words) l.slot l.place told × (l.refused ≡ length told)
-    × Appends (g.W.Write.contents l.initial.out) (g.W.Write.contents l.out) (flat_map explanation_line told)
+    × Appends (g.W.Write.contents l.initial.out) (append_known (g.W.Write.contents l.out) l.kept.items) (flat_map explanation_line told)
