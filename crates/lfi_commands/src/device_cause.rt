@@ -31,7 +31,14 @@ impl DeviceCause {
     pub fn of(error: &io::Error) -> DeviceCause
         ensures { result ≡ cause_of (error_kind error.now) }
     {
-        match error.kind() {
+        DeviceCause::of_kind(error.kind())
+    }
+
+    /// The cause of an error of this kind.
+    pub fn of_kind(kind: io::ErrorKind) -> DeviceCause
+        ensures { result ≡ cause_of kind }
+    {
+        match kind {
             io::ErrorKind::NotFound => DeviceCause::NotFound,
             io::ErrorKind::PermissionDenied => DeviceCause::PermissionDenied,
             io::ErrorKind::IsADirectory => DeviceCause::IsADirectory,

@@ -10,8 +10,8 @@ ghost use Rattle.lfi_commands.specs.Failures.{is_of_a_write};
 ghost use Rattle.lfi_commands.specs.Explaining.{WritesFault, WritesVerdict, FindsListing};
 
 use crate::code::Code;
-use crate::device_cause::DeviceCause;
 use crate::commands::{CommandFault, write_verdict};
+use crate::device_cause::DeviceCause;
 use crate::ending::Ending;
 use crate::verdict::{Verdict, judge_code};
 use crate::whole::read_code;

@@ -8,14 +8,14 @@ ghost use Rattle.lfi_commands.specs.Packing as spec;
 ghost use Rattle.lfi_commands.specs.inner.Whole.{StopsAt, StopsAtOne, WritesModule};
 
 use crate::code::Code;
-use crate::device_cause::DeviceCause;
 use crate::commands::CommandFault;
+use crate::device_cause::DeviceCause;
 use crate::disk::Disk;
 use crate::failure::Failure;
 use crate::opening::{open, path_at};
 use crate::whole::read_code;
 use lfi_module::{Extent, ModuleNumber, WordCount};
-use lfi_pack::pack_module;
+use lfi_pack::{PackFault, pack_module};
 use std::alloc::Global;
 use std::fmt;
 use std::io::Write;
@@ -124,6 +124,9 @@ fn write_module<W: Write>(
     let mut reader = code;
     match pack_module(ModuleNumber::at(number), extent, &mut reader, writer) {
         Ok(()) => Ok(()),
+        Err(PackFault::WriteFailed(kind)) => {
+            Err(CommandFault::NotWritten(DeviceCause::of_kind(kind)))
+        }
         Err(_) => Err(CommandFault::NotWritten(DeviceCause::Other)),
     }
 }

@@ -94,8 +94,8 @@ fault_later n count (Some xs) (Some ys) read Shorter eats size is =
     let both : length xs ≡ length read + length ys = ap length eats ∙ length-append read ys in
     let goal : length xs < 4 * n = omega arith in goal
 fault_later n count a b read Longer eats size is = is
-fault_later n count a b read ReadFailed eats size is = tt
-fault_later n count a b read WriteFailed eats size is = tt
+fault_later n count a b read (ReadFailed kind) eats size is = tt
+fault_later n count a b read (WriteFailed kind) eats size is = tt
 
 -- and one after them too
 pub fault_at_end : (n : ℕ) (a b : Option (List ℕ)) (read : List ℕ) (fault : PackFault) → Consumes a b read → length read ≡ 4 * n → IsPackFault b 0 fault → IsPackFault a (4 * n) fault
@@ -108,8 +108,8 @@ fault_at_end n (Some xs) (Some ys) read Longer eats size is =
     let some : 0 < length ys = is in
     let both : length xs ≡ length read + length ys = ap length eats ∙ length-append read ys in
     let goal : 4 * n < length xs = omega arith in goal
-fault_at_end n a b read ReadFailed eats size is = tt
-fault_at_end n a b read WriteFailed eats size is = tt
+fault_at_end n a b read (ReadFailed kind) eats size is = tt
+fault_at_end n a b read (WriteFailed kind) eats size is = tt
 
 -- all pages have the bytes of all words
 pub all_long : (n : ℕ) → 4 * min n (1024 * page_count page_words n) ≡ 4 * n

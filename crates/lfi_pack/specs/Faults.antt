@@ -7,12 +7,12 @@ use Rattle.lfi_pack.specs.declared.fault.PackFault.TheVariants.{Shorter, Longer,
 abbrev pub fault_text : PackFault → List ℕ
 fault_text Shorter = codes "code shorter than told"
 fault_text Longer = codes "code longer than told"
-fault_text ReadFailed = codes "read failed"
-fault_text WriteFailed = codes "write failed"
+fault_text (ReadFailed kind) = codes "read failed"
+fault_text (WriteFailed kind) = codes "write failed"
 
 -- The fault of code that is to have so many bytes, where it is known; a device can fail at any time.
 abbrev pub IsPackFault : Option (List ℕ) → ℕ → PackFault → Type 0
 IsPackFault code len Shorter = IfSome code (λ bytes. length bytes < len)
 IsPackFault code len Longer = IfSome code (λ bytes. len < length bytes)
-IsPackFault code len ReadFailed = ⊤
-IsPackFault code len WriteFailed = ⊤
+IsPackFault code len (ReadFailed kind) = ⊤
+IsPackFault code len (WriteFailed kind) = ⊤

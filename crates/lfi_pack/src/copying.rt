@@ -2,6 +2,7 @@
 
 ghost use Rattle.std.specs.Prelude.{◌≡◌, ◌<◌, ◌≤◌, [], length, take, IfOk, IfErr, OnOk, OnErr};
 ghost use Rattle.std.specs.Io.KnownBytes.{Consumes, Appends, IsAtEnd};
+ghost use Rattle.std.specs.declared.io.ErrorKind.{ErrorKind};
 ghost use Rattle.lfi_pack.specs.declared.fault.PackFault.TheVariants.{WriteFailed};
 ghost use Rattle.lfi_pack.specs.Faults.{IsPackFault};
 ghost use Rattle.lfi_pack.specs.Packs.{AppendsBeginning};
@@ -35,7 +36,7 @@ pub(crate) fn read_full<R: Read>(reader: &mut R, bytes: &mut [u8]) -> Result<(),
     match fill(reader, bytes) {
         Ok(count) if count < bytes.len() => Err(PackFault::Shorter),
         Ok(_) => Ok(()),
-        Err(_) => Err(PackFault::ReadFailed),
+        Err(error) => Err(PackFault::ReadFailed(error.kind())),
     }
 }
 
@@ -49,22 +50,22 @@ pub(crate) fn expect_end<R: Read>(reader: &mut R) -> Result<(), PackFault>
     match reader.read(&mut byte) {
         Ok(0) => Ok(()),
         Ok(_) => Err(PackFault::Longer),
-        Err(_) => Err(PackFault::ReadFailed),
+        Err(error) => Err(PackFault::ReadFailed(error.kind())),
     }
 }
 
 /// Writes the bytes, or a beginning of them where the writer fails.
 pub(crate) fn write_full<W: Write>(writer: &mut W, bytes: &[u8]) -> Result<(), PackFault>
     ensures written { OnOk result (Appends (W.contents writer.old) (W.contents writer.new) bytes.now) }
-    ensures fault { IfErr result (λ fault. fault ≡ WriteFailed) }
+    ensures fault { IfErr result (λ fault. (kind : ErrorKind) × (fault ≡ WriteFailed kind)) }
     ensures part { OnErr result (AppendsBeginning (W.contents writer.old) (W.contents writer.new) bytes.now) }
 {
     let mut at = 0;
     while at < bytes.len() {
         match writer.write(&bytes[at..]) {
-            Ok(0) => return Err(PackFault::WriteFailed),
+            Ok(0) => return Err(PackFault::WriteFailed(io::ErrorKind::WriteZero)),
             Ok(count) => at += count,
-            Err(_) => return Err(PackFault::WriteFailed),
+            Err(error) => return Err(PackFault::WriteFailed(error.kind())),
         }
     }
     Ok(())

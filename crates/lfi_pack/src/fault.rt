@@ -4,7 +4,7 @@ ghost use Rattle.std.specs.Prelude.{Some};
 ghost use Rattle.lfi_pack.specs.Faults.{fault_text};
 
 use std::error::Error;
-use std::fmt;
+use std::{fmt, io};
 
 /// Why a module isn't packed.
 #[derive(Clone, Copy, Debug, PartialEq, Eq)]
@@ -13,10 +13,10 @@ pub enum PackFault {
     Shorter,
     /// The input has a byte after so many words.
     Longer,
-    /// A read of the input failed.
-    ReadFailed,
-    /// A write failed, or took nothing of what was left.
-    WriteFailed,
+    /// A read of the input failed, with an error of this kind.
+    ReadFailed(io::ErrorKind),
+    /// A write failed, with an error of this kind, or took nothing of what was left.
+    WriteFailed(io::ErrorKind),
 }
 
 impl fmt::Display for PackFault {
@@ -27,8 +27,8 @@ impl fmt::Display for PackFault {
         match self {
             PackFault::Shorter => f.write_str("code shorter than told"),
             PackFault::Longer => f.write_str("code longer than told"),
-            PackFault::ReadFailed => f.write_str("read failed"),
-            PackFault::WriteFailed => f.write_str("write failed"),
+            PackFault::ReadFailed(_) => f.write_str("read failed"),
+            PackFault::WriteFailed(_) => f.write_str("write failed"),
         }
     }
 }

@@ -3,6 +3,7 @@
 use crate::devices::{CodeReader, StreamWriter, code};
 use lfi_module::{Extent, ModuleNumber, WordCount};
 use lfi_pack::{PackFault, pack_module};
+use std::io::ErrorKind;
 use std::test::Fail;
 
 /// RET as module 0: an Open of one word entered at word 0, page 0 of four bytes, a Close.
@@ -39,7 +40,10 @@ fn a_write_fails_after_each_length(rt: HostRuntime) -> Result<(), Fail> {
         let mut code = CodeReader::new(bytes, 5);
         let mut stream = StreamWriter::new(rt.alloc(), left, 5);
         let packed = pack_module(ModuleNumber::at(0), one_word(), &mut code, &mut stream);
-        assert!(rt; packed == Err(PackFault::WriteFailed), "after {left} bytes");
+        assert!(rt;
+            packed == Err(PackFault::WriteFailed(ErrorKind::Other)),
+            "after {left} bytes"
+        );
         assert!(rt;
             stream.taken.as_slice() == &ONE_RET[..left],
             "after {left} bytes"
@@ -86,9 +90,9 @@ fn code_that_is_not_as_told(rt: HostRuntime) -> Result<(), Fail> {
         (4099, false, PackFault::Shorter),
         (4101, false, PackFault::Longer),
         (4104, false, PackFault::Longer),
-        (0, true, PackFault::ReadFailed),
-        (4098, true, PackFault::ReadFailed),
-        (4100, true, PackFault::ReadFailed),
+        (0, true, PackFault::ReadFailed(ErrorKind::Other)),
+        (4098, true, PackFault::ReadFailed(ErrorKind::Other)),
+        (4100, true, PackFault::ReadFailed(ErrorKind::Other)),
     ] {
         let mut code = CodeReader::new(&words.as_slice()[..len.min(words.len())], 4096);
         code.fails = fails;

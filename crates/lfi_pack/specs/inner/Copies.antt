@@ -11,7 +11,7 @@ use Rattle.lfi_pack.specs.Packs.{AreFirst, joined, numbered, AppendsBeginning}
 -- fewer bytes are left than are asked for, or a read failed
 abbrev pub IsShort : Option (List ℕ) → ℕ → PackFault → Type 0
 IsShort left len Shorter = IfSome left (λ bytes. length bytes < len)
-IsShort left len ReadFailed = ⊤
+IsShort left len (ReadFailed kind) = ⊤
 IsShort left len fault = ⊥
 
 -- the same, or a write failed
