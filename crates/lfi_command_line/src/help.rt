@@ -7,7 +7,8 @@ pub const PROGRAM: &str = "Exit status:
      disassemble, pack: all was written.
   1  It isn't so: the printed lines say why.
   2  The words of the command line are wrong.
-  3  A device failed, or memory was refused: a line on the standard error says which.
+  3  A device failed, or memory was refused: a line on the standard error says which, and a second
+     one why, where the system tells.
 
 `lfiload COMMAND --help` has each line that a command prints, and an example.
 
