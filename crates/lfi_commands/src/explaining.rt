@@ -117,9 +117,9 @@ fn write_bad_length<W: Write>(writer: &mut W) -> Result<Ending, CommandFault>
     ensures listed { IfOk result (λ ending. (ending ≡ Ending.NotWell) × Appends (W.contents writer.old) (W.contents writer.new) (codes "bad length\n")) }
     ensures fault { IfErr result (λ fault. fault ≡ CommandFault.NotWritten) }
 {
-    match writer.write_all(b"bad length\n") {
-        Ok(()) => Ok(Ending::NotWell),
-        Err(_) => Err(CommandFault::NotWritten),
+    match write_verdict(Verdict::BadLength, writer) {
+        Ok(_) => Ok(Ending::NotWell),
+        Err(fault) => Err(fault),
     }
 }
 
