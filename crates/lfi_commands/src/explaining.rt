@@ -119,9 +119,9 @@ fn write_bad_length<W: Write>(writer: &mut W) -> Result<Ending, CommandFault>
     ensures listed { IfOk result (λ ending. (ending ≡ Ending.NotWell) × Appends (W.contents writer.old) (W.contents writer.new) (codes "bad length\n")) }
     ensures fault { IfErr result (λ fault. is_of_a_write fault ≡ true) }
 {
-    match writer.write_all(b"bad length\n") {
-        Ok(()) => Ok(Ending::NotWell),
-        Err(error) => Err(CommandFault::NotWritten(DeviceCause::of(&error))),
+    match write_verdict(Verdict::BadLength, writer) {
+        Ok(_) => Ok(Ending::NotWell),
+        Err(fault) => Err(fault),
     }
 }
 
