@@ -21,7 +21,8 @@ pub const FILE: &str = "plain code words, the lowest byte first";
 pub const EXPLAIN: &str = "also say what the word at fault does, and what its rule asks";
 
 /// Of `--explain`, where modules are loaded.
-pub const EXPLAIN_MODULES: &str = "also say what the first word at fault of each refused module does";
+pub const EXPLAIN_MODULES: &str =
+    "also say what the first word at fault of each refused module does";
 
 /// Of `--all`.
 pub const ALL: &str = "say so of each word that breaks a rule, and how many they are";
