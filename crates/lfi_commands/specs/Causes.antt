@@ -1,5 +1,5 @@
 -- Why a device failed, and what is told of it. (this project's profile: docs/DEFINITIONS.md, "The program")
-use Rattle.std.specs.Prelude.{◌≡◌, ⊤, ℕ, List, [], ◌++◌, codes}
+use Rattle.std.specs.Prelude.{ℕ, List, [], ◌++◌, codes}
 use Rattle.std.specs.declared.io.ErrorKind.{ErrorKind}
 use Rattle.std.specs.declared.io.ErrorKind.TheVariants as kind
 use Rattle.lfi_commands.specs.declared.device_cause.DeviceCause.{DeviceCause}
