@@ -114,11 +114,16 @@ module 7: complete, 1030 words
 strays 0
 ";
 
+/// What clients do that are there at the same time.
 #[derive(Clone, Copy)]
 enum Case {
+    /// Each of two sends a whole module.
     TwoClients,
+    /// One sends the first 30 bytes of a module, and closes.
     GoesAway,
+    /// Each of eight sends a module in pieces of 1 to 4,096 bytes.
     InPieces,
+    /// One sends nothing and closes, and another sends a whole module.
     SendsNothing,
 }
 
@@ -142,7 +147,7 @@ const CASES: [(Case, &[usize], &str); 4] = [
     ),
 ];
 
-/// The texts of a case's clients, of which all or the first bytes are sent.
+/// The texts of a case's clients, by their connections' numbers.
 fn texts_of(alloc: Global, case: Case) -> Result<Vec<Vec<u8>>, AllocError> {
     match case {
         Case::TwoClients => modules_0_and_3(alloc),
