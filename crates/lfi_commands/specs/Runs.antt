@@ -5,7 +5,8 @@ use Rattle.lfi_image.specs.Image.{Image}
 use Rattle.lfi_place.specs.declared.report.ModuleReport.{ModuleReport}
 use Rattle.lfi_stage.specs.declared.settle.Report.{Report}
 use Rattle.lfi_stage.specs.Stages.{IsLoaded}
-use Rattle.lfi_threads.specs.Served.{IsServed}
+use Rattle.lfi_threads.specs.declared.serve.Served.{Served}
+use Rattle.lfi_threads.specs.Served.{HasServed}
 use Rattle.lfi_command_line.specs.declared.line.Line.{Line}
 use Rattle.lfi_command_line.specs.declared.line.Line.TheVariants.{Check, Load, Serve, Run, Disassemble, Pack}
 use Rattle.lfi_command_line.specs.declared.line.Explain.{Explain}
@@ -70,18 +71,17 @@ pub record FindsReport (streams : List (Option (List ℕ))) (folder : Option (Li
   pub images : WritesImages (folder_or_none folder) (asked_images folder report.modules) old.put new.put new.is_lost old.errors new.errors all
   pub ends : EndsLoad report true all ending
 
--- Of what so many connections sent one report was found; its text was written, then what is told of its refused modules,
+-- Of what so many connections sent one report was found, with whether all of them were taken; its text was written, then what is told of its refused modules,
 -- where that is asked for, its images were put into the folder, and it gives the ending.
 pub record FindsServed (connections : ℕ) (folder : Option (List ℕ)) (explain : Bool) (old new : Left) (ending : Ending) : Type 0 where
-  pub report : Report
-  pub served : IsServed connections report
+  pub found : Served
+  pub served : HasServed connections found
   pub told : List ℕ
-  pub tells : TellAsked explain report.modules told
-  pub written : Appends old.out new.out (summary_text (summary_of report) ++ told)
-  pub all_taken : Bool
+  pub tells : TellAsked explain found.report.modules told
+  pub written : Appends old.out new.out (summary_text (summary_of found.report) ++ told)
   pub all : Bool
-  pub images : WritesImages (folder_or_none folder) (asked_images folder report.modules) old.put new.put new.is_lost old.errors new.errors all
-  pub ends : EndsLoad report all_taken all ending
+  pub images : WritesImages (folder_or_none folder) (asked_images folder found.report.modules) old.put new.put new.is_lost old.errors new.errors all
+  pub ends : EndsLoad found.report found.all_accepted all ending
 
 -- the ending of a run of an image: by what came of it, where that was told
 abbrev pub EndsRun : (is_lost : Bool) → ImageRun → Ending → Type 0

@@ -1,12 +1,12 @@
 //! The commands, over any reader and writer.
 
-ghost use Rattle.std.specs.Prelude.{◌≡◌, ℕ, List, Some, true, false, ◌≤◌, ◌++◌, IfOk, IfErr, IfSome, codes, length, slice_get};
+ghost use Rattle.std.specs.Prelude.{◌≡◌, ℕ, List, Some, true, false, ◌≤◌, ◌++◌, IfOk, IfErr, IfSome, OnOk, codes, length, slice_get};
 ghost use Rattle.lfi_module.specs.Numbers.{most_words};
 ghost use Rattle.std.specs.Io.KnownBytes.{Appends};
 ghost use Rattle.lfi_receive.specs.Inputs.{left_of};
 ghost use Rattle.lfi_receive.specs.declared.input.Input.{Input};
 ghost use Rattle.lfi_stage.specs.Stages.{IsLoaded};
-ghost use Rattle.lfi_threads.specs.Served.{IsServed};
+ghost use Rattle.lfi_threads.specs.Served.{HasServed};
 ghost use Rattle.lfi_commands.specs.Checking.{Checks, verdict_text};
 ghost use Rattle.lfi_commands.specs.Failures.{is_of_a_write};
 ghost use Rattle.lfi_model.specs.Texts.{summary_text};
@@ -138,14 +138,13 @@ pub fn check_file<R: Read + Drop, W: Write>(
 }
 
 /// Writes the text of a report.
-fn write_report<W: Write>(report: Report, writer: &mut W) -> Result<Report, CommandFault>
-    ensures same { IfOk result (λ written. written ≡ report) }
-    ensures written { IfOk result (λ written. Appends (W.contents writer.old) (W.contents writer.new) (summary_text (summary_of written))) }
+fn write_report<W: Write>(report: &Report, writer: &mut W) -> Result<(), CommandFault>
+    ensures written { OnOk result (Appends (W.contents writer.old) (W.contents writer.new) (summary_text (summary_of report.now))) }
     ensures fault { IfErr result (λ fault. is_of_a_write fault ≡ true) }
 {
     let summary = report.summary();
     match write!(writer, "{summary}") {
-        Ok(()) => Ok(report),
+        Ok(()) => Ok(()),
         Err(error) => Err(CommandFault::NotWritten(DeviceCause::of(&error))),
     }
 }
@@ -171,9 +170,12 @@ pub fn load<S: Threads + Wait + Sync, R: Read + Send + Drop, N: Notices + Sync, 
     ensures written { IfOk result (λ report. Appends (W.contents writer.old) (W.contents writer.new) (summary_text (summary_of report))) }
     ensures unwritten { IfErr result (λ fault. is_of_a_write fault ≡ false → writer.new ≡ writer.old) }
 {
-    match load_all(rt, alloc, inputs, verifiers, &OpenGate, notices) {
-        Ok(report) => write_report(report, writer),
-        Err(_) => Err(CommandFault::NoMemory),
+    let Ok(report) = load_all(rt, alloc, inputs, verifiers, &OpenGate, notices) else {
+        return Err(CommandFault::NoMemory);
+    };
+    match write_report(&report, writer) {
+        Ok(()) => Ok(report),
+        Err(fault) => Err(fault),
     }
 }
 
@@ -196,16 +198,11 @@ pub fn serve<S: Threads + Wait + Files + Sync, N: Notices + Sync, W: Write>(
 ) -> Result<Served, CommandFault>
     requires connections { (1 ≤ connections) × (connections ≤ 8) }
     requires verifiers { (1 ≤ verifiers) × (verifiers ≤ 8) }
-    ensures report { IfOk result (λ served. IsServed connections served.report) }
+    ensures report { IfOk result (HasServed connections) }
     ensures written { IfOk result (λ served. Appends (W.contents writer.old) (W.contents writer.new) (summary_text (summary_of served.report))) }
     ensures unwritten { IfErr result (λ fault. is_of_a_write fault ≡ false → writer.new ≡ writer.old) }
 {
-    let Ok(
-        Served {
-            report,
-            all_accepted,
-        },
-    ) = serve_on(
+    let Ok(served) = serve_on(
         rt,
         alloc,
         listener,
@@ -218,11 +215,8 @@ pub fn serve<S: Threads + Wait + Files + Sync, N: Notices + Sync, W: Write>(
     else {
         return Err(CommandFault::NoMemory);
     };
-    match write_report(report, writer) {
-        Ok(report) => Ok(Served {
-            report,
-            all_accepted,
-        }),
+    match write_report(&served.report, writer) {
+        Ok(()) => Ok(served),
         Err(fault) => Err(fault),
     }
 }

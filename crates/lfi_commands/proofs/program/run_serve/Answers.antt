@@ -7,13 +7,12 @@ pub returns-clause-found : goal.returns-clause-found
 returns-clause-found g c =
     let told = c.in-Ok-write_asked_refused.ensures in
     record {
-      report = c.in-Ok-serve.served.report;
+      found = c.in-Ok-serve.served;
       served = c.in-Ok-serve.ensures.report;
       told = told.0;
       tells = told.1;
       written = Appends-trans (g.O.Write.contents c.args.out.now) (g.O.Write.contents c.serve.new.writer) (g.O.Write.contents c.write_asked_refused.new.out)
           (summary_text (summary_of c.in-Ok-serve.served.report)) told.0 c.in-Ok-serve.ensures.written told.2;
-      all_taken = c.in-Ok-serve.served.all_accepted;
       all = c.write_asked_images-all.result;
       images = c.write_asked_images-all.ensures;
       ends = c.of_load.ensures;
