@@ -1,5 +1,6 @@
 //! `lfiload serve` over a socket.
 
+use crate::refused::{EXPLAINED, THREE};
 use crate::runs::{ONE_RET, ONE_RET_IMAGE, Run, assert_runs, begin, run_line};
 use std::fs;
 use std::io::{self, Write};
@@ -35,11 +36,11 @@ fn paths_where_it_cannot_listen(rt: HostRuntime) -> Result<(), Fail> {
     Ok(())
 }
 
-/// Connects as soon as somebody listens at the path, and sends the stream of one RET.
-fn send_one_ret<S: Net>(rt: &S, path: &str) -> io::Result<()> {
+/// Connects as soon as somebody listens at the path, and sends these bytes.
+fn send<S: Net>(rt: &S, path: &str, bytes: &[u8]) -> io::Result<()> {
     for _ in 0..100_000_000u32 {
         if let Ok(mut client) = UnixStream::connect(rt, path) {
-            return client.write_all(ONE_RET.as_slice());
+            return client.write_all(bytes);
         }
     }
     Err(io::Error::from(io::ErrorKind::TimedOut))
@@ -52,7 +53,7 @@ fn one_client(rt: HostRuntime) -> Result<(), Fail> {
     let (ran, sent) = join(
         &rt,
         || run_line(&rt, line),
-        || send_one_ret(&rt, "served.tmp/socket"),
+        || send(&rt, "served.tmp/socket", ONE_RET.as_slice()),
     );
     sent?;
     let ran = ran?;
@@ -62,5 +63,22 @@ fn one_client(rt: HostRuntime) -> Result<(), Fail> {
     assert!(rt; image.as_slice() == ONE_RET_IMAGE.as_slice());
     assert!(rt; !fs::exists(&rt, "served.tmp/socket")?);
     fs::remove_dir_all(&rt, "served.tmp")?;
+    Ok(())
+}
+
+#[test]
+fn refused_modules_of_a_client(rt: HostRuntime) -> Result<(), Fail> {
+    begin(&rt, "refusing.tmp")?;
+    let line = "lfiload serve --socket refusing.tmp/socket --connections 1 --explain";
+    let (ran, sent) = join(
+        &rt,
+        || run_line(&rt, line),
+        || send(&rt, "refusing.tmp/socket", THREE.as_slice()),
+    );
+    sent?;
+    let ran = ran?;
+    assert!(rt; ran.status == 1 && ran.err.is_empty());
+    assert!(rt; ran.out.as_slice() == EXPLAINED.as_bytes());
+    fs::remove_dir_all(&rt, "refusing.tmp")?;
     Ok(())
 }
