@@ -211,8 +211,7 @@ pub fn serve<S: Threads + Wait + Files + Sync, N: Notices + Sync, W: Write>(
         verifiers,
         &OpenGate,
         notices,
-    )
-    else {
+    ) else {
         return Err(CommandFault::NoMemory);
     };
     match write_report(&served.report, writer) {
