@@ -108,7 +108,7 @@ number_has default least most None n some is = absurd (true≢false (sym some))
 number_has default least most (Some text) n some is = (text, refl, is)
 
 -- Words that the parser takes for a subcommand give it what it needs.
-pub given_of : (words : List Text) (name : Text) (given : List Row) → AreTakenFor words name given → AllGive (shape_named name) given
+given_of : (words : List Text) (name : Text) (given : List Row) → AreTakenFor words name given → AllGive (shape_named name) given
 given_of words name given taken = subst Asks taken.1 (asks words taken.0)
 
 -- The subcommand that the parser met is the one that the words name.
@@ -116,6 +116,11 @@ pub taken_for : (words : List Text) (m : ArgMatches) (name : Text) (given : List
     → option_map (λ p. p.1) (subcommand_rows_of m) ≡ Some given → AreTakenFor words name given
 taken_for words m name given taken met rows =
     (taken.0, both_parts (subcommand_of lfiload_app words) name given (name_met m _ taken.1 ∙ met) (ap (option_map (λ p. p.1)) (sym taken.1) ∙ rows))
+
+-- The subcommand that the parser met is given what it needs.
+pub given_for : (words : List Text) (m : ArgMatches) (name : Text) (given : List Row) → AreTakenBy words m → subcommand_name_of m ≡ Some name
+    → option_map (λ p. p.1) (subcommand_rows_of m) ≡ Some given → AllGive (shape_named name) given
+given_for words m name given taken met rows = given_of words name given (taken_for words m name given taken met rows)
 
 -- the name that is left, where the words name none of the others
 last_of : (p : Option (Text × List Row)) → Asks p → (option_map (λ p. p.0) p ≡ Some (codes "check") → ⊥) → (option_map (λ p. p.0) p ≡ Some (codes "load") → ⊥)
