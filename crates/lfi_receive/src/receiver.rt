@@ -15,6 +15,7 @@ ghost use Rattle.lfi_model.specs.declared.connection.Progress.TheVariants.{Going
 ghost use Rattle.lfi_model.specs.Items.{item_of, reason_of, fault_by_cause, share_of};
 ghost use Rattle.lfi_receive.specs.Places.{progress_at, IsPossible};
 
+use crate::ahead::PageMemory;
 use crate::coming::Coming;
 use crate::modules::{Modules, OpenModule};
 use crate::seat::OwnSeat;
@@ -23,7 +24,6 @@ use lfi_frame::{Feed, FrameFault, Got, Step};
 use lfi_model::{Cause, Item, ItemKind, Progress, Reason};
 use lfi_module::{Extent, ModuleNumber, PageSize};
 use lfi_queues::{Intake, PutPass};
-use page_buf::OpenPage;
 use std::alloc::Global;
 use std::sync::Wait;
 
@@ -66,7 +66,7 @@ fn reason_of(fault: FrameFault) -> Reason
 /// The receiver of one connection.
 #[derive(Drop)]
 pub struct Receiver {
-    alloc: Global,
+    memory: PageMemory,
     feed: Feed,
     pass: PutPass<Item>,
     seat: OwnSeat,
@@ -99,7 +99,7 @@ impl Receiver {
         ensures running { cause_of result ≡ None }
     {
         Receiver {
-            alloc,
+            memory: PageMemory::new(alloc),
             feed: Feed::new(),
             pass,
             seat: OwnSeat { seat, told: false },
@@ -230,7 +230,7 @@ impl Receiver {
         ensures hand { result ≡ begun.Stray → self.new.hand ≡ None }
         ensures stray { result ≡ begun.Stray → self.new.strays ≡ min (self.old.strays + 1) (2 ^ 64 - 1) }
         ensures strays { result ≢ begun.Stray → self.new.strays ≡ self.old.strays }
-        ensures rest { self.new ≡ record self.old { modules = self.new.modules; coming = self.new.coming; hand = self.new.hand; strays = self.new.strays } }
+        ensures rest { self.new ≡ record self.old { memory = self.new.memory; modules = self.new.modules; coming = self.new.coming; hand = self.new.hand; strays = self.new.strays } }
     {
         let Progress::Going { words, pages } = self.modules.at(module) else {
             self.stray();
@@ -245,7 +245,7 @@ impl Receiver {
             self.end_module(ended, Reason::PageFault(index));
             return Begun::Awaited;
         }
-        match OpenPage::new(self.alloc) {
+        match self.memory.page() {
             Ok(page) => {
                 self.coming = Some(Coming {
                     module,

@@ -15,10 +15,13 @@ const VERIFIED: u64 = 2;
 const STOPPED: u64 = 3;
 
 /// How often a thread that has nothing to do lets others go on before it sleeps.
-const YIELDS: u32 = 64;
+const YIELDS: u32 = 8;
 
 /// How long such a thread sleeps then, in microseconds, unless it is woken.
-const SLEEP: u64 = 200;
+const SHORTEST_SLEEP: u64 = 200;
+
+/// How often it doubles that, where it still has nothing to do.
+const DOUBLINGS: u32 = 4;
 
 /// One word that all threads of a stage watch.
 #[derive(Drop)]
@@ -77,13 +80,13 @@ impl Ends {
         self.wake();
     }
 
-    /// Sleeps for a short time, unless the word changes.
-    fn sleep<S: Wait>(&self, rt: &S) {
+    /// Sleeps for so many microseconds, unless the word changes.
+    fn sleep<S: Wait>(&self, rt: &S, micros: u64) {
         let Ok(seen) = u32::try_from(self.word.load(Ordering::SeqCst)) else {
             return;
         };
         self.word
-            .park_timeout(rt, seen, Duration::from_micros(SLEEP));
+            .park_timeout(rt, seen, Duration::from_micros(micros));
     }
 }
 
@@ -103,13 +106,14 @@ impl Rest {
         self.turns = 0;
     }
 
-    /// It had nothing to do: it lets other threads go on, and sleeps where that went on for long.
+    /// It had nothing to do: it lets other threads go on, and sleeps where that went on for long,
+    /// at first for 200 microseconds and at last for 3,200.
     pub(crate) fn pause<S: Wait>(&mut self, rt: &S, ends: &Ends) {
-        if self.turns < YIELDS {
-            self.turns += 1;
-            thread::yield_now();
-        } else {
-            ends.sleep(rt);
+        let slept = self.turns.checked_sub(YIELDS);
+        self.turns = self.turns.saturating_add(1);
+        match slept {
+            Some(slept) => ends.sleep(rt, SHORTEST_SLEEP << slept.min(DOUBLINGS)),
+            None => thread::yield_now(),
         }
     }
 }
