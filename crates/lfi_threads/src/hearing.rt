@@ -59,7 +59,7 @@ struct Watch {
 impl Watch {
     fn new() -> Watch {
         Watch {
-            rest: Rest::new(),
+            rest: Rest::until_there_is_room(),
             told: Told::new(),
             turns: 0,
         }
