@@ -1,7 +1,7 @@
 //! Runs from the registers of the start.
 
 use crate::host::{Host, Wide, Writer, image, image_in, started};
-use a64_machine::{DataFault, Halt, Machine, start_registers};
+use a64_machine::{Data, DataFault, Halt, Machine, start_registers};
 use lfi_module::ModuleNumber;
 use std::alloc::Global;
 use std::test::Fail;
@@ -158,6 +158,58 @@ fn goes_from_page_to_page(rt: HostRuntime) -> Result<(), Fail> {
     let (halt, count) = machine.run(1000, &mut Host);
     assert!(rt; halt == Halt::NoFetch(CODE + 4 * 2051));
     assert!(rt; count == 4);
+    Ok(())
+}
+
+/// Stores x2 at x21 and w1, counts x2 up and w1 by a page, and does so x3 times: ADD X18, X21, W1, UXTW; STR X2, [X18];
+/// ADD X2, X2, #1; ADD W1, W1, #1, LSL #12; SUBS X3, X3, #1; B.NE to the first.
+const ON_EACH_PAGE: [u32; 6] = [
+    0x8B2142B2, 0xF9000242, 0x91000442, 0x11400421, 0xF1000463, 0x54FFFF61,
+];
+
+/// The number of the first of 300 pages, from the middle of the slot on, that hasn't its number and 1 in its first bytes.
+fn first_page_otherwise(machine: &Machine) -> Option<u64> {
+    for page in 0..300u64 {
+        let at = 0x1_8000_0000 + 4096 * page;
+        let low = machine.slot().read(at);
+        let high = machine.slot().read(at + 1);
+        if low != Some(((page + 1) % 256) as u8) || high != Some(((page + 1) / 256) as u8) {
+            return Some(page);
+        }
+    }
+    None
+}
+
+/// More pages than a byte counts, each with bytes of its own.
+#[test]
+fn stores_to_300_pages(rt: HostRuntime) -> Result<(), Fail> {
+    let image = image(rt.alloc(), &ON_EACH_PAGE)?;
+    let mut registers = start_registers(&image);
+    registers.x[1] = 0x8000_0000;
+    registers.x[2] = 1;
+    registers.x[3] = 300;
+    let Ok(mut machine) = Machine::new(rt.alloc(), image, registers) else {
+        return Err(Fail::from("the machine was refused"));
+    };
+    let (halt, count) = machine.run(10_000, &mut Host);
+    assert!(rt; halt == Halt::NoFetch(CODE + 24) && count == 1800);
+    let other = first_page_otherwise(&machine);
+    assert!(rt; other.is_none(), "page {other:?}");
+    assert!(rt; machine.slot().read(0x1_8000_0000 + 4096 * 300) == Some(0));
+    assert!(rt; machine.slot().read(0x1_8000_0000 - 4096) == Some(0));
+    Ok(())
+}
+
+/// A byte that was written before is written over, with 0 too; the bytes beside it stay.
+#[test]
+fn a_byte_is_written_over(rt: HostRuntime) -> Result<(), Fail> {
+    let mut slot = Data::new(rt.alloc(), image(rt.alloc(), &CALL)?)?;
+    let at = 0x1_8000_0000;
+    for byte in [7, 0, 255, 0] {
+        assert!(rt; slot.write(at + 1, 9) == Ok(()) && slot.write(at, byte) == Ok(()));
+        assert!(rt; slot.read(at) == Some(byte), "{byte}");
+        assert!(rt; slot.read(at + 1) == Some(9));
+    }
     Ok(())
 }
 

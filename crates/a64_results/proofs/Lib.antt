@@ -1,7 +1,6 @@
 pub mod Bits
 pub mod Extensions
 pub mod Fields
-pub mod Masks
 pub mod Signed
 pub mod Tables
 pub mod Unshifted

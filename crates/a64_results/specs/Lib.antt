@@ -5,4 +5,5 @@ pub mod Shifts
 pub mod Bitfields
 pub mod Products
 pub mod Results
+pub mod FarEnds
 pub mod inner

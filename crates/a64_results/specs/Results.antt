@@ -1,5 +1,5 @@
 -- The result of each class of instructions that computes, of what its registers hold: the operations of the Arm manual's C6.2.
-use Rattle.std.specs.Prelude.{ℕ, ◌+◌, ◌-◌, ◌*◌, ◌/◌, ◌%◌, ◌^◌, pos, ◌*ℤ◌, Bool, true, false, if◌then◌else◌, bit_and, bit_or, bit_xor}
+use Rattle.std.specs.Prelude.{ℕ, ◌+◌, ◌*◌, ◌/◌, ◌%◌, ◌^◌, pos, ◌*ℤ◌, Bool, true, false, if◌then◌else◌, bit_and, bit_or, bit_xor}
 use Rattle.std.specs.Int.Count.{count_leading_zeros}
 use Rattle.a64_word.specs.declared.operands.Width.{Width}
 use Rattle.a64_word.specs.declared.operands.Width.TheVariants as widths
@@ -25,7 +25,7 @@ use Rattle.a64_word.specs.declared.data_register.CountLeadingZeros.{CountLeading
 use Rattle.a64_word.specs.declared.data_register.MultiplyAdd.{MultiplyAdd}
 use Rattle.a64_word.specs.declared.data_register.MultiplyHigh.{MultiplyHigh}
 use Rattle.a64_word.specs.Operands.{bit, data_size}
-use Rattle.a64_word.specs.Bitmask.{length_bits, element_of, repeated}
+use Rattle.a64_word.specs.Bitmask.{mask_of}
 use Rattle.a64_results.specs.declared.flags.Flags.{Flags}
 use Rattle.a64_results.specs.declared.computed.Computed.{Computed}
 use Rattle.a64_results.specs.Numbers.{operand, complement, difference, unsigned}
@@ -65,16 +65,8 @@ logical width operation x y = record {
   flags = flags_where (sets_flags operation) (flags_of_bits width (bitwise operation x y));
 }
 
--- how many bits the bitmask's element has
-abbrev pub element_size : LogicalImmediate → ℕ
-element_size i = 2 ^ (31 - count_leading_zeros 32 (length_bits i.n i.imms))
-
--- the bitmask
-abbrev pub mask_of : LogicalImmediate → ℕ
-mask_of i = repeated (element_size i) (element_of (element_size i) i.immr i.imms) (data_size i.width / element_size i)
-
 abbrev pub logical_immediate : LogicalImmediate → (rn : ℕ) → Computed
-logical_immediate i rn = logical i.width i.operation (operand i.width rn) (mask_of i)
+logical_immediate i rn = logical i.width i.operation (operand i.width rn) (mask_of i.width i.n i.immr i.imms)
 
 -- the second operand of BIC, ORN, EON and BICS is complemented
 abbrev pub logical_shifted : LogicalShifted → (rn rm : ℕ) → Computed

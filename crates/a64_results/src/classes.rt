@@ -3,6 +3,7 @@ ghost use Rattle.a64_word.specs.declared.instruction.Instruction.{Instruction};
 ghost use Rattle.a64_word.specs.Encoding.{IsLegal};
 ghost use Rattle.a64_word.specs.declared.operands.Width.TheVariants as widths;
 ghost use Rattle.a64_word.specs.Operands.{data_size};
+ghost use Rattle.a64_word.specs.Bitmask.{mask_of};
 ghost use Rattle.a64_results.specs.Results as spec;
 ghost use Rattle.a64_results.specs.Results.{move_wide_of, not_selected, two_source_of};
 
@@ -84,7 +85,7 @@ pub fn add_sub_extended(i: &AddSubExtended, rn: u64, rm: u64) -> Computed
 /// The bitmask of AND, ORR, EOR and ANDS of an immediate.
 pub fn mask_of(i: &LogicalImmediate) -> u64
     requires { IsLegal (Instruction.LogicalImmediate i.now) }
-    ensures value { result ≡ spec.mask_of i.now }
+    ensures value { result ≡ mask_of i.now.width i.now.n i.now.immr i.now.imms }
 {
     i.mask()
 }
@@ -92,7 +93,7 @@ pub fn mask_of(i: &LogicalImmediate) -> u64
 /// AND, ORR, EOR and ANDS of a bitmask that is known; `rn` is what its register holds.
 #[inline(always)]
 pub fn logical_masked(i: &LogicalImmediate, mask: u64, rn: u64) -> Computed
-    requires { mask ≡ spec.mask_of i.now }
+    requires { mask ≡ mask_of i.now.width i.now.n i.now.immr i.now.imms }
     ensures { result ≡ spec.logical_immediate i.now rn }
 {
     logical(i.width, i.operation, operand(i.width, rn), mask)

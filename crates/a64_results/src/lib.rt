@@ -6,6 +6,7 @@ mod bitfields;
 mod classes;
 mod computed;
 mod flags;
+mod laws;
 mod logical;
 mod numbers;
 mod products;
@@ -19,3 +20,4 @@ pub use classes::{
 };
 pub use computed::Computed;
 pub use flags::Flags;
+pub use laws::addresses_at_the_far_ends;

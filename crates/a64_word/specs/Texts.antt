@@ -19,7 +19,7 @@ use Rattle.a64_word.specs.declared.operands.PairMode.{PairMode}
 use Rattle.a64_word.specs.declared.operands.PairMode.TheVariants as pair_mode
 use Rattle.a64_word.specs.Operands.{size_code}
 use Rattle.a64_word.specs.Names.{condition_name, shift_name, extend_name, index_extend_name, add_sub_name, logical_name, move_wide_name, bitfield_name, two_source_name, branch_name, select_name, access_name, access_width}
-use Rattle.a64_word.specs.Bitmask.{mask_of}
+use Rattle.a64_word.specs.Bitmask.{mask_if_any}
 
 -- the operands, with commas between them
 abbrev pub joined : List (List ℕ) → List ℕ
@@ -159,7 +159,7 @@ text (AddSubImmediate i) =
     (destination i.set_flags i.width i.rd ∷ or_sp i.width i.rn ∷ (number i.imm12 ++ shifted_left (if i.shifted then 12 else 0)) ∷ [])
 -- AND, ORR, EOR, ANDS <Rd|SP>, <Rn>, #<imm>
 text (LogicalImmediate i) =
-    line (logical_name false i.operation) (destination (is_ands i.operation) i.width i.rd ∷ general i.width i.rn ∷ mask_text (mask_of i.width i.n i.immr i.imms) ∷ [])
+    line (logical_name false i.operation) (destination (is_ands i.operation) i.width i.rd ∷ general i.width i.rn ∷ mask_text (mask_if_any i.width i.n i.immr i.imms) ∷ [])
 -- MOVN, MOVZ, MOVK <Rd>, #<imm>{, LSL #<shift>}
 text (MoveWide i) =
     line (move_wide_name i.kind) (general i.width i.rd ∷ (number i.imm16 ++ shifted_left (16 * i.hw)) ∷ [])

@@ -1,11 +1,12 @@
 -- Addresses, words and permissions.
 use Rattle.std.proofs.Common.{◌≡◌, ℕ, zero, suc, ◌+◌, ◌-◌, ◌*◌, ◌/◌, ◌%◌, ◌^◌, ◌<◌, ◌≤◌, Bool, true, false, cond, ◌&&◌, length, Option, Some, None, ℤ, pos, negsuc, nat_abs, refl, sym, ap, ◌∙◌, inl, inr, arith, ltb-true, ltb-false, leb-true, eqb-true, lt-ltb, le-leb, eq-eqb, ltb, leb, eqb, slice_get}
-use Rattle.std.proofs.lemmas.Bool.{and_parts, and_from, cond_both, cond-true, cases_lt, false≢true}
+use Rattle.std.proofs.lemmas.Bool.{and_parts, and_from, cond_both, cond-true, cases_lt, false≢true, lt-leb, and_right}
 use Rattle.a64_word.specs.declared.instruction.Instruction.{Instruction}
 use Rattle.a64_word.specs.Encoding.{Spells}
 use Rattle.sparse_memory.specs.Bytes.{number_at}
 use Rattle.a64_step.specs.Accesses.{displaced}
 use Rattle.lfi_confinement.specs.Slots.{Code, base, slot_size, guard_size, code_offset, table_bytes, InSlot, is_in_slot, is_guarded, word_address, word_place, entry_address, entry_count, entry_at, Permission, NoAccess, data_offset, permission_in, permission_at, is_permitted, byte_in, memory_of}
+use Rattle.lfi_module.specs.Numbers.{module_count, base_of}
 use Rattle.lfi_confinement.specs.Lawful.{IsLawfulCode}
 use Rattle.lfi_confinement.specs.Moves.{Fetches, first_denied}
 
@@ -148,3 +149,11 @@ entry_is j h =
     (eq-eqb ((entry_address j - 2 ^ 40) % 16) 0 (omega arith)) in
     let q : (entry_address j - 2 ^ 40) / 16 ≡ j = omega arith in
     cond-true (leb (2 ^ 40) (entry_address j) && ltb (entry_address j) (entry_address entry_count) && eqb ((entry_address j - 2 ^ 40) % 16) 0) (Some ((entry_address j - 2 ^ 40) / 16)) None test ∙ ap Some q
+
+unguarded : (from a bytes : ℕ) → from + slot_size + guard_size < a + bytes → is_guarded from a bytes ≡ false
+unguarded from a bytes h =
+    and_right (leb from (a + guard_size)) (leb (a + bytes) (from + slot_size + guard_size)) (lt-leb (a + bytes) (from + slot_size + guard_size) h)
+
+-- no entry lies in a slot or in one of its guards
+pub entry_outside : (j m : ℕ) → j < entry_count → m < module_count → is_guarded (base_of m) (entry_address j) 1 ≡ false
+entry_outside j m h k = unguarded (base_of m) (entry_address j) 1 (omega arith)

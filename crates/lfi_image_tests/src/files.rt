@@ -1,6 +1,6 @@
 //! Image files, written and read back.
 
-use crate::rows::{NOP, ONE_RET, RET, image};
+use crate::rows::{NOP, ONE_RET, RET, append, builder, finished, image, page_ending};
 use lfi_image::{CompleteImage, read_image, write_image};
 use std::alloc::Global;
 use std::test::Fail;
@@ -56,5 +56,29 @@ fn every_slot_and_a_full_page(rt: HostRuntime) -> Result<(), Fail> {
         let back = read_back(rt.alloc(), &bytes)?;
         assert!(rt; back.slot().number() == slot, "slot {slot}");
     }
+    Ok(())
+}
+
+/// The image of 1,025 words, 1,024 NOPs and RET, in slot 15 from the last: two pages.
+fn two_pages(alloc: Global) -> Result<CompleteImage, Fail> {
+    let mut builder = builder(alloc, 1025, 1024, 15)?;
+    let first = append(alloc, &mut builder, &page_ending(alloc, NOP)?)?;
+    let second = append(alloc, &mut builder, &RET)?;
+    if first.is_some() || second.is_some() {
+        return Err(Fail::from("the code breaks a rule"));
+    }
+    finished(builder)
+}
+
+#[test]
+fn a_file_of_two_pages(rt: HostRuntime) -> Result<(), Fail> {
+    let image = two_pages(rt.alloc())?;
+    let mut bytes = Vec::new(rt.alloc());
+    assert!(rt; write_image(&image, &mut bytes).is_ok());
+    assert!(rt; bytes.len() == 24 + 4100);
+    let back = read_back(rt.alloc(), &bytes)?;
+    assert!(rt; back.words().number() == 1025 && back.entry() == 1024);
+    assert!(rt; back.slot().number() == 15);
+    assert!(rt; back.word(1023) == 0xD503_201F && back.word(1024) == 0xD65F_03C0);
     Ok(())
 }

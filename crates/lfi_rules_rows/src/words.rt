@@ -602,3 +602,36 @@ fn broken_words(rt: HostRuntime) -> Result<(), Fail> {
     }
     Ok(())
 }
+
+/// Sums into sp, but for the first operand: ADD SP, Xn, X22, UXTX; ADD SP, Xn, W0, UXTW; ADD and SUB SP, Xn, #16.
+const SUMS_INTO_STACK: [u32; 4] = [0x8B36601F, 0x8B20401F, 0x9100401F, 0xD100401F];
+
+/// The first operands, sp among them, with which such a sum is lawful before a store at sp: bit n stands for number n. `None`
+/// where another rule is broken than that of sp.
+fn lawful_operands(rt: &HostRuntime, sum: u32) -> Result<Option<u32>, AllocError> {
+    let broken = Some(Fault {
+        word: 0,
+        rule: Rule::StackBounded,
+    });
+    let mut operands = 0;
+    for number in 0..32u32 {
+        let fault = fault_of(rt, &[sum | number << 5, 0xF90003E0])?;
+        if fault == None {
+            operands |= 1 << number;
+        } else if fault != broken {
+            return Ok(None);
+        }
+    }
+    Ok(Some(operands))
+}
+
+/// Registers are added to x21 alone, and immediates to sp alone.
+#[test]
+fn sums_into_the_stack_pointer(rt: HostRuntime) -> Result<(), Fail> {
+    let [by_offset, by_guard, up, down] = SUMS_INTO_STACK;
+    assert!(rt; lawful_operands(&rt, by_offset)? == Some(1 << 21));
+    assert!(rt; lawful_operands(&rt, by_guard)? == Some(1 << 21));
+    assert!(rt; lawful_operands(&rt, up)? == Some(1 << 31));
+    assert!(rt; lawful_operands(&rt, down)? == Some(1 << 31));
+    Ok(())
+}
