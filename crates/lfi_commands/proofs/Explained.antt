@@ -8,7 +8,8 @@ use Rattle.lfi_commands.specs.declared.verdict.Verdict.TheVariants.{Lawful, Refu
 use Rattle.lfi_commands.specs.declared.ending.Ending.{Ending}
 use Rattle.lfi_commands.specs.declared.ending.Ending.TheVariants.{Well, NotWell, WrongWords, Failed}
 use Rattle.lfi_commands.specs.Checking.{Checks, IsCode}
-use Rattle.lfi_commands.specs.Explaining.{FindsListing, WritesFault, WritesRefused, WritesVerdict}
+use Rattle.lfi_commands.specs.Explaining.{WritesFault, WritesRefused, WritesVerdict}
+use Rattle.lfi_commands.specs.Listing.{FindsListing}
 
 -- `more` is known wherever `known` is, and the same there
 abbrev pub Knows : (more known : Option (List ℕ)) → Type 0

@@ -8,7 +8,7 @@ use Rattle.std.proofs.lemmas.Grind.{flat_map-append}
 use Rattle.lfi_image.specs.Image.{Image}
 use Rattle.lfi_place.specs.declared.report.ModuleReport.{ModuleReport}
 use Rattle.lfi_commands.specs.declared.failure.Failure.{Failure}
-use Rattle.lfi_commands.specs.Failures.{failure_line, failure_lines, Told, TellsWrite}
+use Rattle.lfi_commands.specs.Failures.{failure_line, failure_lines, Told, IsOfWriting}
 use Rattle.lfi_commands.specs.Images.{Fate, Puts, NamesPath, WritesImages, failures_in, file_written, files_written, image_file, image_in, image_path_of, images_in, is_none_of}
 use Rattle.lfi_commands.proofs.Joined.{all_taken, joined, no_more}
 
@@ -58,7 +58,7 @@ writes_one folder image a b lost e put =
     record { fates = record { image = image; failure = None } ∷ []; each = refl; puts = put; names = (tt, tt); told = told_nil lost e; all_put = refl }
 
 -- one of which a failure was told
-pub fails_one : (folder : List ℕ) (image : Image) (failure : Failure) (a b : Option Files) (lost : Bool) (e f : Option (List ℕ)) → b ≡ a → TellsWrite (image_path_of folder image.slot) failure
+pub fails_one : (folder : List ℕ) (image : Image) (failure : Failure) (a b : Option Files) (lost : Bool) (e f : Option (List ℕ)) → b ≡ a → IsOfWriting (image_path_of folder image.slot) failure
     → Told lost e f (failure_line failure) → WritesImages folder (image ∷ []) a b lost e f false
 fails_one folder image failure a b lost e f same names told =
     record {

@@ -3,11 +3,11 @@ use Rattle.std.proofs.Common.{◌≡◌, ◌∙◌, ℕ, zero, suc, ◌+◌, ◌
 use Rattle.std.proofs.lemmas.Option.{none-some, slice_get-map, slice_get_within}
 use Rattle.lfi_receive.specs.declared.input.Input.{Input}
 use Rattle.lfi_receive.specs.Inputs.{left_of}
-use Rattle.lfi_commands.specs.Runs.{AreKnown}
+use Rattle.lfi_commands.specs.Loading.{AreKnown}
 use Rattle.lfi_commands.specs.inner.Opening.{AreInputsOf, IsInputOf}
 use Rattle.lfi_commands.specs.declared.failure.Failure.{Failure}
 use Rattle.lfi_commands.specs.declared.failure.Failure.TheVariants.{CannotRead, CannotWrite, CannotListen, NoMemory}
-use Rattle.lfi_commands.specs.Failures.{TellsRead, TellsReadOfOne}
+use Rattle.lfi_commands.specs.Failures.{IsOfReading, IsOfReadingOne}
 use Rattle.lfi_commands.proofs.Joined.{all_taken}
 
 some_same : {A : Type 0} (a b : A) → Some a ≡ Some b → a ≡ b
@@ -45,9 +45,9 @@ pub map_all : {A B : Type 0} (f : A → B) (xs : List A) (k : ℕ) → length xs
 map_all f xs k enough = ap (map f) (all_taken xs k enough)
 
 -- what is told of one path is told of one of all
-pub tells_one : {A : Type 0} (f : A → List ℕ) (xs : List A) (k : ℕ) (x : A) (failure : Failure) → slice_get xs k ≡ Some x → TellsRead (f x) failure → TellsReadOfOne (map f xs) failure
+pub tells_one : {A : Type 0} (f : A → List ℕ) (xs : List A) (k : ℕ) (x : A) (failure : Failure) → slice_get xs k ≡ Some x → IsOfReading (f x) failure → IsOfReadingOne (map f xs) failure
 tells_one f xs k x (CannotRead told cause) at tells = (k, slice_get-map f xs k ∙ ap (option_map f) at ∙ ap Some (sym tells))
-tells_one f xs k x (CannotWrite told cause) at tells = absurd tells
+tells_one f xs k x (CannotWrite target cause) at tells = absurd tells
 tells_one f xs k x (CannotListen cause) at tells = absurd tells
 tells_one f xs k x NoMemory at tells = tt
 

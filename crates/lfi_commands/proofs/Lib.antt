@@ -1,4 +1,6 @@
 mod Begun
+mod Carried
+mod Ended
 mod Explained
 mod Failing
 mod Fates

@@ -8,8 +8,6 @@ use Rattle.slot_access.specs.declared.halt.Halt.TheVariants as halts
 use Rattle.lfi_run.specs.declared.image_run.ImageRun.{ImageRun}
 use Rattle.lfi_run.specs.declared.image_run.ImageRun.TheVariants as image_run
 use Rattle.lfi_stage.specs.declared.settle.Report.{Report}
-use Rattle.lfi_commands.specs.declared.verdict.Verdict.{Verdict}
-use Rattle.lfi_commands.specs.declared.verdict.Verdict.TheVariants.{Lawful, Refused, BadLength}
 use Rattle.lfi_commands.specs.declared.ending.Ending.{Ending}
 use Rattle.lfi_commands.specs.declared.ending.Ending.TheVariants.{Well, NotWell, WrongWords, Failed}
 use Rattle.lfi_model.specs.Texts.{IsWell}
@@ -21,12 +19,6 @@ number_of Well = 0
 number_of NotWell = 1
 number_of WrongWords = 2
 number_of Failed = 3
-
--- by a verdict
-abbrev pub ending_of : Verdict → Ending
-ending_of (Lawful n) = Well
-ending_of (Refused fault) = NotWell
-ending_of BadLength = NotWell
 
 -- a read of some connection failed
 abbrev pub IsReadFailed : List (Option FrameFault) → Type 0

@@ -1,4 +1,4 @@
--- What is written of code that is judged, with what is explained of it, and of code that is listed. (docs/DEFINITIONS.md, "The program")
+-- What is written of code that is judged, with what is explained of it. (docs/DEFINITIONS.md, "The program")
 use Rattle.std.specs.Prelude.{◌≡◌, ℕ, List, ◌++◌, Option, IfSome, codes}
 use Rattle.std.specs.Io.KnownBytes.{Appends}
 use Rattle.a64_word.specs.Words.{words_of}
@@ -6,14 +6,13 @@ use Rattle.lfi_rules.specs.declared.fault.Fault.{Fault}
 use Rattle.lfi_rules.specs.Texts.{fault_text}
 use Rattle.lfi_explain.specs.declared.explanation.Explanation.{Explanation}
 use Rattle.lfi_explain.specs.Explanations.{Explains, WritesRefusals, explanation_line}
-use Rattle.lfi_explain.specs.Listings.{WritesListing}
 use Rattle.lfi_command_line.specs.declared.line.Explain.{Explain}
 use Rattle.lfi_command_line.specs.declared.line.Explain.TheVariants.{Nothing, First, All}
 use Rattle.lfi_commands.specs.declared.verdict.Verdict.{Verdict}
 use Rattle.lfi_commands.specs.declared.verdict.Verdict.TheVariants.{Refused}
 use Rattle.lfi_commands.specs.declared.ending.Ending.{Ending}
-use Rattle.lfi_commands.specs.declared.ending.Ending.TheVariants.{Well, NotWell, WrongWords, Failed}
-use Rattle.lfi_commands.specs.Checking.{Checks, IsCode, verdict_text}
+use Rattle.lfi_commands.specs.Checking.{Checks, ending_of, verdict_text}
+use Rattle.lfi_commands.specs.Left.{Left, TellsNothing}
 
 -- Of a fault of this code, told as that of module 0, its line was written; or its explanation; or what is told of all words that break a rule, and how many they are.
 abbrev pub WritesFault : Explain → (code : List ℕ) → Fault → (old new : Option (List ℕ)) → Type 0
@@ -33,9 +32,12 @@ WritesVerdict First bytes (Refused fault) old new = WritesRefused First bytes fa
 WritesVerdict All bytes (Refused fault) old new = WritesRefused All bytes fault old new
 WritesVerdict explain bytes verdict old new = Appends old new (verdict_text verdict ++ codes "\n")
 
--- Of the file that has these bytes, where they are known, all words were listed, as those of module 0; or it isn't code, and its line was written. By the ending.
-abbrev pub FindsListing : (bytes old new : Option (List ℕ)) → Ending → Type 0
-FindsListing bytes old new Well = (code : List ℕ) × IfSome bytes (λ all. all ≡ code) × IsCode code × WritesListing (words_of code) 0 old new
-FindsListing bytes old new NotWell = IfSome bytes (λ all. ¬ (IsCode all)) × Appends old new (codes "bad length\n")
-FindsListing bytes old new WrongWords = ⊥
-FindsListing bytes old new Failed = ⊥
+-- What `lfiload check --explain FILE`, or `--all`, did, where the file has these bytes, as far as they are known: it found one
+-- verdict, wrote its line or what is to be explained, and nothing else, and ended by the verdict.
+pub record HasExplained (explain : Explain) (bytes : Option (List ℕ)) (old new : Left) (ending : Ending) : Type 0 where
+  pub verdict : Verdict
+  pub checks : IfSome bytes (λ xs. Checks xs verdict)
+  pub written : WritesVerdict explain bytes verdict old.out new.out
+  pub put : new.put ≡ old.put
+  pub told : TellsNothing old new
+  pub ends : ending ≡ ending_of verdict

@@ -2,17 +2,26 @@
 use Rattle.std.specs.Prelude.{◌≡◌, ⊤, ℕ, Bool, true, false, List, ◌++◌, Option, Some, codes, slice_get, string_bytes}
 use Rattle.std.specs.List.{flat_map}
 use Rattle.std.specs.Io.KnownBytes.{Appends}
+use Rattle.std.specs.declared.io.ErrorKind.{ErrorKind}
+use Rattle.std.specs.declared.io.ErrorKind.TheVariants.{OutOfMemory}
 use Rattle.lfi_commands.specs.declared.device_cause.DeviceCause.{DeviceCause}
 use Rattle.lfi_commands.specs.declared.commands.CommandFault.{CommandFault}
 use Rattle.lfi_commands.specs.declared.commands.CommandFault.TheVariants as fault
+use Rattle.lfi_commands.specs.declared.failure.Target.{Target}
+use Rattle.lfi_commands.specs.declared.failure.Target.TheVariants.{StandardOutput, File}
 use Rattle.lfi_commands.specs.declared.failure.Failure.{Failure}
 use Rattle.lfi_commands.specs.declared.failure.Failure.TheVariants.{CannotRead, CannotWrite, CannotListen, NoMemory}
-use Rattle.lfi_commands.specs.Causes.{cause_line}
+use Rattle.lfi_commands.specs.Causes.{cause_line, cause_of}
+
+-- what can't be written, in words
+abbrev pub target_text : Target → List ℕ
+target_text StandardOutput = codes "standard output"
+target_text (File path) = string_bytes path
 
 -- a failure in words, and its cause in a line of its own, where it is told
 abbrev pub failure_text : Failure → List ℕ
-failure_text (CannotRead path cause) = codes "cannot read " ++ string_bytes path ++ cause_line cause
-failure_text (CannotWrite path cause) = codes "cannot write " ++ string_bytes path ++ cause_line cause
+failure_text (CannotRead path cause) = codes "cannot read " ++ path.now ++ cause_line cause
+failure_text (CannotWrite target cause) = codes "cannot write " ++ target_text target ++ cause_line cause
 failure_text (CannotListen cause) = codes "cannot listen" ++ cause_line cause
 failure_text NoMemory = codes "no memory"
 
@@ -29,53 +38,58 @@ abbrev pub is_of_a_write : CommandFault → Bool
 is_of_a_write (fault.NotWritten cause) = true
 is_of_a_write _ = false
 
--- it names this path as one that can't be read, or tells that there was no memory
-abbrev pub TellsRead : List ℕ → Failure → Type 0
-TellsRead path (CannotRead told cause) = string_bytes told ≡ path
-TellsRead path (CannotWrite told cause) = ⊥
-TellsRead path (CannotListen cause) = ⊥
-TellsRead path NoMemory = ⊤
+-- the failure is that of the output
+abbrev pub is_of_output : Failure → Bool
+is_of_output (CannotWrite StandardOutput cause) = true
+is_of_output _ = false
 
--- it names this path as one that can't be written, or tells that there was no memory
-abbrev pub TellsWrite : List ℕ → Failure → Type 0
-TellsWrite path (CannotRead told cause) = ⊥
-TellsWrite path (CannotWrite told cause) = string_bytes told ≡ path
-TellsWrite path (CannotListen cause) = ⊥
-TellsWrite path NoMemory = ⊤
+-- the fault of a read that fails with an error of this kind
+abbrev pub fault_of_read : ErrorKind → CommandFault
+fault_of_read OutOfMemory = fault.NoMemory
+fault_of_read kind = fault.NotRead (cause_of kind)
 
--- it tells of this cause, or that there was no memory
-abbrev pub HasCause : DeviceCause → Failure → Type 0
-HasCause cause (CannotRead told c) = c ≡ cause
-HasCause cause (CannotWrite told c) = c ≡ cause
-HasCause cause (CannotListen c) = c ≡ cause
-HasCause cause NoMemory = ⊤
+-- it names this path as one that can't be read, and this cause
+abbrev pub TellsRead : List ℕ → DeviceCause → Failure → Type 0
+TellsRead path cause (CannotRead told c) = (told.now ≡ path) × (c ≡ cause)
+TellsRead path cause _ = ⊥
 
 -- it tells of a command's fault, where the input is the file at this path
 abbrev pub TellsOf : CommandFault → List ℕ → Failure → Type 0
 TellsOf fault.NoMemory path failure = failure ≡ NoMemory
-TellsOf (fault.NotRead cause) path failure = TellsRead path failure × HasCause cause failure
-TellsOf (fault.NotWritten cause) path failure = TellsWrite (codes "standard output") failure × HasCause cause failure
+TellsOf (fault.NotRead cause) path failure = TellsRead path cause failure
+TellsOf (fault.NotWritten cause) path failure = failure ≡ CannotWrite StandardOutput cause
+
+-- it names this path as one that can't be read, or tells that there was no memory
+abbrev pub IsOfReading : List ℕ → Failure → Type 0
+IsOfReading path (CannotRead told cause) = told.now ≡ path
+IsOfReading path NoMemory = ⊤
+IsOfReading path _ = ⊥
 
 -- it names one of these paths as one that can't be read, or tells that there was no memory
-abbrev pub TellsReadOfOne : List (List ℕ) → Failure → Type 0
-TellsReadOfOne paths (CannotRead told cause) = (c : ℕ) × (slice_get paths c ≡ Some (string_bytes told))
-TellsReadOfOne paths (CannotWrite told cause) = ⊥
-TellsReadOfOne paths (CannotListen cause) = ⊥
-TellsReadOfOne paths NoMemory = ⊤
+abbrev pub IsOfReadingOne : List (List ℕ) → Failure → Type 0
+IsOfReadingOne paths (CannotRead told cause) = (c : ℕ) × (slice_get paths c ≡ Some told.now)
+IsOfReadingOne paths NoMemory = ⊤
+IsOfReadingOne paths _ = ⊥
+
+-- it names this path as that of a file that can't be written, or tells that there was no memory
+abbrev pub IsOfWriting : List ℕ → Failure → Type 0
+IsOfWriting path (CannotWrite (File told) cause) = string_bytes told ≡ path
+IsOfWriting path NoMemory = ⊤
+IsOfWriting path _ = ⊥
 
 -- it tells of a fault of a command whose inputs are the files at these paths
 abbrev pub FailsOn : List (List ℕ) → Failure → Type 0
-FailsOn paths (CannotRead told cause) = (c : ℕ) × (slice_get paths c ≡ Some (string_bytes told))
-FailsOn paths (CannotWrite told cause) = string_bytes told ≡ codes "standard output"
-FailsOn paths (CannotListen cause) = ⊥
+FailsOn paths (CannotRead told cause) = (c : ℕ) × (slice_get paths c ≡ Some told.now)
+FailsOn paths (CannotWrite StandardOutput cause) = ⊤
 FailsOn paths NoMemory = ⊤
+FailsOn paths _ = ⊥
 
 -- it tells of a fault of a command that listens at a socket
 abbrev pub FailsServing : Failure → Type 0
-FailsServing (CannotRead told cause) = ⊥
-FailsServing (CannotWrite told cause) = string_bytes told ≡ codes "standard output"
 FailsServing (CannotListen cause) = ⊤
+FailsServing (CannotWrite StandardOutput cause) = ⊤
 FailsServing NoMemory = ⊤
+FailsServing _ = ⊥
 
 -- These lines were written to the errors, unless something is lost.
 abbrev pub Told : Bool → (old new : Option (List ℕ)) → List ℕ → Type 0

@@ -6,7 +6,7 @@ use Rattle.lfi_place.specs.declared.report.ImageState.{ImageState}
 use Rattle.lfi_place.specs.declared.report.ImageState.TheVariants.{Absent, Part, Whole}
 use Rattle.lfi_place.specs.declared.report.ModuleReport.{ModuleReport}
 use Rattle.lfi_commands.specs.declared.failure.Failure.{Failure}
-use Rattle.lfi_commands.specs.Failures.{failure_lines, TellsWrite, Told}
+use Rattle.lfi_commands.specs.Failures.{failure_lines, IsOfWriting, Told}
 
 -- a number in decimal digits, two at the least
 abbrev pub two_digits : ℕ → List ℕ
@@ -60,7 +60,7 @@ is_none_of (failure ∷ rest) = false
 -- a failure names the path of its own image
 abbrev pub NamesPath : List ℕ → Image → Option Failure → Type 0
 NamesPath folder image None = ⊤
-NamesPath folder image (Some failure) = TellsWrite (image_path_of folder image.slot) failure
+NamesPath folder image (Some failure) = IsOfWriting (image_path_of folder image.slot) failure
 
 -- Of these images each was put into the folder at the path of its own slot, or a failure came and was told.
 pub record WritesImages (folder : List ℕ) (images : List Image) (put_old put_new : Option (List (List ℕ × List ℕ))) (is_lost : Bool) (errors_old errors_new : Option (List ℕ)) (all : Bool) : Type 0 where

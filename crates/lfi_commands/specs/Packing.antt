@@ -9,6 +9,7 @@ use Rattle.lfi_commands.specs.declared.ending.Ending.{Ending}
 use Rattle.lfi_commands.specs.declared.ending.Ending.TheVariants.{Well, NotWell, WrongWords, Failed}
 use Rattle.lfi_commands.specs.Checking.{IsCode}
 use Rattle.lfi_commands.specs.Failures.{Told}
+use Rattle.lfi_commands.specs.Left.{Left}
 
 -- why a file is no module, in words
 abbrev pub no_module_text : NoModule → List ℕ
@@ -54,3 +55,8 @@ FindsPacked first entry paths file_at out_old out_new is_lost errors_old errors_
 FindsPacked first entry paths file_at out_old out_new is_lost errors_old errors_new WrongWords = ⊥
 FindsPacked first entry paths file_at out_old out_new is_lost errors_old errors_new Failed =
     TellsNoModule entry paths file_at out_old out_new is_lost errors_old errors_new × (is_lost ≡ true)
+
+-- What `lfiload pack` did with the files at these paths: it packed them, or told that one of them is no module, and put no file.
+pub record HasPacked (first entry : ℕ) (paths : List (List ℕ)) (file_at : List ℕ → Option (List ℕ)) (old new : Left) (ending : Ending) : Type 0 where
+  pub found : FindsPacked first entry paths file_at old.out new.out new.is_lost old.errors new.errors ending
+  pub put : new.put ≡ old.put

@@ -3,12 +3,13 @@
 ghost use Rattle.std.specs.Prelude.{◌≡◌, ℕ, List, Some, true, false, ◌≤◌, ◌++◌, IfOk, IfErr, IfSome, OnOk, codes, length, slice_get};
 ghost use Rattle.lfi_module.specs.Numbers.{most_words};
 ghost use Rattle.std.specs.Io.KnownBytes.{Appends};
+ghost use Rattle.std.specs.IoError.{error_kind};
 ghost use Rattle.lfi_receive.specs.Inputs.{left_of};
 ghost use Rattle.lfi_receive.specs.declared.input.Input.{Input};
 ghost use Rattle.lfi_stage.specs.Stages.{IsLoaded};
 ghost use Rattle.lfi_threads.specs.Served.{HasServed};
 ghost use Rattle.lfi_commands.specs.Checking.{Checks, verdict_text};
-ghost use Rattle.lfi_commands.specs.Failures.{is_of_a_write};
+ghost use Rattle.lfi_commands.specs.Failures.{fault_of_read, is_of_a_write};
 ghost use Rattle.lfi_model.specs.Texts.{summary_text};
 ghost use Rattle.lfi_stage.specs.Summaries.{summary_of};
 
@@ -42,7 +43,8 @@ pub enum CommandFault {
 impl CommandFault {
     /// That of a read.
     pub(crate) fn of_read(error: &io::Error) -> CommandFault
-        ensures { is_of_a_write result ≡ false }
+        ensures fault { result ≡ fault_of_read (error_kind error.now) }
+        ensures read { is_of_a_write result ≡ false }
     {
         match error.kind() {
             io::ErrorKind::OutOfMemory => CommandFault::NoMemory,
@@ -166,7 +168,7 @@ pub fn load<S: Threads + Wait + Sync, R: Read + Send + Drop, N: Notices + Sync, 
 ) -> Result<Report, CommandFault>
     requires connections { (1 ≤ length inputs.items) × (length inputs.items ≤ 8) }
     requires verifiers { (1 ≤ verifiers) × (verifiers ≤ 8) }
-    ensures report { IfOk result (λ report. (texts : ℕ → List ℕ) → ((c : ℕ) (input : Input R) → slice_get inputs.items c ≡ Some input → left_of R.remaining input ≡ Some (texts c)) → IsLoaded (length inputs.items) texts report) }
+    ensures report { IfOk result (λ report. (texts : ℕ → List ℕ) → ((c : ℕ) (input : Input R) → slice_get inputs.items c ≡ Some input → left_of R.remaining input ≡ Some (texts c)) → IsLoaded (length inputs.items) verifiers texts report) }
     ensures written { IfOk result (λ report. Appends (W.contents writer.old) (W.contents writer.new) (summary_text (summary_of report))) }
     ensures unwritten { IfErr result (λ fault. is_of_a_write fault ≡ false → writer.new ≡ writer.old) }
 {
@@ -198,7 +200,7 @@ pub fn serve<S: Threads + Wait + Files + Sync, N: Notices + Sync, W: Write>(
 ) -> Result<Served, CommandFault>
     requires connections { (1 ≤ connections) × (connections ≤ 8) }
     requires verifiers { (1 ≤ verifiers) × (verifiers ≤ 8) }
-    ensures report { IfOk result (HasServed connections) }
+    ensures report { IfOk result (HasServed connections verifiers) }
     ensures written { IfOk result (λ served. Appends (W.contents writer.old) (W.contents writer.new) (summary_text (summary_of served.report))) }
     ensures unwritten { IfErr result (λ fault. is_of_a_write fault ≡ false → writer.new ≡ writer.old) }
 {

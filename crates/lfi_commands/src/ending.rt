@@ -2,7 +2,8 @@
 
 ghost use Rattle.std.specs.Prelude.{◌≡◌, ◌≢◌, Some, false, IsTrue};
 ghost use Rattle.lfi_frame.specs.declared.fault.FrameFault.TheVariants.{ReadFailed};
-ghost use Rattle.lfi_commands.specs.Endings.{number_of, ending_of, ending_of_run, EndsBy, EndsLoad, IsReadFailed};
+ghost use Rattle.lfi_commands.specs.Checking.{ending_of};
+ghost use Rattle.lfi_commands.specs.Endings.{number_of, ending_of_run, EndsBy, EndsLoad, IsReadFailed};
 
 use crate::verdict::Verdict;
 use lfi_frame::FrameFault;

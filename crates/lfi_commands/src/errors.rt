@@ -1,6 +1,6 @@
 //! Where the program tells what went wrong.
 
-ghost use Rattle.std.specs.Prelude.{◌≡◌, ◌++◌, false, true, IfSome, codes};
+ghost use Rattle.std.specs.Prelude.{◌≡◌, ◌++◌, false, true, IfSome, OnErr, OnOk, codes};
 ghost use Rattle.lfi_commands.specs.Errors.{is_lost_of, writer_of};
 ghost use Rattle.lfi_commands.specs.Failures.{failure_line, Told};
 ghost use Rattle.lfi_commands.specs.Packing.{no_module_line};
@@ -8,7 +8,7 @@ ghost use Rattle.lfi_commands.specs.Packing.{no_module_line};
 use crate::failure::Failure;
 use crate::packing::NoModule;
 use std::fmt::Display;
-use std::io::Write;
+use std::io::{self, Write};
 
 /// The standard error, or what stands for it. What can't be written there is dropped, and it is kept that something was.
 #[derive(Drop)]
@@ -42,17 +42,27 @@ impl<W> Errors<W> {
     {
         self.is_lost
     }
+
+    /// Keeps that something was lost, where this write failed. Nothing else changes it.
+    fn keep(&mut self, written: io::Result<()>)
+        ensures written { OnOk written (self.new ≡ self.old) }
+        ensures lost { OnErr written (is_lost_of self.new ≡ true) }
+        ensures writer { writer_of self.new ≡ writer_of self.old }
+    {
+        if written.is_err() {
+            self.is_lost = true;
+        }
+    }
 }
 
 impl<W: Write> Errors<W> {
     /// Tells of a failure by a line.
-    pub fn tell(&mut self, failure: &Failure)
+    pub fn tell(&mut self, failure: &Failure<'_>)
         ensures told { Told (is_lost_of self.new) (W.contents (writer_of self.old)) (W.contents (writer_of self.new)) (failure_line failure.now) }
         ensures lost { is_lost_of self.old ≡ true → is_lost_of self.new ≡ true }
     {
-        if writeln!(self.writer, "lfiload: {failure}").is_err() {
-            self.is_lost = true;
-        }
+        let written = writeln!(self.writer, "lfiload: {failure}");
+        self.keep(written);
     }
 
     /// Tells by a line that the code in a file is no module.
@@ -60,9 +70,8 @@ impl<W: Write> Errors<W> {
         ensures told { Told (is_lost_of self.new) (W.contents (writer_of self.old)) (W.contents (writer_of self.new)) (no_module_line no_module.entry) }
         ensures lost { is_lost_of self.old ≡ true → is_lost_of self.new ≡ true }
     {
-        if writeln!(self.writer, "lfiload: {no_module}").is_err() {
-            self.is_lost = true;
-        }
+        let written = writeln!(self.writer, "lfiload: {no_module}");
+        self.keep(written);
     }
 
     /// Writes a text as it is.
@@ -70,9 +79,8 @@ impl<W: Write> Errors<W> {
         ensures told { IfSome (T.output text) (Told (is_lost_of self.new) (W.contents (writer_of self.old)) (W.contents (writer_of self.new))) }
         ensures lost { is_lost_of self.old ≡ true → is_lost_of self.new ≡ true }
     {
-        if write!(self.writer, "{text}").is_err() {
-            self.is_lost = true;
-        }
+        let written = write!(self.writer, "{text}");
+        self.keep(written);
     }
 
     /// Writes a text as a line.
@@ -80,8 +88,7 @@ impl<W: Write> Errors<W> {
         ensures told { IfSome (T.output text) (λ bytes. Told (is_lost_of self.new) (W.contents (writer_of self.old)) (W.contents (writer_of self.new)) (bytes ++ codes "\n")) }
         ensures lost { is_lost_of self.old ≡ true → is_lost_of self.new ≡ true }
     {
-        if writeln!(self.writer, "{text}").is_err() {
-            self.is_lost = true;
-        }
+        let written = writeln!(self.writer, "{text}");
+        self.keep(written);
     }
 }

@@ -7,7 +7,8 @@ ghost use Rattle.lfi_module.specs.Numbers.{most_words};
 ghost use Rattle.lfi_rules.specs.Faults.{FirstFault};
 ghost use Rattle.lfi_commands.specs.Checking.{Checks, IsCode};
 ghost use Rattle.lfi_commands.specs.Failures.{is_of_a_write};
-ghost use Rattle.lfi_commands.specs.Explaining.{WritesFault, WritesVerdict, FindsListing};
+ghost use Rattle.lfi_commands.specs.Explaining.{WritesFault, WritesVerdict};
+ghost use Rattle.lfi_commands.specs.Listing.{FindsListing};
 
 use crate::code::Code;
 use crate::commands::{CommandFault, write_verdict};

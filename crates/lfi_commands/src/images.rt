@@ -1,14 +1,15 @@
 //! The files of whole images.
 
 ghost use Rattle.std.specs.Prelude.{◌≡◌, ◌∷◌, [], true, IfOk, IfErr, OnOk, OnErr, string_bytes};
+ghost use Rattle.lfi_image.specs.Image.{file_of};
+ghost use Rattle.lfi_commands.specs.declared.device_cause.DeviceCause.{DeviceCause};
 ghost use Rattle.lfi_commands.specs.Images.{image_file, image_in, images_in, image_path_of, Puts, WritesImages};
 ghost use Rattle.lfi_commands.specs.Errors.{is_lost_of, writer_of};
-ghost use Rattle.lfi_commands.specs.Failures.{TellsWrite};
+ghost use Rattle.lfi_commands.specs.Failures.{IsOfWriting};
 
-use crate::device_cause::DeviceCause;
 use crate::disk::Disk;
 use crate::errors::Errors;
-use crate::failure::Failure;
+use crate::failure::{Failure, Target};
 use lfi_image::CompleteImage;
 use lfi_place::{ImageState, ModuleReport};
 use std::alloc::{AllocError, Global};
@@ -22,22 +23,35 @@ fn image_path(alloc: Global, folder: &str, image: &CompleteImage) -> Result<Stri
     format!(in alloc; "{folder}/module-{slot:02}.img")
 }
 
+/// Puts an image at this path.
+fn put_at<D: Disk>(
+    disk: &mut D,
+    path: String,
+    image: &CompleteImage,
+) -> Result<(), Failure<'static>>
+    ensures ok { OnOk result (Puts (D.put_files disk.old) (D.put_files disk.new) ((string_bytes path, file_of image.now) ∷ [])) }
+    ensures err { OnErr result (D.put_files disk.new ≡ D.put_files disk.old) }
+    ensures failure { IfErr result (λ failure. (cause : DeviceCause) × (failure ≡ Failure.CannotWrite (Target.File path) cause)) }
+{
+    match disk.put_image(path.as_str(), image) {
+        Ok(()) => Ok(()),
+        Err(error) => Err(Failure::writing(path, &error)),
+    }
+}
+
 /// Puts an image into this folder.
 fn put<D: Disk>(
     alloc: Global,
     disk: &mut D,
     folder: &str,
     image: &CompleteImage,
-) -> Result<(), Failure>
+) -> Result<(), Failure<'static>>
     ensures ok { OnOk result (Puts (D.put_files disk.old) (D.put_files disk.new) (image_file folder.now image.now ∷ [])) }
     ensures err { OnErr result (D.put_files disk.new ≡ D.put_files disk.old) }
-    ensures failure { IfErr result (TellsWrite (image_path_of folder.now image.now.slot)) }
+    ensures failure { IfErr result (IsOfWriting (image_path_of folder.now image.now.slot)) }
 {
     let path = image_path(alloc, folder, image)?;
-    match disk.put_image(path.as_str(), image) {
-        Ok(()) => Ok(()),
-        Err(error) => Err(Failure::writing(alloc, path.as_str(), DeviceCause::of(&error))),
-    }
+    put_at(disk, path, image)
 }
 
 /// Writes the image of a module, where it is whole, to its file in this folder. It tells of it where it can't be

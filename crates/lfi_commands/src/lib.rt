@@ -27,7 +27,7 @@ pub use disk::{Disk, SystemDisk};
 pub use ending::Ending;
 pub use errors::Errors;
 pub use explaining::{check_explained, disassemble};
-pub use failure::Failure;
+pub use failure::{Failure, Target};
 pub use images::write_images;
 pub use notices::WrittenNotices;
 pub use packing::NoModule;

@@ -1,7 +1,7 @@
 //! The files that the commands read, opened.
 
 ghost use Rattle.std.specs.Prelude.{◌≡◌, ◌<◌, Some, IfOk, IfErr, IfSome, length, map, slice_get};
-ghost use Rattle.lfi_commands.specs.Failures.{TellsRead, TellsReadOfOne};
+ghost use Rattle.lfi_commands.specs.Failures.{IsOfReading, IsOfReadingOne};
 ghost use Rattle.lfi_commands.specs.inner.Opening.{IsInputOf, AreInputsOf};
 
 use crate::disk::Disk;
@@ -10,22 +10,26 @@ use lfi_receive::Input;
 use std::alloc::Global;
 
 /// Opens the file at this path.
-pub(crate) fn open<D: Disk>(alloc: Global, disk: &D, path: &str) -> Result<D::Reader, Failure>
+pub(crate) fn open<'a, D: Disk>(disk: &D, path: &'a str) -> Result<D::Reader, Failure<'a>>
     ensures reader { IfOk result (λ reader. IfSome (D.file_at disk.now path.now) (λ bytes. D.Reader.remaining reader ≡ Some bytes)) }
-    ensures failure { IfErr result (TellsRead path.now) }
+    ensures failure { IfErr result (IsOfReading path.now) }
 {
     match disk.open(path) {
         Ok(reader) => Ok(reader),
-        Err(error) => Err(Failure::reading(alloc, path, error)),
+        Err(error) => Err(Failure::reading(path, &error)),
     }
 }
 
 /// The input of the file at this path.
-fn open_input<D: Disk>(alloc: Global, disk: &D, path: &str) -> Result<Input<D::Reader>, Failure>
+fn open_input<'a, D: Disk>(
+    alloc: Global,
+    disk: &D,
+    path: &'a str,
+) -> Result<Input<D::Reader>, Failure<'a>>
     ensures input { IfOk result (IsInputOf D.Reader.remaining (D.file_at disk.now path.now)) }
-    ensures failure { IfErr result (TellsRead path.now) }
+    ensures failure { IfErr result (IsOfReading path.now) }
 {
-    let reader = open(alloc, disk, path)?;
+    let reader = open(disk, path)?;
     Ok(Input::new(alloc, reader)?)
 }
 
@@ -38,13 +42,13 @@ pub(crate) fn path_at<'a>(paths: &[&'a str], place: usize) -> &'a str
 }
 
 /// Opens the files at these paths, in their order, up to the first that can't be opened.
-pub(crate) fn open_all<D: Disk>(
+pub(crate) fn open_all<'a, D: Disk>(
     alloc: Global,
     disk: &D,
-    paths: &[&str],
-) -> Result<Vec<Input<D::Reader>>, Failure>
+    paths: &[&'a str],
+) -> Result<Vec<Input<D::Reader>>, Failure<'a>>
     ensures inputs { IfOk result (λ inputs. AreInputsOf D.Reader.remaining (map (λ path. D.file_at disk.now path.now) paths.now) inputs.items) }
-    ensures failure { IfErr result (TellsReadOfOne (map (λ path. path.now) paths.now)) }
+    ensures failure { IfErr result (IsOfReadingOne (map (λ path. path.now) paths.now)) }
 {
     let mut inputs = Vec::new(alloc);
     for number in 0..paths.len() {

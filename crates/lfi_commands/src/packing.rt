@@ -3,12 +3,10 @@
 ghost use Rattle.std.specs.Prelude.{◌≡◌, ◌<◌, ◌≤◌, ◌+◌, Some, true, map, length, slice_get, IfOk, IfErr, IfSome, OnOk};
 ghost use Rattle.a64_word.specs.Words.{words_of};
 ghost use Rattle.lfi_commands.specs.Checking.{IsCode};
-ghost use Rattle.lfi_commands.specs.Failures.{is_of_a_write};
 ghost use Rattle.lfi_commands.specs.Packing as spec;
 ghost use Rattle.lfi_commands.specs.inner.Whole.{StopsAt, StopsAtOne, WritesModule};
 
 use crate::code::Code;
-use crate::commands::CommandFault;
 use crate::device_cause::DeviceCause;
 use crate::disk::Disk;
 use crate::failure::Failure;
@@ -46,7 +44,7 @@ pub(crate) enum Stop<'a> {
     /// One of them is none.
     NoModule(NoModule<'a>),
     /// One of them can't be read, or there was no memory.
-    Failed(Failure),
+    Failed(Failure<'a>),
 }
 
 /// The code in the file at this path, as a module that is entered at this word.
@@ -60,14 +58,14 @@ fn read_module<'a, D: Disk>(
     ensures entry { IfOk result (λ code. entry < length (words_of code.items)) }
     ensures stop { IfErr result (StopsAt entry path.now (D.file_at disk.now)) }
 {
-    let reader = match open(alloc, disk, path) {
+    let reader = match open(disk, path) {
         Ok(reader) => reader,
         Err(failure) => return Err(Stop::Failed(failure)),
     };
     let code = match read_code(alloc, reader) {
         Ok(Some(code)) => code,
         Ok(None) => return Err(Stop::NoModule(NoModule::BadLength { path })),
-        Err(fault) => return Err(Stop::Failed(Failure::of(alloc, fault, path))),
+        Err(fault) => return Err(Stop::Failed(Failure::of(fault, path))),
     };
     if entry as usize >= Code::of(&code).len_words() {
         return Err(Stop::NoModule(NoModule::NoEntry { path, entry }));
@@ -112,22 +110,19 @@ fn write_module<W: Write>(
     entry: u32,
     code: &[u8],
     writer: &mut W,
-) -> Result<(), CommandFault>
+) -> Result<(), DeviceCause>
     requires number { number < 16 }
     requires code { IsCode code.now }
     requires entry { entry < length (words_of code.now) }
-    ensures written { OnOk result (WritesModule number entry code.now (W.contents writer.old) (W.contents writer.new)) }
-    ensures fault { IfErr result (λ fault. is_of_a_write fault ≡ true) }
+    ensures { OnOk result (WritesModule number entry code.now (W.contents writer.old) (W.contents writer.new)) }
 {
     let words = Code::of(code).len_words() as u32;
     let extent = Extent::of(WordCount::of(words), entry);
     let mut reader = code;
     match pack_module(ModuleNumber::at(number), extent, &mut reader, writer) {
         Ok(()) => Ok(()),
-        Err(PackFault::WriteFailed(kind)) => {
-            Err(CommandFault::NotWritten(DeviceCause::of_kind(kind)))
-        }
-        Err(_) => Err(CommandFault::NotWritten(DeviceCause::Other)),
+        Err(PackFault::WriteFailed(kind)) => Err(DeviceCause::of_kind(kind)),
+        Err(_) => Err(DeviceCause::Other),
     }
 }
 
@@ -135,17 +130,16 @@ fn write_module<W: Write>(
 ///
 /// # Errors
 ///
-/// Where a write fails.
+/// Where a write fails, for this cause.
 pub(crate) fn write_stream<W: Write>(
     first: usize,
     entry: u32,
     files: &[Vec<u8>],
     writer: &mut W,
-) -> Result<(), CommandFault>
+) -> Result<(), DeviceCause>
     requires numbers { first + length files.now ≤ 16 }
     requires modules { spec.AreModules entry (map (λ file. file.items) files.now) }
-    ensures written { OnOk result (spec.WritesStream first entry (map (λ file. file.items) files.now) (W.contents writer.old) (W.contents writer.new)) }
-    ensures fault { IfErr result (λ fault. is_of_a_write fault ≡ true) }
+    ensures { OnOk result (spec.WritesStream first entry (map (λ file. file.items) files.now) (W.contents writer.old) (W.contents writer.new)) }
 {
     for place in 0..files.len() {
         write_module(first + place, entry, code_at(files, place), writer)?;

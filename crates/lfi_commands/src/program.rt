@@ -1,15 +1,20 @@
 //! The program, from its words to its ending.
 
-ghost use Rattle.std.specs.Prelude.{◌≡◌, ◌≤◌, ℕ, List, [], ◌∷◌, Option, IfOk, IfErr, IfSome, OnErr, ◌+◌, length, map, option_map, string_bytes};
+ghost use Rattle.std.specs.Prelude.{◌≡◌, ◌≤◌, ℕ, List, [], ◌∷◌, Option, IfOk, IfErr, IfSome, OnErr, ◌+◌, false, length, map, option_map, string_bytes};
 ghost use Rattle.lfi_command_line.specs.CommandLine.{IsLineFault};
 ghost use Rattle.lfi_commands.specs.Errors.{is_lost_of, writer_of};
 ghost use Rattle.lfi_commands.specs.Checking.{Checks};
-ghost use Rattle.lfi_commands.specs.Explaining.{WritesVerdict, FindsListing};
-ghost use Rattle.lfi_commands.specs.Failures.{FailsOn, FailsServing};
+ghost use Rattle.lfi_commands.specs.Explaining.{WritesVerdict};
+ghost use Rattle.lfi_commands.specs.Failures.{is_of_a_write, is_of_output, FailsOn, FailsServing};
 ghost use Rattle.lfi_commands.specs.Images.{WritesImages};
-ghost use Rattle.lfi_commands.specs.inner.Opening.{IsInRange};
+ghost use Rattle.lfi_commands.specs.Left.{left};
+ghost use Rattle.lfi_commands.specs.Listing.{FindsListing};
+ghost use Rattle.lfi_commands.specs.Loading.{asked_images, folder_or_none, HasLoaded};
 ghost use Rattle.lfi_commands.specs.Packing.{FindsPacked};
-ghost use Rattle.lfi_commands.specs.Runs.{asked_images, folder_or_none, left, FailsAs, FindsServed, FindsVerdict, FindsReport, FindsRun, CarriesOut, Runs};
+ghost use Rattle.lfi_commands.specs.Serving.{HasServedAll};
+ghost use Rattle.lfi_commands.specs.Runs.{FailsAs, CarriesOut, Runs};
+ghost use Rattle.lfi_commands.specs.inner.Found.{FindsRun, FindsVerdict};
+ghost use Rattle.lfi_commands.specs.inner.Opening.{IsInRange};
 
 use crate::commands::{CommandFault, check_file, load, serve};
 use crate::device_cause::DeviceCause;
@@ -17,7 +22,7 @@ use crate::disk::Disk;
 use crate::ending::Ending;
 use crate::errors::Errors;
 use crate::explaining::{check_explained, disassemble};
-use crate::failure::{Failure, OUTPUT};
+use crate::failure::Failure;
 use crate::images::write_images;
 use crate::opening::{open, open_all};
 use crate::packing::{Stop, read_modules, write_stream};
@@ -46,6 +51,7 @@ fn judge_file<D: Disk, O: Write>(
 ) -> Result<Verdict, CommandFault>
     ensures verdict { IfOk result (λ verdict. IfSome (D.Reader.remaining reader) (λ bytes. Checks bytes verdict)) }
     ensures written { IfOk result (λ verdict. WritesVerdict how (D.Reader.remaining reader) verdict (O.contents out.old) (O.contents out.new)) }
+    ensures unwritten { IfErr result (λ fault. is_of_a_write fault ≡ false → out.new ≡ out.old) }
 {
     match how {
         Explain::Nothing => {
@@ -57,55 +63,58 @@ fn judge_file<D: Disk, O: Write>(
 }
 
 /// Judges the code in a file, and writes what is found of it.
-fn run_check<D: Disk, O: Write>(
+fn run_check<'a, D: Disk, O: Write>(
     alloc: Global,
     disk: &D,
-    path: &str,
+    path: &'a str,
     how: Explain,
     out: &mut O,
-) -> Result<Ending, Failure>
+) -> Result<Ending, Failure<'a>>
     ensures found { IfOk result (FindsVerdict how (D.file_at disk.now path.now) (O.contents out.old) (O.contents out.new)) }
     ensures failure { IfErr result (FailsOn (path.now ∷ [])) }
+    ensures output { IfErr result (λ failure. is_of_output failure ≡ false → out.new ≡ out.old) }
 {
-    let reader = open(alloc, disk, path)?;
+    let reader = open(disk, path)?;
     match judge_file(alloc, disk, reader, how, out) {
         Ok(verdict) => Ok(Ending::of_verdict(&verdict)),
-        Err(fault) => Err(Failure::of(alloc, fault, path)),
+        Err(fault) => Err(Failure::of(fault, path)),
     }
 }
 
 /// Lists the words of the code in a file.
-fn run_disassemble<D: Disk, O: Write>(
+fn run_disassemble<'a, D: Disk, O: Write>(
     alloc: Global,
     disk: &D,
-    path: &str,
+    path: &'a str,
     out: &mut O,
-) -> Result<Ending, Failure>
+) -> Result<Ending, Failure<'a>>
     ensures found { IfOk result (FindsListing (D.file_at disk.now path.now) (O.contents out.old) (O.contents out.new)) }
     ensures failure { IfErr result (FailsOn (path.now ∷ [])) }
+    ensures output { IfErr result (λ failure. is_of_output failure ≡ false → out.new ≡ out.old) }
 {
-    let reader = open(alloc, disk, path)?;
+    let reader = open(disk, path)?;
     match disassemble(alloc, reader, out) {
         Ok(ending) => Ok(ending),
-        Err(fault) => Err(Failure::of(alloc, fault, path)),
+        Err(fault) => Err(Failure::of(fault, path)),
     }
 }
 
 /// Writes a stream of the code in these files, a module each, numbered from the first number on and entered at this word.
 /// All files are read before anything is written.
-fn run_pack<D: Disk, O: Write, E: Write>(
+fn run_pack<'a, D: Disk, O: Write, E: Write>(
     alloc: Global,
     disk: &D,
     first: usize,
     entry: u32,
-    paths: &[&str],
+    paths: &[&'a str],
     out: &mut O,
     errors: &mut Errors<E>,
-) -> Result<Ending, Failure>
+) -> Result<Ending, Failure<'a>>
     requires numbers { first + length paths.now ≤ 16 }
     ensures found { IfOk result (FindsPacked first entry (map (λ path. path.now) paths.now) (D.file_at disk.now)
         (O.contents out.old) (O.contents out.new) (is_lost_of errors.new) (E.contents (writer_of errors.old)) (E.contents (writer_of errors.new))) }
     ensures failure { IfErr result (FailsOn (map (λ path. path.now) paths.now)) }
+    ensures output { IfErr result (λ failure. is_of_output failure ≡ false → out.new ≡ out.old) }
     ensures errors { OnErr result (errors.new ≡ errors.old) }
 {
     let files = match read_modules(alloc, disk, paths, entry) {
@@ -121,8 +130,7 @@ fn run_pack<D: Disk, O: Write, E: Write>(
     };
     match write_stream(first, entry, &files, out) {
         Ok(()) => Ok(Ending::Well),
-        Err(CommandFault::NotWritten(cause)) => Err(Failure::writing(alloc, OUTPUT, cause)),
-        Err(_) => Err(Failure::NoMemory),
+        Err(cause) => Err(Failure::of_output(cause)),
     }
 }
 
@@ -146,7 +154,14 @@ fn write_asked_images<D: Disk, E: Write>(
 
 /// Loads the modules of the streams in these files, with so many verifiers, writes the report, then what is told of refused
 /// modules where that is asked for, and writes the whole images to a folder where one is named.
-fn run_load<S: Threads + Wait + Files + Net + Sync, D: Disk, N: Notices + Sync, O: Write, E: Write>(
+fn run_load<
+    'a,
+    S: Threads + Wait + Files + Net + Sync,
+    D: Disk,
+    N: Notices + Sync,
+    O: Write,
+    E: Write,
+>(
     rt: &S,
     alloc: Global,
     disk: &mut D,
@@ -154,28 +169,29 @@ fn run_load<S: Threads + Wait + Files + Net + Sync, D: Disk, N: Notices + Sync, 
     verifiers: usize,
     folder: Option<&str>,
     explain: bool,
-    paths: &[&str],
+    paths: &[&'a str],
     out: &mut O,
     errors: &mut Errors<E>,
-) -> Result<Ending, Failure>
+) -> Result<Ending, Failure<'a>>
     requires verifiers { (1 ≤ verifiers) × (verifiers ≤ 8) }
     requires connections { (1 ≤ length paths.now) × (length paths.now ≤ 8) }
-    ensures found { IfOk result (FindsReport (map (λ path. D.file_at disk.old path.now) paths.now) (option_map (λ s. s.now) folder.entry) explain
+    ensures found { IfOk result (HasLoaded verifiers (map (λ path. D.file_at disk.old path.now) paths.now) (option_map (λ s. s.now) folder.entry) explain
         (left (O.contents out.old) (D.put_files disk.old) (is_lost_of errors.old) (E.contents (writer_of errors.old)))
         (left (O.contents out.new) (D.put_files disk.new) (is_lost_of errors.new) (E.contents (writer_of errors.new)))) }
     ensures failure { IfErr result (FailsOn (map (λ path. path.now) paths.now)) }
+    ensures output { IfErr result (λ failure. is_of_output failure ≡ false → out.new ≡ out.old) }
     ensures disk { OnErr result (disk.new ≡ disk.old) }
     ensures errors { OnErr result (errors.new ≡ errors.old) }
 {
     let inputs = open_all(alloc, disk, paths)?;
     let report = match load(rt, alloc, inputs, verifiers, notices, out) {
         Ok(report) => report,
-        Err(CommandFault::NotWritten(cause)) => return Err(Failure::writing(alloc, OUTPUT, cause)),
+        Err(CommandFault::NotWritten(cause)) => return Err(Failure::of_output(cause)),
         Err(_) => return Err(Failure::NoMemory),
     };
     match write_asked_refused(explain, &report.modules, out) {
         Ok(()) => {}
-        Err(error) => return Err(Failure::writing(alloc, OUTPUT, DeviceCause::of(&error))),
+        Err(error) => return Err(Failure::of_output(DeviceCause::of(&error))),
     }
     let all = write_asked_images(alloc, disk, folder, &report.modules, errors);
     Ok(Ending::of_load(&report, true, all))
@@ -201,13 +217,14 @@ fn run_serve<
     explain: bool,
     out: &mut O,
     errors: &mut Errors<E>,
-) -> Result<Ending, Failure>
+) -> Result<Ending, Failure<'static>>
     requires verifiers { (1 ≤ verifiers) × (verifiers ≤ 8) }
     requires connections { (1 ≤ connections) × (connections ≤ 8) }
-    ensures found { IfOk result (FindsServed connections (option_map (λ s. s.now) folder.entry) explain
+    ensures found { IfOk result (HasServedAll connections verifiers (option_map (λ s. s.now) folder.entry) explain
         (left (O.contents out.old) (D.put_files disk.old) (is_lost_of errors.old) (E.contents (writer_of errors.old)))
         (left (O.contents out.new) (D.put_files disk.new) (is_lost_of errors.new) (E.contents (writer_of errors.new)))) }
     ensures failure { IfErr result FailsServing }
+    ensures output { IfErr result (λ failure. is_of_output failure ≡ false → out.new ≡ out.old) }
     ensures disk { OnErr result (disk.new ≡ disk.old) }
     ensures errors { OnErr result (errors.new ≡ errors.old) }
 {
@@ -226,32 +243,33 @@ fn run_serve<
         out,
     ) {
         Ok(served) => served,
-        Err(CommandFault::NotWritten(cause)) => return Err(Failure::writing(alloc, OUTPUT, cause)),
+        Err(CommandFault::NotWritten(cause)) => return Err(Failure::of_output(cause)),
         Err(_) => return Err(Failure::NoMemory),
     };
     match write_asked_refused(explain, &served.report.modules, out) {
         Ok(()) => {}
-        Err(error) => return Err(Failure::writing(alloc, OUTPUT, DeviceCause::of(&error))),
+        Err(error) => return Err(Failure::of_output(DeviceCause::of(&error))),
     }
     let all = write_asked_images(alloc, disk, folder, &served.report.modules, errors);
     Ok(Ending::of_load(&served.report, served.all_accepted, all))
 }
 
 /// Runs the image in a file for at most so many steps, and tells what comes of it.
-fn run_run<D: Disk, O: Write, E: Write>(
+fn run_run<'a, D: Disk, O: Write, E: Write>(
     alloc: Global,
     disk: &D,
-    path: &str,
+    path: &'a str,
     steps: u64,
     out: &mut O,
     errors: &mut Errors<E>,
-) -> Result<Ending, Failure>
+) -> Result<Ending, Failure<'a>>
     ensures found { IfOk result (FindsRun (D.file_at disk.now path.now) steps (O.contents out.old) (O.contents out.new)
         (is_lost_of errors.new) (E.contents (writer_of errors.old)) (E.contents (writer_of errors.new))) }
     ensures failure { IfErr result (FailsOn (path.now ∷ [])) }
+    ensures output { IfErr result (λ failure. is_of_output failure ≡ false → out.new ≡ out.old) }
     ensures errors { OnErr result (errors.new ≡ errors.old) }
 {
-    let mut reader = open(alloc, disk, path)?;
+    let mut reader = open(disk, path)?;
     let run = run_image(alloc, &mut reader, steps, out)?;
     errors.write_line(run);
     if !errors.is_lost() {
@@ -261,20 +279,21 @@ fn run_run<D: Disk, O: Write, E: Write>(
 }
 
 /// Carries out what the program is asked for.
-fn run<S: Threads + Wait + Files + Net + Sync, D: Disk, N: Notices + Sync, O: Write, E: Write>(
+fn run<'a, S: Threads + Wait + Files + Net + Sync, D: Disk, N: Notices + Sync, O: Write, E: Write>(
     rt: &S,
     alloc: Global,
     disk: &mut D,
     notices: &N,
-    line: Line<'_>,
+    line: Line<'a>,
     out: &mut O,
     errors: &mut Errors<E>,
-) -> Result<Ending, Failure>
+) -> Result<Ending, Failure<'a>>
     requires { IsInRange line }
     ensures found { IfOk result (CarriesOut line.entry (D.file_at disk.old)
         (left (O.contents out.old) (D.put_files disk.old) (is_lost_of errors.old) (E.contents (writer_of errors.old)))
         (left (O.contents out.new) (D.put_files disk.new) (is_lost_of errors.new) (E.contents (writer_of errors.new)))) }
     ensures failure { IfErr result (FailsAs line.entry) }
+    ensures output { IfErr result (λ failure. is_of_output failure ≡ false → out.new ≡ out.old) }
     ensures disk { OnErr result (disk.new ≡ disk.old) }
     ensures errors { OnErr result (errors.new ≡ errors.old) }
 {
@@ -318,12 +337,7 @@ fn run<S: Threads + Wait + Files + Net + Sync, D: Disk, N: Notices + Sync, O: Wr
 }
 
 /// Writes the parser's text: help to the output, and all else to the errors.
-fn tell_fault<O: Write, E: Write>(
-    alloc: Global,
-    fault: &LineFault,
-    out: &mut O,
-    errors: &mut Errors<E>,
-) -> Ending
+fn tell_fault<O: Write, E: Write>(fault: &LineFault, out: &mut O, errors: &mut Errors<E>) -> Ending
     ensures { (words : List (List ℕ)) (file_at : List ℕ → Option (List ℕ)) (put : Option (List (List ℕ × List ℕ))) → IsLineFault words fault.now
         → Runs words file_at
         (left (O.contents out.old) put (is_lost_of errors.old) (E.contents (writer_of errors.old)))
@@ -333,7 +347,7 @@ fn tell_fault<O: Write, E: Write>(
         LineFault::NoMemory => errors.tell(&Failure::NoMemory),
         LineFault::Help(text) => match write!(out, "{text}") {
             Ok(()) => return Ending::Well,
-            Err(error) => errors.tell(&Failure::writing(alloc, OUTPUT, DeviceCause::of(&error))),
+            Err(error) => errors.tell(&Failure::of_output(DeviceCause::of(&error))),
         },
         LineFault::Wrong(text) => {
             errors.write_text(text);
@@ -387,6 +401,6 @@ pub fn run_words<
                 Ending::Failed
             }
         },
-        Err(fault) => tell_fault(alloc, &fault, out, errors),
+        Err(fault) => tell_fault(&fault, out, errors),
     }
 }

@@ -4,8 +4,8 @@ ghost use Rattle.std.specs.Prelude.{◌≡◌, IfOk, length};
 
 use crate::runs::{ONE_RET, ONE_RET_REPORT, RET, begin, run_over};
 use lfi_commands::{
-    CommandFault, DeviceCause, Ending, Errors, Failure, SystemDisk, Verdict, check, check_file,
-    load,
+    CommandFault, DeviceCause, Ending, Errors, Failure, SystemDisk, Target, Verdict, check,
+    check_file, load,
 };
 use lfi_model::Outcome;
 use lfi_receive::Input;
@@ -282,6 +282,43 @@ fn output_that_fails(rt: HostRuntime) -> Result<(), Fail> {
     Ok(())
 }
 
+/// What is told of a failure, where it can be written; `None` where it is lost all the same.
+fn told(alloc: Global, failure: Failure<'_>) -> Option<Vec<u8>> {
+    let mut errors = Errors::new(Vec::new(alloc));
+    errors.tell(&failure);
+    if errors.is_lost() {
+        return None;
+    }
+    Vec::from_slice(alloc, errors.writer().as_slice()).ok()
+}
+
+/// Whether that is this text.
+fn is_told(alloc: Global, failure: Failure<'_>, text: &str) -> bool {
+    match told(alloc, failure) {
+        Some(told) => told.as_slice() == text.as_bytes(),
+        None => false,
+    }
+}
+
+#[test]
+fn failures_are_told(rt: HostRuntime) -> Result<(), Fail> {
+    let alloc = rt.alloc();
+    let read = Failure::CannotRead("a.code", DeviceCause::PermissionDenied);
+    let text = "lfiload: cannot read a.code\n  Permission denied\n";
+    assert!(rt; is_told(alloc, read, text));
+    let output = Failure::CannotWrite(Target::StandardOutput, DeviceCause::BrokenPipe);
+    let text = "lfiload: cannot write standard output\n  Broken pipe\n";
+    assert!(rt; is_told(alloc, output, text));
+    let path = String::from_str(alloc, "a.img")?;
+    let image = Failure::CannotWrite(Target::File(path), DeviceCause::Other);
+    assert!(rt; is_told(alloc, image, "lfiload: cannot write a.img\n"));
+    let socket = Failure::CannotListen(DeviceCause::AddressInUse);
+    let text = "lfiload: cannot listen\n  Address already in use\n";
+    assert!(rt; is_told(alloc, socket, text));
+    assert!(rt; is_told(alloc, Failure::NoMemory, "lfiload: no memory\n"));
+    Ok(())
+}
+
 const UNTOLD: [&str; 6] = [
     "lfiload --help",
     "lfiload unknown",
@@ -332,8 +369,8 @@ const CAUSES: [(io::ErrorKind, &str); 15] = [
 #[test]
 fn causes(rt: HostRuntime) -> Result<(), Fail> {
     for (kind, text) in CAUSES {
-        let cause = DeviceCause::of(&io::Error::from(kind));
-        let failure = Failure::writing(rt.alloc(), "a.img", cause);
+        let path = String::from_str(rt.alloc(), "a.img")?;
+        let failure = Failure::writing(path, &io::Error::from(kind));
         let told = format!(in rt.alloc(); "{failure}")?;
         let expected = format!(in rt.alloc(); "cannot write a.img{text}")?;
         assert!(rt; told.as_str() == expected.as_str(), "{text}");

@@ -4,7 +4,9 @@ use crate::devices::FullWriter;
 use crate::runs::{ONE_RET_IMAGE, Run, assert_runs, begin, run_line, run_over};
 use lfi_commands::{Ending, Errors, SystemDisk};
 use std::alloc::{AllocError, Global};
+use std::cell::Cell;
 use std::fs::{self, File, Files};
+use std::io::{self, Write};
 use std::net::Net;
 use std::process::Abort;
 use std::sync::Wait;
@@ -283,6 +285,151 @@ fn output_of_images_that_fails(rt: HostRuntime) -> Result<(), Fail> {
     assert!(rt; ending == Ending::Failed && lost.is_lost());
     assert!(rt; printed.as_slice() == b"Hi".as_slice());
     fs::remove_dir_all(&rt, "full.tmp")?;
+    Ok(())
+}
+
+/// Keeps so many bytes, and takes no more.
+#[derive(Drop)]
+struct PartWriter {
+    bytes: Vec<u8>,
+    left: usize,
+    flushes: bool,
+}
+
+impl Write for PartWriter {
+    fn write(&mut self, bytes: &[u8]) -> io::Result<usize> {
+        let taken = bytes.len().min(self.left);
+        self.bytes.extend_from_slice(&bytes[..taken])?;
+        self.left -= taken;
+        Ok(taken)
+    }
+
+    fn flush(&mut self) -> io::Result<()> {
+        if self.flushes {
+            Ok(())
+        } else {
+            Err(io::Error::from(io::ErrorKind::StorageFull))
+        }
+    }
+}
+
+/// What is in an output that takes so many bytes, and can be flushed or not, and what is told.
+#[derive(Clone, Copy)]
+struct Taken {
+    left: usize,
+    flushes: bool,
+    out: &'static str,
+    err: &'static str,
+}
+
+const TAKEN: [Taken; 4] = [
+    Taken {
+        left: 0,
+        flushes: true,
+        out: "",
+        err: "halt 5 status 255 after 7 steps\n",
+    },
+    Taken {
+        left: 1,
+        flushes: true,
+        out: "H",
+        err: "halt 5 status 255 after 7 steps\n",
+    },
+    Taken {
+        left: 2,
+        flushes: true,
+        out: "Hi",
+        err: "halt 5 status 105 after 7 steps\n",
+    },
+    Taken {
+        left: 2,
+        flushes: false,
+        out: "Hi",
+        err: "halt 5 status 255 after 7 steps\n",
+    },
+];
+
+#[test]
+fn a_beginning_of_what_is_printed(rt: HostRuntime) -> Result<(), Fail> {
+    begin(&rt, "begun.tmp")?;
+    let file = image_file(rt.alloc(), HELLO.as_slice())?;
+    fs::write(&rt, "begun.tmp/hello.img", file.as_slice())?;
+    for taken in TAKEN {
+        let mut disk = SystemDisk { rt: &rt };
+        let mut out = PartWriter {
+            bytes: Vec::new(rt.alloc()),
+            left: taken.left,
+            flushes: taken.flushes,
+        };
+        let mut errors = Errors::new(Vec::new(rt.alloc()));
+        let line = "lfiload run begun.tmp/hello.img --steps 1000";
+        let ending = run_over(&rt, rt.alloc(), &mut disk, line, &mut out, &mut errors)?;
+        assert!(rt; ending == Ending::Well);
+        assert!(rt; out.bytes.as_slice() == taken.out.as_bytes());
+        assert!(rt; errors.writer().as_slice() == taken.err.as_bytes());
+    }
+    fs::remove_dir_all(&rt, "begun.tmp")?;
+    Ok(())
+}
+
+/// An output of which is noted whether all that was written to it was flushed.
+#[derive(Drop)]
+struct NotedWriter<'a> {
+    is_flushed: &'a Cell<bool>,
+}
+
+impl Write for NotedWriter<'_> {
+    fn write(&mut self, bytes: &[u8]) -> io::Result<usize> {
+        self.is_flushed.set(false);
+        Ok(bytes.len())
+    }
+
+    fn flush(&mut self) -> io::Result<()> {
+        self.is_flushed.set(true);
+        Ok(())
+    }
+}
+
+/// What is told beside that output, and whether some of it was before all was flushed.
+#[derive(Drop)]
+struct LaterWriter<'a> {
+    is_flushed: &'a Cell<bool>,
+    told: usize,
+    is_early: bool,
+}
+
+impl Write for LaterWriter<'_> {
+    fn write(&mut self, bytes: &[u8]) -> io::Result<usize> {
+        self.told = self.told.saturating_add(bytes.len());
+        self.is_early |= !self.is_flushed.get();
+        Ok(bytes.len())
+    }
+
+    fn flush(&mut self) -> io::Result<()> {
+        Ok(())
+    }
+}
+
+#[test]
+fn the_line_is_told_after_what_is_printed(rt: HostRuntime) -> Result<(), Fail> {
+    begin(&rt, "later.tmp")?;
+    let file = image_file(rt.alloc(), HELLO.as_slice())?;
+    fs::write(&rt, "later.tmp/hello.img", file.as_slice())?;
+    let is_flushed = Cell::new(false);
+    let mut disk = SystemDisk { rt: &rt };
+    let mut out = NotedWriter {
+        is_flushed: &is_flushed,
+    };
+    let mut errors = Errors::new(LaterWriter {
+        is_flushed: &is_flushed,
+        told: 0,
+        is_early: false,
+    });
+    let line = "lfiload run later.tmp/hello.img --steps 1000";
+    let ending = run_over(&rt, rt.alloc(), &mut disk, line, &mut out, &mut errors)?;
+    assert!(rt; ending == Ending::Well);
+    assert!(rt; errors.writer().told == 32 && !errors.writer().is_early);
+    fs::remove_dir_all(&rt, "later.tmp")?;
     Ok(())
 }
 

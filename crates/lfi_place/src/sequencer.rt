@@ -29,6 +29,7 @@ pub struct Sequencer {
     pub(crate) pass: TakePass<Judged>,
     pub(crate) seat: SequencerSeat,
     pub(crate) sequence: Sequence,
+    pub ghost seated: { module_of seat ≡ sequence.«module» },
 }
 
 impl Sequencer {
@@ -48,6 +49,7 @@ impl Sequencer {
         seat: SequencerSeat,
     ) -> Result<Sequencer, AllocError>
         requires fresh { pass.items ≡ [] }
+        requires seat { module_of seat ≡ «module» }
         ensures pass { IfOk result (λ s. lane_pass_of s ≡ pass) }
         ensures seat { IfOk result (λ s. seat_of s ≡ seat) }
         ensures module { IfOk result (λ s. (sequence_of s).«module» ≡ «module») }
@@ -66,7 +68,8 @@ impl Sequencer {
         requires { sequencer_board self.old.seat ≡ board_id board.now }
         ensures tells { TellsBoard before (told_of_sequencer self.new) self.old.seat self.new.seat }
         ensures board { (sequencer_board self.new.seat ≡ sequencer_board self.old.seat) × (module_of self.new.seat ≡ module_of self.old.seat) }
-        ensures rest { self.new ≡ record self.old { seat = self.new.seat } }
+        ensures pass { self.new.pass ≡ self.old.pass }
+        ensures sequence { self.new.sequence ≡ self.old.sequence }
     {
         match before {
             Told::Nothing => match self.sequence.told() {

@@ -88,7 +88,7 @@ impl Verifier {
         requires lanes { AreLanes lanes.now (lane_puts_of self.old) }
         requires empty { self.old.hand ≡ None }
         ensures tie { (took : List ItemView) → WithLast took self.old item → HandsOn took self.new }
-        ensures did { ByHand result item (hand_of self.new) }
+        ensures did { ByHand result item (hand_of self.new) (lane_puts_of self.old) (lane_puts_of self.new) }
         ensures pass { self.new.pass ≡ self.old.pass }
         ensures same { SameLanes (lane_puts_of self.old) (lane_puts_of self.new) }
     {
@@ -114,7 +114,7 @@ impl Verifier {
         requires intake { (take_pass_of self.old).queue ≡ intake.now }
         requires lanes { AreLanes lanes.now (lane_puts_of self.old) }
         ensures tie { HandsOn (take_pass_of self.old).items self.old → HandsOn (take_pass_of self.new).items self.new }
-        ensures did { AsTold result (hand_of self.old) (hand_of self.new) (take_pass_of self.old) (take_pass_of self.new) }
+        ensures did { AsTold result self.old self.new }
         ensures same { SameLanes (lane_puts_of self.old) (lane_puts_of self.new) }
         ensures pass { IsSamePass (take_pass_of self.old) (take_pass_of self.new) }
     {

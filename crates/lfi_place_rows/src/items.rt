@@ -1,5 +1,7 @@
 //! What the tests share: the items of a module of three pages, 1,024 words, 1,024 and one.
 
+ghost use Rattle.std.specs.Prelude.{◌≡◌};
+
 use lfi_model::{Item, ItemKind, Judged, Reason};
 use lfi_module::{Extent, ModuleNumber, PageSize, WordCount};
 use page_buf::SealedPage;
@@ -32,7 +34,9 @@ pub fn mark(number: u32) -> u32 {
 }
 
 /// The module, which is number 3.
-pub fn module() -> ModuleNumber {
+pub fn module() -> ModuleNumber
+    ensures { result ≡ 3 }
+{
     ModuleNumber::at(3)
 }
 

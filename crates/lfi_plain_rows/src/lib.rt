@@ -8,6 +8,8 @@ mod connections;
 #[cfg(test)]
 mod cuts;
 #[cfg(test)]
+mod ends;
+#[cfg(test)]
 mod modules;
 #[cfg(test)]
 mod settled;

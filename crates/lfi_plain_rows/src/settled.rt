@@ -28,7 +28,7 @@ fn full_pages(alloc: Global, count: u32) -> Result<Text, AllocError> {
 }
 
 /// The input of a text.
-fn input<'a>(alloc: Global, text: &'a Text) -> Result<Input<Pieces<'a>>, AllocError> {
+pub fn input<'a>(alloc: Global, text: &'a Text) -> Result<Input<Pieces<'a>>, AllocError> {
     let left = text.bytes.as_slice();
     let most = usize::MAX;
     Input::new(alloc, Pieces { left, most })

@@ -42,11 +42,39 @@ fn loaded_in_pieces(
     bytes: &[u8],
     most: usize,
 ) -> Result<String, AllocError> {
+    loaded_from(rt, Pieces { left: bytes, most })
+}
+
+/// The text of the stage's report on what one reader gives.
+fn loaded_from<R: Read + Send + Drop>(
+    rt: &(impl Threads + Wait + Sync + AllocGlobal),
+    reader: R,
+) -> Result<String, AllocError> {
     let mut inputs = Vec::new(rt.alloc());
-    let pieces = Pieces { left: bytes, most };
-    inputs.push(Input::new(rt.alloc(), pieces)?)?;
+    inputs.push(Input::new(rt.alloc(), reader)?)?;
     let summary = load_all(rt, rt.alloc(), inputs, 1, &OpenGate, &NoNotices)?.summary();
     format!(in rt.alloc(); "{summary}")
+}
+
+/// A text in memory, in the middle of which one read fails.
+#[derive(Drop)]
+struct FailsOnce<'a> {
+    before: Pieces<'a>,
+    failed: bool,
+    after: Pieces<'a>,
+}
+
+impl<'a> Read for FailsOnce<'a> {
+    fn read(&mut self, buf: &mut [u8]) -> io::Result<usize> {
+        if !self.before.left.is_empty() {
+            return self.before.read(buf);
+        }
+        if self.failed {
+            return self.after.read(buf);
+        }
+        self.failed = true;
+        Err(io::Error::from(io::ErrorKind::Interrupted))
+    }
 }
 
 /// The text of the plain program's report on one connection, of which at most the first message
@@ -96,6 +124,31 @@ fn cut_at_every_byte_in_pieces_of_one(rt: HostRuntime) -> Result<(), Fail> {
         assert_eq!(rt;
             report.as_str(),
             cut_short(len, Cause::End),
+            "after {len} bytes"
+        );
+    }
+    Ok(())
+}
+
+#[test]
+fn failed_once_at_every_byte(rt: HostRuntime) -> Result<(), Fail> {
+    let text = one_word(rt.alloc(), 0, RET)?;
+    assert_eq!(rt; text.bytes.len(), 40);
+    let most = usize::MAX;
+    for len in 0..=40usize {
+        let (left, rest) = (&text.bytes[..len], &text.bytes[len..]);
+        let before = Pieces { left, most };
+        let after = Pieces { left: rest, most };
+        let failed = false;
+        let reader = FailsOnce {
+            before,
+            failed,
+            after,
+        };
+        let report = loaded_from(&rt, reader)?;
+        assert_eq!(rt;
+            report.as_str(),
+            cut_short(len, Cause::Failed),
             "after {len} bytes"
         );
     }

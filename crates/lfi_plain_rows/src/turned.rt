@@ -7,7 +7,7 @@ ghost use Rattle.lfi_plain_rows.specs.Pairs.{IsPair};
 
 use lfi_board::Phase;
 use lfi_module::ModuleNumber;
-use lfi_place::{OpenGate, SequencerTurn, VerifierTurn};
+use lfi_place::{Gate, OpenGate, SequencerTurn, VerifierTurn};
 use lfi_receive::{Input, ReceiverTurn};
 use lfi_stage::Stage;
 use lfi_stage::settle::settle;
@@ -68,14 +68,28 @@ pub fn phase(stage: &mut Stage, number: usize, module: ModuleNumber) -> Phase
     stage.receivers[number].look(&shared.board, module)
 }
 
+/// One turn of a verifier, of which this gate is told.
+pub fn verify_told<S: Wait, G: Gate>(
+    rt: &S,
+    stage: &mut Stage,
+    number: usize,
+    gate: &G,
+) -> VerifierTurn
+    requires pair { IsPair stage.old }
+    requires number { number < 2 }
+    ensures { IsPair stage.new }
+{
+    let shared = &stage.shared;
+    stage.verifiers[number].turn(rt, &shared.intake, &shared.lanes, gate)
+}
+
 /// One turn of a verifier.
 pub fn verify<S: Wait>(rt: &S, stage: &mut Stage, number: usize) -> VerifierTurn
     requires pair { IsPair stage.old }
     requires number { number < 2 }
     ensures { IsPair stage.new }
 {
-    let shared = &stage.shared;
-    stage.verifiers[number].turn(rt, &shared.intake, &shared.lanes, &OpenGate)
+    verify_told(rt, stage, number, &OpenGate)
 }
 
 /// Turns a verifier until a turn isn't Worked: how many were, and what that one did.

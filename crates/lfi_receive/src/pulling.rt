@@ -1,16 +1,16 @@
 //! A receiver's turn over the input of its connection.
 
-ghost use Rattle.std.specs.Prelude.{◌≡◌, ℕ, List, ◌↔◌, Some, None, IsSome, true, if◌then◌else◌};
+ghost use Rattle.std.specs.Prelude.{◌≡◌, ◌≢◌, ℕ, List, [], ◌↔◌, Some, None, IsSome, true, if◌then◌else◌};
 ghost use Rattle.std.specs.Io.KnownBytes.{Keeps};
 ghost use Rattle.lfi_board.specs.Known.{board_id, board_of, known_by};
 ghost use Rattle.lfi_receive.specs.Turns.{PutsAsTold, CountsAsTold, is_finished};
 ghost use Rattle.lfi_receive.specs.Receivers.{pass_of, seat_of, cause_of, hand_of, strays_at, StandsFor, IsFinished, AfterEnd};
-ghost use Rattle.lfi_receive.specs.Inputs.{unread_of, left_of};
-ghost use Rattle.lfi_receive.specs.Pulls.{EndsAt, IsPulled};
+ghost use Rattle.lfi_receive.specs.Inputs.{unread_of, left_of, failure_of};
+ghost use Rattle.lfi_receive.specs.Pulls.{EndsAt, FailsAs, IsPulled};
 ghost use Rattle.lfi_receive.specs.inner.Fetches.{IsFetched};
 ghost use Rattle.lfi_receive.specs.declared.receiver.ReceiverTurn.TheVariants as turn;
 
-use crate::input::Input;
+use crate::input::{Filled, Input};
 use crate::receiver::{Receiver, ReceiverTurn};
 use lfi_board::Board;
 use lfi_model::Item;
@@ -19,26 +19,26 @@ use std::io::Read;
 use std::sync::Wait;
 
 impl Receiver {
-    /// Reads once, where a turn needs bytes and none are left to use, and tells the end of the
-    /// input, or that the read failed.
+    /// Reads once, where no bytes are left to use, and tells the end of the input, or that the read
+    /// failed.
     fn fetch<R: Read + Drop>(&mut self, input: &mut Input<R>)
+        requires { cause_of self.old ≡ None }
         ensures keeps { Keeps (left_of R.remaining input.old) (left_of R.remaining input.new) }
         ensures fetched { IsFetched self.old self.new (left_of R.remaining input.new) }
+        ensures some { cause_of self.new ≡ None → unread_of input.new ≢ [] }
+        ensures failure { FailsAs (cause_of self.new) (failure_of input.old) (failure_of input.new) }
     {
-        if self.needs_no_bytes() {
-            return;
-        }
         match input.fill() {
-            Ok(true) => {}
-            Ok(false) => self.end(false),
-            Err(_) => self.end(true),
+            Filled::Bytes => {}
+            Filled::End => self.end(false),
+            Filled::Failed => self.end(true),
         }
     }
 
     /// One turn over the input: `turn` over at most 4,096 bytes that were read before, with one
     /// read where none are left. A read of no bytes is the end of the input, and any read that
-    /// fails is the fault ReadFailed. With an item in hand, or once the input is over, nothing is
-    /// read.
+    /// fails, however, is the fault ReadFailed. With an item in hand, or once the input is over,
+    /// nothing is read.
     pub fn pull<S: Wait, R: Read + Drop>(
         &mut self,
         rt: &S,
@@ -49,6 +49,9 @@ impl Receiver {
         requires part { (pass_of self.old).queue ≡ intake.now }
         requires board { board_of (seat_of self.old) ≡ board_id board.now }
         ensures pulled { IsPulled self.old self.new (left_of R.remaining input.old) (left_of R.remaining input.new) }
+        ensures failure { (bytes : List ℕ) → StandsFor self.old bytes → cause_of self.old ≡ None → FailsAs (cause_of self.new) (failure_of input.old) (failure_of input.new) }
+        ensures held { IsSome (hand_of self.old) → input.new ≡ input.old }
+        ensures unread { IsSome (cause_of self.old) → input.new ≡ input.old }
         ensures puts { PutsAsTold result (pass_of self.old) (pass_of self.new) }
         ensures strays { CountsAsTold result (strays_at self.old) (strays_at self.new) }
         ensures hand { IsSome (hand_of self.new) ↔ (result ≡ turn.Blocked) }
@@ -57,6 +60,10 @@ impl Receiver {
         ensures told { (known_by (seat_of self.new)).ended ≡ (if is_finished result then true else (known_by (seat_of self.old)).ended) }
         ensures board { board_of (seat_of self.new) ≡ board_of (seat_of self.old) }
     {
+        if self.needs_no_bytes() {
+            let (_, did) = self.turn(rt, board, intake, &[]);
+            return did;
+        }
         self.fetch(input);
         let (used, did) = self.turn(rt, board, intake, input.unread());
         input.use_up(used);

@@ -451,6 +451,7 @@ impl Receiver {
         ensures fault { fault_of self.new ≡ fault_of self.old }
         ensures strays { strays_at self.new ≡ strays_at self.old }
         ensures due { due_of self.new ≡ due_of self.old }
+        ensures finished { IsFinished self.old → IsFinished self.new }
     {
         board.look(&mut self.seat.seat, module)
     }

@@ -1,7 +1,6 @@
 -- Runs with one runtime, seen as runs with another.
-use Rattle.std.proofs.Common.{◌≡◌, ◌∙◌, ℕ, zero, suc, List, [], Option, Some, None, refl, sym, ap, subst, rules, true≢false}
-use Rattle.std.specs.Prelude.{Result, Ok, Err, is_ok, OnOk, true}
-use Rattle.std.specs.Io.KnownBytes.{append_known, Keeps}
+use Rattle.std.proofs.Common.{◌≡◌, ◌∙◌, ℕ, zero, suc, List, [], Option, Some, None, refl, sym, ap, subst, rules}
+use Rattle.std.specs.Io.KnownBytes.{append_known}
 use Rattle.a64_registers.specs.declared.registers.Registers.{Registers}
 use Rattle.lfi_confinement.specs.Moves.{Move, go, stop, ask, escape}
 use Rattle.slot_memory.specs.Owned.{Owned}
@@ -60,69 +59,57 @@ module _ {H G : Type 0} (answers : Answers H) (others : Answers G) (seen : H →
   pub run_alike : (c d : Config) (h k : H) (halt : Halt) (count : ℕ) → RanThenHalts answers c h halt count d k → RanThenHalts others c (seen h) halt count d (seen k)
   run_alike c d h k halt count e = (e.0, seen e.1, ran_alike count c e.0 h e.1 e.2, ends_alike halt e.0 d e.1 k e.3)
 
--- What no answer changes, a run doesn't change.
-module _ {G : Type 0} where
-  -- the runtime whose answers are any, and which holds the same from then on
-  abbrev pub unchanged : Answers G
-  unchanged g entry r o a k p = k ≡ g
+-- the runtime whose answers are any, and which then holds what is so related to what it held
+abbrev pub related : {G : Type 0} → (G → G → Type 0) → Answers G
+related Related g entry r o a k p = Related g k
 
-  same_leads : (move : Move) (c d : Config) (g k : G) → LeadsOn unchanged move c g d k → k ≡ g
-  same_leads (go after offset bytes) c d g k e = e.2
-  same_leads (ask entry given) c d g k e = e.0
-  same_leads (stop cause) c d g k e = absurd e
-  same_leads escape c d g k e = absurd e
+-- What each answer keeps in a relation, a run keeps in it.
+module _ {G : Type 0} (Related : G → G → Type 0) (same : (g : G) → Related g g) (further : (g h k : G) → Related g h → Related h k → Related g k) where
+  at_same : (g k : G) → k ≡ g → Related g k
+  at_same g k is = subst (Related g) (sym is) (same g)
 
-  same_halts : (halt : Halt) (move : Move) (c d : Config) (g k : G) → HaltsAt unchanged halt move c g d k → k ≡ g
-  same_halts NoMemory (go after offset bytes) c d g k e = e.2
-  same_halts NoMemory (stop cause) c d g k e = e.2
-  same_halts NoMemory (ask entry given) c d g k e = absurd e
-  same_halts NoMemory escape c d g k e = absurd e
-  same_halts (Ended status) (ask entry given) c d g k e = e.0
-  same_halts (Ended status) (stop cause) c d g k e = e.2
-  same_halts (Ended status) (go after offset bytes) c d g k e = absurd e
-  same_halts (Ended status) escape c d g k e = absurd e
-  same_halts UnlawfulAnswer (ask entry given) c d g k e = e.1
-  same_halts UnlawfulAnswer (stop cause) c d g k e = e.2
-  same_halts UnlawfulAnswer (go after offset bytes) c d g k e = absurd e
-  same_halts UnlawfulAnswer escape c d g k e = absurd e
-  same_halts StepsUsed (stop cause) c d g k e = e.2
-  same_halts (NoAccess address) (stop cause) c d g k e = e.2
-  same_halts (NoFetch pc) (stop cause) c d g k e = e.2
-  same_halts (Breakpoint pc) (stop cause) c d g k e = e.2
-  same_halts halt move c d g k e = absurd e
+  related_leads : (move : Move) (c d : Config) (g k : G) → LeadsOn (related Related) move c g d k → Related g k
+  related_leads (go after offset bytes) c d g k e = at_same g k e.2
+  related_leads (ask entry given) c d g k e = e.0
+  related_leads (stop cause) c d g k e = absurd e
+  related_leads escape c d g k e = absurd e
 
-  same_ran : (count : ℕ) (c d : Config) (g k : G) → Ran unchanged c g count d k → k ≡ g
-  same_ran zero c d g k e = e.1
-  same_ran (suc count) c d g k e = same_leads e.3.move e.0 d e.1 k e.3.leads ∙ same_ran count c e.0 g e.1 e.2
+  related_halts : (halt : Halt) (move : Move) (c d : Config) (g k : G) → HaltsAt (related Related) halt move c g d k → Related g k
+  related_halts NoMemory (go after offset bytes) c d g k e = at_same g k e.2
+  related_halts NoMemory (stop cause) c d g k e = at_same g k e.2
+  related_halts NoMemory (ask entry given) c d g k e = absurd e
+  related_halts NoMemory escape c d g k e = absurd e
+  related_halts (Ended status) (ask entry given) c d g k e = e.0
+  related_halts (Ended status) (stop cause) c d g k e = at_same g k e.2
+  related_halts (Ended status) (go after offset bytes) c d g k e = absurd e
+  related_halts (Ended status) escape c d g k e = absurd e
+  related_halts UnlawfulAnswer (ask entry given) c d g k e = e.1
+  related_halts UnlawfulAnswer (stop cause) c d g k e = at_same g k e.2
+  related_halts UnlawfulAnswer (go after offset bytes) c d g k e = absurd e
+  related_halts UnlawfulAnswer escape c d g k e = absurd e
+  related_halts StepsUsed (stop cause) c d g k e = at_same g k e.2
+  related_halts (NoAccess address) (stop cause) c d g k e = at_same g k e.2
+  related_halts (NoFetch pc) (stop cause) c d g k e = at_same g k e.2
+  related_halts (Breakpoint pc) (stop cause) c d g k e = at_same g k e.2
+  related_halts halt move c d g k e = absurd e
 
-  same_ends : (halt : Halt) (c d : Config) (g k : G) → EndsAt unchanged halt c g d k → k ≡ g
-  same_ends StepsUsed c d g k e = e.1
-  same_ends (NoAccess address) c d g k e = same_halts (NoAccess address) e.move c d g k e.halts
-  same_ends (NoFetch pc) c d g k e = same_halts (NoFetch pc) e.move c d g k e.halts
-  same_ends (Breakpoint pc) c d g k e = same_halts (Breakpoint pc) e.move c d g k e.halts
-  same_ends (Ended status) c d g k e = same_halts (Ended status) e.move c d g k e.halts
-  same_ends UnlawfulAnswer c d g k e = same_halts UnlawfulAnswer e.move c d g k e.halts
-  same_ends NoMemory c d g k e = same_halts NoMemory e.move c d g k e.halts
+  related_ran : (count : ℕ) (c d : Config) (g k : G) → Ran (related Related) c g count d k → Related g k
+  related_ran zero c d g k e = at_same g k e.1
+  related_ran (suc count) c d g k e = further g e.1 k (related_ran count c e.0 g e.1 e.2) (related_leads e.3.move e.0 d e.1 k e.3.leads)
 
-  pub same_run : (c d : Config) (g k : G) (halt : Halt) (count : ℕ) → RanThenHalts unchanged c g halt count d k → k ≡ g
-  same_run c d g k halt count e = same_ends halt e.0 d e.1 k e.3 ∙ same_ran count c e.0 g e.1 e.2
+  related_ends : (halt : Halt) (c d : Config) (g k : G) → EndsAt (related Related) halt c g d k → Related g k
+  related_ends StepsUsed c d g k e = at_same g k e.1
+  related_ends (NoAccess address) c d g k e = related_halts (NoAccess address) e.move c d g k e.halts
+  related_ends (NoFetch pc) c d g k e = related_halts (NoFetch pc) e.move c d g k e.halts
+  related_ends (Breakpoint pc) c d g k e = related_halts (Breakpoint pc) e.move c d g k e.halts
+  related_ends (Ended status) c d g k e = related_halts (Ended status) e.move c d g k e.halts
+  related_ends UnlawfulAnswer c d g k e = related_halts UnlawfulAnswer e.move c d g k e.halts
+  related_ends NoMemory c d g k e = related_halts NoMemory e.move c d g k e.halts
+
+  pub run_related : (c d : Config) (g k : G) (halt : Halt) (count : ℕ) → RanThenHalts (related Related) c g halt count d k → Related g k
+  run_related c d g k halt count e = further g e.1 k (related_ran count c e.0 g e.1 e.2) (related_ends halt e.0 d e.1 k e.3)
 
 -- nothing is kept at first
 pub none_kept : (known : Option (List ℕ)) → append_known known [] ≡ known
 none_kept None = refl
 none_kept (Some xs) = search rules
-
-keeps_trans : (a b d : Option (List ℕ)) → Keeps a b → Keeps b d → Keeps a d
-keeps_trans None b d first second = tt
-keeps_trans (Some xs) None d first second = absurd first
-keeps_trans (Some xs) (Some ys) None first second = absurd second
-keeps_trans (Some xs) (Some ys) (Some zs) first second = second ∙ first
-
--- what is kept in two steps, each seen in two ways
-pub keeps_on : (a b b' d d' : Option (List ℕ)) → Keeps a b → b ≡ b' → Keeps b' d → d' ≡ d → Keeps a d'
-keeps_on a b b' d d' first same second is = subst (Keeps a) (sym is) (keeps_trans a b' d (subst (Keeps a) same first) second)
-
--- what holds of an Ok
-pub on_ok : {T E : Type 0} (r : Result T E) (P : Type 0) → is_ok r ≡ true → OnOk r P → P
-on_ok (Ok value) P ok holds = holds
-on_ok (Err error) P ok holds = absurd (true≢false (sym ok))

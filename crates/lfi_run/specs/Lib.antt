@@ -1,3 +1,4 @@
+pub mod Growth
 pub mod Serving
 pub mod Runs
 pub mod Texts

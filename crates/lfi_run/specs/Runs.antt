@@ -10,12 +10,13 @@ use Rattle.a64_machine.specs.Starts.{start_of}
 use Rattle.a64_machine.specs.Runs.{Config, IsConfined, RanThenHalts}
 use Rattle.lfi_run.specs.declared.image_run.ImageRun.{ImageRun}
 use Rattle.lfi_run.specs.declared.image_run.ImageRun.TheVariants.{Refused, Ended}
+use Rattle.lfi_run.specs.Growth.{Grows, IsBeginning}
 use Rattle.lfi_run.specs.Serving.{serves}
 
--- All that was printed is in the output, and the halt that is told is that of the run; or it could not be written, and an end
--- with the status 255 is told.
-abbrev pub IsWritten : (printed out : Option (List ℕ)) → (halt told : Halt) → Type 0
-IsWritten printed out halt told = (Keeps printed out × (told ≡ halt)) ⊎ (told ≡ EndedWith 255)
+-- All that was printed is in the output, and the halt that is told is that of the run; or it could not be written, only a
+-- beginning of it was added to the output, if anything, and an end with the status 255 is told.
+abbrev pub IsWritten : (old printed new : Option (List ℕ)) → (halt told : Halt) → Type 0
+IsWritten old printed new halt told = (Keeps printed new × (told ≡ halt)) ⊎ (Grows old new × IsBeginning new printed × (told ≡ EndedWith 255))
 
 -- A machine was made of the image, at the registers of its start and with no byte written, from which no run escapes. It ran for
 -- so many steps with the program's runtime, and then halted.
@@ -31,7 +32,7 @@ pub record RunsImage (image : Image) (steps : ℕ) (old new : Option (List ℕ))
   pub ran : RanThenHalts serves start old halt count last printed
   pub within : count ≤ steps
   pub used : (halt ≡ StepsUsed) ↔ (count ≡ steps)
-  pub written : IsWritten printed new halt told
+  pub written : IsWritten old printed new halt told
 
 -- Of a file with these bytes, where they are known: it has a fault, and nothing is printed; or it is an image's, which runs.
 abbrev pub CameOf : (bytes : Option (List ℕ)) → (steps : ℕ) → (old new : Option (List ℕ)) → ImageRun → Type 0

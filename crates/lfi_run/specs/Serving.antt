@@ -1,6 +1,6 @@
 -- What the program's runtime does at a call. (this project's profile: docs/DEFINITIONS.md, "The program")
 use Rattle.std.specs.Prelude.{◌≡◌, ℕ, ◌-◌, ◌%◌, ◌^◌, ◌==◌, if◌then◌else◌, List, [], ◌∷◌, Option, slice_set}
-use Rattle.std.specs.Io.KnownBytes.{Appends}
+use Rattle.std.specs.Io.KnownBytes.{Appends, Keeps}
 use Rattle.a64_registers.specs.declared.registers.Registers.{Registers}
 use Rattle.a64_registers.specs.Registers.{x_at}
 use Rattle.a64_machine.specs.Runs.{Answers}
@@ -21,15 +21,15 @@ low_byte r = x_at r 0 % 256
 abbrev pub refused : Registers → Registers
 refused r = record r { x = slice_set r.x 0 (2 ^ 64 - 1) }
 
--- What is answered to a call with these registers, and what is written to an output that had these bytes, where they are known.
+-- What is answered to a call with these registers, and what is then printed, after these bytes, where they are known.
 abbrev pub Serves : Service → Registers → (old : Option (List ℕ)) → Answer → (new : Option (List ℕ)) → Type 0
 Serves Finish r old (End status) new = (status ≡ low_byte r) × (new ≡ old)
 Serves Print r old (Resume next) new = (next ≡ r) × Appends old new (low_byte r ∷ [])
--- the byte could not be written
-Serves Print r old (End status) new = status ≡ 255
+-- no more could be written: the byte is not printed
+Serves Print r old (End status) new = (status ≡ 255) × Keeps old new
 Serves Unknown r old (Resume next) new = (next ≡ refused r) × (new ≡ old)
 Serves _ r old answer new = ⊥
 
--- The program's runtime holds its output, and leaves the memory as it is.
+-- The program's runtime holds what is printed, and leaves the memory as it is.
 abbrev pub serves : Answers (Option (List ℕ))
 serves old entry given owned answer new after = Serves (service_of entry) given old answer new × (after ≡ owned)

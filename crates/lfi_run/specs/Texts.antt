@@ -1,6 +1,6 @@
 -- What is told of an image file that was run. (this project's profile: docs/DEFINITIONS.md, "The program")
-use Rattle.std.specs.Prelude.{ℕ, ◌-◌, List, ◌++◌, length, codes, decimal, replicate, false}
-use Rattle.std.specs.Fmt.{digits}
+use Rattle.std.specs.Prelude.{ℕ, List, ◌++◌, codes, decimal}
+use Rattle.lfi_explain.specs.Spellings.{hexadecimal}
 use Rattle.lfi_rules.specs.Texts.{fault_text}
 use Rattle.lfi_image.specs.Faults.{number_of}
 use Rattle.lfi_image.specs.declared.fault.ImageFault.{ImageFault}
@@ -12,7 +12,7 @@ use Rattle.lfi_run.specs.declared.image_run.ImageRun.TheVariants.{Refused, Ended
 
 -- an address: `0x` and its hexadecimal digits, with zeros before them up to 16
 abbrev pub address_text : ℕ → List ℕ
-address_text address = codes "0x" ++ replicate (16 - length (digits 16 false address)) 48 ++ digits 16 false address
+address_text address = codes "0x" ++ hexadecimal 16 address
 
 -- why a run ended
 abbrev pub halt_text : Halt → List ℕ

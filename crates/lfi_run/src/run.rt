@@ -2,11 +2,12 @@
 
 ghost use Rattle.std.specs.Prelude.{◌≡◌, ◌≤◌, ◌↔◌, IfOk, OnErr};
 ghost use Rattle.a64_machine.specs.Runs.{RanThenHalts, IsConfined};
+ghost use Rattle.lfi_run.specs.Growth.{Grows};
 ghost use Rattle.lfi_run.specs.Serving.{serves};
 ghost use Rattle.lfi_run.specs.Runs.{CameOf, RunsImage};
 ghost use Rattle.lfi_run.specs.inner.Consoles.{output_of};
 
-use crate::console::{Console, NOT_WRITTEN};
+use crate::console::{Console, NOT_WRITTEN, NotWritten};
 use crate::image_run::ImageRun;
 use a64_machine::{Halt, Machine, start_registers};
 use lfi_image::{CompleteImage, read_image};
@@ -25,13 +26,14 @@ fn run_served<W: Write>(
     ensures within { result.1 ≤ steps }
     ensures used { (result.0 ≡ Halt.StepsUsed) ↔ (result.1 ≡ steps) }
     ensures ran { RanThenHalts serves machine.old (output_of W.contents console.old) result.0 result.1 machine.new (output_of W.contents console.new) }
+    ensures grown { Grows (W.contents console.old.out.now) (W.contents console.new.out.now) }
     ensures same { console.new.out.ghost_name ≡ console.old.out.ghost_name }
 {
     machine.run(steps, console)
 }
 
 /// Runs an image from its start, for at most so many steps. What its code prints is in the output before this returns; a run
-/// of which that can't be written has ended with the status 255.
+/// of which that can't be written, or flushed, has ended with the status 255, and a beginning of it is in the output.
 fn run_from_start<W: Write>(
     alloc: Global,
     image: CompleteImage,
@@ -48,12 +50,13 @@ fn run_from_start<W: Write>(
     };
     let mut console = Console { out, pending };
     let (halt, count) = run_served(&mut machine, steps, &mut console);
-    let is_written = console.write_out().is_ok();
+    let finished = console.finish();
     let Console { out, pending: _ } = console;
-    if is_written && out.flush().is_ok() {
-        Ok((halt, count))
-    } else {
-        Ok((Halt::Ended(NOT_WRITTEN), count))
+    // It does nothing: the proof reads from this use what the output holds.
+    let _ = &*out;
+    match finished {
+        Ok(()) => Ok((halt, count)),
+        Err(NotWritten) => Ok((Halt::Ended(NOT_WRITTEN), count)),
     }
 }
 

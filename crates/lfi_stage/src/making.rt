@@ -2,6 +2,8 @@
 
 ghost use Rattle.std.specs.Prelude.{◌≡◌, ℕ, ◌≤◌, [], length, Some, IfOk, slice_get};
 ghost use Rattle.lfi_module.specs.Numbers.{module_count};
+ghost use Rattle.lfi_board.specs.Known.{module_of};
+ghost use Rattle.lfi_board.specs.declared.seats.SequencerSeat.{SequencerSeat};
 ghost use Rattle.lfi_model.specs.Item.{ItemView};
 ghost use Rattle.lfi_queues.specs.Passes.{PassView};
 ghost use Rattle.lfi_stage.specs.inner.Made.{AreUnused, AreUnusedSeats, AreRowsOf, AreFreshOf, AreVerifiersOf, AreSequencersOf};
@@ -58,6 +60,7 @@ pub(crate) fn make_sequencers(
 ) -> Result<Vec<Sequencer>, AllocError>
     requires count { length takes.items ≡ module_count }
     requires seats { length seats.items ≡ module_count }
+    requires seated { (m : ℕ) (s : SequencerSeat) → slice_get seats.items m ≡ Some s → module_of s ≡ m }
     requires takes { AreUnused takes.items }
     ensures { IfOk result (λ made. AreSequencersOf takes.items seats.items made.items) }
 {

@@ -1,16 +1,18 @@
 //! What a receiver's thread does.
 
-ghost use Rattle.std.specs.Prelude.{ℕ, List, Option, IsSome};
-ghost use Rattle.lfi_receive.specs.Receivers.{cause_of};
+ghost use Rattle.std.specs.Prelude.{◌≡◌, ℕ, List, Option, Some, IsSome};
+ghost use Rattle.std.specs.declared.io.ErrorKind.{ErrorKind};
+ghost use Rattle.lfi_receive.specs.Receivers.{cause_of, IsFinished};
+ghost use Rattle.lfi_receive.specs.declared.receiver.ReceiverTurn.TheVariants as turn;
 ghost use Rattle.lfi_receive.specs.Inputs.{left_of};
 ghost use Rattle.lfi_stage.specs.Parts.{IsReceiver};
 ghost use Rattle.lfi_stage.specs.Stages.{IsFresh};
-ghost use Rattle.lfi_threads.specs.Heard.{HasHeard};
-ghost use Rattle.lfi_threads.specs.inner.Hearing.{IsHearing, IsAsBefore};
+ghost use Rattle.lfi_threads.specs.declared.hearing.Leaving.TheVariants as leaving;
+ghost use Rattle.lfi_threads.specs.inner.Hearing.{IsHearing, IsAsBefore, IsHeardBy};
 
 use crate::ends::{Ends, Rest};
 use crate::notices::{Notices, Told};
-use crate::promises::Place;
+use crate::promises::{Heard, Place};
 use lfi_receive::{Input, Receiver, ReceiverTurn};
 use std::io::Read;
 use std::sync::Wait;
@@ -24,6 +26,7 @@ fn put_one<S: Wait>(rt: &S, place: Place<'_>, receiver: &mut Receiver) -> Receiv
     requires over { IsSome (cause_of receiver.old) }
     ensures is { IsReceiver place.entry.shared.now place.entry.number receiver.new }
     ensures before { IsAsBefore receiver.old receiver.new }
+    ensures finished { result ≡ turn.Finished → IsFinished receiver.new }
 {
     let shared = place.shared;
     let (_, did) = receiver.turn(rt, &shared.board, &shared.intake, &[]);
@@ -39,7 +42,8 @@ fn pull_one<S: Wait, R: Read + Drop>(
 ) -> ReceiverTurn
     requires is { IsReceiver place.shared.now place.number receiver.old }
     ensures is { IsReceiver place.entry.shared.now place.entry.number receiver.new }
-    ensures hearing { (whole : Option (List ℕ)) → IsHearing R.remaining whole receiver.old input.old → IsHearing R.remaining whole receiver.new input.new }
+    ensures hearing { (whole : Option (List ℕ)) (first : Option ErrorKind) → IsHearing R.remaining whole first receiver.old input.old → IsHearing R.remaining whole first receiver.new input.new }
+    ensures finished { result ≡ turn.Finished → IsFinished receiver.new }
 {
     if receiver.is_over() {
         return put_one(rt, place, receiver);
@@ -94,6 +98,7 @@ impl Watch {
         requires is { IsReceiver place.shared.now place.number receiver.old }
         ensures is { IsReceiver place.entry.shared.now place.entry.number receiver.new }
         ensures before { IsAsBefore receiver.old receiver.new }
+        ensures finished { IsFinished receiver.old → IsFinished receiver.new }
     {
         if !self.is_due(did) {
             return;
@@ -102,8 +107,16 @@ impl Watch {
     }
 }
 
-/// One turn of a receiver, and what follows it. The answer is whether its thread is to end: where
-/// the receiver has finished, or the threads are to stop.
+/// Why a receiver's thread ends.
+#[derive(Clone, Copy, Debug, PartialEq, Eq)]
+enum Leaving {
+    /// Its receiver has finished.
+    Finished,
+    /// The threads are to stop.
+    Stopped,
+}
+
+/// One turn of a receiver, and what follows it. The answer is why its thread is to end, where it is.
 fn hear_once<S: Wait, R: Read + Drop, N: Notices>(
     rt: &S,
     place: Place<'_>,
@@ -112,21 +125,25 @@ fn hear_once<S: Wait, R: Read + Drop, N: Notices>(
     receiver: &mut Receiver,
     input: &mut Input<R>,
     watch: &mut Watch,
-) -> bool
+) -> Option<Leaving>
     requires is { IsReceiver place.shared.now place.number receiver.old }
     ensures is { IsReceiver place.entry.shared.now place.entry.number receiver.new }
-    ensures hearing { (whole : Option (List ℕ)) → IsHearing R.remaining whole receiver.old input.old → IsHearing R.remaining whole receiver.new input.new }
+    ensures hearing { (whole : Option (List ℕ)) (first : Option ErrorKind) → IsHearing R.remaining whole first receiver.old input.old → IsHearing R.remaining whole first receiver.new input.new }
+    ensures finished { result ≡ Some leaving.Finished → IsFinished receiver.new }
 {
     if ends.are_stopped() {
-        return true;
+        return Some(Leaving::Stopped);
     }
     let did = pull_one(rt, place, receiver, input);
     watch.look_after(place, notices, receiver, did);
     watch.rest_after(rt, ends, did);
-    did == ReceiverTurn::Finished
+    if did == ReceiverTurn::Finished {
+        return Some(Leaving::Finished);
+    }
+    None
 }
 
-/// Turns a receiver until its thread is to end.
+/// Turns a receiver until its thread is to end. The answer is why.
 fn hear_on<S: Wait, R: Read + Drop, N: Notices>(
     rt: &S,
     place: Place<'_>,
@@ -134,23 +151,23 @@ fn hear_on<S: Wait, R: Read + Drop, N: Notices>(
     notices: &N,
     receiver: &mut Receiver,
     input: &mut Input<R>,
-)
+) -> Leaving
     requires is { IsReceiver place.shared.now place.number receiver.old }
     ensures is { IsReceiver place.entry.shared.now place.entry.number receiver.new }
-    ensures hearing { (whole : Option (List ℕ)) → IsHearing R.remaining whole receiver.old input.old → IsHearing R.remaining whole receiver.new input.new }
+    ensures hearing { (whole : Option (List ℕ)) (first : Option ErrorKind) → IsHearing R.remaining whole first receiver.old input.old → IsHearing R.remaining whole first receiver.new input.new }
+    ensures finished { result ≡ leaving.Finished → IsFinished receiver.new }
 {
     let mut watch = Watch::new();
     for _ in rt.forever() {
-        if hear_once(rt, place, ends, notices, receiver, input, &mut watch) {
-            return;
+        if let Some(leaving) = hear_once(rt, place, ends, notices, receiver, input, &mut watch) {
+            return leaving;
         }
     }
     unreachable!()
 }
 
 /// Turns a receiver until it has put all that its input makes and has told the board its end. It
-/// begins once all threads have been started. Where they are to stop it gives up, as after a read
-/// that failed.
+/// begins once all threads have been started. Where they are to stop it gives up.
 pub(crate) fn hear<S: Wait, R: Read + Drop, N: Notices>(
     rt: &S,
     place: Place<'_>,
@@ -158,14 +175,17 @@ pub(crate) fn hear<S: Wait, R: Read + Drop, N: Notices>(
     notices: &N,
     mut receiver: Receiver,
     mut input: Input<R>,
-) -> Receiver
+) -> Heard
     requires is { IsReceiver place.shared.now place.number receiver }
     requires fresh { IsFresh receiver }
-    ensures is { IsReceiver place.entry.shared.now place.entry.number result }
-    ensures heard { HasHeard (left_of R.remaining input) result }
+    ensures { IsHeardBy place.entry.shared.now place.entry.number (left_of R.remaining input) result }
 {
     ends.wait_for_go(rt);
-    hear_on(rt, place, ends, notices, &mut receiver, &mut input);
-    receiver.end(true);
-    receiver
+    match hear_on(rt, place, ends, notices, &mut receiver, &mut input) {
+        Leaving::Finished => Heard::Finished {
+            receiver,
+            failure: input.failure(),
+        },
+        Leaving::Stopped => Heard::GaveUp,
+    }
 }

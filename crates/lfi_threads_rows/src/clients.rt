@@ -1,7 +1,9 @@
 //! Clients over sockets.
 
 use crate::build::{RET, close, one_word, open, page, text};
-use lfi_place::OpenGate;
+use crate::workers::YIELDS;
+use lfi_module::ModuleNumber;
+use lfi_place::{Gate, OpenGate};
 use lfi_threads::{NoNotices, serve_on};
 use std::alloc::{AllocError, Global};
 use std::fs;
@@ -10,15 +12,17 @@ use std::io::{self, Read, Write};
 use std::net::Net;
 use std::os::unix::net::{UnixListener, UnixStream};
 use std::sync::Wait;
+use std::sync::atomic::{AtomicU64, Ordering};
 use std::test::Fail;
-use std::thread::{Threads, join};
+use std::thread::{Threads, join, yield_now};
 
 /// The text of the report on so many connections, 1 to 8, and whether all were accepted.
-fn served<S: Threads + Wait + Files + Sync + AllocGlobal>(
+fn served<S: Threads + Wait + Files + Sync + AllocGlobal, G: Gate + Sync>(
     rt: &S,
     listener: UnixListener,
     path: &str,
     connections: usize,
+    gate: &G,
 ) -> io::Result<(String, bool)> {
     let served = serve_on(
         rt,
@@ -27,7 +31,7 @@ fn served<S: Threads + Wait + Files + Sync + AllocGlobal>(
         path,
         connections.max(1).min(8),
         2,
-        &OpenGate,
+        gate,
         &NoNotices,
     )?;
     let summary = served.report.summary();
@@ -168,7 +172,7 @@ fn clients_beside_each_other(rt: HostRuntime) -> Result<(), Fail> {
         let listener = UnixListener::bind(&rt, path)?;
         let (told, sent) = join(
             &rt,
-            || served(&rt, listener, path, texts.len()),
+            || served(&rt, listener, path, texts.len(), &OpenGate),
             || send_all(&rt, path, texts.as_slice(), sizes),
         );
         sent?;
@@ -186,7 +190,7 @@ fn a_client_more_than_are_taken(rt: HostRuntime) -> Result<(), Fail> {
     let listener = UnixListener::bind(&rt, path)?;
     send_all(&rt, path, modules_0_and_3(rt.alloc())?.as_slice(), &[4096])?;
     let mut third = UnixStream::connect(&rt, path)?;
-    let (report, all_accepted) = served(&rt, listener, path, 2)?;
+    let (report, all_accepted) = served(&rt, listener, path, 2, &OpenGate)?;
     assert_eq!(rt; report.as_str(), BOTH);
     assert!(rt; all_accepted);
     assert!(rt; third.read(&mut [0]).unwrap_or(0) == 0);
@@ -200,8 +204,71 @@ fn a_client_that_is_not_accepted(rt: HostRuntime) -> Result<(), Fail> {
     let listener = UnixListener::bind(&rt, path)?;
     send_all(&rt, path, &[one_word(rt.alloc(), 7, RET)?], &[4096])?;
     listener.set_nonblocking(true)?;
-    let (report, all_accepted) = served(&rt, listener, path, 3)?;
+    let (report, all_accepted) = served(&rt, listener, path, 3, &OpenGate)?;
     assert_eq!(rt; report.as_str(), "module 7: complete, 1 words\nstrays 0\n");
     assert!(rt; !all_accepted);
+    Ok(())
+}
+
+/// A gate that tells when an item of module 0 was judged.
+#[derive(Drop)]
+struct FirstJudged {
+    judged: AtomicU64,
+}
+
+impl Gate for FirstJudged {
+    fn before(&self, _module: ModuleNumber, _ordinal: u32) {}
+
+    fn after(&self, module: ModuleNumber, _ordinal: u32) {
+        if module.number() == 0 {
+            self.judged.store(1, Ordering::SeqCst);
+        }
+    }
+}
+
+impl FirstJudged {
+    /// Waits until an item of module 0 was judged. The answer is whether one was.
+    fn wait(&self) -> bool {
+        for _ in 0..YIELDS {
+            if self.judged.load(Ordering::SeqCst) != 0 {
+                return true;
+            }
+            yield_now();
+        }
+        false
+    }
+}
+
+/// One client sends module 0, and once an item of it was judged another sends module 3. The answer
+/// is whether one was judged before the second client connected.
+fn send_one_after_the_other<S: Net + AllocGlobal>(
+    rt: &S,
+    path: &str,
+    gate: &FirstJudged,
+) -> io::Result<bool> {
+    let mut first = UnixStream::connect(rt, path)?;
+    first.write_all(one_word(rt.alloc(), 0, RET)?.as_slice())?;
+    let judged = gate.wait();
+    let mut second = UnixStream::connect(rt, path)?;
+    second.write_all(one_word(rt.alloc(), 3, RET)?.as_slice())?;
+    Ok(judged)
+}
+
+#[test]
+fn the_first_client_is_served_before_the_second_comes(rt: HostRuntime) -> Result<(), Fail> {
+    let path = "one_after_the_other.socket";
+    let gate = FirstJudged {
+        judged: AtomicU64::new(0),
+    };
+    let listener = UnixListener::bind(&rt, path)?;
+    let (told, judged) = join(
+        &rt,
+        || served(&rt, listener, path, 2, &gate),
+        || send_one_after_the_other(&rt, path, &gate),
+    );
+    assert!(rt; judged?);
+    let (report, all_accepted) = told?;
+    assert_eq!(rt; report.as_str(), BOTH);
+    assert!(rt; all_accepted);
     Ok(())
 }

@@ -1,6 +1,6 @@
 //! Verifiers beside each other, and notices of refused modules.
 
-use crate::build::{NOP, close, open, page, text};
+use crate::build::{NOP, RET, close, one_word, open, page, text};
 use crate::inputs::{Pieces, TURNS, loaded, reported};
 use lfi_module::ModuleNumber;
 use lfi_place::{Gate, OpenGate};
@@ -163,6 +163,22 @@ fn a_refused_module_is_told_of_once(rt: HostRuntime) -> Result<(), Fail> {
             .as_str()
             .starts_with("module 0: refused, word 5 rule 1\nstrays ")
     );
+    assert_eq!(rt; notices.count.load(Ordering::SeqCst), 1);
+    assert_eq!(rt; notices.module.load(Ordering::SeqCst), 1);
+    Ok(())
+}
+
+#[test]
+fn a_refused_module_beside_a_lawful_one(rt: HostRuntime) -> Result<(), Fail> {
+    let notices = Counted {
+        count: AtomicU64::new(0),
+        module: AtomicU64::new(0),
+    };
+    let mut text = two_pages(rt.alloc(), 0xD4000001, NOP)?;
+    text.extend_from_slice(one_word(rt.alloc(), 1, RET)?.as_slice())?;
+    let report = loaded_until_noticed(&rt, text.as_slice(), &notices)?;
+    let want = "module 0: refused, word 5 rule 1\nmodule 1: complete, 1 words\nstrays ";
+    assert!(rt; report.as_str().starts_with(want));
     assert_eq!(rt; notices.count.load(Ordering::SeqCst), 1);
     assert_eq!(rt; notices.module.load(Ordering::SeqCst), 1);
     Ok(())

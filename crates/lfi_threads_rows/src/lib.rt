@@ -9,3 +9,7 @@ mod clients;
 mod gates;
 #[cfg(test)]
 mod inputs;
+#[cfg(test)]
+mod reads;
+#[cfg(test)]
+mod workers;

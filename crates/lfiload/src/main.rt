@@ -28,7 +28,7 @@ fn main(rt: HostRuntime) -> ExitCode {
             )
         }
         Err(error) => {
-            errors.tell(&Failure::reading(rt.alloc(), "the command line", error));
+            errors.tell(&Failure::reading("the command line", &error));
             Ending::Failed
         }
     };

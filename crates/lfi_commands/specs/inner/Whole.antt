@@ -7,7 +7,7 @@ use Rattle.lfi_pack.specs.Packs.{IsPacked}
 use Rattle.lfi_commands.specs.declared.packing.Stop.{Stop}
 use Rattle.lfi_commands.specs.declared.packing.Stop.TheVariants.{NoModule, Failed}
 use Rattle.lfi_commands.specs.Checking.{IsCode}
-use Rattle.lfi_commands.specs.Failures.{TellsRead}
+use Rattle.lfi_commands.specs.Failures.{IsOfReading}
 use Rattle.lfi_commands.specs.Packing.{IsNoModule}
 
 -- what was left was read as code, or isn't code
@@ -18,7 +18,7 @@ IsReadAs left None = IfSome left (λ all. ¬ (IsCode all))
 -- why the file at this path wasn't read as a module
 abbrev pub StopsAt : (entry : ℕ) → (path : List ℕ) → (List ℕ → Option (List ℕ)) → Stop → Type 0
 StopsAt entry path file_at (NoModule told) = IsNoModule entry path file_at told
-StopsAt entry path file_at (Failed failure) = TellsRead path failure
+StopsAt entry path file_at (Failed failure) = IsOfReading path failure
 
 -- why one of the files at these paths wasn't
 abbrev pub StopsAtOne : (entry : ℕ) → (paths : List (List ℕ)) → (List ℕ → Option (List ℕ)) → Stop → Type 0

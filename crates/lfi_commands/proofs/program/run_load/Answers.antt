@@ -13,9 +13,9 @@ returns-clause-found g c =
     let told = c.in-Ok-write_asked_refused.ensures in
     record {
       report = c.in-Ok.report;
-      loaded = λ bytes known. subst (λ n. IsLoaded n bytes c.in-Ok.report) are.all (c.in-Ok.ensures.report bytes (known_left _ inputs bytes are known));
-      told = told.0;
-      tells = told.1;
+      loaded = λ bytes known. subst (λ n. IsLoaded n c.args.verifiers bytes c.in-Ok.report) are.all (c.in-Ok.ensures.report bytes (known_left _ inputs bytes are known));
+      explained = told.0;
+      explains = told.1;
       written = Appends-trans (g.O.Write.contents c.args.out.now) (g.O.Write.contents c.load.new.writer) (g.O.Write.contents c.write_asked_refused.new.out)
           (summary_text (summary_of c.in-Ok.report)) told.0 c.in-Ok.ensures.written told.2;
       all = c.write_asked_images-all.result;

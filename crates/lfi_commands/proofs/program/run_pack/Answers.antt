@@ -14,6 +14,6 @@ returns-in-Ok-write_stream-clause-found g c =
       files,
       subst (λ known. AreModulesOf c.args.entry known files) (sym (map_twice at (λ (p : Bor (List ℕ)). p.now) c.args.paths.now)) c.in-Ok.ensures.modules,
       subst (λ items. WritesStream c.args.first c.args.entry (map (λ file. file.items) items) (g.O.Write.contents c.args.out.now) (g.O.Write.contents c.write_stream.new.writer))
-          c.deref.ensures.value c.in-Ok-write_stream.ensures.written,
+          c.deref.ensures.value c.in-Ok-write_stream.ensures,
       refl,
     )

@@ -9,8 +9,8 @@ returns-clause-found g c =
     record {
       found = c.in-Ok-serve.served;
       served = c.in-Ok-serve.ensures.report;
-      told = told.0;
-      tells = told.1;
+      explained = told.0;
+      explains = told.1;
       written = Appends-trans (g.O.Write.contents c.args.out.now) (g.O.Write.contents c.serve.new.writer) (g.O.Write.contents c.write_asked_refused.new.out)
           (summary_text (summary_of c.in-Ok-serve.served.report)) told.0 c.in-Ok-serve.ensures.written told.2;
       all = c.write_asked_images-all.result;

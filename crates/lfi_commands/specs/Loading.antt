@@ -1,0 +1,40 @@
+-- What `lfiload load` finds, writes, puts and tells. (this project's profile: docs/DEFINITIONS.md, "The program")
+use Rattle.std.specs.Prelude.{◌≡◌, ℕ, Bool, true, List, [], ◌++◌, Option, Some, None, length, slice_get}
+use Rattle.std.specs.Io.KnownBytes.{Appends}
+use Rattle.lfi_image.specs.Image.{Image}
+use Rattle.lfi_model.specs.Texts.{summary_text}
+use Rattle.lfi_place.specs.declared.report.ModuleReport.{ModuleReport}
+use Rattle.lfi_stage.specs.declared.settle.Report.{Report}
+use Rattle.lfi_stage.specs.Stages.{IsLoaded}
+use Rattle.lfi_stage.specs.Summaries.{summary_of}
+use Rattle.lfi_commands.specs.declared.ending.Ending.{Ending}
+use Rattle.lfi_commands.specs.Endings.{EndsLoad}
+use Rattle.lfi_commands.specs.Images.{images_in, WritesImages}
+use Rattle.lfi_commands.specs.Left.{Left}
+use Rattle.lfi_commands.specs.Refused.{TellAsked}
+
+-- the images that are asked for: all whole ones where a folder is named
+abbrev pub asked_images : Option (List ℕ) → List ModuleReport → List Image
+asked_images None modules = []
+asked_images (Some folder) modules = images_in modules
+
+abbrev pub folder_or_none : Option (List ℕ) → List ℕ
+folder_or_none None = []
+folder_or_none (Some folder) = folder
+
+-- these are the bytes of the streams, all of which are known
+abbrev pub AreKnown : List (Option (List ℕ)) → (ℕ → List ℕ) → Type 0
+AreKnown streams bytes = (c : ℕ) (stream : Option (List ℕ)) → slice_get streams c ≡ Some stream → stream ≡ Some (bytes c)
+
+-- What `lfiload load` did with streams that have these bytes, as far as they are known, by so many verifiers: it found one report, wrote its text, then what
+-- is told of its refused modules, where that is asked for, put its images into the folder, where one is named, and ended by it.
+pub record HasLoaded (verifiers : ℕ) (streams : List (Option (List ℕ))) (folder : Option (List ℕ)) (explain : Bool) (old new : Left) (ending : Ending) : Type 0 where
+  pub report : Report
+  pub loaded : (bytes : ℕ → List ℕ) → AreKnown streams bytes → IsLoaded (length streams) verifiers bytes report
+  pub explained : List ℕ
+  pub explains : TellAsked explain report.modules explained
+  pub written : Appends old.out new.out (summary_text (summary_of report) ++ explained)
+  -- whether all images were put
+  pub all : Bool
+  pub images : WritesImages (folder_or_none folder) (asked_images folder report.modules) old.put new.put new.is_lost old.errors new.errors all
+  pub ends : EndsLoad report true all ending

@@ -1,0 +1,25 @@
+-- What `lfiload run` finds, writes and tells. (this project's profile: docs/DEFINITIONS.md, "The program")
+use Rattle.std.specs.Prelude.{◌≡◌, ℕ, Bool, true, false, List, ◌++◌, Option, codes}
+use Rattle.lfi_run.specs.declared.image_run.ImageRun.{ImageRun}
+use Rattle.lfi_run.specs.Runs.{CameOf}
+use Rattle.lfi_run.specs.Texts.{run_text}
+use Rattle.lfi_commands.specs.declared.ending.Ending.{Ending}
+use Rattle.lfi_commands.specs.declared.ending.Ending.TheVariants.{Failed}
+use Rattle.lfi_commands.specs.Endings.{ending_of_run}
+use Rattle.lfi_commands.specs.Failures.{Told}
+use Rattle.lfi_commands.specs.Left.{Left}
+
+-- the ending of a run of an image: by what came of it, where that was told
+abbrev pub EndsRun : (is_lost : Bool) → ImageRun → Ending → Type 0
+EndsRun true run ending = ending ≡ Failed
+EndsRun false run ending = ending ≡ ending_of_run run
+
+-- What `lfiload run` did with a file that has these bytes, as far as they are known: it ran it as an image for at most so many steps,
+-- told the line of what came of it, put no file, and ended by it.
+pub record HasRun (bytes : Option (List ℕ)) (steps : ℕ) (old new : Left) (ending : Ending) : Type 0 where
+  pub run : ImageRun
+  -- with what its code printed
+  pub came : CameOf bytes steps old.out new.out run
+  pub put : new.put ≡ old.put
+  pub told : Told new.is_lost old.errors new.errors (run_text run ++ codes "\n")
+  pub ends : EndsRun new.is_lost run ending

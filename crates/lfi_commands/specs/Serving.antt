@@ -1,0 +1,26 @@
+-- What `lfiload serve` finds, writes, puts and tells. (this project's profile: docs/DEFINITIONS.md, "The program")
+use Rattle.std.specs.Prelude.{ℕ, Bool, List, ◌++◌, Option}
+use Rattle.std.specs.Io.KnownBytes.{Appends}
+use Rattle.lfi_model.specs.Texts.{summary_text}
+use Rattle.lfi_stage.specs.Summaries.{summary_of}
+use Rattle.lfi_threads.specs.declared.serve.Served.{Served}
+use Rattle.lfi_threads.specs.Served.{HasServed}
+use Rattle.lfi_commands.specs.declared.ending.Ending.{Ending}
+use Rattle.lfi_commands.specs.Endings.{EndsLoad}
+use Rattle.lfi_commands.specs.Images.{WritesImages}
+use Rattle.lfi_commands.specs.Left.{Left}
+use Rattle.lfi_commands.specs.Loading.{asked_images, folder_or_none}
+use Rattle.lfi_commands.specs.Refused.{TellAsked}
+
+-- What `lfiload serve` did with what so many connections sent, by so many verifiers: it found one report, and whether all of them were taken, wrote its text,
+-- then what is told of its refused modules, where that is asked for, put its images into the folder, where one is named, and ended by it.
+pub record HasServedAll (connections verifiers : ℕ) (folder : Option (List ℕ)) (explain : Bool) (old new : Left) (ending : Ending) : Type 0 where
+  pub found : Served
+  pub served : HasServed connections verifiers found
+  pub explained : List ℕ
+  pub explains : TellAsked explain found.report.modules explained
+  pub written : Appends old.out new.out (summary_text (summary_of found.report) ++ explained)
+  -- whether all images were put
+  pub all : Bool
+  pub images : WritesImages (folder_or_none folder) (asked_images folder found.report.modules) old.put new.put new.is_lost old.errors new.errors all
+  pub ends : EndsLoad found.report found.all_accepted all ending

@@ -1,0 +1,53 @@
+//! The order in which a connection puts its items, by what a verifier takes of them.
+
+use crate::build::{RET, Text};
+use crate::settled::input;
+use crate::turned::{pair, receive_all, verify_told};
+use lfi_module::ModuleNumber;
+use lfi_place::{Gate, VerifierTurn};
+use lfi_receive::ReceiverTurn;
+use std::alloc::{AllocError, Global};
+use std::sync::atomic::{AtomicU64, Ordering};
+use std::test::Fail;
+
+/// The modules of the items that were judged, a hexadecimal digit each, the last one lowest.
+#[derive(Drop)]
+struct Digits {
+    seen: AtomicU64,
+}
+
+impl Gate for Digits {
+    fn before(&self, module: ModuleNumber, _ordinal: u32) {
+        let seen = self.seen.load(Ordering::SeqCst) % (1 << 60);
+        self.seen
+            .store(seen * 16 + u64::from(module.number()), Ordering::SeqCst);
+    }
+
+    fn after(&self, _module: ModuleNumber, _ordinal: u32) {}
+}
+
+/// Modules 9, 3 and 12 are opened, and none is closed; of module 3 a page comes.
+fn three_open(alloc: Global) -> Result<Text, AllocError> {
+    let mut text = Text::new(alloc);
+    text.open(9, 1)?;
+    text.open(3, 1)?;
+    text.open(12, 1)?;
+    text.page(3, 0, &[RET])?;
+    Ok(text)
+}
+
+#[test]
+fn ends_come_in_the_order_of_the_modules(rt: HostRuntime) -> Result<(), Fail> {
+    let mut stage = pair(rt.alloc())?;
+    let text = three_open(rt.alloc())?;
+    let put = receive_all(&rt, &mut stage, 0, &mut input(rt.alloc(), &text)?);
+    assert!(rt; put == ReceiverTurn::Finished);
+    let gate = Digits {
+        seen: AtomicU64::new(1),
+    };
+    for _ in 0..7 {
+        assert!(rt; verify_told(&rt, &mut stage, 0, &gate) == VerifierTurn::Worked);
+    }
+    assert_eq!(rt; gate.seen.load(Ordering::SeqCst), 0x193C_339C);
+    Ok(())
+}
