@@ -68,6 +68,10 @@ fn watcher_seats(alloc: Global, top: &Top, count: usize) -> Result<Vec<WatchSeat
 impl Board {
     /// A board on which every module is free, and all its seats: of 1 to 8 receivers, of the sixteen modules, and of so
     /// many watchers. This is its only call that takes memory.
+    ///
+    /// # Errors
+    ///
+    /// Where that memory is refused; nothing is left behind then.
     pub fn new(
         alloc: Global,
         receivers: usize,

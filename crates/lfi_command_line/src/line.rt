@@ -78,6 +78,11 @@ fn parse<'a>(alloc: Global, words: &'a [String]) -> Result<ArgMatches<'a>, LineF
 ///
 /// Which words make which line, and which kind of fault, is what the parser's own definitions say
 /// of this program's command; its texts are in no contract.
+///
+/// # Errors
+///
+/// Why there is no command to carry out: help was asked for, the words are wrong, they name too much, or there was no
+/// memory to read them.
 pub fn read_line<'a>(alloc: Global, words: &'a [String]) -> Result<Line<'a>, LineFault>
     ensures line { IfOk result (IsLine (map string_bytes words.now)) }
     ensures fault { IfErr result (IsLineFault (map string_bytes words.now)) }

@@ -6,13 +6,14 @@ use Rattle.lfi_command_line.specs.declared.line.Explain.TheVariants.{Nothing, Fi
 use Rattle.lfi_command_line.specs.CommandLine.{IsLine}
 use Rattle.lfi_image.specs.declared.fault.ImageFault.{ImageFault}
 use Rattle.lfi_image.specs.declared.fault.ImageFault.TheVariants as image_fault
-use Rattle.slot_access.specs.declared.halt.Halt.{Halt}
-use Rattle.slot_access.specs.declared.halt.Halt.TheVariants as halts
+use Rattle.lfi_confinement.specs.declared.cause.Cause.TheVariants as causes
+use Rattle.lfi_machine.specs.declared.halt.Halt.{Halt}
+use Rattle.lfi_machine.specs.declared.halt.Halt.TheVariants as halts
 use Rattle.lfi_run.specs.declared.image_run.ImageRun.{ImageRun}
 use Rattle.lfi_run.specs.declared.image_run.ImageRun.TheVariants as image_run
 use Rattle.lfi_stage.specs.declared.settle.Report.{Report}
-use Rattle.lfi_commands.specs.declared.verdict.Verdict.{Verdict}
-use Rattle.lfi_commands.specs.declared.verdict.Verdict.TheVariants.{Lawful, Refused, BadLength}
+use Rattle.lfi_code.specs.declared.verdict.Verdict.{Verdict}
+use Rattle.lfi_code.specs.declared.verdict.Verdict.TheVariants.{Lawful, Refused, BadLength}
 use Rattle.lfi_commands.specs.declared.ending.Ending.{Ending}
 use Rattle.lfi_commands.specs.declared.ending.Ending.TheVariants.{Well, NotWell, WrongWords, Failed}
 use Rattle.lfi_commands.specs.Checking.{ending_of}
@@ -33,11 +34,11 @@ by_load report false all_put ends = cc
 
 by_halt : (halt : Halt) → WrongWords ≡ ending_of_halt halt → ⊥
 by_halt halts.StepsUsed ends = cc
-by_halt (halts.NoAccess address) ends = cc
-by_halt (halts.NoFetch pc) ends = cc
-by_halt (halts.Breakpoint pc) ends = cc
-by_halt (halts.Ended status) ends = cc
-by_halt halts.UnlawfulAnswer ends = cc
+by_halt (halts.Stopped (causes.NoAccess address)) ends = cc
+by_halt (halts.Stopped (causes.NoFetch pc)) ends = cc
+by_halt (halts.Stopped (causes.Breakpoint pc)) ends = cc
+by_halt (halts.Stopped (causes.Ended status)) ends = cc
+by_halt (halts.Stopped causes.UnlawfulAnswer) ends = cc
 by_halt halts.NoMemory ends = cc
 
 by_fault : (fault : ImageFault) → WrongWords ≡ ending_of_run (image_run.Refused fault) → ⊥

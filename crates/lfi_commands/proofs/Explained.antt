@@ -3,11 +3,11 @@ use Rattle.std.proofs.Common.{◌≡◌, ℕ, List, Option, Some, None, IfSome, 
 use Rattle.lfi_rules.specs.declared.fault.Fault.{Fault}
 use Rattle.lfi_command_line.specs.declared.line.Explain.{Explain}
 use Rattle.lfi_command_line.specs.declared.line.Explain.TheVariants.{Nothing, First, All}
-use Rattle.lfi_commands.specs.declared.verdict.Verdict.{Verdict}
-use Rattle.lfi_commands.specs.declared.verdict.Verdict.TheVariants.{Lawful, Refused, BadLength}
+use Rattle.lfi_code.specs.declared.verdict.Verdict.{Verdict}
+use Rattle.lfi_code.specs.declared.verdict.Verdict.TheVariants.{Lawful, Refused, BadLength}
 use Rattle.lfi_commands.specs.declared.ending.Ending.{Ending}
 use Rattle.lfi_commands.specs.declared.ending.Ending.TheVariants.{Well, NotWell, WrongWords, Failed}
-use Rattle.lfi_commands.specs.Checking.{Checks, IsCode}
+use Rattle.lfi_code.specs.Checking.{Checks, IsCode}
 use Rattle.lfi_commands.specs.Explaining.{WritesFault, WritesRefused, WritesVerdict}
 use Rattle.lfi_commands.specs.Listing.{FindsListing}
 

@@ -1,7 +1,6 @@
 -- Failures of what a line asks for.
-use Rattle.std.proofs.Common.{◌≡◌, ℕ, List, Bool, true, false, refl}
+use Rattle.std.proofs.Common.{◌≡◌, ℕ, List, Bool, true, false, refl, inr}
 use Rattle.lfi_command_line.specs.declared.line.Line.{Line}
-use Rattle.lfi_command_line.specs.declared.line.Line.TheVariants.{Check, Load, Serve, Run, Disassemble, Pack}
 use Rattle.lfi_command_line.specs.CommandLine.{IsLine}
 use Rattle.lfi_commands.specs.declared.device_cause.DeviceCause.{DeviceCause}
 use Rattle.lfi_commands.specs.declared.commands.CommandFault.{CommandFault}
@@ -15,13 +14,8 @@ use Rattle.lfi_commands.specs.Runs.{FailsAs, FailsBy}
 -- a failure of what a line asks for is one of the words that ask for the line
 pub fails_by : (words : List (List ℕ)) (line : Line) (failure : Failure) → IsLine words line → FailsAs line failure → FailsBy words failure
 fails_by words line (CannotRead told cause) is fails = (line, is, fails)
-fails_by words line (CannotWrite StandardOutput cause) is fails = tt
-fails_by words (Check file explain) (CannotWrite (File path) cause) is fails = absurd fails
-fails_by words (Load verifiers folder explain streams) (CannotWrite (File path) cause) is fails = absurd fails
-fails_by words (Serve socket connections verifiers folder explain) (CannotWrite (File path) cause) is fails = absurd fails
-fails_by words (Run image steps) (CannotWrite (File path) cause) is fails = absurd fails
-fails_by words (Disassemble file) (CannotWrite (File path) cause) is fails = absurd fails
-fails_by words (Pack first entry files) (CannotWrite (File path) cause) is fails = absurd fails
+fails_by words line (CannotWrite StandardOutput cause) is fails = inr (line, is, fails)
+fails_by words line (CannotWrite (File path) cause) is fails = (line, is, fails)
 fails_by words line (CannotListen cause) is fails = (line, is, fails)
 fails_by words line NoMemory is fails = tt
 

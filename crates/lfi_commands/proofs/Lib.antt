@@ -1,4 +1,3 @@
-mod Begun
 mod Carried
 mod Ended
 mod Explained
@@ -7,6 +6,5 @@ mod Fates
 mod Inputs
 mod Joined
 mod Paths
-mod Spelled
 mod Streams
 mod Telling

@@ -5,7 +5,7 @@ use Rattle.std.proofs.lemmas.Option.{none-some, slice_get_within}
 use Rattle.a64_word.specs.Words.{words_of}
 use Rattle.lfi_pack.specs.Heard.{IsStream, modules_from}
 use Rattle.lfi_pack.specs.Packs.{IsPacked}
-use Rattle.lfi_commands.specs.Checking.{IsCode}
+use Rattle.lfi_code.specs.Checking.{IsCode}
 use Rattle.lfi_commands.specs.Packing.{AreModules, AreModulesOf, WritesStream}
 use Rattle.lfi_commands.specs.inner.Whole.{WritesModule}
 use Rattle.lfi_commands.proofs.Inputs.{grown}

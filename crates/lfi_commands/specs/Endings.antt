@@ -3,8 +3,10 @@ use Rattle.std.specs.Prelude.{◌≡◌, ℕ, Bool, true, false, List, Option, S
 use Rattle.lfi_frame.specs.declared.fault.FrameFault.{FrameFault}
 use Rattle.lfi_frame.specs.declared.fault.FrameFault.TheVariants.{ReadFailed}
 use Rattle.lfi_image.specs.declared.fault.ImageFault.TheVariants as image_fault
-use Rattle.slot_access.specs.declared.halt.Halt.{Halt}
-use Rattle.slot_access.specs.declared.halt.Halt.TheVariants as halts
+use Rattle.lfi_confinement.specs.declared.cause.Cause.{Cause}
+use Rattle.lfi_confinement.specs.declared.cause.Cause.TheVariants as causes
+use Rattle.lfi_machine.specs.declared.halt.Halt.{Halt}
+use Rattle.lfi_machine.specs.declared.halt.Halt.TheVariants as halts
 use Rattle.lfi_run.specs.declared.image_run.ImageRun.{ImageRun}
 use Rattle.lfi_run.specs.declared.image_run.ImageRun.TheVariants as image_run
 use Rattle.lfi_stage.specs.declared.settle.Report.{Report}
@@ -31,14 +33,18 @@ EndsBy report NotWell = (¬ (IsWell (summary_of report))) × (¬ (IsReadFailed r
 EndsBy report WrongWords = ⊥
 EndsBy report Failed = IsReadFailed report.faults
 
+-- by why the machine of an image stops
+abbrev pub ending_of_cause : Cause → Ending
+ending_of_cause (causes.NoAccess address) = NotWell
+ending_of_cause (causes.NoFetch pc) = NotWell
+ending_of_cause (causes.Breakpoint pc) = Well
+ending_of_cause (causes.Ended status) = Well
+ending_of_cause causes.UnlawfulAnswer = NotWell
+
 -- by why the run of an image ended
 abbrev pub ending_of_halt : Halt → Ending
+ending_of_halt (halts.Stopped cause) = ending_of_cause cause
 ending_of_halt halts.StepsUsed = Well
-ending_of_halt (halts.NoAccess address) = NotWell
-ending_of_halt (halts.NoFetch pc) = NotWell
-ending_of_halt (halts.Breakpoint pc) = Well
-ending_of_halt (halts.Ended status) = Well
-ending_of_halt halts.UnlawfulAnswer = NotWell
 ending_of_halt halts.NoMemory = Failed
 
 -- by what came of an image's file

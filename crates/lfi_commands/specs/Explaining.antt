@@ -8,10 +8,11 @@ use Rattle.lfi_explain.specs.declared.explanation.Explanation.{Explanation}
 use Rattle.lfi_explain.specs.Explanations.{Explains, WritesRefusals, explanation_line}
 use Rattle.lfi_command_line.specs.declared.line.Explain.{Explain}
 use Rattle.lfi_command_line.specs.declared.line.Explain.TheVariants.{Nothing, First, All}
-use Rattle.lfi_commands.specs.declared.verdict.Verdict.{Verdict}
-use Rattle.lfi_commands.specs.declared.verdict.Verdict.TheVariants.{Refused}
+use Rattle.lfi_code.specs.declared.verdict.Verdict.{Verdict}
+use Rattle.lfi_code.specs.declared.verdict.Verdict.TheVariants.{Refused}
 use Rattle.lfi_commands.specs.declared.ending.Ending.{Ending}
-use Rattle.lfi_commands.specs.Checking.{Checks, ending_of, verdict_text}
+use Rattle.lfi_code.specs.Checking.{Checks, verdict_text}
+use Rattle.lfi_commands.specs.Checking.{ending_of}
 use Rattle.lfi_commands.specs.Left.{Left, TellsNothing}
 
 -- Of a fault of this code, told as that of module 0, its line was written; or its explanation; or what is told of all words that break a rule, and how many they are.

@@ -3,7 +3,7 @@ use Rattle.std.specs.Prelude.{◌≡◌, ℕ, Bool, true, false, List, [], ◌�
 use Rattle.std.specs.List.{AllByRecursion, filter_map, flat_map}
 use Rattle.lfi_image.specs.Image.{Image, file_of}
 use Rattle.lfi_place.specs.declared.report.ImageState.{ImageState}
-use Rattle.lfi_place.specs.declared.report.ImageState.TheVariants.{Absent, Part, Whole}
+use Rattle.lfi_place.specs.declared.report.ImageState.TheVariants.{Absent, Part, Refused, Whole}
 use Rattle.lfi_place.specs.declared.report.ModuleReport.{ModuleReport}
 use Rattle.lfi_commands.specs.declared.failure.Failure.{Failure}
 use Rattle.lfi_commands.specs.Failures.{failure_lines, IsOfWriting, Told}
@@ -30,6 +30,7 @@ Puts (Some there) (Some all) files = all ≡ there ++ files
 abbrev pub image_in : ImageState → List Image
 image_in Absent = []
 image_in (Part builder) = []
+image_in (Refused builder word) = []
 image_in (Whole image) = image ∷ []
 
 abbrev pub images_in : List ModuleReport → List Image

@@ -5,7 +5,7 @@ use Rattle.a64_word.specs.Words.{words_of}
 use Rattle.lfi_explain.specs.Listings.{WritesListing}
 use Rattle.lfi_commands.specs.declared.ending.Ending.{Ending}
 use Rattle.lfi_commands.specs.declared.ending.Ending.TheVariants.{Well, NotWell, WrongWords, Failed}
-use Rattle.lfi_commands.specs.Checking.{IsCode}
+use Rattle.lfi_code.specs.Checking.{IsCode}
 use Rattle.lfi_commands.specs.Left.{Left, TellsNothing}
 
 -- Of the file that has these bytes, where they are known, all words were listed, as those of module 0; or it isn't code, and its line was written. By the ending.

@@ -7,7 +7,7 @@ use Rattle.lfi_commands.specs.declared.packing.NoModule.{NoModule}
 use Rattle.lfi_commands.specs.declared.packing.NoModule.TheVariants.{BadLength, NoEntry}
 use Rattle.lfi_commands.specs.declared.ending.Ending.{Ending}
 use Rattle.lfi_commands.specs.declared.ending.Ending.TheVariants.{Well, NotWell, WrongWords, Failed}
-use Rattle.lfi_commands.specs.Checking.{IsCode}
+use Rattle.lfi_code.specs.Checking.{IsCode}
 use Rattle.lfi_commands.specs.Failures.{Told}
 use Rattle.lfi_commands.specs.Left.{Left}
 

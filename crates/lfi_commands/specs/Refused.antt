@@ -1,19 +1,18 @@
 -- What `lfiload load --explain` tells of refused modules. (this project's profile: docs/DEFINITIONS.md, "The program")
 use Rattle.std.specs.Prelude.{◌≡◌, ℕ, Bool, true, false, List, [], ◌∷◌, ◌++◌, Option, Some, None, codes, decimal}
 use Rattle.lfi_model.specs.declared.outcome.Outcome.{Outcome}
-use Rattle.lfi_model.specs.declared.outcome.Outcome.TheVariants.{Refused}
-use Rattle.lfi_place.specs.declared.refused.RefusedWord.{RefusedWord}
+use Rattle.lfi_model.specs.declared.outcome.Outcome.TheVariants as outcome_kind
 use Rattle.lfi_place.specs.declared.report.ImageState.{ImageState}
-use Rattle.lfi_place.specs.declared.report.ImageState.TheVariants.{Part}
+use Rattle.lfi_place.specs.declared.report.ImageState.TheVariants as image_kind
 use Rattle.lfi_place.specs.declared.report.ModuleReport.{ModuleReport}
 use Rattle.lfi_explain.specs.declared.explanation.Explanation.{Explanation}
 use Rattle.lfi_explain.specs.Explanations.{ExplainsWord, explanation_line}
 
 -- A refused module's fault is explained by the refused word, in the module's own slot; of any other module nothing is told.
-abbrev pub IsRefusal : Outcome → Option RefusedWord → ImageState → Option Explanation → Type 0
-IsRefusal (Refused fault) (Some refused) (Part b) told =
+abbrev pub IsRefusal : Outcome → ImageState → Option Explanation → Type 0
+IsRefusal (outcome_kind.Refused fault) (image_kind.Refused b refused) told =
     (e : Explanation) × (told ≡ Some e) × ExplainsWord b.slot b.words fault refused.word refused.before e
-IsRefusal outcome refused image told = told ≡ None
+IsRefusal outcome state told = told ≡ None
 
 -- the lines of a refused module
 abbrev pub refusal_lines : Option Explanation → List ℕ
@@ -21,7 +20,7 @@ refusal_lines (Some e) = codes "module " ++ decimal e.slot ++ codes ": " ++ expl
 refusal_lines None = []
 
 abbrev pub TellsOfRefused : ModuleReport → List ℕ → Type 0
-TellsOfRefused report text = (told : Option Explanation) × IsRefusal report.outcome report.refused report.image told × (text ≡ refusal_lines told)
+TellsOfRefused report text = (told : Option Explanation) × IsRefusal report.outcome report.image told × (text ≡ refusal_lines told)
 
 -- the lines of the refused modules, in order
 abbrev pub TellRefused : List ModuleReport → List ℕ → Type 0

@@ -9,10 +9,10 @@ use Rattle.lfi_commands.specs.declared.ending.Ending.{Ending}
 use Rattle.lfi_commands.specs.declared.ending.Ending.TheVariants.{Well, NotWell, WrongWords, Failed}
 use Rattle.lfi_commands.specs.declared.failure.Target.TheVariants.{StandardOutput}
 use Rattle.lfi_commands.specs.declared.failure.Failure.{Failure}
-use Rattle.lfi_commands.specs.declared.failure.Failure.TheVariants.{CannotRead, CannotWrite, CannotListen, NoMemory}
+use Rattle.lfi_commands.specs.declared.failure.Failure.TheVariants.{CannotWrite, NoMemory}
 use Rattle.lfi_commands.specs.Checking.{HasChecked}
 use Rattle.lfi_commands.specs.Explaining.{HasExplained}
-use Rattle.lfi_commands.specs.Failures.{failure_line, is_of_output, FailsOn, FailsServing, Told}
+use Rattle.lfi_commands.specs.Failures.{failure_line, is_of_output, FailsOn, FailsServing, IsOfReading, Told}
 use Rattle.lfi_commands.specs.Left.{Left}
 use Rattle.lfi_commands.specs.Listing.{HasListed}
 use Rattle.lfi_commands.specs.Loading.{HasLoaded}
@@ -39,7 +39,7 @@ abbrev pub FailsAs : Line → Failure → Type 0
 FailsAs (Check file explain) = FailsOn (file.now ∷ [])
 FailsAs (Load verifiers folder explain streams) = FailsOn (map (λ s. s.now) streams.items)
 FailsAs (Serve socket connections verifiers folder explain) = FailsServing
-FailsAs (Run image steps) = FailsOn (image.now ∷ [])
+FailsAs (Run image steps) = IsOfReading image.now
 FailsAs (Disassemble file) = FailsOn (file.now ∷ [])
 FailsAs (Pack first entry files) = FailsOn (map (λ s. s.now) files.items)
 
@@ -47,13 +47,15 @@ FailsAs (Pack first entry files) = FailsOn (map (λ s. s.now) files.items)
 abbrev pub CarriesOutWords : List (List ℕ) → (List ℕ → Option (List ℕ)) → (old new : Left) → Ending → Type 0
 CarriesOutWords words file_at old new ending = (line : Line) × IsLine words line × CarriesOut line file_at old new ending
 
--- It tells of a fault of the line that the words ask for, or of the output, or of no memory.
+-- it tells of a fault of what the words ask for
+abbrev pub FailsByLine : List (List ℕ) → Failure → Type 0
+FailsByLine words failure = (line : Line) × IsLine words line × FailsAs line failure
+
+-- It tells of a fault of what the words ask for, of the output for help, or of no memory.
 abbrev pub FailsBy : List (List ℕ) → Failure → Type 0
-FailsBy words (CannotRead path cause) = (line : Line) × IsLine words line × FailsAs line (CannotRead path cause)
-FailsBy words (CannotListen cause) = (line : Line) × IsLine words line × FailsAs line (CannotListen cause)
-FailsBy words (CannotWrite StandardOutput cause) = ⊤
 FailsBy words NoMemory = ⊤
-FailsBy words _ = ⊥
+FailsBy words (CannotWrite StandardOutput cause) = AsksHelp words ⊎ FailsByLine words (CannotWrite StandardOutput cause)
+FailsBy words failure = FailsByLine words failure
 
 -- A failure was told, unless it is lost. No file was put, and the output is as it was, unless the failure is that of the output.
 abbrev pub TellsFailure : List (List ℕ) → (old new : Left) → Type 0

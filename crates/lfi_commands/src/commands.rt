@@ -8,16 +8,15 @@ ghost use Rattle.lfi_receive.specs.Inputs.{left_of};
 ghost use Rattle.lfi_receive.specs.declared.input.Input.{Input};
 ghost use Rattle.lfi_stage.specs.Stages.{IsLoaded};
 ghost use Rattle.lfi_threads.specs.Served.{HasServed};
-ghost use Rattle.lfi_commands.specs.Checking.{Checks, verdict_text};
+ghost use Rattle.lfi_code.specs.Checking.{Checks, verdict_text};
 ghost use Rattle.lfi_commands.specs.Failures.{fault_of_read, is_of_a_write};
 ghost use Rattle.lfi_model.specs.Texts.{summary_text};
 ghost use Rattle.lfi_stage.specs.Summaries.{summary_of};
 
-use crate::code::MOST_BYTES;
 use crate::device_cause::DeviceCause;
 use crate::pieces::judge_pieces;
-use crate::verdict::{Verdict, judge_code};
 use a64_word::WORD_BYTES;
+use lfi_code::{MOST_BYTES, Verdict, judge_code};
 use lfi_place::OpenGate;
 use lfi_receive::Input;
 use lfi_stage::settle::Report;

@@ -3,12 +3,12 @@
 ghost use Rattle.std.specs.Prelude.{◌≡◌, ◌≢◌, Some, false, IsTrue};
 ghost use Rattle.lfi_frame.specs.declared.fault.FrameFault.TheVariants.{ReadFailed};
 ghost use Rattle.lfi_commands.specs.Checking.{ending_of};
-ghost use Rattle.lfi_commands.specs.Endings.{number_of, ending_of_run, EndsBy, EndsLoad, IsReadFailed};
+ghost use Rattle.lfi_commands.specs.Endings.{number_of, ending_of_cause, ending_of_run, EndsBy, EndsLoad, IsReadFailed};
 
-use crate::verdict::Verdict;
+use lfi_code::Verdict;
 use lfi_frame::FrameFault;
 use lfi_image::ImageFault;
-use lfi_run::{Halt, ImageRun};
+use lfi_run::{Cause, Halt, ImageRun};
 use lfi_stage::settle::Report;
 
 /// How a run of the program ends.
@@ -98,6 +98,16 @@ impl Ending {
         }
     }
 
+    /// The ending that a machine gives that stops.
+    fn of_stop(cause: Cause) -> Ending
+        ensures { result ≡ ending_of_cause cause }
+    {
+        match cause {
+            Cause::Breakpoint(_) | Cause::Ended(_) => Ending::Well,
+            Cause::NoAccess(_) | Cause::NoFetch(_) | Cause::UnlawfulAnswer => Ending::NotWell,
+        }
+    }
+
     /// The ending that the run of an image gives.
     pub fn of_run(run: &ImageRun) -> Ending
         ensures { result ≡ ending_of_run run.now }
@@ -108,8 +118,8 @@ impl Ending {
                 _ => Ending::NotWell,
             },
             ImageRun::Ended { halt, .. } => match halt {
-                Halt::StepsUsed | Halt::Breakpoint(_) | Halt::Ended(_) => Ending::Well,
-                Halt::NoAccess(_) | Halt::NoFetch(_) | Halt::UnlawfulAnswer => Ending::NotWell,
+                Halt::Stopped(cause) => Ending::of_stop(*cause),
+                Halt::StepsUsed => Ending::Well,
                 Halt::NoMemory => Ending::Failed,
             },
         }

@@ -2,16 +2,16 @@
 
 ghost use Rattle.std.specs.Prelude.{◌≡◌, ◌<◌, ◌≤◌, ◌+◌, Some, true, map, length, slice_get, IfOk, IfErr, IfSome, OnOk};
 ghost use Rattle.a64_word.specs.Words.{words_of};
-ghost use Rattle.lfi_commands.specs.Checking.{IsCode};
+ghost use Rattle.lfi_code.specs.Checking.{IsCode};
 ghost use Rattle.lfi_commands.specs.Packing as spec;
 ghost use Rattle.lfi_commands.specs.inner.Whole.{StopsAt, StopsAtOne, WritesModule};
 
-use crate::code::Code;
 use crate::device_cause::DeviceCause;
 use crate::disk::Disk;
 use crate::failure::Failure;
 use crate::opening::{open, path_at};
 use crate::whole::read_code;
+use lfi_code::Code;
 use lfi_module::{Extent, ModuleNumber, WordCount};
 use lfi_pack::{PackFault, pack_module};
 use std::alloc::Global;

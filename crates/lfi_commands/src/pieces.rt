@@ -1,80 +1,22 @@
 //! Code that is judged piece by piece, as it is read.
 
-ghost use Rattle.std.specs.Prelude.{◌≡◌, ◌+◌, ◌*◌, ◌/◌, ◌%◌, ◌<◌, ◌≤◌, ℕ, List, [], ◌++◌, length, IfOk, IfErr, IfSome, OnOk, IsTrue, false};
+ghost use Rattle.std.specs.Prelude.{◌≡◌, ◌+◌, ◌*◌, ◌%◌, ◌<◌, ◌≤◌, ℕ, List, ◌++◌, length, IfOk, IfErr, IfSome, OnOk, IsTrue, false};
 ghost use Rattle.std.specs.Io.KnownBytes.{Consumes, IsAtEnd};
 ghost use Rattle.lfi_module.specs.Numbers.{most_words};
-ghost use Rattle.lfi_commands.specs.Checking.{Checks};
+ghost use Rattle.lfi_code.specs.Begun.{Begins};
+ghost use Rattle.lfi_code.specs.Checking.{Checks};
 ghost use Rattle.lfi_commands.specs.Failures.{is_of_a_write};
+ghost use Rattle.lfi_commands.specs.inner.Pieces.{IsWholeModule};
 
-use crate::code::Code;
 use crate::commands::CommandFault;
 use crate::device_cause::DeviceCause;
-use crate::verdict::Verdict;
 use a64_word::WORD_BYTES;
-use lfi_rules::{Fault, Need, fault_after, judge};
+use lfi_code::{Beginning, Verdict};
 use std::alloc::Global;
 use std::io::Read;
 
 /// How many bytes are read at once.
 const PIECE_BYTES: usize = 65_536;
-
-/// A module of which a beginning has been judged.
-#[derive(Clone, Copy)]
-struct Beginning {
-    /// How many words the whole module has.
-    words: u32,
-    /// How many of them have been judged.
-    judged: u32,
-    /// The first fault so far.
-    fault: Option<Fault>,
-    /// What the last word judged leaves open, where there is no fault.
-    tail: Need,
-}
-
-ghost use Rattle.lfi_commands.specs.inner.Pieces.{Begins, IsWholeModule, verdict_of};
-
-impl Beginning {
-    /// That of a module of so many words, none of which has been judged.
-    fn none(words: u32) -> Beginning
-        requires some { 1 ≤ words }
-        requires most { words ≤ most_words }
-        ensures begins { Begins result [] }
-        ensures words { result.words ≡ words }
-    {
-        Beginning {
-            words,
-            judged: 0,
-            fault: None,
-            tail: Need::Nothing,
-        }
-    }
-
-    /// One piece more: whole words, at least one, and no more than are to come.
-    fn with(self, piece: &[u8]) -> Beginning
-        requires some { 0 < length piece.now }
-        requires whole { length piece.now % 4 ≡ 0 }
-        requires room { 4 * self.judged + length piece.now ≤ 4 * self.words }
-        requires most { self.words ≤ most_words }
-        ensures begins { (bytes : List ℕ) → Begins self bytes → Begins result (bytes ++ piece.now) }
-        ensures judged { 4 * result.judged ≡ 4 * self.judged + length piece.now }
-        ensures words { result.words ≡ self.words }
-    {
-        let judged = self.judged + (piece.len() / WORD_BYTES) as u32;
-        if self.fault.is_some() {
-            return Beginning { judged, ..self };
-        }
-        let Some(code) = Code::new(piece) else {
-            unreachable!();
-        };
-        let verdict = judge(&code, self.judged, self.words);
-        Beginning {
-            words: self.words,
-            judged,
-            fault: fault_after(self.words, self.tail, &verdict, code.len_words()),
-            tail: verdict.tail,
-        }
-    }
-}
 
 /// A buffer of so many bytes.
 fn buffer(alloc: Global, size: usize) -> Result<Vec<u8>, CommandFault>
@@ -143,17 +85,11 @@ fn is_at_end<R: Read + Drop>(alloc: Global, reader: R) -> Result<bool, CommandFa
     }
 }
 
-/// The verdict on a module of so many words, by its first fault.
-fn verdict_of(fault: Option<Fault>, words: u32) -> Verdict
-    ensures { result ≡ verdict_of fault words }
-{
-    match fault {
-        Some(fault) => Verdict::Refused(fault),
-        None => Verdict::Lawful { words },
-    }
-}
-
 /// Judges the code that a reader has left, which is to be so many words, up to its end.
+///
+/// # Errors
+///
+/// Where a read failed or there was no memory; no write is made here.
 pub fn judge_pieces<R: Read + Drop>(
     alloc: Global,
     mut reader: R,
@@ -169,5 +105,5 @@ pub fn judge_pieces<R: Read + Drop>(
     if !is_at_end(alloc, reader)? {
         return Err(CommandFault::NotRead(DeviceCause::Other));
     }
-    Ok(verdict_of(all.fault, words))
+    Ok(all.verdict())
 }

@@ -3,9 +3,9 @@
 ghost use Rattle.std.specs.Prelude.{◌≡◌, ◌≤◌, ℕ, List, [], ◌∷◌, Option, IfOk, IfErr, IfSome, OnErr, ◌+◌, false, length, map, option_map, string_bytes};
 ghost use Rattle.lfi_command_line.specs.CommandLine.{IsLineFault};
 ghost use Rattle.lfi_commands.specs.Errors.{is_lost_of, writer_of};
-ghost use Rattle.lfi_commands.specs.Checking.{Checks};
+ghost use Rattle.lfi_code.specs.Checking.{Checks};
 ghost use Rattle.lfi_commands.specs.Explaining.{WritesVerdict};
-ghost use Rattle.lfi_commands.specs.Failures.{is_of_a_write, is_of_output, FailsOn, FailsServing};
+ghost use Rattle.lfi_commands.specs.Failures.{is_of_a_write, is_of_output, FailsOn, FailsServing, IsOfReading};
 ghost use Rattle.lfi_commands.specs.Images.{WritesImages};
 ghost use Rattle.lfi_commands.specs.Left.{left};
 ghost use Rattle.lfi_commands.specs.Listing.{FindsListing};
@@ -27,7 +27,7 @@ use crate::images::write_images;
 use crate::opening::{open, open_all};
 use crate::packing::{Stop, read_modules, write_stream};
 use crate::refused::write_asked_refused;
-use crate::verdict::Verdict;
+use lfi_code::Verdict;
 use lfi_command_line::{Explain, Line, LineFault, read_line};
 use lfi_place::ModuleReport;
 use lfi_run::run_image;
@@ -265,8 +265,8 @@ fn run_run<'a, D: Disk, O: Write, E: Write>(
 ) -> Result<Ending, Failure<'a>>
     ensures found { IfOk result (FindsRun (D.file_at disk.now path.now) steps (O.contents out.old) (O.contents out.new)
         (is_lost_of errors.new) (E.contents (writer_of errors.old)) (E.contents (writer_of errors.new))) }
-    ensures failure { IfErr result (FailsOn (path.now ∷ [])) }
-    ensures output { IfErr result (λ failure. is_of_output failure ≡ false → out.new ≡ out.old) }
+    ensures failure { IfErr result (IsOfReading path.now) }
+    ensures output { OnErr result (out.new ≡ out.old) }
     ensures errors { OnErr result (errors.new ≡ errors.old) }
 {
     let mut reader = open(disk, path)?;

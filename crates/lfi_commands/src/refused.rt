@@ -11,13 +11,12 @@ use std::io::{self, Write};
 
 /// What is told of a module's fault, where it was refused.
 fn refusal_of(report: &ModuleReport) -> Option<Explanation>
-    ensures { IsRefusal report.now.outcome report.now.refused report.now.image result }
+    ensures { IsRefusal report.now.outcome report.now.image result }
 {
     let Outcome::Refused(fault) = report.outcome else {
         return None;
     };
-    let refused = report.refused?;
-    let ImageState::Part(builder) = &report.image else {
+    let ImageState::Refused(builder, refused) = &report.image else {
         return None;
     };
     Some(explain_word(

@@ -1,12 +1,12 @@
 //! Code files that are read whole.
 
 ghost use Rattle.std.specs.Prelude.{◌≡◌, IsTrue, false, IfOk, IfErr};
-ghost use Rattle.lfi_commands.specs.Checking.{IsCode};
+ghost use Rattle.lfi_code.specs.Checking.{IsCode};
 ghost use Rattle.lfi_commands.specs.Failures.{is_of_a_write};
 ghost use Rattle.lfi_commands.specs.inner.Whole.{IsReadAs};
 
-use crate::code::{Code, MOST_BYTES};
 use crate::commands::{CommandFault, read_all};
+use lfi_code::{Code, MOST_BYTES};
 use std::alloc::Global;
 use std::io::Read;
 

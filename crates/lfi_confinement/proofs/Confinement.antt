@@ -18,18 +18,18 @@ use Rattle.a64_word.specs.declared.operands.Transfer.{Transfer}
 use Rattle.a64_word.specs.declared.operands.Transfer.TheVariants as transfers
 use Rattle.a64_word.specs.Operands.{size_code}
 use Rattle.a64_effects.specs.Uses.{general, or_sp}
-use Rattle.a64_results.specs.Conditions.{holds}
+use Rattle.a64_semantics.specs.Conditions.{holds}
 use Rattle.a64_effects.specs.declared.access.Form.{Form}
 use Rattle.a64_effects.specs.declared.access.Form.TheVariants as forms
 use Rattle.a64_effects.specs.declared.access.Address.{Address}
 use Rattle.a64_effects.specs.Effects.{writes_of, address_of, target_of, is_blr, pair_offset, pair_bytes, form_of_pair_mode}
-use Rattle.a64_registers.specs.declared.registers.Registers.{Registers}
-use Rattle.a64_registers.specs.Registers.{x_at, x_or_sp_at, low_bits, put_all}
+use Rattle.a64_semantics.specs.declared.registers.Registers.{Registers}
+use Rattle.a64_semantics.specs.Registers.{x_at, x_or_sp_at, low_bits, put_all}
 use Rattle.sparse_memory.specs.Bytes.{number_at}
-use Rattle.a64_step.specs.Accesses.{displaced, first_byte, Touch, touch_at, touches}
-use Rattle.a64_step.specs.Results.{linked, to_sp_unless, to_loaded, flags_in, results_of, flags_set, held_flags}
-use Rattle.a64_step.specs.Branches.{following, words_on, branches_if, next_pc}
-use Rattle.a64_step.proofs.Told.{places_told}
+use Rattle.a64_semantics.specs.Accesses.{displaced, first_byte, Touch, touch_at, touches}
+use Rattle.a64_semantics.specs.Writes.{linked, to_sp_unless, to_loaded, flags_in, results_of, flags_set, held_flags}
+use Rattle.a64_semantics.specs.Branches.{following, words_on, branches_if, next_pc}
+use Rattle.a64_semantics.proofs.Told.{places_told}
 use Rattle.lfi_rules.specs.declared.needs.Need.{Need}
 use Rattle.lfi_rules.specs.declared.needs.Need.TheVariants.{Nothing, Call, Guard, Probe}
 use Rattle.lfi_rules.specs.Registers.{holds_address}
@@ -37,8 +37,8 @@ use Rattle.lfi_rules.specs.Guard.{is_guard, sets_stack, is_guard_sum, sets_stack
 use Rattle.lfi_rules.specs.Needs.{is_load_64, loads_link, loads_entry, calls_link, is_offset, is_zero, moves_stack, opens_of, meets_of}
 use Rattle.lfi_rules.specs.Rules.{links, is_indexed, is_confined, is_inside, is_ret}
 use Rattle.lfi_rules.proofs.Lawful.{next_meets}
-use Rattle.lfi_confinement.specs.Slots.{Code, base, InSlot, word_address, entry_address, entry_at, memory_of}
-use Rattle.lfi_confinement.specs.Lawful.{Held, IsLawfulCode}
+use Rattle.lfi_confinement.specs.Slots.{base, InSlot, word_address, entry_address, entry_at, memory_of}
+use Rattle.lfi_confinement.specs.Lawful.{Held}
 use Rattle.lfi_confinement.specs.Moves.{State, Fetches, Move, go, stop, ask, escape, first_denied, carried_out, unless_denied, accessed, called_entry, unless_called, performed, Moves, unfetched, fetched}
 use Rattle.lfi_confinement.specs.Runs.{Outcome, Running, Stopped, Escaped, Leads, Step, Reach, NeverEscapes}
 use Rattle.lfi_confinement.specs.inner.Kept.{IsKept, IsFollowed}
@@ -48,24 +48,25 @@ use Rattle.lfi_confinement.proofs.Needed.{kept_at, followed_by}
 use Rattle.lfi_confinement.proofs.Uses.{Avoids, Narrow, base_avoided, addresses_avoided, link_avoided, offset_narrowed, stack_avoided, either}
 use Rattle.lfi_confinement.proofs.Held.{AllFine, keeps_all, kept_sp, stack_in_slot, narrow_below, weaker, relinked, from_held, flags_below, goes_on, IsTame, AnyLink, no_link, any_link, tame, fine, no_stack}
 use Rattle.lfi_confinement.proofs.Results.{IsShort, short, Near, access_near, access_stack, linked_fine, extended_sum, immediate_sum, guards, guard_in, sets, sets_in, moves, moved_in}
+use Rattle.lfi_image.specs.Image.{Image, IsImage}
 
 -- ---- moves that are safe
 
-abbrev pub SafeMove : Code → Move → Type 0
+abbrev pub SafeMove : Image → Move → Type 0
 SafeMove c (go after offset bytes) = IsSafe c after
 SafeMove c (stop cause) = Unit {0}
 SafeMove c (ask entry given) = Unit {0}
 SafeMove c escape = ⊥
 
-pub safe_start : (c : Code) (r : Registers) → Held (base c) r → IsSafe c r
+pub safe_start : (c : Image) (r : Registers) → Held (base c) r → IsSafe c r
 safe_start c r h = record { need = Nothing; held = from_held (base c) r h; met = λ i e. refl }
 
 -- what an instruction leaves in registers
-abbrev pub left : Code → Instruction → State → Registers
+abbrev pub left : Image → Instruction → State → Registers
 left c i s = put_all (results_of i s.registers (memory_of c s.data_at)) s.registers
 
 -- an instruction that leaves registers lawful but for a need, and goes on in the slot at a word that meets it
-carries_out : (c : Code) (i : Instruction) (s : State) (offset : ℕ) (need : Need) → s.registers.nzcv < 16 → HeldFor (base c) need (left c i s)
+carries_out : (c : Image) (i : Instruction) (s : State) (offset : ℕ) (need : Need) → s.registers.nzcv < 16 → HeldFor (base c) need (left c i s)
     → InSlot (base c) (next_pc i s.registers) → ((j : Instruction) → Fetches c (next_pc i s.registers) j → meets_of j need ≡ true)
     → SafeMove c (carried_out c i s offset)
 carries_out c i s offset need flags h within met =
@@ -79,14 +80,14 @@ carries_out c i s offset need flags h within met =
 -- ---- the word at a place
 
 -- what lawful code says of an instruction at pc
-record Rules (c : Code) (r : Registers) (i : Instruction) : Type 0 where
+record Rules (c : Image) (r : Registers) (i : Instruction) : Type 0 where
   k : ℕ
   keep : IsKept i k (length c.words)
   -- the next word lies in the slot, and meets what this one opens
   within : InSlot (base c) (following r)
   met : (j : Instruction) → Fetches c (following r) j → IsFollowed i j
 
-rules_at : (c : Code) (r : Registers) (i : Instruction) → IsLawfulCode c → Stands c r.pc i → Rules c r i
+rules_at : (c : Image) (r : Registers) (i : Instruction) → IsImage c → Stands c r.pc i → Rules c r i
 rules_at c r i l st =
     let b = bounds c l in
     record {
@@ -96,7 +97,7 @@ rules_at c r i l st =
       met = λ j f.
           let n = stands c (following r) j f in
           let e : n.k ≡ st.k + 1 = omega (arith, st.at, st.within, b.low, b.high, b.words, n.at, n.within) in
-          followed_by i j (next_meets c.words (length c.words) st.k st.word n.word i j l.words.faultless st.is (subst (λ k. slice_get c.words k ≡ Some n.word) e n.is) st.spelled n.spelled);
+          followed_by i j (next_meets c.words (length c.words) st.k st.word n.word i j l.lawful.faultless st.is (subst (λ k. slice_get c.words k ≡ Some n.word) e n.is) st.spelled n.spelled);
     }
 
 -- ---- results that go to no reserved register
@@ -110,7 +111,7 @@ record IsPlain (i : Instruction) : Type 0 where
   moves : moves_stack i ≡ false
   indexed : is_indexed (address_of i) ≡ false
 
-plain_fine : (c : Code) (i : Instruction) (s : State) (k : ℕ) → IsKept i k (length c.words) → IsPlain i
+plain_fine : (c : Image) (i : Instruction) (s : State) (k : ℕ) → IsKept i k (length c.words) → IsPlain i
     → AllFine (base c) Nothing (results_of i s.registers (memory_of c s.data_at))
 plain_fine c i s k keep p =
     let n = length c.words in
@@ -125,7 +126,7 @@ plain_fine c i s k keep p =
     (subst (λ uses. Avoids 31 uses) (sym told) (stack_avoided i k n keep p.guard p.sets p.moves p.indexed)))
 
 -- a plain instruction that goes on in the slot
-plain : (c : Code) (i : Instruction) (s : State) → HeldFor (base c) Nothing s.registers → Rules c s.registers i → IsPlain i
+plain : (c : Image) (i : Instruction) (s : State) → HeldFor (base c) Nothing s.registers → Rules c s.registers i → IsPlain i
     → InSlot (base c) (next_pc i s.registers) → SafeMove c (carried_out c i s 0)
 plain c i s h r p within =
     carries_out c i s 0 Nothing h.flags
@@ -148,14 +149,14 @@ target_in from pc k t n (negsuc a) b c small kn tn at e =
     subst (λ z. InSlot from (displaced pc z)) (sym off) (record { low = omega (arith, at, f, kn, tn); high = omega (arith, at, f, kn, tn) })
 
 -- a branch to a fixed place goes to a word
-branch_in : (c : Code) (r : Registers) (i : Instruction) (offset : ℤ) → IsLawfulCode c → (st : Stands c r.pc i) → is_inside (length c.words) (Some (pos st.k +ℤ offset)) ≡ true
+branch_in : (c : Image) (r : Registers) (i : Instruction) (offset : ℤ) → IsImage c → (st : Stands c r.pc i) → is_inside (length c.words) (Some (pos st.k +ℤ offset)) ≡ true
     → InSlot (base c) (words_on r offset)
 branch_in c r i offset l st h =
     let b = bounds c l in
     let t = inside (length c.words) (pos st.k +ℤ offset) h in
     target_in (base c) r.pc st.k t.0 (length c.words) offset b.low b.high b.words st.within t.2 st.at t.1
 
-branches_in : (c : Code) (r : Registers) (taken : Bool) (offset : ℤ) → InSlot (base c) (words_on r offset) → InSlot (base c) (following r)
+branches_in : (c : Image) (r : Registers) (taken : Bool) (offset : ℤ) → InSlot (base c) (words_on r offset) → InSlot (base c) (following r)
     → InSlot (base c) (branches_if taken r offset)
 branches_in c r taken offset to on = cond_both taken (words_on r offset) (following r) (InSlot (base c)) (λ _. to) (λ _. on)
 
@@ -173,7 +174,7 @@ register_in from n ret r h t = elim (either (eqb n 30) (holds_address n && not r
 ]
 
 -- links leave lawful registers
-linked_carried : (c : Code) (i : Instruction) (s : State) (links : Bool) → HeldFor (base c) Nothing s.registers → Rules c s.registers i
+linked_carried : (c : Image) (i : Instruction) (s : State) (links : Bool) → HeldFor (base c) Nothing s.registers → Rules c s.registers i
     → results_of i s.registers (memory_of c s.data_at) ≡ linked links s.registers → InSlot (base c) (next_pc i s.registers) → SafeMove c (carried_out c i s 0)
 linked_carried c i s links h r e within =
     carries_out c i s 0 Nothing h.flags
@@ -189,14 +190,14 @@ record IsAccess (i : Instruction) : Type 0 where
   next : (r : Registers) → next_pc i r ≡ following r
 
 -- an instruction that goes on with the next word
-falls : (c : Code) (i : Instruction) (s : State) (offset : ℕ) (need : Need) → s.registers.nzcv < 16 → HeldFor (base c) need (left c i s)
+falls : (c : Image) (i : Instruction) (s : State) (offset : ℕ) (need : Need) → s.registers.nzcv < 16 → HeldFor (base c) need (left c i s)
     → Rules c s.registers i → next_pc i s.registers ≡ following s.registers
     → ((j : Instruction) → Fetches c (following s.registers) j → meets_of j need ≡ true) → SafeMove c (carried_out c i s offset)
 falls c i s offset need flags h r next met =
     carries_out c i s offset need flags h (subst (InSlot (base c)) (sym next) r.within) (λ j f. met j (subst (λ a. Fetches c a j) next f))
 
 -- an access leaves registers lawful but for a need
-access_left : (c : Code) (i : Instruction) (s : State) (a : Address) (need : Need) → IsLawfulCode c → HeldFor (base c) Nothing s.registers → Rules c s.registers i → IsAccess i
+access_left : (c : Image) (i : Instruction) (s : State) (a : Address) (need : Need) → IsImage c → HeldFor (base c) Nothing s.registers → Rules c s.registers i → IsAccess i
     → address_of i ≡ Some a → IsShort a → is_confined (Some a) ≡ true → InSlot (base c) (first_byte a s.registers)
     → IsLinkFor (base c) need (x_at s.registers 30) → AnyLink (base c) need (writes_of i) → HeldFor (base c) need (left c i s)
 access_left c i s a need l h r x e short at within here any =
@@ -217,7 +218,7 @@ both true = inl refl
 both false = inr refl
 
 -- an access that was permitted
-access_carried : (c : Code) (i : Instruction) (s : State) (a : Address) (offset : ℕ) → IsLawfulCode c → HeldFor (base c) Nothing s.registers → Rules c s.registers i → IsAccess i
+access_carried : (c : Image) (i : Instruction) (s : State) (a : Address) (offset : ℕ) → IsImage c → HeldFor (base c) Nothing s.registers → Rules c s.registers i → IsAccess i
     → address_of i ≡ Some a → IsShort a → is_confined (Some a) ≡ true → InSlot (base c) (first_byte a s.registers)
     → (loads_entry i ≡ true → HeldFor (base c) Call (left c i s)) → SafeMove c (carried_out c i s offset)
 access_carried c i s a offset l h r x e short at within entry = elim (both (loads_entry i)) [
@@ -239,12 +240,12 @@ access_carried c i s a offset l h r x e short at within entry = elim (both (load
   ])
 ]
 
-unless_safe : (c : Code) (o : Option ℕ) (move : Move) → (o ≡ None → SafeMove c move) → SafeMove c (unless_denied o move)
+unless_safe : (c : Image) (o : Option ℕ) (move : Move) → (o ≡ None → SafeMove c move) → SafeMove c (unless_denied o move)
 unless_safe c None move h = h refl
 unless_safe c (Some a) move h = tt
 
 -- an access whose bytes lie in slot and guards: it is denied, or its first byte lies in the slot
-access_tried : (c : Code) (s : State) (i : Instruction) (t : Touch) → IsLawfulCode c → 0 < t.bytes → Near (base c) t.address t.bytes
+access_tried : (c : Image) (s : State) (i : Instruction) (t : Touch) → IsImage c → 0 < t.bytes → Near (base c) t.address t.bytes
     → ((offset : ℕ) → InSlot (base c) t.address → SafeMove c (carried_out c i s offset)) → SafeMove c (accessed c i s (Some t))
 access_tried c s i t l some near after =
     let b = bounds c l in
@@ -253,7 +254,7 @@ access_tried c s i t l some near after =
     (λ e. after (t.address - base c) (touched_in_slot c t.stores t.bytes t.address b.words some e)))
 
 -- an access from lawful registers
-from_access : (c : Code) (s : State) (i : Instruction) (a : Address) → IsLawfulCode c → HeldFor (base c) Nothing s.registers → Rules c s.registers i → IsAccess i
+from_access : (c : Image) (s : State) (i : Instruction) (a : Address) → IsImage c → HeldFor (base c) Nothing s.registers → Rules c s.registers i → IsAccess i
     → address_of i ≡ Some a → IsShort a → is_confined (Some a) ≡ true → (loads_entry i ≡ true → HeldFor (base c) Call (left c i s))
     → SafeMove c (accessed c i s (Some (touch_at i s.registers a)))
 from_access c s i a l h r x e short at entry =
@@ -287,7 +288,7 @@ guarded_fine from false rd width v f within a n = (
 
 -- ---- the load of an entry
 
-entry_left : (c : Code) (d : ℕ → ℕ) (size : Size) (transfer : Transfer) (rt rn imm12 : ℕ) (r : Registers) → Bounds c → is_load_64 size transfer ≡ true → rt ≡ 30 → rn ≡ 21 → imm12 < 512
+entry_left : (c : Image) (d : ℕ → ℕ) (size : Size) (transfer : Transfer) (rt rn imm12 : ℕ) (r : Registers) → Bounds c → is_load_64 size transfer ≡ true → rt ≡ 30 → rn ≡ 21 → imm12 < 512
     → HeldFor (base c) Nothing r
     → HeldFor (base c) Call (put_all (to_loaded size transfer rt (memory_of c d) (displaced (x_or_sp_at r rn) (pos (imm12 * 2 ^ size_code size))) []) r)
 entry_left c d sizes.Double transfers.Load rt rn imm12 r b t e f small h =
@@ -300,7 +301,7 @@ entry_left c d sizes.Double transfers.Load rt rn imm12 r b t e f small h =
     rw e (relinked (base c) Nothing Call v r h (record { low = h.stack.low; high = h.stack.high }) (imm12, small, low))
 entry_left c d size transfer rt rn imm12 r b t e f small h = cc
 
-entry_held : (c : Code) (s : State) (i : UnsignedOffset) → IsLawfulCode c → HeldFor (base c) Nothing s.registers → loads_entry (instruction.UnsignedOffset i) ≡ true
+entry_held : (c : Image) (s : State) (i : UnsignedOffset) → IsImage c → HeldFor (base c) Nothing s.registers → loads_entry (instruction.UnsignedOffset i) ≡ true
     → HeldFor (base c) Call (left c (instruction.UnsignedOffset i) s)
 entry_held c s i l h e =
     let p = and_parts (is_load_64 i.size i.transfer && eqb i.rt 30 && eqb i.rn 21) (ltb i.imm12 512) e in
@@ -309,16 +310,16 @@ entry_held c s i l h e =
     entry_left c s.data_at i.size i.transfer i.rt i.rn i.imm12 s.registers (bounds c l) t.0 (eqb-true i.rt 30 t.1) (eqb-true i.rn 21 q.1) (ltb-true i.imm12 512 p.1) h
 
 -- a direct branch goes to a word
-target_kept : (c : Code) (r : Registers) (i : Instruction) → IsLawfulCode c → (st : Stands c r.pc i) → is_inside (length c.words) (target_of i st.k) ≡ true
+target_kept : (c : Image) (r : Registers) (i : Instruction) → IsImage c → (st : Stands c r.pc i) → is_inside (length c.words) (target_of i st.k) ≡ true
 target_kept c r i l st = let kept = kept_at c r i l st in kept.target
 
 -- ---- each instruction, from lawful registers
 
-asked_safe : (c : Code) (i : Instruction) (s : State) (o : Option ℕ) → SafeMove c (accessed c i s (touches i s.registers)) → SafeMove c (unless_called c i s o)
+asked_safe : (c : Image) (i : Instruction) (s : State) (o : Option ℕ) → SafeMove c (accessed c i s (touches i s.registers)) → SafeMove c (unless_called c i s o)
 asked_safe c i s (Some j) h = tt
 asked_safe c i s None h = h
 
-from_free : (c : Code) (s : State) (i : Instruction) → IsLawfulCode c → Stands c s.registers.pc i → HeldFor (base c) Nothing s.registers → SafeMove c (performed c s i)
+from_free : (c : Image) (s : State) (i : Instruction) → IsImage c → Stands c s.registers.pc i → HeldFor (base c) Nothing s.registers → SafeMove c (performed c s i)
 from_free c s (instruction.AddSubImmediate i) l st h =
     let r = rules_at c s.registers (instruction.AddSubImmediate i) l st in
     let b = bounds c l in
@@ -437,7 +438,7 @@ guard_left from true rd width v r f e w h within = cc
 guard_left from false rd widths.W v r f e w h within = cc
 guard_left from false rd widths.X v r f e w h within = rw e (relinked from Guard Nothing v r h (record { low = h.stack.low; high = h.stack.high }) within)
 
-from_guard : (c : Code) (s : State) (i : AddSubExtended) → IsLawfulCode c → Stands c s.registers.pc (instruction.AddSubExtended i) → HeldFor (base c) Guard s.registers
+from_guard : (c : Image) (s : State) (i : AddSubExtended) → IsImage c → Stands c s.registers.pc (instruction.AddSubExtended i) → HeldFor (base c) Guard s.registers
     → guards_link_sum i ≡ true → SafeMove c (performed c s (instruction.AddSubExtended i))
 from_guard c s i l st h t =
     let r = rules_at c s.registers (instruction.AddSubExtended i) l st in
@@ -450,7 +451,7 @@ from_guard c s i l st h t =
     r.within (λ j e. refl)
 
 -- at an entry the runtime is called
-from_call : (c : Code) (s : State) (i : BranchRegister) → HeldFor (base c) Call s.registers → calls_link (instruction.BranchRegister i) ≡ true
+from_call : (c : Image) (s : State) (i : BranchRegister) → HeldFor (base c) Call s.registers → calls_link (instruction.BranchRegister i) ≡ true
     → SafeMove c (performed c s (instruction.BranchRegister i))
 from_call c s i h t =
     let p = and_parts (is_blr i.kind) (eqb i.rn 30) t in
@@ -473,7 +474,7 @@ from_sp from r h i = record {
   flags = h.flags;
 }
 
-from_probe : (c : Code) (s : State) (i : Instruction) (a : Address) → IsLawfulCode c → HeldFor (base c) Probe s.registers → Rules c s.registers i → IsAccess i
+from_probe : (c : Image) (s : State) (i : Instruction) (a : Address) → IsImage c → HeldFor (base c) Probe s.registers → Rules c s.registers i → IsAccess i
     → address_of i ≡ Some a → IsShort a → is_confined (Some a) ≡ true → first_byte a s.registers ≡ s.registers.sp
     → (HeldFor (base c) Nothing s.registers → loads_entry i ≡ true → HeldFor (base c) Call (left c i s))
     → SafeMove c (accessed c i s (Some (touch_at i s.registers a)))
@@ -504,7 +505,7 @@ offset_mode pair_modes.Offset h = refl
 offset_mode pair_modes.PostIndex h = cc
 offset_mode pair_modes.PreIndex h = cc
 
-met_safe : (c : Code) (s : State) (i : Instruction) (need : Need) → IsLawfulCode c → Stands c s.registers.pc i → HeldFor (base c) need s.registers → meets_of i need ≡ true
+met_safe : (c : Image) (s : State) (i : Instruction) (need : Need) → IsImage c → Stands c s.registers.pc i → HeldFor (base c) need s.registers → meets_of i need ≡ true
     → SafeMove c (performed c s i)
 met_safe c s i Nothing l st h t = from_free c s i l st h
 met_safe c s (instruction.BranchRegister i) Call l st h t = from_call c s i h t
@@ -534,17 +535,17 @@ met_safe c s i need l st h t = cc
 -- ---- every move and step
 
 -- from safe registers every move of lawful code is safe
-pub safe_moves : (c : Code) (s : State) (move : Move) → IsLawfulCode c → IsSafe c s.registers → Moves c s move → SafeMove c move
+pub safe_moves : (c : Image) (s : State) (move : Move) → IsImage c → IsSafe c s.registers → Moves c s move → SafeMove c move
 safe_moves c s move l h (unfetched none e) = subst (SafeMove c) (sym e) tt
 safe_moves c s move l h (fetched i f e) =
     subst (SafeMove c) (sym e) (met_safe c s i h.need l (stands c s.registers.pc i f) h.held (h.met i f))
 
-abbrev pub SafeOutcome : Code → Outcome → Type 0
+abbrev pub SafeOutcome : Image → Outcome → Type 0
 SafeOutcome c (Running t) = IsSafe c t.registers
 SafeOutcome c (Stopped cause) = Unit {0}
 SafeOutcome c Escaped = ⊥
 
-led_safe : (c : Code) (s : State) (move : Move) (t : Outcome) → SafeMove c move → Leads c s move t → SafeOutcome c t
+led_safe : (c : Image) (s : State) (move : Move) (t : Outcome) → SafeMove c move → Leads c s move t → SafeOutcome c t
 led_safe c s (go after offset bytes) (Running t) h e = subst (IsSafe c) (sym e.0) h
 led_safe c s (ask entry given) (Running t) h e = safe_start c t.registers e
 led_safe c s (stop cause) (Running t) h e = absurd e
@@ -555,14 +556,14 @@ led_safe c s (ask entry given) Escaped h e = absurd e
 led_safe c s escape Escaped h e = absurd h
 led_safe c s move (Stopped cause) h e = tt
 
-pub safe_step : (c : Code) (s : State) (t : Outcome) → IsLawfulCode c → IsSafe c s.registers → Step c s t → SafeOutcome c t
+pub safe_step : (c : Image) (s : State) (t : Outcome) → IsImage c → IsSafe c s.registers → Step c s t → SafeOutcome c t
 safe_step c s t l h step = led_safe c s step.move t (safe_moves c s step.move l h step.moves) step.leads
 
 -- ---- every run
 
-pub safe_reach : (c : Code) (s : State) (count : ℕ) (t : Outcome) → IsLawfulCode c → IsSafe c s.registers → Reach c s count t → SafeOutcome c t
+pub safe_reach : (c : Image) (s : State) (count : ℕ) (t : Outcome) → IsImage c → IsSafe c s.registers → Reach c s count t → SafeOutcome c t
 safe_reach c s zero t l h e = subst (SafeOutcome c) (sym e) h
 safe_reach c s (suc count) t l h e = safe_step c e.0 t l (safe_reach c s count (Running e.0) l h e.1) e.2
 
-pub never : (c : Code) (s : State) → IsLawfulCode c → Held (base c) s.registers → NeverEscapes c s
+pub never : (c : Image) (s : State) → IsImage c → Held (base c) s.registers → NeverEscapes c s
 never c s l h count e = safe_reach c s count Escaped l (safe_start c s.registers h) e

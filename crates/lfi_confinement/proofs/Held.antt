@@ -7,10 +7,10 @@ use Rattle.a64_word.specs.declared.operands.Width.{Width}
 use Rattle.a64_word.specs.declared.operands.Width.TheVariants as widths
 use Rattle.a64_word.specs.Operands.{bit}
 use Rattle.a64_effects.specs.Uses.{Use}
-use Rattle.a64_results.specs.declared.flags.Flags.{Flags}
-use Rattle.a64_registers.specs.declared.registers.Registers.{Registers}
-use Rattle.a64_registers.specs.Registers.{x_at, low_bits, Write, put, put_all, to_general}
-use Rattle.a64_step.specs.Results.{places_of, held_flags}
+use Rattle.a64_semantics.specs.declared.flags.Flags.{Flags}
+use Rattle.a64_semantics.specs.declared.registers.Registers.{Registers}
+use Rattle.a64_semantics.specs.Registers.{x_at, low_bits, Write, put, put_all, to_general}
+use Rattle.a64_semantics.specs.Writes.{places_of, held_flags}
 use Rattle.lfi_rules.specs.declared.needs.Need.{Need}
 use Rattle.lfi_rules.specs.declared.needs.Need.TheVariants.{Nothing, Call, Guard, Probe}
 use Rattle.lfi_confinement.specs.Slots.{InSlot}

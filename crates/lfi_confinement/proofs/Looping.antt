@@ -10,25 +10,26 @@ use Rattle.a64_word.specs.declared.operands.BranchKind.TheVariants as branches
 use Rattle.a64_word.specs.Encoding.{Spells}
 use Rattle.a64_effects.specs.declared.access.Form.TheVariants as forms
 use Rattle.a64_effects.specs.declared.access.Address.{Address}
-use Rattle.a64_registers.specs.declared.registers.Registers.{Registers}
-use Rattle.a64_registers.specs.Registers.{x_at, put}
+use Rattle.a64_semantics.specs.declared.registers.Registers.{Registers}
+use Rattle.a64_semantics.specs.Registers.{x_at, put}
 use Rattle.sparse_memory.specs.Bytes.{number_at}
-use Rattle.a64_step.specs.Accesses.{displaced, Touch, touch_at, stored}
-use Rattle.a64_step.specs.Branches.{next_pc, following}
-use Rattle.a64_step.specs.Steps.{registers_after}
+use Rattle.a64_semantics.specs.Accesses.{displaced, Touch, touch_at, stored}
+use Rattle.a64_semantics.specs.Branches.{next_pc, following}
+use Rattle.a64_semantics.specs.Steps.{registers_after}
 use Rattle.lfi_rules.specs.declared.needs.Need.TheVariants.{Nothing}
 use Rattle.lfi_rules.specs.Rules.{written as written_by}
 use Rattle.sparse_memory.specs.Bytes.{written}
 use Rattle.lfi_confinement.specs.Slots.{base, word_address, entry_address, entry_at, is_in_slot, is_guarded, memory_of}
-use Rattle.lfi_confinement.specs.Lawful.{Held, IsLawfulCode}
+use Rattle.lfi_confinement.specs.Lawful.{Held}
 use Rattle.lfi_confinement.specs.Moves.{State, go, ask, escape, word_at, Fetches, first_denied, carried_out, unless_denied, accessed, given, unless_called, performed, fetched}
 use Rattle.lfi_confinement.specs.Runs.{Running, Step, Reach}
-use Rattle.lfi_confinement.specs.Loop.{loop_words, loop_code, StartsLoop}
+use Rattle.lfi_confinement.specs.Loop.{loop_words, loop_image, StartsLoop}
 use Rattle.lfi_confinement.specs.inner.Invariant.{HeldFor, IsSafe}
 use Rattle.lfi_confinement.proofs.Places.{loaded_entry}
 use Rattle.lfi_confinement.proofs.Held.{relinked, goes_on}
 use Rattle.lfi_confinement.proofs.Confinement.{safe_start, safe_step}
 use Rattle.lfi_confinement.proofs.Tested.{spelled, AllSpell, passes, faultless}
+use Rattle.lfi_image.specs.Image.{IsImage}
 
 -- ---- the words
 
@@ -84,16 +85,17 @@ all_pass : passes instructions 0 (length loop_words) ≡ true
 unfolding written_by
 all_pass = refl
 
-pub loop_lawful : IsLawfulCode loop_code
+pub loop_lawful : IsImage loop_image
 loop_lawful = record {
+  entry = omega arith;
   slot = omega arith;
-  words = record { some = omega arith; most = omega arith; faultless = faultless instructions loop_words all_spell all_pass };
+  lawful = record { some = omega arith; most = omega arith; faultless = faultless instructions loop_words all_spell all_pass };
 }
 
 -- ---- the start
 
 abbrev from : ℕ
-from = base loop_code
+from = base loop_image
 
 start : State
 start = record {
@@ -141,13 +143,13 @@ data At (r : Registers) : Type 0 where
   at_return : r.pc ≡ word_address from 6 → x_at r 30 ≡ word_address from 5 → At r
 
 record Loops (s : State) : Type 0 where
-  safe : IsSafe loop_code s.registers
+  safe : IsSafe loop_image s.registers
   stack : s.registers.sp ≡ from + 2 ^ 31
   at : At s.registers
 
 record Next (s : State) : Type 0 where
   t : State
-  step : Step loop_code s (Running t)
+  step : Step loop_image s (Running t)
   loops : Loops t
 
 -- ---- one step
@@ -159,30 +161,30 @@ at_sp = record { base = 31; form = forms.Offset; offset = pos 0; bytes = 8 }
 abbrev at_table : Address
 at_table = record { base = 21; form = forms.Offset; offset = pos 0; bytes = 8 }
 
-fetches : (i : Instruction) (word address place : ℕ) → Spells i word → address ≡ place → word_at loop_code place ≡ Some word → Fetches loop_code address i
-fetches i word address place s e h = record { word = word; stands = subst (λ a. word_at loop_code a ≡ Some word) (sym e) h; spelled = s }
+fetches : (i : Instruction) (word address place : ℕ) → Spells i word → address ≡ place → word_at loop_image place ≡ Some word → Fetches loop_image address i
+fetches i word address place s e h = record { word = word; stands = subst (λ a. word_at loop_image a ≡ Some word) (sym e) h; spelled = s }
 
 carried_go : (i : Instruction) (s : State) (offset : ℕ) → is_in_slot from (next_pc i s.registers) ≡ true
-    → carried_out loop_code i s offset ≡ go (registers_after i s.registers (memory_of loop_code s.data_at)) offset (stored i s.registers)
+    → carried_out loop_image i s offset ≡ go (registers_after i s.registers (memory_of loop_image s.data_at)) offset (stored i s.registers)
 carried_go i s offset h = cond-true (is_in_slot from (next_pc i s.registers)) _ escape h
 
-accessed_go : (i : Instruction) (s : State) (t : Touch) → is_guarded from t.address t.bytes ≡ true → first_denied loop_code t.stores t.bytes t.address ≡ None
+accessed_go : (i : Instruction) (s : State) (t : Touch) → is_guarded from t.address t.bytes ≡ true → first_denied loop_image t.stores t.bytes t.address ≡ None
     → is_in_slot from (next_pc i s.registers) ≡ true
-    → accessed loop_code i s (Some t) ≡ go (registers_after i s.registers (memory_of loop_code s.data_at)) (t.address - from) (stored i s.registers)
+    → accessed loop_image i s (Some t) ≡ go (registers_after i s.registers (memory_of loop_image s.data_at)) (t.address - from) (stored i s.registers)
 accessed_go i s t g d h =
-    cond-true (is_guarded from t.address t.bytes) (unless_denied (first_denied loop_code t.stores t.bytes t.address) (carried_out loop_code i s (t.address - from))) escape g
-    ∙ ap (λ o. unless_denied o (carried_out loop_code i s (t.address - from))) d
+    cond-true (is_guarded from t.address t.bytes) (unless_denied (first_denied loop_image t.stores t.bytes t.address) (carried_out loop_image i s (t.address - from))) escape g
+    ∙ ap (λ o. unless_denied o (carried_out loop_image i s (t.address - from))) d
     ∙ carried_go i s (t.address - from) h
 
-goes : (s : State) (i : Instruction) (after : Registers) (offset : ℕ) (bytes : List ℕ) → Loops s → Fetches loop_code s.registers.pc i
-    → performed loop_code s i ≡ go after offset bytes → after.sp ≡ from + 2 ^ 31 → At after → Next s
+goes : (s : State) (i : Instruction) (after : Registers) (offset : ℕ) (bytes : List ℕ) → Loops s → Fetches loop_image s.registers.pc i
+    → performed loop_image s i ≡ go after offset bytes → after.sp ≡ from + 2 ^ 31 → At after → Next s
 goes s i after offset bytes l f e sp at =
     let t : State = record { registers = after; data_at = written s.data_at offset bytes } in
-    let step : Step loop_code s (Running t) = record { move = go after offset bytes; moves = fetched i f (sym e); leads = (refl, λ _. refl) } in
-    record { t = t; step = step; loops = record { safe = safe_step loop_code s (Running t) loop_lawful l.safe step; stack = sp; at = at } }
+    let step : Step loop_image s (Running t) = record { move = go after offset bytes; moves = fetched i f (sym e); leads = (refl, λ _. refl) } in
+    record { t = t; step = step; loops = record { safe = safe_step loop_image s (Running t) loop_lawful l.safe step; stack = sp; at = at } }
 
 abbrev registers_next : Instruction → State → Registers
-registers_next i s = registers_after i s.registers (memory_of loop_code s.data_at)
+registers_next i s = registers_after i s.registers (memory_of loop_image s.data_at)
 
 -- the pc after a word that doesn't branch, and the slot's test of it
 next_at : (pc here next : ℕ) → pc ≡ here → (here + 4) % 2 ^ 64 ≡ next → (pc + 4) % 2 ^ 64 ≡ next
@@ -197,7 +199,7 @@ after_store s l e =
     goes s store (registers_next store s) _ (stored store s.registers) l (fetches store 0xF90003E0 s.registers.pc (word_address from 0) store_spelled e refl)
     (accessed_go store s (touch_at store s.registers at_sp)
     (subst (λ p. is_guarded from (displaced p (pos 0)) 8 ≡ true) (sym l.stack) refl)
-    (subst (λ p. first_denied loop_code true 8 (displaced p (pos 0)) ≡ None) (sym l.stack) refl)
+    (subst (λ p. first_denied loop_image true 8 (displaced p (pos 0)) ≡ None) (sym l.stack) refl)
     (tested (next_pc store s.registers) (word_address from 1) on refl))
     l.stack (at_load on)
 
@@ -207,7 +209,7 @@ after_load s l e =
     goes s load (registers_next load s) _ (stored load s.registers) l (fetches load 0xF94003E1 s.registers.pc (word_address from 1) load_spelled e refl)
     (accessed_go load s (touch_at load s.registers at_sp)
     (subst (λ p. is_guarded from (displaced p (pos 0)) 8 ≡ true) (sym l.stack) refl)
-    (subst (λ p. first_denied loop_code false 8 (displaced p (pos 0)) ≡ None) (sym l.stack) refl)
+    (subst (λ p. first_denied loop_image false 8 (displaced p (pos 0)) ≡ None) (sym l.stack) refl)
     (tested (next_pc load s.registers) (word_address from 2) on refl))
     l.stack (at_load_entry on)
 
@@ -221,12 +223,12 @@ after_load_entry s l e =
     let on : next_pc load_entry r ≡ word_address from 3 = next_at r.pc (word_address from 2) (word_address from 3) e refl in
     let table : x_at r 21 ≡ from = l.safe.held.base in
     let at = displaced (x_at r 21) (pos 0) in
-    let v = number_at (memory_of loop_code s.data_at) 8 at in
-    let is : v ≡ entry_address 0 = loaded_entry loop_code s.data_at 0 at (omega arith) (ap (λ p. displaced p (pos 0)) table) in
+    let v = number_at (memory_of loop_image s.data_at) 8 at in
+    let is : v ≡ entry_address 0 = loaded_entry loop_image s.data_at 0 at (omega arith) (ap (λ p. displaced p (pos 0)) table) in
     goes s load_entry (registers_next load_entry s) _ (stored load_entry r) l (fetches load_entry 0xF94002BE r.pc (word_address from 2) load_entry_spelled e refl)
     (accessed_go load_entry s (touch_at load_entry r at_table)
     (subst (λ p. is_guarded from (displaced p (pos 0)) 8 ≡ true) (sym table) refl)
-    (subst (λ p. first_denied loop_code false 8 (displaced p (pos 0)) ≡ None) (sym table) refl)
+    (subst (λ p. first_denied loop_image false 8 (displaced p (pos 0)) ≡ None) (sym table) refl)
     (tested (next_pc load_entry r) (word_address from 3) on refl))
     l.stack (at_call_entry on (link_set r.x (v % 2 ^ 64) l.safe.held.count ∙ ap (λ y. y % 2 ^ 64) is))
 
@@ -252,15 +254,15 @@ after_call_entry s l e link =
     let h = l.safe.held in
     let sp : r.sp ≡ from + 2 ^ 31 = l.stack in
     let on : following r ≡ word_address from 4 = next_at r.pc (word_address from 3) (word_address from 4) e refl in
-    let f : Fetches loop_code r.pc call_entry = fetches call_entry 0xD63F03C0 r.pc (word_address from 3) call_entry_spelled e refl in
-    let asks : performed loop_code s call_entry ≡ ask 0 (given r) =
-    ap (λ a. unless_called loop_code call_entry s (entry_at a)) link in
+    let f : Fetches loop_image r.pc call_entry = fetches call_entry 0xD63F03C0 r.pc (word_address from 3) call_entry_spelled e refl in
+    let asks : performed loop_image s call_entry ≡ ask 0 (given r) =
+    ap (λ a. unless_called loop_image call_entry s (entry_at a)) link in
     let relink : HeldFor from Nothing (put (record { place = record { register = 30; width = widths.X }; value = following r }) r) =
     relinked from l.safe.need Nothing (following r) r h (record { low = omega (arith, sp); high = omega (arith, sp) }) (record { low = omega (arith, on); high = omega (arith, on) }) in
     let held : Held from (given r) = to_held (given r) (goes_on from Nothing _ (following r) r.nzcv relink (record { low = omega (arith, on); high = omega (arith, on) }) h.flags) in
     let t : State = record { registers = given r; data_at = s.data_at } in
-    let step : Step loop_code s (Running t) = record { move = ask 0 (given r); moves = fetched call_entry f (sym asks); leads = held } in
-    record { t = t; step = step; loops = record { safe = safe_start loop_code (given r) held; stack = sp; at = at_call on } }
+    let step : Step loop_image s (Running t) = record { move = ask 0 (given r); moves = fetched call_entry f (sym asks); leads = held } in
+    record { t = t; step = step; loops = record { safe = safe_start loop_image (given r) held; stack = sp; at = at_call on } }
 
 after_call : (s : State) → Loops s → s.registers.pc ≡ word_address from 4 → Next s
 after_call s l e =
@@ -302,7 +304,7 @@ next_of s l = by_place l.at
 
 record Reached (s : State) (count : ℕ) : Type 0 where
   t : State
-  reach : Reach loop_code s count (Running t)
+  reach : Reach loop_image s count (Running t)
   loops : Loops t
 
 reached : (s : State) (count : ℕ) → Loops s → Reached s count
@@ -312,7 +314,7 @@ reached s (suc count) l =
     let next = next_of mid.t mid.loops in
     record { t = next.t; reach = (mid.t, mid.reach, next.step); loops = next.loops }
 
-pub loop_runs : (s : State) (count : ℕ) → StartsLoop s → (t : State) × Reach loop_code s count (Running t)
+pub loop_runs : (s : State) (count : ℕ) → StartsLoop s → (t : State) × Reach loop_image s count (Running t)
 loop_runs s count h =
-    let r = reached s count (record { safe = safe_start loop_code s.registers h.held; stack = h.stack; at = at_store h.pc }) in
+    let r = reached s count (record { safe = safe_start loop_image s.registers h.held; stack = h.stack; at = at_store h.pc }) in
     (r.t, r.reach)

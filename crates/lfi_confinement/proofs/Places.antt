@@ -4,21 +4,21 @@ use Rattle.std.proofs.lemmas.Bool.{and_parts, and_from, cond_both, cond-true, ca
 use Rattle.a64_word.specs.declared.instruction.Instruction.{Instruction}
 use Rattle.a64_word.specs.Encoding.{Spells}
 use Rattle.sparse_memory.specs.Bytes.{number_at}
-use Rattle.a64_step.specs.Accesses.{displaced}
-use Rattle.lfi_confinement.specs.Slots.{Code, base, slot_size, guard_size, code_offset, table_bytes, InSlot, is_in_slot, is_guarded, word_address, word_place, entry_address, entry_count, entry_at, Permission, NoAccess, data_offset, permission_in, permission_at, is_permitted, byte_in, memory_of}
+use Rattle.a64_semantics.specs.Accesses.{displaced}
+use Rattle.lfi_confinement.specs.Slots.{base, slot_size, guard_size, code_offset, table_bytes, InSlot, is_in_slot, is_guarded, word_address, word_place, entry_address, entry_count, entry_at, Permission, NoAccess, data_offset, permission_in, permission_at, is_permitted, byte_in, memory_of}
 use Rattle.lfi_module.specs.Numbers.{module_count, base_of}
-use Rattle.lfi_confinement.specs.Lawful.{IsLawfulCode}
 use Rattle.lfi_confinement.specs.Moves.{Fetches, first_denied}
+use Rattle.lfi_image.specs.Image.{Image, IsImage}
 
 -- ---- bounds
 
-pub record Bounds (c : Code) : Type 0 where
+pub record Bounds (c : Image) : Type 0 where
   pub low : 2 ^ 32 ≤ base c
   pub high : base c < 2 ^ 40
   pub words : length c.words ≤ 4194304
 
-pub bounds : (c : Code) → IsLawfulCode c → Bounds c
-bounds c l = record { low = omega (arith, l.slot); high = omega (arith, l.slot); words = l.words.most }
+pub bounds : (c : Image) → IsImage c → Bounds c
+bounds c l = record { low = omega (arith, l.slot); high = omega (arith, l.slot); words = l.lawful.most }
 
 pub in_slot_test : (from a : ℕ) → InSlot from a → is_in_slot from a ≡ true
 in_slot_test from a h = and_from (leb from a) (ltb a (from + slot_size)) (le-leb from a h.low) (lt-ltb a (from + slot_size) h.high)
@@ -45,7 +45,7 @@ place_is from n a k h =
     (omega (arith, t.1), omega (arith, t.1))
 
 -- an instruction stands at an address
-pub record Stands (c : Code) (address : ℕ) (i : Instruction) : Type 0 where
+pub record Stands (c : Image) (address : ℕ) (i : Instruction) : Type 0 where
   pub k : ℕ
   pub at : address ≡ word_address (base c) k
   pub within : k < length c.words
@@ -53,7 +53,7 @@ pub record Stands (c : Code) (address : ℕ) (i : Instruction) : Type 0 where
   pub is : slice_get c.words k ≡ Some word
   pub spelled : Spells i word
 
-pub stands : (c : Code) (address : ℕ) (i : Instruction) → Fetches c address i → Stands c address i
+pub stands : (c : Image) (address : ℕ) (i : Instruction) → Fetches c address i → Stands c address i
 stands c address i f = by_place (word_place (base c) (length c.words) address) refl f.stands
   where
     at_place : Option ℕ → Option ℕ
@@ -85,7 +85,7 @@ past_end n o small past =
     (λ _. cond_both (ltb o slot_size) _ _ (λ p. p ≡ NoAccess) (λ e. absurd (omega (arith, ltb-true o slot_size e))) (λ _. refl))))
 
 -- a byte that may be accessed lies in the slot
-pub permitted_in_slot : (c : Code) (stores : Bool) (a : ℕ) → length c.words ≤ 4194304 → is_permitted stores (permission_at c a) ≡ true → InSlot (base c) a
+pub permitted_in_slot : (c : Image) (stores : Bool) (a : ℕ) → length c.words ≤ 4194304 → is_permitted stores (permission_at c a) ≡ true → InSlot (base c) a
 permitted_in_slot c stores a small h = elim (cases_lt a (base c)) [
   | inl low ↦ absurd (not_denied stores _ h (cond_both (leb (base c) a) _ _ (λ p. p ≡ NoAccess) (λ e. absurd (omega (arith, leb-true (base c) a e))) (λ _. refl)))
   | inr from ↦ (elim (cases_lt a (base c + slot_size)) [
@@ -94,18 +94,18 @@ permitted_in_slot c stores a small h = elim (cases_lt a (base c)) [
   ])
 ]
 
-pub first_permitted : (c : Code) (stores : Bool) (bytes a : ℕ) → first_denied c stores (suc bytes) a ≡ None → is_permitted stores (permission_at c a) ≡ true
+pub first_permitted : (c : Image) (stores : Bool) (bytes a : ℕ) → first_denied c stores (suc bytes) a ≡ None → is_permitted stores (permission_at c a) ≡ true
 first_permitted c stores bytes a =
     cond_both (is_permitted stores (permission_at c a)) (first_denied c stores bytes (a + 1)) (Some a) (λ o. o ≡ None → is_permitted stores (permission_at c a) ≡ true) (λ e _. e) (λ _ h. cc)
 
 -- an access that isn't denied begins in the slot
-pub touched_in_slot : (c : Code) (stores : Bool) (bytes a : ℕ) → length c.words ≤ 4194304 → 0 < bytes → first_denied c stores bytes a ≡ None → InSlot (base c) a
+pub touched_in_slot : (c : Image) (stores : Bool) (bytes a : ℕ) → length c.words ≤ 4194304 → 0 < bytes → first_denied c stores bytes a ≡ None → InSlot (base c) a
 touched_in_slot c stores zero a small some h = absurd (omega arith)
 touched_in_slot c stores (suc bytes) a small some h = permitted_in_slot c stores a small (first_permitted c stores bytes a h)
 
 -- ---- the table
 
-table_byte : (c : Code) (d : ℕ → ℕ) (j i at : ℕ) → j < 512 → i < 8 → at ≡ base c + (8 * j + i) → memory_of c d at ≡ entry_address j / 2 ^ (8 * i) % 256
+table_byte : (c : Image) (d : ℕ → ℕ) (j i at : ℕ) → j < 512 → i < 8 → at ≡ base c + (8 * j + i) → memory_of c d at ≡ entry_address j / 2 ^ (8 * i) % 256
 table_byte c d j i at hj hi e =
     let o : at - base c ≡ 8 * j + i = omega arith in
     let q : (8 * j + i) / 8 ≡ j = omega arith in
@@ -127,7 +127,7 @@ digits e small =
     rw (s7, s6, s5, s4, s3, s2, s1) s0
 
 -- a load of entry j of the table gives its address
-pub loaded_entry : (c : Code) (d : ℕ → ℕ) (j at : ℕ) → j < 512 → at ≡ base c + 8 * j → number_at (memory_of c d) 8 at ≡ entry_address j
+pub loaded_entry : (c : Image) (d : ℕ → ℕ) (j at : ℕ) → j < 512 → at ≡ base c + 8 * j → number_at (memory_of c d) 8 at ≡ entry_address j
 loaded_entry c d j at h e =
     rw (
       table_byte c d j 0 at h (omega arith) (omega arith),

@@ -22,14 +22,14 @@ use Rattle.a64_effects.specs.declared.access.Form.{Form}
 use Rattle.a64_effects.specs.declared.access.Form.TheVariants as forms
 use Rattle.a64_effects.specs.declared.access.Address.{Address}
 use Rattle.a64_effects.specs.Effects.{address_of, changes_base, is_store, data_width, pair_bytes, pair_offset}
-use Rattle.a64_results.specs.Numbers.{operand}
-use Rattle.a64_results.specs.Sums.{sum_of, addend}
-use Rattle.a64_results.specs.Shifts.{extended_operand}
-use Rattle.a64_registers.specs.declared.registers.Registers.{Registers}
-use Rattle.a64_registers.specs.Registers.{x_at, x_or_sp_at, low_bits, Write, to_general}
+use Rattle.a64_semantics.specs.Numbers.{operand}
+use Rattle.a64_semantics.specs.Sums.{sum_of, addend}
+use Rattle.a64_semantics.specs.Shifts.{extended_operand}
+use Rattle.a64_semantics.specs.declared.registers.Registers.{Registers}
+use Rattle.a64_semantics.specs.Registers.{x_at, x_or_sp_at, low_bits, Write, to_general}
 use Rattle.sparse_memory.specs.Bytes.{number_at}
-use Rattle.a64_step.specs.Accesses.{displaced, first_byte, loaded, register_bytes}
-use Rattle.a64_step.specs.Results.{linked, to_base, to_loaded, with_loaded, results_at, results_of}
+use Rattle.a64_semantics.specs.Accesses.{displaced, first_byte, loaded, register_bytes}
+use Rattle.a64_semantics.specs.Writes.{linked, to_base, to_loaded, with_loaded, results_at, results_of}
 use Rattle.lfi_rules.specs.declared.needs.Need.{Need}
 use Rattle.lfi_rules.specs.declared.needs.Need.TheVariants.{Nothing, Probe}
 use Rattle.lfi_rules.specs.Guard.{is_x, is_uxtw, is_uxtx, adds_to_base, is_guard_sum, sets_stack_sum}

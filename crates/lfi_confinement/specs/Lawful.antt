@@ -1,11 +1,9 @@
--- Lawful registers and lawful code: docs/DEFINITIONS.md, "Slots and registers".
+-- Lawful registers: docs/DEFINITIONS.md, "Slots and registers".
 use Rattle.std.specs.Prelude.{◌≡◌, ℕ, ◌+◌, ◌^◌, ◌<◌, ◌≤◌, length}
-use Rattle.lfi_module.specs.Numbers.{module_count}
 use Rattle.lfi_rules.specs.Registers as registers
-use Rattle.lfi_rules.specs.Faults.{Lawful}
-use Rattle.a64_registers.specs.declared.registers.Registers.{Registers}
-use Rattle.a64_registers.specs.Registers.{x_at}
-use Rattle.lfi_confinement.specs.Slots.{Code, InSlot, slot_size}
+use Rattle.a64_semantics.specs.declared.registers.Registers.{Registers}
+use Rattle.a64_semantics.specs.Registers.{x_at}
+use Rattle.lfi_confinement.specs.Slots.{InSlot, slot_size}
 
 -- how far sp may be from the slot
 abbrev pub stack_reach : ℕ
@@ -24,8 +22,3 @@ pub record Held (from : ℕ) (r : Registers) : Type 0 where
   pub stack_high : r.sp < from + slot_size + stack_reach
   pub pc : InSlot from r.pc
   pub flags : r.nzcv < 16
-
--- Its words are lawful, and it is in one of the 16 slots.
-pub record IsLawfulCode (c : Code) : Type 0 where
-  pub slot : c.slot < module_count
-  pub words : Lawful c.words

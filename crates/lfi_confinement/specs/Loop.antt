@@ -1,8 +1,9 @@
 -- A module that is lawful and runs on for ever: it stores, loads, calls the runtime, calls a function of its own, and returns.
 use Rattle.std.specs.Prelude.{◌≡◌, ℕ, ◌+◌, ◌^◌, List, [], ◌∷◌}
-use Rattle.lfi_confinement.specs.Slots.{Code, base, word_address}
+use Rattle.lfi_confinement.specs.Slots.{base, word_address}
 use Rattle.lfi_confinement.specs.Lawful.{Held}
 use Rattle.lfi_confinement.specs.Moves.{State}
+use Rattle.lfi_image.specs.Image.{Image}
 
 abbrev pub loop_words : List ℕ
 loop_words =
@@ -22,11 +23,11 @@ loop_words =
     0xD65F03C0 ∷ []
 
 -- in the first slot
-abbrev pub loop_code : Code
-loop_code = record { slot = 0; words = loop_words }
+abbrev pub loop_image : Image
+loop_image = record { entry = 0; slot = 0; words = loop_words }
 
 -- lawful registers at word 0, with sp in the middle of the slot
 pub record StartsLoop (s : State) : Type 0 where
-  pub held : Held (base loop_code) s.registers
-  pub stack : s.registers.sp ≡ base loop_code + 2 ^ 31
-  pub pc : s.registers.pc ≡ word_address (base loop_code) 0
+  pub held : Held (base loop_image) s.registers
+  pub stack : s.registers.sp ≡ base loop_image + 2 ^ 31
+  pub pc : s.registers.pc ≡ word_address (base loop_image) 0

@@ -1,15 +1,11 @@
 -- The map of a slot: what may be done with each byte of it and of its guards, and what the bytes hold that no step changes:
 -- docs/DEFINITIONS.md, "Slots and registers".
-use Rattle.std.specs.Prelude.{ℕ, ◌+◌, ◌-◌, ◌*◌, ◌/◌, ◌%◌, ◌^◌, ◌<◌, ◌≤◌, Bool, true, false, not, ◌&&◌, nat_lt, nat_le, ◌==◌, if◌then◌else◌, List, length, Option, Some, None, slice_index}
+use Rattle.std.specs.Prelude.{ℕ, ◌+◌, ◌-◌, ◌*◌, ◌/◌, ◌%◌, ◌^◌, ◌<◌, ◌≤◌, Bool, true, false, not, ◌&&◌, nat_lt, nat_le, ◌==◌, if◌then◌else◌, length, Option, Some, None, slice_index}
 use Rattle.lfi_module.specs.Numbers.{base_of}
+use Rattle.lfi_image.specs.Image.{Image}
 
--- the code of a module, in its slot
-pub record Code : Type 0 where
-  pub slot : ℕ
-  pub words : List ℕ
-
--- where the slot begins
-abbrev pub base : Code → ℕ
+-- where an image's slot begins
+abbrev pub base : Image → ℕ
 base c = base_of c.slot
 
 -- the bytes of a slot
@@ -89,7 +85,7 @@ permission_in n offset =
     if nat_lt offset slot_size then Writable else NoAccess
 
 -- what may be done with the byte at an address: with those of the guards, and all others, nothing
-abbrev pub permission_at : Code → (address : ℕ) → Permission
+abbrev pub permission_at : Image → (address : ℕ) → Permission
 permission_at c address = if nat_le (base c) address then permission_in (length c.words) (address - base c) else NoAccess
 
 -- a byte of this permission may be accessed so
@@ -105,7 +101,7 @@ abbrev pub byte_of : (value i : ℕ) → ℕ
 byte_of value i = value / 2 ^ (8 * i) % 256
 
 -- The byte at an offset: of the table of entries, 8 bytes each; of the code, 4 bytes a word and then zeros; and of the data.
-abbrev pub byte_in : Code → (data_at : ℕ → ℕ) → (offset : ℕ) → ℕ
+abbrev pub byte_in : Image → (data_at : ℕ → ℕ) → (offset : ℕ) → ℕ
 byte_in c data_at offset =
     if nat_lt offset table_bytes then byte_of (entry_address (offset / 8)) (offset % 8) else
     if nat_lt offset (data_offset (length c.words))
@@ -113,5 +109,5 @@ byte_in c data_at offset =
     else data_at offset
 
 -- the same, by addresses
-abbrev pub memory_of : Code → (data_at : ℕ → ℕ) → (address : ℕ) → ℕ
+abbrev pub memory_of : Image → (data_at : ℕ → ℕ) → (address : ℕ) → ℕ
 memory_of c data_at address = byte_in c data_at (address - base c)

@@ -1,45 +1,47 @@
 //! What the definitions come to at the edges of slots, guards, table and code.
 
 ghost use Rattle.std.specs.Prelude.{◌≡◌, ℕ, ◌+◌, ◌-◌, ◌*◌, ◌^◌, ◌<◌, false, Some, None};
+ghost use Rattle.lfi_image.specs.Image.{Image};
 ghost use Rattle.a64_word.specs.declared.operands.Size.TheVariants.{Byte, Half, Double};
 ghost use Rattle.a64_word.specs.declared.operands.BranchKind.TheVariants.{Br, Blr, Ret};
 ghost use Rattle.sparse_memory.specs.Bytes.{number_at};
-ghost use Rattle.a64_registers.specs.Registers.{x_at};
+ghost use Rattle.a64_semantics.specs.Registers.{x_at};
 ghost use Rattle.lfi_module.specs.Numbers.{base_of, module_count, most_words};
-ghost use Rattle.lfi_confinement.specs.Slots.{Code, base, is_guarded, entry_count, entry_address, entry_at, word_place, data_offset, Readable, Writable, NoAccess, permission_in, byte_in, memory_of};
-ghost use Rattle.lfi_confinement.specs.Moves.{word_at, performed, given, stop, ask, escape, no_access};
-ghost use Rattle.lfi_confinement.specs.Edges.{edge_code, with_x0, loads_at_x0, loads_pair_at_x0, with_x30, goes_to};
+ghost use Rattle.lfi_confinement.specs.Slots.{base, is_guarded, entry_count, entry_address, entry_at, word_place, data_offset, Readable, Writable, NoAccess, permission_in, byte_in, memory_of};
+ghost use Rattle.lfi_confinement.specs.Moves.{word_at, performed, given, stop, ask, escape};
+ghost use Rattle.lfi_confinement.specs.declared.cause.Cause.TheVariants as cause;
+ghost use Rattle.lfi_confinement.specs.Edges.{edge_image, with_x0, loads_at_x0, loads_pair_at_x0, with_x30, goes_to};
 
 /// What an escape is, by rows: a byte that is accessed just outside of the guards of slot 0, and a pc just outside of the slot.
 /// In a guard the machine stops.
 pub fn escapes_at_the_edges()
-    ensures below { performed edge_code (with_x0 (2 ^ 32 - 65537)) (loads_at_x0 Byte) ≡ escape }
-    ensures low_guard { performed edge_code (with_x0 (2 ^ 32 - 65536)) (loads_at_x0 Byte) ≡ stop (no_access (2 ^ 32 - 65536)) }
-    ensures high_guard { performed edge_code (with_x0 (2 ^ 33 + 65535)) (loads_at_x0 Byte) ≡ stop (no_access (2 ^ 33 + 65535)) }
-    ensures above { performed edge_code (with_x0 (2 ^ 33 + 65536)) (loads_at_x0 Byte) ≡ escape }
-    ensures left_below { performed edge_code (with_x0 (2 ^ 32 - 1)) (goes_to Br 0) ≡ escape }
-    ensures left_above { performed edge_code (with_x0 (2 ^ 33)) (goes_to Br 0) ≡ escape }
+    ensures below { performed edge_image (with_x0 (2 ^ 32 - 65537)) (loads_at_x0 Byte) ≡ escape }
+    ensures low_guard { performed edge_image (with_x0 (2 ^ 32 - 65536)) (loads_at_x0 Byte) ≡ stop (cause.NoAccess (2 ^ 32 - 65536)) }
+    ensures high_guard { performed edge_image (with_x0 (2 ^ 33 + 65535)) (loads_at_x0 Byte) ≡ stop (cause.NoAccess (2 ^ 33 + 65535)) }
+    ensures above { performed edge_image (with_x0 (2 ^ 33 + 65536)) (loads_at_x0 Byte) ≡ escape }
+    ensures left_below { performed edge_image (with_x0 (2 ^ 32 - 1)) (goes_to Br 0) ≡ escape }
+    ensures left_above { performed edge_image (with_x0 (2 ^ 33)) (goes_to Br 0) ≡ escape }
 {}
 
 /// Of several bytes each counts: an access escapes where one of its bytes lies outside of the guards, and stops at the first that
 /// lies in a guard.
 pub fn wide_escapes_at_the_edges()
-    ensures half_from_below { performed edge_code (with_x0 (2 ^ 32 - 65537)) (loads_at_x0 Half) ≡ escape }
-    ensures half_in_the_low_guard { performed edge_code (with_x0 (2 ^ 32 - 65536)) (loads_at_x0 Half) ≡ stop (no_access (2 ^ 32 - 65536)) }
-    ensures half_in_the_high_guard { performed edge_code (with_x0 (2 ^ 33 + 65534)) (loads_at_x0 Half) ≡ stop (no_access (2 ^ 33 + 65534)) }
-    ensures half_out_above { performed edge_code (with_x0 (2 ^ 33 + 65535)) (loads_at_x0 Half) ≡ escape }
-    ensures double_from_below { performed edge_code (with_x0 (2 ^ 32 - 65543)) (loads_at_x0 Double) ≡ escape }
-    ensures double_into_the_slot { performed edge_code (with_x0 (2 ^ 32 - 4)) (loads_at_x0 Double) ≡ stop (no_access (2 ^ 32 - 4)) }
-    ensures double_out_of_the_slot { performed edge_code (with_x0 (2 ^ 33 - 4)) (loads_at_x0 Double) ≡ stop (no_access (2 ^ 33)) }
-    ensures double_in_the_high_guard { performed edge_code (with_x0 (2 ^ 33 + 65528)) (loads_at_x0 Double) ≡ stop (no_access (2 ^ 33 + 65528)) }
-    ensures double_out_above { performed edge_code (with_x0 (2 ^ 33 + 65529)) (loads_at_x0 Double) ≡ escape }
-    ensures pair_in_the_high_guard { performed edge_code (with_x0 (2 ^ 33 + 65520)) loads_pair_at_x0 ≡ stop (no_access (2 ^ 33 + 65520)) }
-    ensures pair_out_above { performed edge_code (with_x0 (2 ^ 33 + 65521)) loads_pair_at_x0 ≡ escape }
+    ensures half_from_below { performed edge_image (with_x0 (2 ^ 32 - 65537)) (loads_at_x0 Half) ≡ escape }
+    ensures half_in_the_low_guard { performed edge_image (with_x0 (2 ^ 32 - 65536)) (loads_at_x0 Half) ≡ stop (cause.NoAccess (2 ^ 32 - 65536)) }
+    ensures half_in_the_high_guard { performed edge_image (with_x0 (2 ^ 33 + 65534)) (loads_at_x0 Half) ≡ stop (cause.NoAccess (2 ^ 33 + 65534)) }
+    ensures half_out_above { performed edge_image (with_x0 (2 ^ 33 + 65535)) (loads_at_x0 Half) ≡ escape }
+    ensures double_from_below { performed edge_image (with_x0 (2 ^ 32 - 65543)) (loads_at_x0 Double) ≡ escape }
+    ensures double_into_the_slot { performed edge_image (with_x0 (2 ^ 32 - 4)) (loads_at_x0 Double) ≡ stop (cause.NoAccess (2 ^ 32 - 4)) }
+    ensures double_out_of_the_slot { performed edge_image (with_x0 (2 ^ 33 - 4)) (loads_at_x0 Double) ≡ stop (cause.NoAccess (2 ^ 33)) }
+    ensures double_in_the_high_guard { performed edge_image (with_x0 (2 ^ 33 + 65528)) (loads_at_x0 Double) ≡ stop (cause.NoAccess (2 ^ 33 + 65528)) }
+    ensures double_out_above { performed edge_image (with_x0 (2 ^ 33 + 65529)) (loads_at_x0 Double) ≡ escape }
+    ensures pair_in_the_high_guard { performed edge_image (with_x0 (2 ^ 33 + 65520)) loads_pair_at_x0 ≡ stop (cause.NoAccess (2 ^ 33 + 65520)) }
+    ensures pair_out_above { performed edge_image (with_x0 (2 ^ 33 + 65521)) loads_pair_at_x0 ≡ escape }
 {}
 
 /// The table holds the address of each entry of the runtime, which is called there; and there is no other entry.
 pub fn entries_stand_in_the_table()
-    ensures held { (c : Code) (data_at : ℕ → ℕ) (j : ℕ) → j < entry_count → number_at (memory_of c data_at) 8 (base c + 8 * j) ≡ entry_address j }
+    ensures held { (c : Image) (data_at : ℕ → ℕ) (j : ℕ) → j < entry_count → number_at (memory_of c data_at) 8 (base c + 8 * j) ≡ entry_address j }
     ensures called { (j : ℕ) → j < entry_count → entry_at (entry_address j) ≡ Some j }
     ensures below { entry_at (2 ^ 40 - 16) ≡ None }
     ensures first { entry_at (2 ^ 40) ≡ Some 0 }
@@ -47,9 +49,9 @@ pub fn entries_stand_in_the_table()
     ensures number_257 { entry_at (2 ^ 40 + 4112) ≡ Some 257 }
     ensures last { entry_at (2 ^ 40 + 8176) ≡ Some 511 }
     ensures above { entry_at (2 ^ 40 + 8192) ≡ None }
-    ensures first_in_the_table { number_at (memory_of edge_code (λ offset. 7)) 8 (2 ^ 32) ≡ 2 ^ 40 }
-    ensures number_257_in_the_table { number_at (memory_of edge_code (λ offset. 7)) 8 (2 ^ 32 + 2056) ≡ 2 ^ 40 + 4112 }
-    ensures last_in_the_table { number_at (memory_of edge_code (λ offset. 7)) 8 (2 ^ 32 + 4088) ≡ 2 ^ 40 + 8176 }
+    ensures first_in_the_table { number_at (memory_of edge_image (λ offset. 7)) 8 (2 ^ 32) ≡ 2 ^ 40 }
+    ensures number_257_in_the_table { number_at (memory_of edge_image (λ offset. 7)) 8 (2 ^ 32 + 2056) ≡ 2 ^ 40 + 4112 }
+    ensures last_in_the_table { number_at (memory_of edge_image (λ offset. 7)) 8 (2 ^ 32 + 4088) ≡ 2 ^ 40 + 8176 }
     ensures table_ends { permission_in 1 4095 ≡ Readable }
     ensures nothing_after { permission_in 1 4096 ≡ NoAccess }
 {}
@@ -57,12 +59,12 @@ pub fn entries_stand_in_the_table()
 /// An entry is called by BLR X30 alone, with its address in x30: every other branch there leaves the slot. What the runtime gets
 /// goes on after the call.
 pub fn entries_are_called_by_x30()
-    ensures called { performed edge_code (with_x30 (2 ^ 40 + 4112)) (goes_to Blr 30) ≡ ask 257 (given (with_x30 (2 ^ 40 + 4112)).registers) }
-    ensures without_link { performed edge_code (with_x30 (2 ^ 40 + 4112)) (goes_to Br 30) ≡ escape }
-    ensures returned { performed edge_code (with_x30 (2 ^ 40 + 4112)) (goes_to Ret 30) ≡ escape }
-    ensures by_another_register { performed edge_code (with_x0 (2 ^ 40 + 4112)) (goes_to Blr 0) ≡ escape }
-    ensures within_an_entry { performed edge_code (with_x30 (2 ^ 40 + 4120)) (goes_to Blr 30) ≡ escape }
-    ensures past_the_last { performed edge_code (with_x30 (2 ^ 40 + 8192)) (goes_to Blr 30) ≡ escape }
+    ensures called { performed edge_image (with_x30 (2 ^ 40 + 4112)) (goes_to Blr 30) ≡ ask 257 (given (with_x30 (2 ^ 40 + 4112)).registers) }
+    ensures without_link { performed edge_image (with_x30 (2 ^ 40 + 4112)) (goes_to Br 30) ≡ escape }
+    ensures returned { performed edge_image (with_x30 (2 ^ 40 + 4112)) (goes_to Ret 30) ≡ escape }
+    ensures by_another_register { performed edge_image (with_x0 (2 ^ 40 + 4112)) (goes_to Blr 0) ≡ escape }
+    ensures within_an_entry { performed edge_image (with_x30 (2 ^ 40 + 4120)) (goes_to Blr 30) ≡ escape }
+    ensures past_the_last { performed edge_image (with_x30 (2 ^ 40 + 8192)) (goes_to Blr 30) ≡ escape }
     ensures given_link { x_at (given (with_x30 (2 ^ 40)).registers) 30 ≡ 2 ^ 32 + 65540 }
     ensures given_pc { (given (with_x30 (2 ^ 40)).registers).pc ≡ 2 ^ 32 + 65540 }
 {}
@@ -90,10 +92,10 @@ pub fn code_ends_within_a_page()
     ensures data_of_the_most { data_offset most_words ≡ 65536 + 16777216 }
     ensures slot_ends { permission_in 1 (2 ^ 32 - 1) ≡ Writable }
     ensures after_the_slot { permission_in 1 (2 ^ 32) ≡ NoAccess }
-    ensures last_byte { byte_in edge_code (λ offset. 7) 65539 ≡ 0xD5 }
-    ensures byte_after { byte_in edge_code (λ offset. 7) 65540 ≡ 0 }
-    ensures byte_before_the_data { byte_in edge_code (λ offset. 7) 69631 ≡ 0 }
-    ensures byte_of_the_data { byte_in edge_code (λ offset. 7) 69632 ≡ 7 }
+    ensures last_byte { byte_in edge_image (λ offset. 7) 65539 ≡ 0xD5 }
+    ensures byte_after { byte_in edge_image (λ offset. 7) 65540 ≡ 0 }
+    ensures byte_before_the_data { byte_in edge_image (λ offset. 7) 69631 ≡ 0 }
+    ensures byte_of_the_data { byte_in edge_image (λ offset. 7) 69632 ≡ 7 }
 {}
 
 /// Which addresses of slot 0 words begin at, in modules of 1,023, 1,024 and 1,025 words: every fourth of the code, and no other.
@@ -108,6 +110,6 @@ pub fn words_stand_in_the_code()
     ensures last_of_1025 { word_place (2 ^ 32) 1025 (2 ^ 32 + 69632) ≡ Some 1024 }
     ensures within_the_last { word_place (2 ^ 32) 1025 (2 ^ 32 + 69634) ≡ None }
     ensures after_1025 { word_place (2 ^ 32) 1025 (2 ^ 32 + 69636) ≡ None }
-    ensures fetched { word_at edge_code (2 ^ 32 + 65536) ≡ Some 0xD503201F }
-    ensures none_after { word_at edge_code (2 ^ 32 + 65540) ≡ None }
+    ensures fetched { word_at edge_image (2 ^ 32 + 65536) ≡ Some 0xD503201F }
+    ensures none_after { word_at edge_image (2 ^ 32 + 65540) ≡ None }
 {}

@@ -1,9 +1,35 @@
 //! Lawful code never leaves its slot: the map of a slot, lawful registers, the steps of a machine, and the law.
+//!
+//! # How data flows
+//!
+//! specs/ say what a slot's bytes allow, which registers are lawful, what one step does by any answers of the runtime,
+//! and which states runs reach. `never_escapes` is the law over all of them, `lawful_code_runs_on` its other half;
+//! `edges` has closed facts on the numbers of the map. lfi_machine is proved to take these steps.
+//!
+//! # What it may not know
+//!
+//! Memory in pages, halts' numbers, files.
+//!
+//! # Decisions
+//!
+//! - **The step is a function of the instruction; which instruction stands at pc is a relation** (`Fetches`), since a
+//!   word's instruction is one (`Spells`), and a word that nothing spells has no move. No instruction exists twice: the
+//!   machine runs what the decoder spells.
+//! - **Memory is a function of addresses; table and code are computed from the words.** So "no step changes the words"
+//!   is true by definition, and only the bytes that may be written are state.
+//! - **The invariant is about the word that comes next**: registers are lawful but for what the open need weakens, and
+//!   the instruction at pc, if there is one, meets that need.
+//! - **Bytes of a word are written through the lent slice of frames**: through the memory, one by one, each store of a
+//!   byte may change the pointer to the frames, which is then read anew.
+//! - The index of the memory is a table of 2^20 numbers of 32 bits, written at `new`: 4 MiB. Frames are one `Vec`,
+//!   which grows by doubling.
 #![tactic(auto)]
 
+mod cause;
 mod edges;
 mod laws;
 
+pub use cause::Cause;
 pub use edges::{
     code_ends_within_a_page, entries_are_called_by_x30, entries_lie_outside,
     entries_stand_in_the_table, escapes_at_the_edges, wide_escapes_at_the_edges,

@@ -1,6 +1,36 @@
-//! What is told of words and of the rules that they break: explanations of faults, all of them, and listings.
+//! What is told of words and of the rules that they break: explanations of faults, all of them, and listings. Faults
+//! and rules are those of lfi_rules. What is told of each is fixed by the definitions of specs/.
 //!
-//! Faults and rules are those of lfi_rules. What is told of each is fixed by the definitions of specs/.
+//! # How data flows
+//!
+//! `explain` takes a list of words and a fault to an `Explanation`, which keeps the decoded words; its `Display` is the
+//! text. `write_refusals` explains each place that breaks a rule, `write_listing` writes a line for each word. Both
+//! keep lines until they are 8,192 bytes, and then write.
+//!
+//! # What it may not know
+//!
+//! Streams, files, the command line.
+//!
+//! # Decisions
+//!
+//! - **Texts have no aliases**: one name a class, so that what is read is what the rules speak of. `ret x30` has its
+//!   register too.
+//! - **Places are written from the instruction itself** (`.+8`). GNU as and LLVM read that the same way; `#8`, which
+//!   LLVM prints, is an absolute address to GNU as. For ADRP both leave `.+4096` to the linker, which gives so many
+//!   pages.
+//! - **The text of every `Instruction` is fixed, also of one that no word spells**, since `Display` has no condition. A
+//!   bitmask that is none prints as `#?`.
+//! - **`mask_of` is a function beside the relation `IsMask`**, since what is printed has to be a function of the
+//!   instruction. `gives_mask` is its test.
+//! - **An `Explanation` keeps the decoded words** (`Spelling`), so that its text is a function of its fields.
+//!   `Spelling::of`, `explain` and `explain_word` are the ways in; the last for words that are known alone, as those of
+//!   a module that came in pages.
+//! - **What a word breaks, by its place, is asked of lfi_rules** (`broken_at`), which has the order of the rules;
+//!   lfi_explain tells it. It decodes the word before anew at each place: explanations are asked for by hand.
+//! - **All refusals are told, not only the first of each cause**: a word after one that opens a need may be told for
+//!   that need alone.
+//! - **The number of refusals is a line of its own form** (`words refused: 1`), which needs no plural.
+//! - **A sentence names registers by wM and xD** where any would do.
 #![tactic(auto)]
 
 mod digits;

@@ -85,6 +85,10 @@ impl Header {
     }
 
     /// What a header without a fault brings, or the first fault that it shows.
+    ///
+    /// # Errors
+    ///
+    /// The first fault, 1 to 7, that the header shows by itself.
     pub fn judge(&self) -> Result<Got, FrameFault>
         ensures answer { result ≡ answer_to self.now }
         ensures fault { result_err result ≡ header_fault self.now }

@@ -1,3 +1,4 @@
+pub mod Judged
 pub mod Image
 pub mod Reading
 pub mod Built

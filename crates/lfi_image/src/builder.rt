@@ -8,8 +8,8 @@ ghost use Rattle.lfi_image.specs.Image.{Module, Image, IsImage};
 ghost use Rattle.lfi_image.specs.Built.{words_in, due, with_placed};
 ghost use Rattle.lfi_image.specs.inner.Builders.{IsBuilt};
 
+use crate::judged::JudgedPage;
 use crate::places::Places;
-use judged_page::JudgedPage;
 use lfi_module::{Extent, ModuleNumber, PageSize, WordCount};
 use lfi_rules::{Fault, Need, fault_after};
 use page_buf::SealedPage;
@@ -39,7 +39,11 @@ impl Model for Builder {
 
 impl Builder {
     /// A module of so many words with this entry, in this slot. No word is placed, and the places for its pages are
-    /// reserved. `Err` only where their memory is refused.
+    /// reserved.
+    ///
+    /// # Errors
+    ///
+    /// Where the places' memory is refused.
     pub fn new(alloc: Global, extent: Extent, slot: ModuleNumber) -> Result<Builder, AllocError>
         ensures { IfOk result (λ b. b ≡ record { words = extent.words; entry = extent.entry; slot = slot; placed = [] }) }
     {
@@ -65,8 +69,10 @@ impl Builder {
 
     /// Places the next page of this module, one that was judged there. It takes no memory.
     ///
-    /// `Err` where the page brings a fault: then it comes back with the first fault of the words placed and its own,
-    /// which for the last page can be that its last word opens a need.
+    /// # Errors
+    ///
+    /// The first fault of the words placed and the page's own, which for the last page can be that its last word opens a
+    /// need; and the page.
     pub fn append(&mut self, page: JudgedPage) -> Result<(), (Fault, SealedPage)>
         requires module { page.words ≡ self.old.words }
         requires place { page.first ≡ length self.old.placed }
@@ -92,6 +98,10 @@ impl Builder {
     }
 
     /// The image, once all its words are placed; until then the builder comes back.
+    ///
+    /// # Errors
+    ///
+    /// The builder, where words are still to come.
     pub fn finish(self) -> Result<CompleteImage, Builder>
         ensures { MatchResult result
             (λ image. (length self.placed ≡ self.words) × (image ≡ record { entry = self.entry; slot = self.slot; words = self.placed }))

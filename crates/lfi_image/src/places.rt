@@ -26,7 +26,11 @@ impl Model for Places {
 }
 
 impl Places {
-    /// Reserves the places for a module of at most so many words. `Err` only where their memory is refused.
+    /// Reserves the places for a module of at most so many words.
+    ///
+    /// # Errors
+    ///
+    /// Where their memory is refused.
     pub fn new(alloc: Global, words: WordCount) -> Result<Places, AllocError>
         ensures { IfOk result (λ places. places ≡ words) }
     {

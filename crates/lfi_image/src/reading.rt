@@ -12,7 +12,7 @@ ghost use Rattle.lfi_image.specs.inner.Steps.{IsShort, IsNoPage, ReadsPage, IsPa
 use crate::builder::{Builder, CompleteImage};
 use crate::fault::ImageFault;
 use crate::header::{HEADER_BYTES, Header};
-use judged_page::JudgedPage;
+use crate::judged::JudgedPage;
 use page_buf::{PAGE_BYTES, SealedPage};
 use std::alloc::Global;
 use std::io::{self, Read};
@@ -132,6 +132,10 @@ fn read_code<R: Read>(
 /// [`ImageFault::NoMemory`] and [`ImageFault::Device`] come where they happen, the first only after a header without a
 /// fault. After `Unlawful` the reader stands behind the page with the fault; after any other `Err` it may be left
 /// anywhere.
+///
+/// # Errors
+///
+/// [`ImageFault`], in the order told above.
 pub fn read_image<R: Read>(alloc: Global, reader: &mut R) -> Result<CompleteImage, ImageFault>
     ensures image { IfOk result (λ image. IsImage image) }
     ensures file { IfOk result (λ image. IfSome (R.remaining reader.old) (λ bytes. FileOf image bytes)) }

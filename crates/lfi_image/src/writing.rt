@@ -50,8 +50,12 @@ fn write_pages<W: Write>(writer: &mut W, pages: &[SealedPage]) -> Result<(), Ima
     Ok(())
 }
 
-/// Writes an image's file. `Err` is [`ImageFault::Device`], where a write failed or took nothing of what was left:
-/// then a beginning of the file was written, and not all of it.
+/// Writes an image's file.
+///
+/// # Errors
+///
+/// [`ImageFault::Device`], where a write failed or took nothing of what was left: then a beginning of the file was
+/// written, and not all of it.
 pub fn write_image<W: Write>(image: &CompleteImage, writer: &mut W) -> Result<(), ImageFault>
     ensures written { OnOk result (Appends (W.contents writer.old) (W.contents writer.new) (file_of image.now)) }
     ensures fault { IfErr result (λ fault. fault ≡ Device) }

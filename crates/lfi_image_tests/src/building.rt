@@ -4,8 +4,7 @@ use crate::rows::{
     GUARD_LINK, LOAD_LINK, MOVE_STACK, NOP, RET, UNKNOWN, append, builder, finished, image, module,
     page_ending,
 };
-use judged_page::JudgedPage;
-use lfi_image::{Builder, Places};
+use lfi_image::{Builder, JudgedPage, Places};
 use lfi_module::WordCount;
 use lfi_rules::{Fault, Rule};
 use page_buf::SealedPage;

@@ -1,7 +1,6 @@
 //! What the tests share: code, the image file of one RET, and images of code.
 
-use judged_page::JudgedPage;
-use lfi_image::{Builder, CompleteImage, ImageFault, read_image};
+use lfi_image::{Builder, CompleteImage, ImageFault, JudgedPage, read_image};
 use lfi_module::{Extent, ModuleNumber, WordCount};
 use lfi_rules::Fault;
 use page_buf::SealedPage;

@@ -2,8 +2,7 @@
 use Rattle.std.proofs.Common.{ap, ◌∙◌, ◌≡◌, ℕ, ◌+◌, ◌==◌, List, [], ◌∷◌, ◌++◌, length, Option, Some, None, refl, sym, subst, inl, inr, arith, Bool, true, false, cond, length-append, not, ◌||◌, ◌⊎◌}
 use Rattle.std.specs.List.{filter, fold, list_any}
 use Rattle.std.proofs.lemmas.List.{append-nil}
-use Rattle.lfi_model.specs.Item.{ItemView}
-use Rattle.lfi_model.specs.declared.item.ItemKind.{ItemKind}
+use Rattle.lfi_model.specs.Item.{ItemView, KindView}
 use Rattle.lfi_model.specs.declared.item.ItemKind.TheVariants.{Open, Page, End}
 use Rattle.lfi_model.specs.declared.item.Reason.{Reason}
 use Rattle.lfi_model.specs.declared.item.Reason.TheVariants.{Close, PageFault}
@@ -46,7 +45,7 @@ numbered_more items x numbered next before after y e =
       | inr h ↦ numbered before h.0 y h.1
     ]
 
-end_step : (kind : ItemKind) (later more : Option Reason) → reason_at kind later ≡ None → (later ≡ None → more ≡ None) → reason_at kind more ≡ None
+end_step : (kind : KindView) (later more : Option Reason) → reason_at kind later ≡ None → (later ≡ None → more ≡ None) → reason_at kind more ≡ None
 end_step (Open entry) later more h goes = goes h
 end_step (Page bytes) later more h goes = goes h
 end_step (End reason) later more h goes = absurd (cc)
@@ -79,7 +78,7 @@ pub end_snoc : (items : List ItemView) (x : ItemView) → end_of items ≡ None 
 end_snoc [] x e = refl
 end_snoc (i ∷ items) x e = end_by i.kind (end_of items) (end_of (items ++ x ∷ [])) (reason_at x.kind None) e (λ h. end_snoc items x h)
   where
-    end_by : (kind : ItemKind) (later more last : Option Reason) → reason_at kind later ≡ None → (later ≡ None → more ≡ last) → reason_at kind more ≡ last
+    end_by : (kind : KindView) (later more last : Option Reason) → reason_at kind later ≡ None → (later ≡ None → more ≡ last) → reason_at kind more ≡ last
     end_by (Open entry) later more last e h = h e
     end_by (Page bytes) later more last e h = h e
     end_by (End reason) later more last e h = absurd (cc)
@@ -89,13 +88,13 @@ nothing : ItemView
 nothing = item_of 0 0 0 (Open 0)
 
 -- a page or an End comes after the Open
-later : (p : ℕ) (items : List ItemView) (kind : ItemKind) → length items ≡ p + 1 → OpensFirst (nothing ∷ []) kind → OpensFirst items kind
+later : (p : ℕ) (items : List ItemView) (kind : KindView) → length items ≡ p + 1 → OpensFirst (nothing ∷ []) kind → OpensFirst items kind
 later p [] kind long h = absurd (omega arith)
 later p (i ∷ items) (Open entry) long h = h
 later p (i ∷ items) (Page bytes) long h = h
 later p (i ∷ items) (End reason) long h = h
 
-going_on : (m n p : ℕ) (items : List ItemView) (kind : ItemKind) → OpensFirst (nothing ∷ []) kind → IsGoing n p items → IsModule (items ++ item_of m (p + 1) n kind ∷ [])
+going_on : (m n p : ℕ) (items : List ItemView) (kind : KindView) → OpensFirst (nothing ∷ []) kind → IsGoing n p items → IsModule (items ++ item_of m (p + 1) n kind ∷ [])
 going_on m n p items kind h g = numbered_more items (item_of m (p + 1) n kind) g.numbered (record { ordinal = sym g.long; opens = later p items kind g.long h; fits = g.fits (item_of m (p + 1) n kind) refl })
 
 no_end_yet : (n p : ℕ) (items : List ItemView) → length items ≡ p + 1 → ((x : ItemView) → x.words ≡ n → FitsAfter items x) → end_of items ≡ None

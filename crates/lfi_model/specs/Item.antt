@@ -1,19 +1,23 @@
 -- What contracts see of an item, and what its type keeps. (docs/DEFINITIONS.md, "Items")
-use Rattle.std.specs.Prelude.{◌≡◌, ℕ, ◌+◌, ◌-◌, ◌<◌, ◌≤◌, length}
+use Rattle.std.specs.Prelude.{◌≡◌, ℕ, ◌+◌, ◌-◌, ◌<◌, ◌≤◌, List, length}
 use Rattle.lfi_module.specs.Numbers.{module_count, most_words, page_words}
 use Rattle.lfi_module.specs.Pages.{page_count, words_in_page, bytes_in_page}
 use Rattle.lfi_model.specs.declared.item.ItemKind.{ItemKind}
 use Rattle.lfi_model.specs.declared.item.ItemKind.TheVariants.{Open, Page, End}
+
+-- what an item brings, its page as bytes
+abbrev pub KindView : Type 0
+KindView = ItemKind (List ℕ)
 
 -- one of the numbered items of a module of so many words
 pub record ItemView : Type 0 where
   pub «module» : ℕ
   pub ordinal : ℕ
   pub words : ℕ
-  pub kind : ItemKind
+  pub kind : KindView
 
 -- The Open has ordinal 0, and it alone; a page has the words due, at least one.
-abbrev pub KindFits : (words ordinal : ℕ) → ItemKind → Type 0
+abbrev pub KindFits : (words ordinal : ℕ) → KindView → Type 0
 KindFits words ordinal (Open entry) = (ordinal ≡ 0) × (entry < words)
 KindFits words ordinal (Page bytes) = (0 < ordinal) × (length bytes ≡ bytes_in_page page_words words (ordinal - 1)) × (0 < words_in_page page_words words (ordinal - 1))
 KindFits words ordinal (End reason) = 0 < ordinal
@@ -25,3 +29,19 @@ pub record IsItem (item : ItemView) : Type 0 where
   pub words_in_range : item.words ≤ most_words
   pub ordinal_in_range : item.ordinal ≤ page_count page_words most_words + 1
   pub kind_fits : KindFits item.words item.ordinal item.kind
+
+-- What an item brings, by the bytes of its page; and a fact of that page, where it brings one.
+module _ {P : Type 0} where
+  abbrev pub kind_seen : (P → List ℕ) → ItemKind P → KindView
+  kind_seen bytes (Open entry) = Open entry
+  kind_seen bytes (Page page) = Page (bytes page)
+  kind_seen bytes (End reason) = End reason
+
+  abbrev pub IfPage : (P → Type 0) → ItemKind P → Type 0
+  IfPage is (Page page) = is page
+  IfPage is kind = Unit {0}
+
+-- what the type of an item keeps, with what its page is
+pub record KeepsItem {P : Type 0} (bytes : P → List ℕ) (IsAtPlace : (ordinal words : ℕ) → P → Type 0) (m ordinal words : ℕ) (kind : ItemKind P) : Type 0 where
+  pub item : IsItem (record { «module» = m; ordinal = ordinal; words = words; kind = kind_seen bytes kind })
+  pub page : IfPage (IsAtPlace ordinal words) kind

@@ -6,8 +6,7 @@ use Rattle.lfi_module.specs.Pages.{is_due}
 use Rattle.lfi_frame.specs.declared.fault.FrameFault.{FrameFault}
 use Rattle.lfi_frame.specs.declared.fault.FrameFault.TheVariants as fault
 use Rattle.lfi_frame.specs.Streams.{Message, open_message, page_message, close_message, header_of, Rest, faulty, unfinished, rest_of, Cut}
-use Rattle.lfi_model.specs.Item.{ItemView}
-use Rattle.lfi_model.specs.declared.item.ItemKind.{ItemKind}
+use Rattle.lfi_model.specs.Item.{ItemView, KindView}
 use Rattle.lfi_model.specs.declared.item.ItemKind.TheVariants.{Open, Page, End}
 use Rattle.lfi_model.specs.declared.item.Reason.{Reason}
 use Rattle.lfi_model.specs.declared.item.Reason.TheVariants.{Close, Lost, PageFault, NoMemory}
@@ -31,7 +30,7 @@ with_stray s = record { items = s.items; strays = s.strays + 1; progress = s.pro
 abbrev pub with_item : Share → ItemView → Progress → Share
 with_item s item progress = record { items = s.items ++ item ∷ []; strays = s.strays; progress = progress }
 
-abbrev pub item_of : (m ordinal words : ℕ) → ItemKind → ItemView
+abbrev pub item_of : (m ordinal words : ℕ) → KindView → ItemView
 item_of m ordinal words kind = record { «module» = m; ordinal = ordinal; words = words; kind = kind }
 
 -- a page of module m, where the first p of n words' pages have come: `then_due` where it is the one due, else the End

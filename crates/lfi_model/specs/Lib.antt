@@ -1,5 +1,4 @@
 pub mod Item
-pub mod Judged
 pub mod Items
 pub mod Modules
 pub mod Outcomes

@@ -1,7 +1,6 @@
 -- How the items of one module follow each other. (docs/DEFINITIONS.md, "A module's items")
 use Rattle.std.specs.Prelude.{◌≡◌, ℕ, ◌==◌, List, [], ◌∷◌, ◌++◌, length, filter, None, ◌⊎◌}
-use Rattle.lfi_model.specs.Item.{ItemView}
-use Rattle.lfi_model.specs.declared.item.ItemKind.{ItemKind}
+use Rattle.lfi_model.specs.Item.{ItemView, KindView}
 use Rattle.lfi_model.specs.declared.item.ItemKind.TheVariants.{Open}
 use Rattle.lfi_model.specs.Outcomes.{end_of}
 
@@ -16,7 +15,7 @@ FitsAfter [] x = Unit {0}
 FitsAfter (first ∷ before) x = (x.words ≡ first.words) × (end_of (first ∷ before) ≡ None)
 
 -- the first item is the Open, and no other is one
-abbrev pub OpensFirst : List ItemView → ItemKind → Type 0
+abbrev pub OpensFirst : List ItemView → KindView → Type 0
 OpensFirst [] (Open entry) = Unit {0}
 OpensFirst [] kind = ⊥
 OpensFirst (first ∷ before) (Open entry) = ⊥

@@ -1,7 +1,6 @@
 -- What becomes of a module, by one plain pass over its items. (docs/DEFINITIONS.md, "Outcomes")
 use Rattle.std.specs.Prelude.{◌≡◌, ℕ, ◌≤◌, ◌==◌, if◌then◌else◌, List, [], ◌∷◌, ◌++◌, length, Bool, true, false, Option, Some, None, flat_map}
-use Rattle.lfi_model.specs.Item.{ItemView}
-use Rattle.lfi_model.specs.declared.item.ItemKind.{ItemKind}
+use Rattle.lfi_model.specs.Item.{ItemView, KindView}
 use Rattle.lfi_model.specs.declared.item.ItemKind.TheVariants.{Page, End}
 use Rattle.lfi_model.specs.declared.item.Reason.{Reason}
 use Rattle.lfi_model.specs.declared.item.Reason.TheVariants.{Close, Lost, PageFault, NoMemory}
@@ -15,7 +14,7 @@ use Rattle.lfi_module.specs.Numbers.{page_words}
 use Rattle.lfi_module.specs.Pages.{page_count}
 
 -- the pages of a module's items, each as its words
-abbrev pub page_of : ItemKind → List (List ℕ)
+abbrev pub page_of : KindView → List (List ℕ)
 page_of (Page bytes) = words_of bytes ∷ []
 page_of kind = []
 
@@ -23,7 +22,7 @@ abbrev pub pages_of : List ItemView → List (List ℕ)
 pages_of items = flat_map (λ item. page_of item.kind) items
 
 -- why it ended, where it has
-abbrev pub reason_at : ItemKind → Option Reason → Option Reason
+abbrev pub reason_at : KindView → Option Reason → Option Reason
 reason_at (End reason) later = Some reason
 reason_at kind later = later
 

@@ -1,6 +1,6 @@
 //! Items, into which a receiver turns the messages of its connection.
 
-ghost use Rattle.std.specs.Prelude.{◌≡◌, ◌<◌, ◌≤◌};
+ghost use Rattle.std.specs.Prelude.{◌≡◌, ℕ, List};
 
 use lfi_frame::FrameFault;
 use lfi_module::{ModuleNumber, WordCount};
@@ -20,13 +20,28 @@ pub enum Reason {
     NoMemory,
 }
 
+/// What an item's page is: a sealed page, or one with the verdict on it.
+pub trait PageBody: Drop {
+    /// Its bytes.
+    ghost bytes: { Self → List ℕ };
+
+    /// What is so of it as the page with this ordinal of a module of so many words.
+    ghost IsAtPlace: { (ordinal words : ℕ) → Self → Type 0 };
+}
+
+impl PageBody for SealedPage {
+    ghost bytes = { λ page. page };
+
+    ghost IsAtPlace = { λ ordinal words page. Unit {0} };
+}
+
 /// What an item brings.
 #[derive(Drop)]
-pub enum ItemKind {
+pub enum ItemKind<P> {
     /// The module's opening, with the word where its code is entered.
     Open { entry: u32 },
     /// The next page of its code.
-    Page(SealedPage),
+    Page(P),
     /// Its end: nothing follows.
     End(Reason),
 }
@@ -34,8 +49,10 @@ pub enum ItemKind {
 /// One of the numbered items of a module. Its type keeps that ordinal 0 is the Open alone, with an
 /// entry below the words, that no ordinal is above 4,097, and that a page has exactly the words due
 /// (docs/DEFINITIONS.md, "Items").
+///
+/// A contract sees it as its numbers and the bytes of its page, whether that was judged or not.
 #[derive(Drop)]
-pub struct Item {
+pub struct NumberedItem<P: PageBody> {
     /// The module.
     pub module: ModuleNumber,
     /// The item's place among those of its module: 0 the Open, then the pages, then the End.
@@ -43,15 +60,18 @@ pub struct Item {
     /// How many words the whole module has.
     pub words: WordCount,
     /// What it brings.
-    pub kind: ItemKind,
+    pub kind: ItemKind<P>,
 }
 
-impl Model for Item {
-    ghost use Rattle.lfi_model.specs.Item.{ItemView, IsItem};
+impl<P: PageBody> Model for NumberedItem<P> {
+    ghost use Rattle.lfi_model.specs.Item.{ItemView, KeepsItem, kind_seen};
 
     ghost Value = { ItemView };
 
-    ghost view = { λ i. record { «module» = i.«module»; ordinal = i.ordinal; words = i.words; kind = i.kind } };
+    ghost view = { λ i. record { «module» = i.«module»; ordinal = i.ordinal; words = i.words; kind = kind_seen P.bytes i.kind } };
 
-    ghost invariant = { λ i. IsItem (record { «module» = i.«module»; ordinal = i.ordinal; words = i.words; kind = i.kind }) };
+    ghost invariant = { λ i. KeepsItem P.bytes P.IsAtPlace i.«module» i.ordinal i.words i.kind };
 }
+
+/// An item as a receiver makes it.
+pub type Item = NumberedItem<SealedPage>;

@@ -1,8 +1,31 @@
-//! Modules by their numbers: which module it is, how many words it has and where it is entered, and how its words
-//! are cut into pages.
+//! Modules by their numbers: which module it is, how many words it has and where it is entered, and how its words are
+//! cut into pages. Source: this project's profile, docs/DEFINITIONS.md, "Modules and their slots".
 //!
-//! Each number's type keeps its range, so no other crate tests or states one again. Source: this project's profile,
-//! docs/DEFINITIONS.md, "Modules and their slots".
+//! # How data flows
+//!
+//! Numbers from outside, of a header, a command line or an image file, come in by `ModuleNumber::new`, `WordCount::new`
+//! and `Extent::new`, which test them. From then on each type keeps its range, so no other crate tests or states one
+//! again. `PageSize` and `WordCount` say how many pages there are, how many bytes each has, and which one is due.
+//!
+//! # What it may not know
+//!
+//! Words, pages in memory, streams.
+//!
+//! # Decisions
+//!
+//! - **One crate at the bottom owns the profile's numbers** (`lfi_module`): each stands once in its code and once in
+//!   its specs. Its types keep the ranges. Three crates have numbers of their own beside it, which their contracts tie
+//!   to its definitions: the bytes of a page (page_buf), the most bytes of code (lfi_commands), and those of the plain
+//!   program.
+//! - **A module's number is its slot's.** There is one type for both, `ModuleNumber`, and no table between them.
+//! - **`Extent` keeps that the entry is one of the words.** A header's answer and a new builder have one. An item has
+//!   the words in each and the entry in its Open alone.
+//! - **`ModuleNumber`, `WordCount` and `Extent` have two ways in**: `new`, which tests and answers an `Option`, for
+//!   numbers from outside; and `at` or `of`, with a condition, for numbers that are known to be in range.
+//! - **The page's size is a parameter** of the page arithmetic, in code (`PageSize`) and in definitions. This profile's
+//!   is `PageSize::PROFILE`; a full page of any size has at most 4,096 words.
+//! - **`page_buf` names the page's numbers of `lfi_module` in its contracts**, and nothing else of modules: a page of
+//!   raw memory has this profile's size, and no module.
 #![tactic(auto)]
 
 mod extent;

@@ -6,9 +6,9 @@ ghost use Rattle.lfi_queues.specs.Kept.{Kept};
 ghost use Rattle.lfi_queues.specs.Passes.{new_passes, IsSamePass, SeenByPutter, SeenByTaker, AreAllPasses, items_at, with_first, after_rest, IsFirstOf};
 ghost use Rattle.lfi_queues.specs.inner.Ports.{AreOfQueue, AreLaterOf, EndsInFirst, HasTaken, LearnedAll, LearnedAs};
 
+use crate::auxiliary::Auxiliary;
 use crate::log::{All, Log, OnePutter, OneTaker, Puts, Ring, Takes};
 use crate::pass::{Next, PutPass, Same, TakePass, new_putters, new_takers};
-use auxiliary::Auxiliary;
 use crossbeam_queue::Pass;
 use std::alloc::{AllocError, Global};
 use std::marker::Model;

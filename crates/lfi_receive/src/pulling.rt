@@ -5,7 +5,7 @@ ghost use Rattle.std.specs.Io.KnownBytes.{Keeps};
 ghost use Rattle.lfi_board.specs.Known.{board_id, board_of, known_by};
 ghost use Rattle.lfi_receive.specs.Turns.{PutsAsTold, CountsAsTold, is_finished};
 ghost use Rattle.lfi_receive.specs.Receivers.{pass_of, seat_of, cause_of, hand_of, strays_at, StandsFor, IsFinished, AfterEnd};
-ghost use Rattle.lfi_receive.specs.Inputs.{unread_of, left_of, failure_of};
+ghost use Rattle.lfi_receive.specs.Inputs.{unread_of, left_of, has_failed};
 ghost use Rattle.lfi_receive.specs.Pulls.{EndsAt, FailsAs, IsPulled};
 ghost use Rattle.lfi_receive.specs.inner.Fetches.{IsFetched};
 ghost use Rattle.lfi_receive.specs.declared.receiver.ReceiverTurn.TheVariants as turn;
@@ -13,7 +13,7 @@ ghost use Rattle.lfi_receive.specs.declared.receiver.ReceiverTurn.TheVariants as
 use crate::input::{Filled, Input};
 use crate::receiver::{Receiver, ReceiverTurn};
 use lfi_board::Board;
-use lfi_model::Item;
+use lfi_model::{Cause, Item};
 use lfi_queues::Intake;
 use std::io::Read;
 use std::sync::Wait;
@@ -26,12 +26,12 @@ impl Receiver {
         ensures keeps { Keeps (left_of R.remaining input.old) (left_of R.remaining input.new) }
         ensures fetched { IsFetched self.old self.new (left_of R.remaining input.new) }
         ensures some { cause_of self.new ≡ None → unread_of input.new ≢ [] }
-        ensures failure { FailsAs (cause_of self.new) (failure_of input.old) (failure_of input.new) }
+        ensures failure { FailsAs (cause_of self.new) (has_failed input.old) (has_failed input.new) }
     {
         match input.fill() {
             Filled::Bytes => {}
-            Filled::End => self.end(false),
-            Filled::Failed => self.end(true),
+            Filled::End => self.end_by(Cause::End),
+            Filled::Failed => self.end_by(Cause::Failed),
         }
     }
 
@@ -49,7 +49,7 @@ impl Receiver {
         requires part { (pass_of self.old).queue ≡ intake.now }
         requires board { board_of (seat_of self.old) ≡ board_id board.now }
         ensures pulled { IsPulled self.old self.new (left_of R.remaining input.old) (left_of R.remaining input.new) }
-        ensures failure { (bytes : List ℕ) → StandsFor self.old bytes → cause_of self.old ≡ None → FailsAs (cause_of self.new) (failure_of input.old) (failure_of input.new) }
+        ensures failure { (bytes : List ℕ) → StandsFor self.old bytes → cause_of self.old ≡ None → FailsAs (cause_of self.new) (has_failed input.old) (has_failed input.new) }
         ensures held { IsSome (hand_of self.old) → input.new ≡ input.old }
         ensures unread { IsSome (cause_of self.old) → input.new ≡ input.old }
         ensures puts { PutsAsTold result (pass_of self.old) (pass_of self.new) }

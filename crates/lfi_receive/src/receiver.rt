@@ -456,23 +456,35 @@ impl Receiver {
         board.look(&mut self.seat.seat, module)
     }
 
-    /// Tells the end of the input, or that a read of it failed. A second call, or one after a
-    /// fault, changes nothing.
-    pub fn end(&mut self, failed: bool)
+    /// Tells the end of the input. A second call, or one after a fault, changes nothing. That a read
+    /// failed is told by `pull` alone, which reads.
+    pub fn end(&mut self)
         ensures stands { (bytes : List ℕ) → StandsFor self.old bytes → StandsFor self.new bytes }
-        ensures ended { cause_of self.new ≡ Some (cause_after (cause_of self.old) failed) }
+        ensures ended { cause_of self.new ≡ Some (cause_after (cause_of self.old)) }
         ensures again { IsSome (cause_of self.old) → self.new ≡ self.old }
         ensures pass { pass_of self.new ≡ pass_of self.old }
         ensures hand { hand_of self.new ≡ hand_of self.old }
         ensures seat { seat_of self.new ≡ seat_of self.old }
         ensures strays { strays_at self.new ≡ strays_at self.old }
     {
-        if self.cause.is_some() {
-            return;
+        if self.cause.is_none() {
+            self.end_by(Cause::End);
         }
+    }
+
+    /// The input is over, for this cause.
+    pub(crate) fn end_by(&mut self, cause: Cause)
+        requires running { cause_of self.old ≡ None }
+        ensures stands { (bytes : List ℕ) → StandsFor self.old bytes → StandsFor self.new bytes }
+        ensures ended { cause_of self.new ≡ Some cause }
+        ensures pass { pass_of self.new ≡ pass_of self.old }
+        ensures hand { hand_of self.new ≡ hand_of self.old }
+        ensures seat { seat_of self.new ≡ seat_of self.old }
+        ensures strays { strays_at self.new ≡ strays_at self.old }
+    {
         let unfinished = self.feed.end().is_err();
         let going = self.modules.first_going().is_some();
-        let (cause, fault) = ended_by(failed, unfinished, going);
+        let fault = fault_by(cause, unfinished | going);
         self.fault = fault;
         self.cause = Some(cause);
     }
@@ -514,16 +526,15 @@ impl Receiver {
     }
 }
 
-/// What the end of the input means, where a message or a module may be left open.
-fn ended_by(failed: bool, unfinished: bool, going: bool) -> (Cause, Option<FrameFault>)
-    ensures cause { result.0 ≡ (if failed then Cause.Failed else Cause.End) }
-    ensures fault { result.1 ≡ fault_by_cause result.0 (unfinished || going) }
+/// The connection's fault where its input is over for this cause, and a message or a module may be
+/// left open.
+fn fault_by(cause: Cause, open: bool) -> Option<FrameFault>
+    ensures { result ≡ fault_by_cause cause «open» }
 {
-    if failed {
-        (Cause::Failed, Some(FrameFault::ReadFailed))
-    } else if unfinished || going {
-        (Cause::End, Some(FrameFault::Ended))
-    } else {
-        (Cause::End, None)
+    match cause {
+        Cause::End if open => Some(FrameFault::Ended),
+        Cause::End => None,
+        Cause::Failed => Some(FrameFault::ReadFailed),
+        Cause::Starved => Some(FrameFault::NoMemory),
     }
 }

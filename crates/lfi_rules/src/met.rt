@@ -1,6 +1,6 @@
 //! Words that surely meet a need: told by a look at the fields that matter.
 
-ghost use Rattle.std.specs.Prelude.{◌≡◌, IsTrue};
+ghost use Rattle.std.specs.Prelude.{◌≡◌, ◌<◌, IsTrue};
 ghost use Rattle.lfi_classes.specs.Sets as sets;
 ghost use Rattle.lfi_rules.specs.declared.needs.Need.TheVariants.{Probe};
 ghost use Rattle.lfi_rules.specs.Faults.{Meets};
@@ -30,9 +30,11 @@ pub fn is_met(word: u32, need: Need) -> bool
 /// Whether the size and opc of a single access go together.
 #[inline(always)]
 fn is_access(size: u32, transfer: u32) -> bool
+    requires size { size < 4 }
+    requires transfer { transfer < 4 }
     ensures { result ≡ sets.is_access size transfer }
 {
-    (transfer < 2) | ((transfer == 2) & (size < 3)) | ((transfer == 3) & (size < 2))
+    size + transfer <= 4
 }
 
 /// Whether a word is a load or store of one register at sp.

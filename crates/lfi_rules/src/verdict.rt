@@ -4,9 +4,8 @@ ghost use Rattle.std.specs.Prelude.{◌≡◌, ◌+◌, ◌≤◌, ℕ, List, []
 ghost use Rattle.lfi_module.specs.Numbers.{most_words};
 
 use crate::fault::Fault;
-use crate::inspect::inspect;
 use crate::needs::{Need, meets, opens};
-use crate::pass::pass;
+use crate::pass::first_inside;
 use crate::rule::Rule;
 use a64_word::{Words, decode};
 
@@ -65,32 +64,6 @@ pub(crate) fn tail_of(word: u32) -> Need
     }
 }
 
-/// The first fault of words that stand in a module of n words from `first` on, and what they leave open.
-fn first_inside<W: Words>(words: &W, first: u32, n: u32) -> (Option<Fault>, Need)
-    requires room { first + length (W.words words.now) ≤ n }
-    requires most { n ≤ most_words }
-    ensures fault { IsFirstInside (W.words words.now) first n result.0 }
-    ensures left { result.0 ≡ None → LeavesOpen (W.words words.now) result.1 }
-{
-    let count = words.count();
-    let mut left = Need::Nothing;
-    let mut i = 0;
-    while i < count {
-        i = pass(words, i, left, first, n);
-        if i == count {
-            return (None, left);
-        }
-        let place = first + i as u32;
-        let (rule, opened) = inspect(words.word(i), left, place, n);
-        if let Some(rule) = rule {
-            return (Some(Fault { word: place, rule }), opened);
-        }
-        left = opened;
-        i += 1;
-    }
-    (None, left)
-}
-
 /// The verdict on the words of a page, which stand in a module of n words from the place `first` on.
 pub fn judge<W: Words>(words: &W, first: u32, n: u32) -> PageVerdict
     requires some { 1 ≤ length (W.words words.now) }
@@ -98,10 +71,9 @@ pub fn judge<W: Words>(words: &W, first: u32, n: u32) -> PageVerdict
     requires most { n ≤ most_words }
     ensures { Judges (W.words words.now) first n result }
 {
-    let (inner, _) = first_inside(words, first, n);
     PageVerdict {
         first,
-        inner,
+        inner: first_inside(words, first, n),
         head: head_of(words.word(0)),
         tail: tail_of(words.word(words.count() - 1)),
     }
@@ -195,9 +167,10 @@ pub fn check_all<W: Words>(words: &W) -> Option<Fault>
     ensures { FirstFault (W.words words.now) (length (W.words words.now)) result }
 {
     let n = words.count() as u32;
-    let (inner, left) = first_inside(words, 0, n);
-    if let Some(fault) = inner {
-        return Some(fault);
+    let inner = first_inside(words, 0, n);
+    if inner.is_some() {
+        return inner;
     }
-    closing(n, left)
+    let tail = tail_of(words.word(words.count() - 1));
+    closing(n, tail)
 }

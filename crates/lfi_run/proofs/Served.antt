@@ -1,13 +1,14 @@
 -- Runs with one runtime, seen as runs with another.
-use Rattle.std.proofs.Common.{◌≡◌, ◌∙◌, ℕ, zero, suc, List, [], Option, Some, None, refl, sym, ap, subst, rules}
+use Rattle.std.proofs.Common.{◌≡◌, ℕ, zero, suc, List, [], Option, Some, None, refl, sym, ap, subst, rules}
 use Rattle.std.specs.Io.KnownBytes.{append_known}
-use Rattle.a64_registers.specs.declared.registers.Registers.{Registers}
+use Rattle.a64_semantics.specs.declared.registers.Registers.{Registers}
 use Rattle.lfi_confinement.specs.Moves.{Move, go, stop, ask, escape}
-use Rattle.slot_memory.specs.Owned.{Owned}
-use Rattle.slot_access.specs.declared.halt.Halt.{Halt}
-use Rattle.slot_access.specs.declared.halt.Halt.TheVariants.{StepsUsed, NoAccess, NoFetch, Breakpoint, Ended, UnlawfulAnswer, NoMemory}
-use Rattle.a64_machine.specs.declared.runtime.Answer.{Answer}
-use Rattle.a64_machine.specs.Runs.{Config, Answers, LeadsOn, HaltsAt, NextStep, StopsAt, Ran, EndsAt, RanThenHalts}
+use Rattle.lfi_machine.specs.Owned.{Owned}
+use Rattle.lfi_machine.specs.declared.halt.Halt.{Halt}
+use Rattle.lfi_machine.specs.declared.halt.Halt.TheVariants.{Stopped, StepsUsed, NoMemory}
+use Rattle.lfi_confinement.specs.declared.cause.Cause.TheVariants.{Ended, UnlawfulAnswer}
+use Rattle.lfi_machine.specs.declared.runtime.Answer.{Answer}
+use Rattle.lfi_machine.specs.Runs.{Config, Answers, LeadsOn, HaltsAt, NextStep, StopsAt, Ran, EndsAt, RanThenHalts}
 
 -- What a runtime holds is seen as something else, and its answers are then those of another runtime.
 module _ {H G : Type 0} (answers : Answers H) (others : Answers G) (seen : H → G)
@@ -19,22 +20,10 @@ module _ {H G : Type 0} (answers : Answers H) (others : Answers G) (seen : H →
   leads_alike escape c d h k e = absurd e
 
   halts_alike : (halt : Halt) (move : Move) (c d : Config) (h k : H) → HaltsAt answers halt move c h d k → HaltsAt others halt move c (seen h) d (seen k)
+  halts_alike (Stopped cause) (stop other) c d h k e = (e.0, e.1, ap seen e.2)
+  halts_alike (Stopped (Ended status)) (ask entry given) c d h k e = (alike h entry given c.owned _ k d.owned e.0, e.1)
+  halts_alike (Stopped UnlawfulAnswer) (ask entry given) c d h k e = (e.0, alike h entry given c.owned _ k d.owned e.1, e.2, e.3)
   halts_alike NoMemory (go after offset bytes) c d h k e = (e.0, e.1, ap seen e.2)
-  halts_alike NoMemory (stop cause) c d h k e = (e.0, e.1, ap seen e.2)
-  halts_alike NoMemory (ask entry given) c d h k e = absurd e
-  halts_alike NoMemory escape c d h k e = absurd e
-  halts_alike (Ended status) (ask entry given) c d h k e = (alike h entry given c.owned _ k d.owned e.0, e.1)
-  halts_alike (Ended status) (stop cause) c d h k e = (e.0, e.1, ap seen e.2)
-  halts_alike (Ended status) (go after offset bytes) c d h k e = absurd e
-  halts_alike (Ended status) escape c d h k e = absurd e
-  halts_alike UnlawfulAnswer (ask entry given) c d h k e = (e.0, alike h entry given c.owned _ k d.owned e.1, e.2, e.3)
-  halts_alike UnlawfulAnswer (stop cause) c d h k e = (e.0, e.1, ap seen e.2)
-  halts_alike UnlawfulAnswer (go after offset bytes) c d h k e = absurd e
-  halts_alike UnlawfulAnswer escape c d h k e = absurd e
-  halts_alike StepsUsed (stop cause) c d h k e = (e.0, e.1, ap seen e.2)
-  halts_alike (NoAccess address) (stop cause) c d h k e = (e.0, e.1, ap seen e.2)
-  halts_alike (NoFetch pc) (stop cause) c d h k e = (e.0, e.1, ap seen e.2)
-  halts_alike (Breakpoint pc) (stop cause) c d h k e = (e.0, e.1, ap seen e.2)
   halts_alike halt move c d h k e = absurd e
 
   next_alike : (c d : Config) (h k : H) → NextStep answers c h d k → NextStep others c (seen h) d (seen k)
@@ -49,11 +38,7 @@ module _ {H G : Type 0} (answers : Answers H) (others : Answers G) (seen : H →
 
   ends_alike : (halt : Halt) (c d : Config) (h k : H) → EndsAt answers halt c h d k → EndsAt others halt c (seen h) d (seen k)
   ends_alike StepsUsed c d h k e = (e.0, ap seen e.1)
-  ends_alike (NoAccess address) c d h k e = stops_alike (NoAccess address) c d h k e
-  ends_alike (NoFetch pc) c d h k e = stops_alike (NoFetch pc) c d h k e
-  ends_alike (Breakpoint pc) c d h k e = stops_alike (Breakpoint pc) c d h k e
-  ends_alike (Ended status) c d h k e = stops_alike (Ended status) c d h k e
-  ends_alike UnlawfulAnswer c d h k e = stops_alike UnlawfulAnswer c d h k e
+  ends_alike (Stopped cause) c d h k e = stops_alike (Stopped cause) c d h k e
   ends_alike NoMemory c d h k e = stops_alike NoMemory c d h k e
 
   pub run_alike : (c d : Config) (h k : H) (halt : Halt) (count : ℕ) → RanThenHalts answers c h halt count d k → RanThenHalts others c (seen h) halt count d (seen k)
@@ -75,22 +60,10 @@ module _ {G : Type 0} (Related : G → G → Type 0) (same : (g : G) → Related
   related_leads escape c d g k e = absurd e
 
   related_halts : (halt : Halt) (move : Move) (c d : Config) (g k : G) → HaltsAt (related Related) halt move c g d k → Related g k
+  related_halts (Stopped cause) (stop other) c d g k e = at_same g k e.2
+  related_halts (Stopped (Ended status)) (ask entry given) c d g k e = e.0
+  related_halts (Stopped UnlawfulAnswer) (ask entry given) c d g k e = e.1
   related_halts NoMemory (go after offset bytes) c d g k e = at_same g k e.2
-  related_halts NoMemory (stop cause) c d g k e = at_same g k e.2
-  related_halts NoMemory (ask entry given) c d g k e = absurd e
-  related_halts NoMemory escape c d g k e = absurd e
-  related_halts (Ended status) (ask entry given) c d g k e = e.0
-  related_halts (Ended status) (stop cause) c d g k e = at_same g k e.2
-  related_halts (Ended status) (go after offset bytes) c d g k e = absurd e
-  related_halts (Ended status) escape c d g k e = absurd e
-  related_halts UnlawfulAnswer (ask entry given) c d g k e = e.1
-  related_halts UnlawfulAnswer (stop cause) c d g k e = at_same g k e.2
-  related_halts UnlawfulAnswer (go after offset bytes) c d g k e = absurd e
-  related_halts UnlawfulAnswer escape c d g k e = absurd e
-  related_halts StepsUsed (stop cause) c d g k e = at_same g k e.2
-  related_halts (NoAccess address) (stop cause) c d g k e = at_same g k e.2
-  related_halts (NoFetch pc) (stop cause) c d g k e = at_same g k e.2
-  related_halts (Breakpoint pc) (stop cause) c d g k e = at_same g k e.2
   related_halts halt move c d g k e = absurd e
 
   related_ran : (count : ℕ) (c d : Config) (g k : G) → Ran (related Related) c g count d k → Related g k
@@ -99,11 +72,7 @@ module _ {G : Type 0} (Related : G → G → Type 0) (same : (g : G) → Related
 
   related_ends : (halt : Halt) (c d : Config) (g k : G) → EndsAt (related Related) halt c g d k → Related g k
   related_ends StepsUsed c d g k e = at_same g k e.1
-  related_ends (NoAccess address) c d g k e = related_halts (NoAccess address) e.move c d g k e.halts
-  related_ends (NoFetch pc) c d g k e = related_halts (NoFetch pc) e.move c d g k e.halts
-  related_ends (Breakpoint pc) c d g k e = related_halts (Breakpoint pc) e.move c d g k e.halts
-  related_ends (Ended status) c d g k e = related_halts (Ended status) e.move c d g k e.halts
-  related_ends UnlawfulAnswer c d g k e = related_halts UnlawfulAnswer e.move c d g k e.halts
+  related_ends (Stopped cause) c d g k e = related_halts (Stopped cause) e.move c d g k e.halts
   related_ends NoMemory c d g k e = related_halts NoMemory e.move c d g k e.halts
 
   pub run_related : (c d : Config) (g k : G) (halt : Halt) (count : ℕ) → RanThenHalts (related Related) c g halt count d k → Related g k

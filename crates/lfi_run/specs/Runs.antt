@@ -4,10 +4,11 @@ use Rattle.std.specs.Io.KnownBytes.{Keeps}
 use Rattle.sparse_memory.specs.Kept.{byte_at}
 use Rattle.lfi_image.specs.Image.{Image, IsImage, FileOf}
 use Rattle.lfi_image.specs.Reading.{IsFault}
-use Rattle.slot_access.specs.declared.halt.Halt.{Halt}
-use Rattle.slot_access.specs.declared.halt.Halt.TheVariants.{StepsUsed, Ended as EndedWith}
-use Rattle.a64_machine.specs.Starts.{start_of}
-use Rattle.a64_machine.specs.Runs.{Config, IsConfined, RanThenHalts}
+use Rattle.lfi_machine.specs.declared.halt.Halt.{Halt}
+use Rattle.lfi_machine.specs.declared.halt.Halt.TheVariants.{Stopped, StepsUsed}
+use Rattle.lfi_confinement.specs.declared.cause.Cause.TheVariants.{Ended as EndedWith}
+use Rattle.lfi_machine.specs.Starts.{start_of}
+use Rattle.lfi_machine.specs.Runs.{Config, IsConfined, RanThenHalts}
 use Rattle.lfi_run.specs.declared.image_run.ImageRun.{ImageRun}
 use Rattle.lfi_run.specs.declared.image_run.ImageRun.TheVariants.{Refused, Ended}
 use Rattle.lfi_run.specs.Growth.{Grows, IsBeginning}
@@ -16,7 +17,7 @@ use Rattle.lfi_run.specs.Serving.{serves}
 -- All that was printed is in the output, and the halt that is told is that of the run; or it could not be written, only a
 -- beginning of it was added to the output, if anything, and an end with the status 255 is told.
 abbrev pub IsWritten : (old printed new : Option (List ℕ)) → (halt told : Halt) → Type 0
-IsWritten old printed new halt told = (Keeps printed new × (told ≡ halt)) ⊎ (Grows old new × IsBeginning new printed × (told ≡ EndedWith 255))
+IsWritten old printed new halt told = (Keeps printed new × (told ≡ halt)) ⊎ (Grows old new × IsBeginning new printed × (told ≡ Stopped (EndedWith 255)))
 
 -- A machine was made of the image, at the registers of its start and with no byte written, from which no run escapes. It ran for
 -- so many steps with the program's runtime, and then halted.

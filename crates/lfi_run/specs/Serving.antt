@@ -1,11 +1,11 @@
 -- What the program's runtime does at a call. (this project's profile: docs/DEFINITIONS.md, "The program")
 use Rattle.std.specs.Prelude.{◌≡◌, ℕ, ◌-◌, ◌%◌, ◌^◌, ◌==◌, if◌then◌else◌, List, [], ◌∷◌, Option, slice_set}
 use Rattle.std.specs.Io.KnownBytes.{Appends, Keeps}
-use Rattle.a64_registers.specs.declared.registers.Registers.{Registers}
-use Rattle.a64_registers.specs.Registers.{x_at}
-use Rattle.a64_machine.specs.Runs.{Answers}
-use Rattle.a64_machine.specs.declared.runtime.Answer.{Answer}
-use Rattle.a64_machine.specs.declared.runtime.Answer.TheVariants.{Resume, End}
+use Rattle.a64_semantics.specs.declared.registers.Registers.{Registers}
+use Rattle.a64_semantics.specs.Registers.{x_at}
+use Rattle.lfi_machine.specs.Runs.{Answers}
+use Rattle.lfi_machine.specs.declared.runtime.Answer.{Answer}
+use Rattle.lfi_machine.specs.declared.runtime.Answer.TheVariants.{Resume, End}
 use Rattle.lfi_run.specs.declared.service.Service.{Service}
 use Rattle.lfi_run.specs.declared.service.Service.TheVariants.{Finish, Print, Unknown}
 

@@ -5,8 +5,10 @@ use Rattle.lfi_rules.specs.Texts.{fault_text}
 use Rattle.lfi_image.specs.Faults.{number_of}
 use Rattle.lfi_image.specs.declared.fault.ImageFault.{ImageFault}
 use Rattle.lfi_image.specs.declared.fault.ImageFault.TheVariants.{Unlawful}
-use Rattle.slot_access.specs.declared.halt.Halt.{Halt}
-use Rattle.slot_access.specs.declared.halt.Halt.TheVariants.{StepsUsed, NoAccess, NoFetch, Breakpoint, Ended as EndedWith, UnlawfulAnswer, NoMemory}
+use Rattle.lfi_confinement.specs.declared.cause.Cause.{Cause}
+use Rattle.lfi_confinement.specs.declared.cause.Cause.TheVariants as causes
+use Rattle.lfi_machine.specs.declared.halt.Halt.{Halt}
+use Rattle.lfi_machine.specs.declared.halt.Halt.TheVariants.{Stopped, StepsUsed, NoMemory}
 use Rattle.lfi_run.specs.declared.image_run.ImageRun.{ImageRun}
 use Rattle.lfi_run.specs.declared.image_run.ImageRun.TheVariants.{Refused, Ended}
 
@@ -14,14 +16,18 @@ use Rattle.lfi_run.specs.declared.image_run.ImageRun.TheVariants.{Refused, Ended
 abbrev pub address_text : ℕ → List ℕ
 address_text address = codes "0x" ++ hexadecimal 16 address
 
+-- why a machine stops
+abbrev pub stop_text : Cause → List ℕ
+stop_text (causes.NoAccess address) = codes "halt 2 at " ++ address_text address
+stop_text (causes.NoFetch pc) = codes "halt 3 at " ++ address_text pc
+stop_text (causes.Breakpoint pc) = codes "halt 4 at " ++ address_text pc
+stop_text (causes.Ended status) = codes "halt 5 status " ++ decimal status
+stop_text causes.UnlawfulAnswer = codes "halt 6"
+
 -- why a run ended
 abbrev pub halt_text : Halt → List ℕ
+halt_text (Stopped cause) = stop_text cause
 halt_text StepsUsed = codes "halt 1"
-halt_text (NoAccess address) = codes "halt 2 at " ++ address_text address
-halt_text (NoFetch pc) = codes "halt 3 at " ++ address_text pc
-halt_text (Breakpoint pc) = codes "halt 4 at " ++ address_text pc
-halt_text (EndedWith status) = codes "halt 5 status " ++ decimal status
-halt_text UnlawfulAnswer = codes "halt 6"
 halt_text NoMemory = codes "halt 7"
 
 -- why there is no image

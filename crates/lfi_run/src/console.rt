@@ -6,8 +6,8 @@ ghost use Rattle.lfi_run.specs.Growth.{Grows};
 ghost use Rattle.lfi_run.specs.inner.Consoles.{output_of};
 
 use crate::service::Service;
-use a64_machine::{Answer, Data, Runtime};
-use a64_registers::Registers;
+use a64_semantics::Registers;
+use lfi_machine::{Answer, Data, Runtime};
 use std::io::{self, Write};
 
 /// The status of a run of which a byte could not be written.

@@ -1,10 +1,10 @@
 //! What comes of an image file that is run.
 
 ghost use Rattle.std.specs.Prelude.{Some};
-ghost use Rattle.lfi_run.specs.Texts.{halt_text, refusal_text, run_text};
+ghost use Rattle.lfi_run.specs.Texts.{halt_text, refusal_text, run_text, stop_text};
 
-use a64_machine::Halt;
 use lfi_image::ImageFault;
+use lfi_machine::{Cause, Halt};
 use std::fmt;
 
 /// What comes of an image file that is run.
@@ -19,6 +19,10 @@ pub enum ImageRun {
 /// Why there is no image, as it is told.
 #[derive(Drop)]
 struct Refusal(ImageFault);
+
+/// Why a machine stops, as it is told.
+#[derive(Drop)]
+struct Stop(Cause);
 
 /// Why a run ended, as it is told.
 #[derive(Drop)]
@@ -35,15 +39,26 @@ impl fmt::Display for Refusal {
     }
 }
 
+impl fmt::Display for Stop {
+    ghost output = { λ stop. Some (stop_text stop.0) };
+
+    fn fmt<W: fmt::Write>(&self, f: &mut fmt::Formatter<W>) -> fmt::Result {
+        match self.0 {
+            Cause::NoAccess(address) => write!(f, "halt 2 at 0x{address:016x}"),
+            Cause::NoFetch(pc) => write!(f, "halt 3 at 0x{pc:016x}"),
+            Cause::Breakpoint(pc) => write!(f, "halt 4 at 0x{pc:016x}"),
+            Cause::Ended(status) => write!(f, "halt 5 status {status}"),
+            Cause::UnlawfulAnswer => write!(f, "halt 6"),
+        }
+    }
+}
+
 impl fmt::Display for Ending {
     ghost output = { λ ending. Some (halt_text ending.0) };
 
     fn fmt<W: fmt::Write>(&self, f: &mut fmt::Formatter<W>) -> fmt::Result {
         match self.0 {
-            Halt::NoAccess(address) => write!(f, "halt 2 at 0x{address:016x}"),
-            Halt::NoFetch(pc) => write!(f, "halt 3 at 0x{pc:016x}"),
-            Halt::Breakpoint(pc) => write!(f, "halt 4 at 0x{pc:016x}"),
-            Halt::Ended(status) => write!(f, "halt 5 status {status}"),
+            Halt::Stopped(cause) => write!(f, "{}", Stop(cause)),
             other => write!(f, "halt {}", other.number()),
         }
     }

@@ -6,7 +6,7 @@ mod image_run;
 mod run;
 mod service;
 
-pub use a64_machine::Halt;
 pub use image_run::ImageRun;
+pub use lfi_machine::{Cause, Halt};
 pub use run::run_image;
 pub use service::Service;

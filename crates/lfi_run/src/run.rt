@@ -1,7 +1,7 @@
 //! Image files, run.
 
 ghost use Rattle.std.specs.Prelude.{◌≡◌, ◌≤◌, ◌↔◌, IfOk, OnErr};
-ghost use Rattle.a64_machine.specs.Runs.{RanThenHalts, IsConfined};
+ghost use Rattle.lfi_machine.specs.Runs.{RanThenHalts, IsConfined};
 ghost use Rattle.lfi_run.specs.Growth.{Grows};
 ghost use Rattle.lfi_run.specs.Serving.{serves};
 ghost use Rattle.lfi_run.specs.Runs.{CameOf, RunsImage};
@@ -9,8 +9,8 @@ ghost use Rattle.lfi_run.specs.inner.Consoles.{output_of};
 
 use crate::console::{Console, NOT_WRITTEN, NotWritten};
 use crate::image_run::ImageRun;
-use a64_machine::{Halt, Machine, start_registers};
 use lfi_image::{CompleteImage, read_image};
+use lfi_machine::{Cause, Halt, Machine, start_registers};
 use std::alloc::{AllocError, Global};
 use std::io::{Read, Write};
 
@@ -56,7 +56,7 @@ fn run_from_start<W: Write>(
     let _ = &*out;
     match finished {
         Ok(()) => Ok((halt, count)),
-        Err(NotWritten) => Ok((Halt::Ended(NOT_WRITTEN), count)),
+        Err(NotWritten) => Ok((Halt::Stopped(Cause::Ended(NOT_WRITTEN)), count)),
     }
 }
 

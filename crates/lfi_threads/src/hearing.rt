@@ -1,7 +1,6 @@
 //! What a receiver's thread does.
 
 ghost use Rattle.std.specs.Prelude.{◌≡◌, ℕ, List, Option, Some, IsSome};
-ghost use Rattle.std.specs.declared.io.ErrorKind.{ErrorKind};
 ghost use Rattle.lfi_receive.specs.Receivers.{cause_of, IsFinished};
 ghost use Rattle.lfi_receive.specs.declared.receiver.ReceiverTurn.TheVariants as turn;
 ghost use Rattle.lfi_receive.specs.Inputs.{left_of};
@@ -42,7 +41,7 @@ fn pull_one<S: Wait, R: Read + Drop>(
 ) -> ReceiverTurn
     requires is { IsReceiver place.shared.now place.number receiver.old }
     ensures is { IsReceiver place.entry.shared.now place.entry.number receiver.new }
-    ensures hearing { (whole : Option (List ℕ)) (first : Option ErrorKind) → IsHearing R.remaining whole first receiver.old input.old → IsHearing R.remaining whole first receiver.new input.new }
+    ensures hearing { (whole : Option (List ℕ)) → IsHearing R.remaining whole receiver.old input.old → IsHearing R.remaining whole receiver.new input.new }
     ensures finished { result ≡ turn.Finished → IsFinished receiver.new }
 {
     if receiver.is_over() {
@@ -128,7 +127,7 @@ fn hear_once<S: Wait, R: Read + Drop, N: Notices>(
 ) -> Option<Leaving>
     requires is { IsReceiver place.shared.now place.number receiver.old }
     ensures is { IsReceiver place.entry.shared.now place.entry.number receiver.new }
-    ensures hearing { (whole : Option (List ℕ)) (first : Option ErrorKind) → IsHearing R.remaining whole first receiver.old input.old → IsHearing R.remaining whole first receiver.new input.new }
+    ensures hearing { (whole : Option (List ℕ)) → IsHearing R.remaining whole receiver.old input.old → IsHearing R.remaining whole receiver.new input.new }
     ensures finished { result ≡ Some leaving.Finished → IsFinished receiver.new }
 {
     if ends.are_stopped() {
@@ -154,7 +153,7 @@ fn hear_on<S: Wait, R: Read + Drop, N: Notices>(
 ) -> Leaving
     requires is { IsReceiver place.shared.now place.number receiver.old }
     ensures is { IsReceiver place.entry.shared.now place.entry.number receiver.new }
-    ensures hearing { (whole : Option (List ℕ)) (first : Option ErrorKind) → IsHearing R.remaining whole first receiver.old input.old → IsHearing R.remaining whole first receiver.new input.new }
+    ensures hearing { (whole : Option (List ℕ)) → IsHearing R.remaining whole receiver.old input.old → IsHearing R.remaining whole receiver.new input.new }
     ensures finished { result ≡ leaving.Finished → IsFinished receiver.new }
 {
     let mut watch = Watch::new();
@@ -182,10 +181,7 @@ pub(crate) fn hear<S: Wait, R: Read + Drop, N: Notices>(
 {
     ends.wait_for_go(rt);
     match hear_on(rt, place, ends, notices, &mut receiver, &mut input) {
-        Leaving::Finished => Heard::Finished {
-            receiver,
-            failure: input.failure(),
-        },
+        Leaving::Finished => Heard::Finished(receiver),
         Leaving::Stopped => Heard::GaveUp,
     }
 }

@@ -76,7 +76,11 @@ impl Model for SealedPage {
 }
 
 impl OpenPage {
-    /// An empty page. `Err` only where the allocator refuses its 4,096 bytes.
+    /// An empty page.
+    ///
+    /// # Errors
+    ///
+    /// Where the allocator refuses its 4,096 bytes.
     pub fn new(alloc: Global) -> Result<OpenPage, AllocError>
         ensures { IfOk result (λ page. page ≡ []) }
     {
@@ -119,7 +123,11 @@ impl OpenPage {
         count
     }
 
-    /// The same memory, no longer written. `Err` gives the page back, just where its length is 0 or no multiple of 4.
+    /// The same memory, no longer written.
+    ///
+    /// # Errors
+    ///
+    /// The page itself, just where its length is 0 or no multiple of 4.
     pub fn seal(self) -> Result<SealedPage, OpenPage>
         ensures { MatchResult result (λ page. IsWhole self × (page ≡ self)) (λ page. ¬ (IsWhole self) × (page ≡ self)) }
     {
@@ -132,7 +140,11 @@ impl OpenPage {
 }
 
 impl SealedPage {
-    /// A page of these bytes, which make 1 to 1,024 whole words. `Err` only where the allocator refuses its 4,096 bytes.
+    /// A page of these bytes, which make 1 to 1,024 whole words.
+    ///
+    /// # Errors
+    ///
+    /// Where the allocator refuses its 4,096 bytes.
     pub fn of(alloc: Global, bytes: &[u8]) -> Result<SealedPage, AllocError>
         requires whole { IsWhole bytes.now }
         requires fits { length bytes.now ≤ page_bytes }

@@ -29,7 +29,11 @@ impl Model for SparseMemory {
 }
 
 impl SparseMemory {
-    /// Bytes of 0. An error is that memory was refused.
+    /// Bytes of 0.
+    ///
+    /// # Errors
+    ///
+    /// Where memory was refused.
     pub fn new(alloc: Global) -> Result<SparseMemory, AllocError>
         ensures zero { IfOk result (λ m. (offset : ℕ) → byte_at m offset ≡ 0) }
     {
@@ -152,8 +156,11 @@ impl SparseMemory {
         self.keep_page(last)
     }
 
-    /// Makes room for bytes from an offset on, 1 to 4,096 of them: the only call that takes memory. An error is that memory
-    /// was refused; some of the pages may then be kept, and no byte is changed.
+    /// Makes room for bytes from an offset on, 1 to 4,096 of them: the only call that takes memory.
+    ///
+    /// # Errors
+    ///
+    /// Where memory was refused; some of the pages may then be kept, and no byte is changed.
     #[inline(always)]
     pub fn keep(&mut self, offset: u32, bytes: u32) -> Result<(), AllocError>
         requires some { 1 ≤ bytes }

@@ -4,9 +4,10 @@ use Rattle.lfi_command_line.specs.declared.line.Explain.{Explain}
 use Rattle.lfi_run.specs.declared.image_run.ImageRun.{ImageRun}
 use Rattle.lfi_run.specs.Runs.{CameOf}
 use Rattle.lfi_run.specs.Texts.{run_text}
-use Rattle.lfi_commands.specs.declared.verdict.Verdict.{Verdict}
+use Rattle.lfi_code.specs.declared.verdict.Verdict.{Verdict}
 use Rattle.lfi_commands.specs.declared.ending.Ending.{Ending}
-use Rattle.lfi_commands.specs.Checking.{Checks, ending_of}
+use Rattle.lfi_code.specs.Checking.{Checks}
+use Rattle.lfi_commands.specs.Checking.{ending_of}
 use Rattle.lfi_commands.specs.Explaining.{WritesVerdict}
 use Rattle.lfi_commands.specs.Failures.{Told}
 use Rattle.lfi_commands.specs.Running.{EndsRun}

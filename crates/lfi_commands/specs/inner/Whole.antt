@@ -6,7 +6,7 @@ use Rattle.a64_word.specs.Words.{words_of}
 use Rattle.lfi_pack.specs.Packs.{IsPacked}
 use Rattle.lfi_commands.specs.declared.packing.Stop.{Stop}
 use Rattle.lfi_commands.specs.declared.packing.Stop.TheVariants.{NoModule, Failed}
-use Rattle.lfi_commands.specs.Checking.{IsCode}
+use Rattle.lfi_code.specs.Checking.{IsCode}
 use Rattle.lfi_commands.specs.Failures.{IsOfReading}
 use Rattle.lfi_commands.specs.Packing.{IsNoModule}
 

@@ -6,11 +6,12 @@ use Rattle.lfi_rules.specs.declared.needs.Need.{Need}
 use Rattle.lfi_rules.specs.declared.needs.Need.TheVariants.{Nothing, Call, Guard, Probe}
 use Rattle.lfi_rules.specs.Needs.{meets_of}
 use Rattle.lfi_rules.specs.Registers as registers
-use Rattle.a64_registers.specs.declared.registers.Registers.{Registers}
-use Rattle.a64_registers.specs.Registers.{x_at}
-use Rattle.lfi_confinement.specs.Slots.{Code, base, InSlot, slot_size, entry_address, entry_count}
+use Rattle.a64_semantics.specs.declared.registers.Registers.{Registers}
+use Rattle.a64_semantics.specs.Registers.{x_at}
+use Rattle.lfi_confinement.specs.Slots.{base, InSlot, slot_size, entry_address, entry_count}
 use Rattle.lfi_confinement.specs.Lawful.{stack_reach}
 use Rattle.lfi_confinement.specs.Moves.{Fetches}
+use Rattle.lfi_image.specs.Image.{Image}
 
 -- x30 is an entry before a call of the runtime, anything before its guard, and in the slot elsewhere.
 abbrev pub IsLinkFor : (from : ℕ) → Need → (value : ℕ) → Type 0
@@ -42,7 +43,7 @@ pub record HeldFor (from : ℕ) (need : Need) (r : Registers) : Type 0 where
   pub flags : r.nzcv < 16
 
 -- The registers are lawful but for one need, and the instruction at pc, if there is one, meets it.
-pub record IsSafe (c : Code) (r : Registers) : Type 0 where
+pub record IsSafe (c : Image) (r : Registers) : Type 0 where
   pub need : Need
   pub held : HeldFor (base c) need r
   pub met : (i : Instruction) → Fetches c r.pc i → IsTrue (meets_of i need)

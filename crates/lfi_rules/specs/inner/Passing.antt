@@ -1,12 +1,11 @@
 -- What the pass over quiet words tells.
-use Rattle.std.specs.Prelude.{◌≡◌, ℕ, ◌+◌, ◌-◌, ◌*◌, ◌^◌, ◌<◌, ◌≤◌, if◌then◌else◌, nat_lt, Bool, true, ℤ, pos, negsuc, List, slice_index}
+use Rattle.std.specs.Prelude.{◌≡◌, ℕ, ◌+◌, ◌-◌, ◌*◌, ◌^◌, ◌<◌, ◌≤◌, ◌⊎◌, if◌then◌else◌, nat_lt, ℤ, pos, negsuc, List, length, Some, None, slice_get, slice_index}
 use Rattle.a64_word.specs.inner.Bits.{bits_at}
-use Rattle.lfi_classes.specs.Classes.{IsQuietHere}
 use Rattle.lfi_rules.specs.declared.needs.Need.{Need}
 use Rattle.lfi_rules.specs.declared.needs.Need.TheVariants.{Nothing}
-use Rattle.lfi_rules.specs.Faults.{Meets}
-use Rattle.lfi_rules.specs.inner.Quiet.{IsQuietWord}
-use Rattle.lfi_rules.specs.inner.Least.{NoneBefore, IsOpen}
+use Rattle.lfi_rules.specs.declared.fault.Fault.{Fault}
+use Rattle.lfi_rules.specs.Faults.{Opens, Meets, IsFirstInside}
+use Rattle.lfi_rules.specs.inner.Least.{IsLeastBroken}
 
 -- the number that bits stand for in two's complement, of which half stand for numbers below 0
 abbrev pub signed_of : (half bits : ℕ) → ℤ
@@ -23,30 +22,48 @@ pub record AreFarFromEnds (start stop n : ℕ) : Type 0 where
   pub from_start : 2048 ≤ start
   pub to_end : stop + 2048 ≤ n
 
--- The words from a place on, up to another, are of quiet classes, or of near ones where these count.
-pub record AreQuiet (ws : List ℕ) (near : Bool) (start stop : ℕ) : Type 0 where
-  pub fits : (i : ℕ) → start ≤ i → i < stop → slice_index ws i < 2 ^ 32
-  pub quiet : (i : ℕ) → start ≤ i → i < stop → IsQuietHere near (slice_index ws i)
-
 -- a place of a module from which no direct branch by 2,048 words leaves it
 pub record IsFarFromEnds (k n : ℕ) : Type 0 where
   pub start : 2048 ≤ k
   pub end : k + 2048 ≤ n
 
--- The word at a place, which is before another place, keeps the rules and opens nothing, wherever near classes count or don't; and meets
--- a need.
-pub record Follows (ws : List ℕ) (near : Bool) (i stop : ℕ) (need : Need) : Type 0 where
-  pub within : i < stop
-  pub quiet : (k n : ℕ) → (near ≡ true → IsFarFromEnds k n) → IsQuietWord (slice_index ws i) k n Nothing
-  pub met : Meets (slice_index ws i) need
+-- The word after place i of ws, where there is one, meets a need.
+abbrev pub IsMetAfter : List ℕ → (i : ℕ) → Need → Type 0
+IsMetAfter ws i need = (next : ℕ) → slice_get ws (i + 1) ≡ Some next → Meets next need
 
--- The word at a place opens a need wherever it stands, and the next word, which is before another place, is such a word and meets it.
-pub record IsMetByNext (ws : List ℕ) (near : Bool) (i stop : ℕ) : Type 0 where
-  pub need : Need
-  pub opens : (k n : ℕ) → IsQuietWord (slice_index ws i) k n need
-  pub next : Follows ws near (i + 1) stop need
+-- The words ws stand in a module of n words from the place `first` on. The word at place i of them breaks no rule by itself, and
+-- the one after it, where there is one, doesn't miss what it opens.
+pub record IsFine (ws : List ℕ) (first n i : ℕ) : Type 0 where
+  pub alone : (word : ℕ) → slice_get ws i ≡ Some word → IsLeastBroken word Nothing (first + i) n None
+  pub after : (word next : ℕ) (need : Need) → slice_get ws i ≡ Some word → slice_get ws (i + 1) ≡ Some next → Opens word need → (Meets next need → ⊥) → ⊥
 
--- Of the words ws, the first i break no rule and leave nothing open.
-pub record IsClear (ws : List ℕ) (first n i : ℕ) : Type 0 where
-  pub none : NoneBefore ws first n i
-  pub left : IsOpen ws i Nothing
+-- The words from a place on, up to another, are fine.
+pub record AreFine (ws : List ℕ) (first n start stop : ℕ) : Type 0 where
+  pub each : (i : ℕ) → start ≤ i → i < stop → IsFine ws first n i
+
+-- a number is one of the first of a list
+abbrev pub IsAmong : List ℕ → (count i : ℕ) → Type 0
+IsAmong places count i = (p : ℕ) × (p < count) × (slice_index places p ≡ i)
+
+-- Of the words from a place on, up to another, those that are at none of the first `count` places of a list are fine; these are
+-- among them, in order.
+pub record AreMarked (ws : List ℕ) (first n start stop : ℕ) (places : List ℕ) (count : ℕ) : Type 0 where
+  pub fine : (i : ℕ) → start ≤ i → i < stop → IsFine ws first n i ⊎ IsAmong places count i
+  pub low : (p : ℕ) → p < count → start ≤ slice_index places p
+  pub high : (p : ℕ) → p < count → slice_index places p < stop
+  pub rising : (p q : ℕ) → p < q → q < count → slice_index places p < slice_index places q
+
+-- each number of a list is below another
+pub record AreWithin (places : List ℕ) (stop : ℕ) : Type 0 where
+  pub each : (p : ℕ) → p < length places → slice_index places p < stop
+
+-- the words at the first `count` places of a list are fine
+pub record AreMarkedFine (ws : List ℕ) (first n : ℕ) (places : List ℕ) (count : ℕ) : Type 0 where
+  pub each : (p : ℕ) → p < count → IsFine ws first n (slice_index places p)
+
+-- A fault is the first one, where all words before some place of a list are fine; so are the words at the places before that one.
+pub record IsFoundIn (ws : List ℕ) (first n : ℕ) (places : List ℕ) (fault : Fault) : Type 0 where
+  pub p : ℕ
+  pub within : p < length places
+  pub before : AreMarkedFine ws first n places p
+  pub found : AreFine ws first n 0 (slice_index places p) → IsFirstInside ws first n (Some fault)

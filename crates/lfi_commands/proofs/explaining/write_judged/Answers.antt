@@ -3,7 +3,7 @@ use Rattle.a64_word.specs.Words.{words_of}
 use Rattle.lfi_module.specs.Numbers.{most_words}
 use Rattle.lfi_commands.specs.Explaining.{WritesFault}
 use Rattle.lfi_commands.proofs.Explained.{refused_now}
-use Rattle.lfi_commands.proofs.Spelled.{few}
+use Rattle.lfi_code.proofs.Spelled.{few}
 use Rattle.lfi_commands.proofs.explaining.write_judged.Goals as goal
 
 pub write_fault-requires-clause-most : goal.write_fault-requires-clause-most

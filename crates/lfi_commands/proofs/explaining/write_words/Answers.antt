@@ -1,7 +1,7 @@
 use Rattle.std.proofs.Common.{◌≤◌, length, subst, sym}
 use Rattle.a64_word.specs.Words.{words_of}
 use Rattle.lfi_module.specs.Numbers.{most_words}
-use Rattle.lfi_commands.proofs.Spelled.{few}
+use Rattle.lfi_code.proofs.Spelled.{few}
 use Rattle.lfi_commands.proofs.explaining.write_words.Goals as goal
 
 pub write_listing-requires : goal.write_listing-requires

@@ -1,5 +1,5 @@
 use Rattle.lfi_commands.proofs.Explained.{carried, verdict_known}
-use Rattle.lfi_commands.specs.Checking.{Checks}
+use Rattle.lfi_code.specs.Checking.{Checks}
 use Rattle.lfi_commands.proofs.program.run_check.Goals as goal
 
 pub returns-in-Ok-clause-found : goal.returns-in-Ok-clause-found

@@ -1,6 +1,6 @@
 use Rattle.std.proofs.Common.{◌≡◌, ◌∙◌, ℕ, List, Option, refl, sym, ap, subst, inl, inr}
 use Rattle.std.specs.Io.KnownBytes.{append_known, Keeps}
-use Rattle.a64_machine.specs.Runs.{RanThenHalts}
+use Rattle.lfi_machine.specs.Runs.{RanThenHalts}
 use Rattle.lfi_run.specs.Growth.{Grows, IsBeginning}
 use Rattle.lfi_run.specs.Serving.{serves}
 use Rattle.lfi_run.specs.inner.Consoles.{output_of}

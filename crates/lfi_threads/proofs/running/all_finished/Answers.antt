@@ -1,8 +1,7 @@
-use Rattle.std.proofs.Common.{◌≡◌, ◌++◌, ◌∷◌, [], ◌∙◌, ℕ, List, Option, Some, Result, Ok, Err, length, slice_get, sym, ap, arith}
+use Rattle.std.proofs.Common.{◌≡◌, ◌++◌, ◌∷◌, [], ◌∙◌, ℕ, List, Some, Result, Ok, Err, length, slice_get, sym, ap, arith}
 use Rattle.std.specs.Prelude.{is_ok, if◌then◌else◌}
 use Rattle.std.specs.Result.{result_ok}
 use Rattle.std.specs.Vec.Iter.{into_iter_items}
-use Rattle.std.specs.declared.io.ErrorKind.{ErrorKind}
 use Rattle.lfi_stage.proofs.Filling.{push_each, one_more, next_is, still_from}
 use Rattle.lfi_threads.specs.declared.promises.Heard.TheVariants.{Finished}
 use Rattle.lfi_threads.proofs.running.all_finished.Goals as goal
@@ -26,6 +25,5 @@ loop-heard-preserved c =
     record {
       count = (let count = i.count in let less = step.1 in omega arith);
       rest = still_from threads old new c.in-Some.heard n i.rest step.0 (length c.push.new.self.items) more;
-      each = push_each (λ k q. (failure : Option ErrorKind) × (slice_get threads k ≡ Some (Finished q failure))) rs c.push.new.self.items r grown i.each
-          (c.in-Finished.failure, next_is threads old new c.in-Some.heard n i.rest step.0 ∙ ap Some c.in-Finished.is);
+      each = push_each (λ k q. slice_get threads k ≡ Some (Finished q)) rs c.push.new.self.items r grown i.each (next_is threads old new c.in-Some.heard n i.rest step.0 ∙ ap Some c.in-Finished.is);
     }

@@ -1,0 +1,231 @@
+/* Calls each function of the verifier on cases whose answers are written here. Exits with the number of the first check that
+ * fails, or 0. The words are spelled by the Arm manual's C4.1; what the rules say of them is in docs/DEFINITIONS.md. */
+#include "lfi_verifier.h"
+#include <stdio.h>
+#include <stdlib.h>
+#include <string.h>
+
+#define CHECK(number, holds)                                 \
+    do {                                                     \
+        if (!(holds)) {                                      \
+            fprintf(stderr, "check %d: %s\n", number, #holds); \
+            return number;                                   \
+        }                                                    \
+    } while (0)
+
+static void put(uint8_t *at, uint32_t word) {
+    for (int i = 0; i < 4; i++) at[i] = (uint8_t)(word >> (8 * i));
+}
+
+static lfi_status one(uint32_t word, lfi_fault *fault) {
+    uint8_t bytes[4];
+    put(bytes, word);
+    return lfi_verify(bytes, 4, LFI_PROFILE_1, fault);
+}
+
+static lfi_status two(uint32_t first, uint32_t second, lfi_fault *fault) {
+    uint8_t bytes[8];
+    put(bytes, first);
+    put(bytes + 4, second);
+    return lfi_verify(bytes, 8, LFI_PROFILE_1, fault);
+}
+
+static int is(lfi_fault fault, uint32_t word, uint32_t rule) { return fault.word == word && fault.rule == rule; }
+
+static int whole_code(void) {
+    lfi_fault f = {9, 9};
+    uint8_t bytes[1] = {0};
+    CHECK(1, sizeof(lfi_state) == 24 && sizeof(lfi_fault) == 8 && sizeof(lfi_map) == 64 && sizeof(lfi_registers) == 28);
+    CHECK(2, one(0xD65F03C0, &f) == LFI_LAWFUL && is(f, 0, 0));                       /* RET */
+    CHECK(3, one(0xD4000001, &f) == LFI_REFUSED && is(f, 0, 1));                      /* SVC #0 */
+    CHECK(4, one(0xF9400020, &f) == LFI_REFUSED && is(f, 0, 2));                      /* LDR X0, [X1] */
+    CHECK(5, one(0xAA0003F5, &f) == LFI_REFUSED && is(f, 0, 3));                      /* MOV X21, X0 */
+    CHECK(6, two(0xF94006BE, 0xD63F03C0, &f) == LFI_LAWFUL && is(f, 0, 0));           /* a call of the runtime */
+    CHECK(7, two(0xD503201F, 0x14000001, &f) == LFI_REFUSED && is(f, 1, 8));          /* B to the end */
+    CHECK(8, one(0xD10043FF, &f) == LFI_REFUSED && is(f, 0, 10));                     /* SUB SP, SP, #16, left open */
+    CHECK(9, lfi_verify(bytes, 0, LFI_PROFILE_1, &f) == LFI_BAD_LENGTH && is(f, 0, 0));
+    f.word = 9;
+    CHECK(10, lfi_verify(bytes, 1, LFI_PROFILE_1, &f) == LFI_BAD_LENGTH && is(f, 0, 0));
+    uint32_t unknown[] = {0, 2, 3, 0x100, 0xFFFFFFFF};
+    for (int i = 0; i < 5; i++) {
+        f.word = 9;
+        CHECK(11, lfi_verify(bytes, 1, unknown[i], &f) == LFI_UNKNOWN_PROFILE && is(f, 0, 0));
+    }
+    return 0;
+}
+
+/* The longest module, one word more, sizes that no memory has, and an odd address. */
+static int long_code(void) {
+    lfi_fault f;
+    uint8_t *bytes = malloc(LFI_MAX_BYTES + 8);
+    CHECK(20, bytes);
+    for (size_t i = 0; i < LFI_MAX_WORDS + 1; i++) put(bytes + 1 + 4 * i, 0xD503201F);
+    CHECK(21, lfi_verify(bytes + 1, LFI_MAX_BYTES, LFI_PROFILE_1, &f) == LFI_LAWFUL && is(f, 0, 0));
+    CHECK(22, lfi_verify(bytes + 1, LFI_MAX_BYTES + 4, LFI_PROFILE_1, &f) == LFI_BAD_LENGTH);
+    put(bytes + 1 + 4 * (LFI_MAX_WORDS - 1), 0x17C00001); /* B to word 0, and one word before it */
+    CHECK(23, lfi_verify(bytes + 1, LFI_MAX_BYTES, LFI_PROFILE_1, &f) == LFI_LAWFUL);
+    put(bytes + 1 + 4 * (LFI_MAX_WORDS - 1), 0x17C00000);
+    CHECK(24, lfi_verify(bytes + 1, LFI_MAX_BYTES, LFI_PROFILE_1, &f) == LFI_REFUSED && is(f, LFI_MAX_WORDS - 1, 8));
+    free(bytes);
+    return 0;
+}
+
+/* A module of 1,025 words whose last but one opens a need, in pieces of each size. */
+static int pieces(void) {
+    static uint8_t bytes[4100];
+    lfi_fault f, g;
+    for (int i = 0; i < 1025; i++) put(bytes + 4 * i, 0xD503201F);
+    put(bytes + 4 * 1023, 0xA8C17BFD); /* LDP X29, X30, [SP], #16 */
+    for (int met = 0; met < 2; met++) {
+        put(bytes + 4 * 1024, met ? 0x8B3E42BE : 0xD503201F);
+        lfi_status whole = lfi_verify(bytes, sizeof bytes, LFI_PROFILE_1, &f);
+        CHECK(30, whole == (met ? LFI_LAWFUL : LFI_REFUSED) && (met ? is(f, 0, 0) : is(f, 1024, 10)));
+        for (size_t piece = 4; piece <= sizeof bytes; piece += 4) {
+            lfi_state s;
+            CHECK(31, lfi_verify_init(&s, 1025, LFI_PROFILE_1) == LFI_LAWFUL);
+            for (size_t at = 0; at < sizeof bytes; at += piece) {
+                size_t n = sizeof bytes - at < piece ? sizeof bytes - at : piece;
+                lfi_status so_far = lfi_verify_update(&s, bytes + at, n);
+                CHECK(32, so_far == (!met && at + n == sizeof bytes ? LFI_REFUSED : LFI_LAWFUL));
+                if (at + n < sizeof bytes) CHECK(33, lfi_verify_final(&s, &g) == LFI_INCOMPLETE && is(g, 0, 0));
+            }
+            CHECK(34, lfi_verify_final(&s, &g) == whole && is(g, f.word, f.rule));
+        }
+    }
+    return 0;
+}
+
+/* What is refused leaves the state as it was. */
+static int refused_pieces(void) {
+    uint8_t bytes[16] = {0};
+    lfi_state s, t;
+    lfi_fault f;
+    memset(&s, 7, sizeof s);
+    t = s;
+    CHECK(40, lfi_verify_init(&s, 0, LFI_PROFILE_1) == LFI_BAD_LENGTH && !memcmp(&s, &t, sizeof s));
+    CHECK(41, lfi_verify_init(&s, LFI_MAX_WORDS + 1, LFI_PROFILE_1) == LFI_BAD_LENGTH && !memcmp(&s, &t, sizeof s));
+    CHECK(42, lfi_verify_init(&s, 2, 2) == LFI_UNKNOWN_PROFILE && !memcmp(&s, &t, sizeof s));
+    CHECK(43, lfi_verify_init(&s, LFI_MAX_WORDS, LFI_PROFILE_1) == LFI_LAWFUL && s.words == LFI_MAX_WORDS && s.judged == 0);
+    CHECK(44, lfi_verify_init(&s, 2, LFI_PROFILE_1) == LFI_LAWFUL);
+    t = s;
+    CHECK(45, lfi_verify_update(&s, bytes, 3) == LFI_BAD_LENGTH && !memcmp(&s, &t, sizeof s));
+    CHECK(46, lfi_verify_update(&s, bytes, 12) == LFI_BAD_LENGTH && !memcmp(&s, &t, sizeof s));
+    CHECK(47, lfi_verify_update(&s, bytes, 0) == LFI_LAWFUL && !memcmp(&s, &t, sizeof s));
+    put(bytes, 0xD4000001);
+    CHECK(48, lfi_verify_update(&s, bytes, 4) == LFI_REFUSED && s.judged == 1);
+    CHECK(49, lfi_verify_final(&s, &f) == LFI_REFUSED && is(f, 0, 1)); /* a fault is told before all has come */
+    CHECK(50, lfi_verify_update(&s, bytes, 0) == LFI_REFUSED);
+    CHECK(51, lfi_verify_update(&s, bytes, 8) == LFI_BAD_LENGTH && s.judged == 1);
+    put(bytes, 0xD65F03C0);
+    CHECK(52, lfi_verify_update(&s, bytes, 4) == LFI_REFUSED && s.judged == 2);
+    CHECK(53, lfi_verify_final(&s, &f) == LFI_REFUSED && is(f, 0, 1));
+    CHECK(54, lfi_verify_update(&s, bytes, 0) == LFI_REFUSED && lfi_verify_update(&s, bytes, 4) == LFI_BAD_LENGTH);
+    return 0;
+}
+
+/* States that no call made: each is answered, and those that can't be a state's are told. */
+static int other_states(void) {
+    uint8_t bytes[64] = {0};
+    lfi_fault f = {9, 9};
+    const lfi_state wrong[] = {
+        {0, 1, 0, {0, 0}, 0}, {2, 1, 0, {0, 0}, 0},           {1, 0, 0, {0, 0}, 0},  {1, LFI_MAX_WORDS + 1, 0, {0, 0}, 0},
+        {1, 1, 2, {0, 0}, 0}, {1, 1, 0xFFFFFFFF, {0, 0}, 0},  {1, 1, 0, {1, 0}, 0},  {1, 1, 0, {0, 11}, 0},
+        {1, 1, 0, {0, 0}, 4}, {1, 1, 0, {0, 0xFFFFFFFF}, 0},
+    };
+    for (size_t i = 0; i < sizeof wrong / sizeof *wrong; i++) {
+        lfi_state s = wrong[i];
+        CHECK(60, lfi_verify_update(&s, bytes, 4) == LFI_BAD_STATE && !memcmp(&s, &wrong[i], sizeof s));
+        f.word = 9;
+        CHECK(61, lfi_verify_final(&s, &f) == LFI_BAD_STATE && is(f, 0, 0));
+    }
+    for (uint32_t i = 0; i < 50000; i++) {
+        uint32_t r = i * 2654435761u;
+        lfi_state s = {r & 1, r >> 7, (r >> 3) & 0x1fffff, {r, r & 15}, r >> 29};
+        lfi_verify_update(&s, bytes, 4 * (i & 15));
+        lfi_verify_final(&s, &f);
+    }
+    return 0;
+}
+
+static int profile(void) {
+    lfi_map map, before;
+    lfi_registers registers, old;
+    CHECK(70, lfi_version() == LFI_VERSION);
+    for (uint32_t module = 0; module < LFI_MODULES; module++) {
+        CHECK(71, lfi_profile_map(LFI_PROFILE_1, module, &map) == LFI_LAWFUL);
+        CHECK(72, map.base == (2ull * module + 1) << 32 && map.size == 1ull << 32 && map.guard == 65536);
+        CHECK(73, map.table == 4096 && map.code == 65536);
+        CHECK(74, map.entry == 1ull << 40 && map.entry_step == 16 && map.entries == 512);
+    }
+    before = map;
+    CHECK(75, lfi_profile_map(LFI_PROFILE_1, 16, &map) == LFI_UNKNOWN_MODULE && !memcmp(&map, &before, sizeof map));
+    CHECK(76, lfi_profile_map(LFI_PROFILE_1, 0xFFFFFFFF, &map) == LFI_UNKNOWN_MODULE);
+    CHECK(77, lfi_profile_map(2, 0, &map) == LFI_UNKNOWN_PROFILE && !memcmp(&map, &before, sizeof map));
+    CHECK(78, lfi_profile_registers(LFI_PROFILE_1, &registers) == LFI_LAWFUL);
+    CHECK(79, registers.base == 21 && registers.offset == 22 && registers.first_address == 18);
+    CHECK(80, registers.second_address == 23 && registers.third_address == 24 && registers.link == 30);
+    CHECK(81, registers.stack_reach == 512);
+    old = registers;
+    CHECK(82, lfi_profile_registers(0, &registers) == LFI_UNKNOWN_PROFILE && !memcmp(&registers, &old, sizeof old));
+    return 0;
+}
+
+/* The text of examples/checksums_unguarded.code's fault, as README.md has it, and one with the word before. */
+static const char FIRST[] = "word 16 rule 2\n  0x0000000100010040  b8237880  str w0, [x4, x3, lsl #2]\n  a load or store goes through x18, x21, "
+    "x23, x24 or sp at an immediate offset, through sp and changes it, or through x21 by a W register with uxtw and no shift; "
+    "this one goes through x4 by x3, lsl, shifted";
+static const char SECOND[] = "word 1024 rule 10\n  0x0000000700010ffc  f94006be  ldr x30, [x21, #8]\n  0x0000000700011000  d503201f  nop\n"
+    "  a load of a table entry into x30 is followed by blr x30; this word isn't that";
+
+static int explanations(void) {
+    uint8_t text[512], other[512];
+    size_t size = 7;
+    lfi_fault f = {16, 2}, seam = {1024, 10}, none = {0, 0}, wrong = {3, 11};
+    memset(text, '#', sizeof text);
+    memset(other, '#', sizeof other);
+    CHECK(90, lfi_explain(LFI_PROFILE_1, 0, 124, &f, 0xB8237880, 9, text, sizeof text, &size) == LFI_LAWFUL);
+    CHECK(91, size == sizeof FIRST - 1 && !memcmp(text, FIRST, size) && !memcmp(text + size, other, sizeof text - size));
+    for (size_t room = 0; room < sizeof FIRST + 9; room++) {
+        memset(text, '#', sizeof text);
+        size = 0;
+        CHECK(92, lfi_explain(LFI_PROFILE_1, 0, 124, &f, 0xB8237880, 9, text, room, &size) == LFI_LAWFUL);
+        size_t kept = room < size ? room : size;
+        CHECK(93, size == sizeof FIRST - 1 && !memcmp(text, FIRST, kept) && !memcmp(text + kept, other, sizeof text - kept));
+    }
+    CHECK(94, lfi_explain(LFI_PROFILE_1, 3, 2048, &seam, 0xD503201F, 0xF94006BE, text, sizeof text, &size) == LFI_LAWFUL);
+    CHECK(95, size == sizeof SECOND - 1 && !memcmp(text, SECOND, size));
+    memset(text, '#', sizeof text);
+    size = 7;
+    CHECK(96, lfi_explain(2, 0, 124, &f, 0, 0, text, sizeof text, &size) == LFI_UNKNOWN_PROFILE);
+    CHECK(97, lfi_explain(LFI_PROFILE_1, 16, 124, &f, 0, 0, text, sizeof text, &size) == LFI_UNKNOWN_MODULE);
+    CHECK(98, lfi_explain(LFI_PROFILE_1, 0, 0, &f, 0, 0, text, sizeof text, &size) == LFI_BAD_LENGTH);
+    CHECK(99, lfi_explain(LFI_PROFILE_1, 0, LFI_MAX_WORDS + 1, &f, 0, 0, text, sizeof text, &size) == LFI_BAD_LENGTH);
+    CHECK(100, lfi_explain(LFI_PROFILE_1, 0, 16, &f, 0, 0, text, sizeof text, &size) == LFI_BAD_LENGTH);
+    CHECK(101, lfi_explain(LFI_PROFILE_1, 0, 16, &none, 0, 0, text, sizeof text, &size) == LFI_BAD_STATE);
+    CHECK(102, lfi_explain(LFI_PROFILE_1, 0, 16, &wrong, 0, 0, text, sizeof text, &size) == LFI_BAD_STATE);
+    CHECK(103, size == 7 && !memcmp(text, other, sizeof text));
+    return 0;
+}
+
+/* Any word, at any place, for any rule, has a text that fits. */
+static int all_explained(void) {
+    uint8_t text[2048];
+    size_t size, longest = 0;
+    for (uint32_t i = 0; i < 20000; i++) {
+        uint32_t word = i * 2654435761u, before = word * 40503u + i;
+        lfi_fault f = {(word >> 5) % LFI_MAX_WORDS, 1 + i % 10};
+        CHECK(110, lfi_explain(LFI_PROFILE_1, i % 16, LFI_MAX_WORDS, &f, word, before, text, sizeof text, &size) == LFI_LAWFUL);
+        if (size > longest) longest = size;
+    }
+    CHECK(111, longest < 1024);
+    return 0;
+}
+
+int main(void) {
+    int (*const parts[])(void) = {whole_code, long_code, pieces, refused_pieces, other_states, profile, explanations, all_explained};
+    for (size_t i = 0; i < sizeof parts / sizeof *parts; i++) {
+        int failed = parts[i]();
+        if (failed) return failed;
+    }
+    return 0;
+}

@@ -1,9 +1,0 @@
-use Rattle.std.proofs.Common.{ap, ◌∙◌}
-use Rattle.a64_results.specs.Sums.{flags_of_number}
-use Rattle.a64_results.specs.Conditions.{holds}
-use Rattle.a64_results.proofs.Tables.{holds_by_number}
-use Rattle.a64_results.proofs.flags.Flags.holds.Goals as goal
-
-pub returns : goal.returns
-returns c =
-    c.holds_at.ensures ∙ ap (λ n. holds c.args.condition (flags_of_number n)) c.number.ensures.value ∙ holds_by_number c.args.condition c.args.self

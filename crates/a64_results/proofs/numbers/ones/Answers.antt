@@ -1,5 +1,0 @@
-use Rattle.a64_results.proofs.Bits.{ones_are}
-use Rattle.a64_results.proofs.numbers.ones.Goals as goal
-
-pub returns : goal.returns
-returns c = ones_are c.args.count c.requires.some c.requires.most

@@ -1,0 +1,16 @@
+pub mod Registers
+pub mod Numbers
+pub mod Sums
+pub mod Conditions
+pub mod Shifts
+pub mod Bitfields
+pub mod Products
+pub mod Results
+pub mod FarEnds
+pub mod Accesses
+pub mod Writes
+pub mod Branches
+pub mod Steps
+pub mod Pairs
+pub mod Performs
+pub mod inner

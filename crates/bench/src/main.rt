@@ -1,0 +1,118 @@
+//! How fast images are written and read, the machine runs, pages are written, and queues pass items on.
+//!
+//! | Words | What is measured |
+//! |---|---|
+//! | `image WORDS [ROUNDS]` | an image of so many words, built, written to a file and read back, the least time of each part in so many rounds, and the most memory |
+//! | `machine STEPS [time]` | so many steps of a loop |
+//! | `pages ROUNDS [time]` | 256 pages, written in each round |
+//! | `queues ITEMS [ROUNDS]` | so many items, put and taken, by one thread and by four |
+//!
+//! The third word asks for times. Without words each is run once, by small counts and without times.
+#![tactic(auto)]
+
+mod image;
+mod machine;
+mod pages;
+mod queues;
+
+use anyhow::{Result, bail};
+use std::env;
+
+/// What is measured.
+#[derive(Clone, Copy, PartialEq)]
+enum Mode {
+    Image,
+    Machine,
+    Pages,
+    Queues,
+}
+
+impl Mode {
+    /// All that there are.
+    const ALL: [Mode; 4] = [Mode::Image, Mode::Machine, Mode::Pages, Mode::Queues];
+
+    /// The mode that a word names.
+    fn of(word: &str) -> Option<Mode> {
+        if word == "image" {
+            Some(Mode::Image)
+        } else if word == "machine" {
+            Some(Mode::Machine)
+        } else if word == "pages" {
+            Some(Mode::Pages)
+        } else if word == "queues" {
+            Some(Mode::Queues)
+        } else {
+            None
+        }
+    }
+
+    /// How much is measured where no word says it.
+    fn count(self) -> u64 {
+        match self {
+            Mode::Image => 2049,
+            Mode::Machine => 1000,
+            Mode::Pages => 2,
+            Mode::Queues => 1000,
+        }
+    }
+}
+
+/// What the words ask for.
+#[derive(Clone, Copy)]
+struct Asked {
+    /// One mode, or all.
+    mode: Option<Mode>,
+    count: Option<u64>,
+    /// How many rounds, where times are asked for.
+    rounds: Option<u32>,
+}
+
+impl Asked {
+    fn read(rt: &HostRuntime) -> Result<Asked> {
+        let mut words = env::args(rt)?.skip(1);
+        let Some(word) = words.next() else {
+            return Ok(Asked {
+                mode: None,
+                count: None,
+                rounds: None,
+            });
+        };
+        let Some(mode) = Mode::of(word.as_str()) else {
+            bail!("the modes are image, machine, pages and queues")
+        };
+        let count = words.next().and_then(|word| word.parse::<u64>().ok());
+        let rounds = words.next().map(|word| word.parse::<u32>().unwrap_or(1));
+        Ok(Asked {
+            mode: Some(mode),
+            count,
+            rounds,
+        })
+    }
+
+    fn wants(self, mode: Mode) -> bool {
+        match self.mode {
+            Some(one) => one == mode,
+            None => true,
+        }
+    }
+}
+
+fn main(rt: HostRuntime) -> Result<()> {
+    let asked = Asked::read(&rt)?;
+    let timed = asked.rounds.is_some();
+    for mode in Mode::ALL {
+        if asked.wants(mode) {
+            let count = asked.count.unwrap_or(mode.count());
+            match mode {
+                Mode::Image => image::run(&rt, count, asked.rounds)?,
+                Mode::Machine => machine::run(&rt, count, timed)?,
+                Mode::Pages => pages::run(&rt, count, timed)?,
+                Mode::Queues => {
+                    let least = queues::measure(&rt, count, asked.rounds.unwrap_or(1))?;
+                    queues::print(&rt, count, least, timed)?
+                }
+            }
+        }
+    }
+    Ok(())
+}

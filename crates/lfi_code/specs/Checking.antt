@@ -1,0 +1,24 @@
+-- What the verifier finds of code. (this project's profile: docs/DEFINITIONS.md, "The program")
+use Rattle.std.specs.Prelude.{◌≡◌, ℕ, ◌<◌, ◌≤◌, ◌%◌, ◌*◌, List, length, ◌++◌, codes, decimal, Some, None}
+use Rattle.a64_word.specs.Words.{words_of}
+use Rattle.lfi_module.specs.Numbers.{most_words}
+use Rattle.lfi_rules.specs.Faults.{FirstFault}
+use Rattle.lfi_rules.specs.Texts.{fault_text}
+use Rattle.lfi_code.specs.declared.verdict.Verdict.{Verdict}
+use Rattle.lfi_code.specs.declared.verdict.Verdict.TheVariants.{Lawful, Refused, BadLength}
+
+-- the bytes are those of whole words, at least one and no more than a module has
+abbrev pub IsCode : List ℕ → Type 0
+IsCode bytes = (0 < length bytes) × (length bytes % 4 ≡ 0) × (length bytes ≤ 4 * most_words)
+
+-- the verdict on these bytes
+abbrev pub Checks : List ℕ → Verdict → Type 0
+Checks bytes (Lawful n) = IsCode bytes × (n ≡ length (words_of bytes)) × FirstFault (words_of bytes) (length (words_of bytes)) None
+Checks bytes (Refused fault) = IsCode bytes × FirstFault (words_of bytes) (length (words_of bytes)) (Some fault)
+Checks bytes BadLength = ¬ (IsCode bytes)
+
+-- the line that is printed
+abbrev pub verdict_text : Verdict → List ℕ
+verdict_text (Lawful n) = codes "lawful, " ++ decimal n ++ codes " words"
+verdict_text (Refused fault) = fault_text fault
+verdict_text BadLength = codes "bad length"

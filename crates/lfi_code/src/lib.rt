@@ -1,0 +1,11 @@
+//! A module's code as bytes, its verdict, and code that is judged piece by piece: what the verifier is given, and what it
+//! answers.
+#![tactic(auto)]
+
+mod beginning;
+mod code;
+mod verdict;
+
+pub use beginning::Beginning;
+pub use code::{Code, MOST_BYTES};
+pub use verdict::{Verdict, judge_code};

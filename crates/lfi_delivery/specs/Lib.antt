@@ -1,3 +1,0 @@
-pub mod Come
-pub mod Hands
-pub mod Delivers

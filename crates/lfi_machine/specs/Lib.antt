@@ -1,0 +1,5 @@
+pub mod Owned
+pub mod Halting
+pub mod Starts
+pub mod Runs
+pub mod inner

@@ -1,0 +1,61 @@
+//! The machine: it runs an image, one instruction after another, over the memory of the image's slot.
+//!
+//! # How data flows
+//!
+//! `Machine::new` takes an image and registers, and refuses registers that no run may start with (`StartFault`). `run`
+//! decodes the image's words once, as far as the run comes (`decoded`). A step takes the instruction at pc and carries
+//! it out: by a64_semantics where it accesses no memory, else by `singles` or `pairs` over `Data`. `Data` is the slot:
+//! the table of entries and the code, which are computed from the image's words, and the written bytes, each at its
+//! place by `map`. A branch to an entry of the table calls the `Runtime`, whose answer the run goes on with, or which
+//! ends it. Why a run stopped is a `Halt`.
+//!
+//! What a run does is told by specs/: Owned has an image with its written bytes, Halting which halt has which cause,
+//! Starts the registers of a start, Runs the steps and runs with a runtime. The law `ran_is_reached` ties these runs to
+//! those of lfi_confinement, so that no run of lawful code leaves its slot.
+//!
+//! # What it may not know
+//!
+//! Files, the command line, printing, and where images come from.
+//!
+//! # Decisions
+//!
+//! - **Outside of its slot the machine denies every byte**, so it has no test of guards; the law is why that is enough.
+//!   In the definition of the map a guard of half its size makes the law fail, which an edit shows; a guard one byte
+//!   shorter would not, since accesses reach at most about 33,300 bytes past the slot.
+//! - **The runtime's `call` has the clause that the image stays**: without it a runtime could swap the memory with
+//!   another machine's.
+//! - **The machine decodes a word once, as far as a run has come.** `new` reserves 16 bytes a word, which cost nothing
+//!   until they are touched. A step at a place that isn't decoded yet first decodes all before it and to the end of its
+//!   1,024 words. So a run that stays near the first words pays for those alone, and one that begins at the end of the
+//!   longest module for all of it (80 ms and 64 MiB, as it was at `new` before). The places are reserved, so no step
+//!   can fail for want of memory here: that the push is never refused is proved. On the loop of `bench machine` it costs
+//!   at most 2 to 4 per cent (142 million steps a second beside 145, and 189 beside 196 in a quieter minute, the best
+//!   of 7 and of 5 in turn). Pages decoded one by one would spare the words before, at one more load a step.
+//! - **The map's numbers stand in lfi_machine::map**, and the reserved registers in lfi_rules::registers. What begins a
+//!   function with a base of its own (`base < 2^40`) is private to lfi_machine: callers there have the base from `Data`
+//!   or the image.
+//! - **Memory grows in `keep` alone**, which is asked for all bytes of an access at once, before anything is written;
+//!   no put can fail. So an access of several bytes, or of a pair, that is refused memory changes no byte.
+//! - A halt for want of memory may come at any store by the clauses, whose bytes may all be written; that it comes only
+//!   where memory was refused is for tests to show.
+#![tactic(auto)]
+
+mod decoded;
+mod halt;
+mod laws;
+mod machine;
+pub mod map;
+pub mod pairs;
+mod runtime;
+pub mod singles;
+mod slot;
+mod start;
+mod step;
+
+pub use halt::Halt;
+pub use laws::{held_is_not_refused, ran_is_reached};
+pub use lfi_confinement::Cause;
+pub use machine::Machine;
+pub use runtime::{Answer, Runtime};
+pub use slot::{Data, DataFault, bytes_of};
+pub use start::{StartFault, start_registers};

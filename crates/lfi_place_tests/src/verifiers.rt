@@ -1,0 +1,108 @@
+//! Verifiers: what they take, what they put in the lanes, and a lane that is full.
+
+ghost use Rattle.std.specs.Prelude.{◌≡◌, Some, slice_get};
+ghost use Rattle.lfi_place.specs.Handed.{AreLanes, lane_puts_of, take_pass_of};
+
+use crate::items::{Part, UNKNOWN, WORDS, item_of, mark};
+use lfi_model::{Item, ItemKind, Judged, Reason};
+use lfi_module::WordCount;
+use lfi_place::{Lanes, OpenGate, Verifier, VerifierTurn};
+use lfi_queues::{Intake, Lane, PutPass, TakePass};
+use std::alloc::Global;
+use std::sync::Wait;
+use std::test::Fail;
+
+/// A verifier with its intake, and the lane of the items' module.
+#[derive(Drop)]
+struct Row {
+    intake: Intake<Item>,
+    put: PutPass<Item>,
+    lanes: Vec<Lane<Judged>>,
+    take: TakePass<Judged>,
+    verifier: Verifier,
+    ghost intakes: { (put.queue ≡ intake) × ((take_pass_of verifier).queue ≡ intake) },
+    ghost passes: { AreLanes lanes.items (lane_puts_of verifier) },
+    ghost takes: { slice_get lanes.items 3 ≡ Some take.queue },
+}
+
+impl Row {
+    fn new(alloc: Global) -> Result<Row, Fail> {
+        let (intake, mut puts, mut takes) = Intake::new(alloc, 1, 1)?;
+        let Lanes {
+            lanes,
+            puts: mut rows,
+            takes: mut taking,
+        } = Lanes::new(alloc, 1)?;
+        let verifier = Verifier::new(takes.swap_remove(0), rows.swap_remove(0));
+        Ok(Row {
+            intake,
+            put: puts.swap_remove(0),
+            lanes,
+            take: taking.swap_remove(3),
+            verifier,
+        })
+    }
+
+    /// Puts an item to the intake.
+    fn put<R: Wait + AllocGlobal>(&mut self, rt: &R, part: Part) -> Result<(), Fail> {
+        let item = item_of(rt.alloc(), WordCount::of(WORDS), part)?;
+        if self.intake.put(rt, &mut self.put, item).is_err() {
+            return Err(Fail::from("the intake is full"));
+        }
+        Ok(())
+    }
+
+    fn turn<R: Wait>(&mut self, rt: &R) -> VerifierTurn {
+        self.verifier.turn(rt, &self.intake, &self.lanes, &OpenGate)
+    }
+
+    /// The next item of the lane.
+    fn take<R: Wait>(&mut self, rt: &R) -> Option<Judged> {
+        self.lanes[3].take(rt, &mut self.take)
+    }
+}
+
+/// Whether the item brings a page with a fault.
+fn has_fault(item: &Judged) -> bool {
+    match &item.kind {
+        ItemKind::Page(page) => page.verdict().inner.is_some(),
+        ItemKind::Open { .. } => false,
+        ItemKind::End(_) => false,
+    }
+}
+
+#[test]
+fn items_are_judged_into_their_lane(rt: HostRuntime) -> Result<(), Fail> {
+    let mut row = Row::new(rt.alloc())?;
+    assert!(rt; row.turn(&rt) == VerifierTurn::Idle);
+    row.put(&rt, Part::Page(1, UNKNOWN))?;
+    row.put(&rt, Part::End(0, Reason::Close))?;
+    assert!(rt; row.turn(&rt) == VerifierTurn::Worked);
+    assert!(rt; row.turn(&rt) == VerifierTurn::Worked);
+    let page = row.take(&rt).ok_or("no item")?;
+    assert!(rt; has_fault(&page));
+    let module = page.module.number();
+    assert!(rt; page.ordinal == 2 && module == 3);
+    let end = row.take(&rt).ok_or("no item")?;
+    assert!(rt; matches!(end.kind, ItemKind::End(Reason::Close)));
+    assert!(rt; row.take(&rt).is_none());
+    assert!(rt; row.turn(&rt) == VerifierTurn::Idle);
+    Ok(())
+}
+
+#[test]
+fn a_full_lane_blocks(rt: HostRuntime) -> Result<(), Fail> {
+    let mut row = Row::new(rt.alloc())?;
+    for _ in 0..66 {
+        row.put(&rt, Part::Page(0, mark(1)))?;
+    }
+    for turn in 0..64 {
+        assert!(rt; row.turn(&rt) == VerifierTurn::Worked, "{turn}");
+    }
+    assert!(rt; row.turn(&rt) == VerifierTurn::Blocked && row.turn(&rt) == VerifierTurn::Blocked);
+    assert!(rt; row.take(&rt).is_some() && row.turn(&rt) == VerifierTurn::Worked);
+    assert!(rt; row.turn(&rt) == VerifierTurn::Blocked);
+    assert!(rt; row.take(&rt).is_some() && row.turn(&rt) == VerifierTurn::Worked);
+    assert!(rt; row.turn(&rt) == VerifierTurn::Idle);
+    Ok(())
+}

@@ -1,6 +1,0 @@
-use Rattle.std.proofs.Common.{take}
-use Rattle.lfi_plain.specs.Reports.{AreMade}
-use Rattle.lfi_plain.proofs.report.connections.Given as goal
-
-abbrev pub invariant-loop-stream : goal.invariant-loop-stream
-invariant-loop-stream l = AreMade (take l.stream-index l.streams) l.made.items

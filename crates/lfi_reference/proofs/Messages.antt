@@ -1,0 +1,100 @@
+-- The message with which a text begins.
+use Rattle.std.proofs.Common.{◌≡◌, ◌≢◌, ℕ, ◌+◌, ◌<◌, ◌≤◌, ◌^◌, List, [], ◌∷◌, ◌++◌, length, take, drop, refl, sym, ◌∙◌, ap, subst, inl, inr, arith, length-append, append_assoc, flat_map}
+use Rattle.std.specs.Prelude.{Option, Some, None, Bool, true, false, ◌&&◌, ◌==◌, nat_lt, if◌then◌else◌}
+use Rattle.std.proofs.lemmas.List.{length-take, length-drop, take-append-drop}
+use Rattle.std.proofs.lemmas.List.Concat.{flat_map-append}
+use Rattle.std.proofs.lemmas.Bool.{cases_lt, eq-eqb, ltb-false}
+use Rattle.lfi_frame.specs.declared.header.Header.{Header}
+use Rattle.lfi_frame.specs.declared.fault.FrameFault.{FrameFault}
+use Rattle.lfi_frame.specs.Feeds.{page_header}
+use Rattle.lfi_frame.specs.Streams.{AreBytes, Message, open_message, page_message, close_message, header_of, payload_of, spelling, header_at, header_fault, short, unfinished, whole, rest_after, rest_of}
+use Rattle.lfi_frame.proofs.Headers.{header_fits, sound}
+use Rattle.lfi_frame.proofs.Cuts.{rest_long, rest_short, long_by, page_is, open_is, close_is, message_is, comes_by}
+use Rattle.lfi_reference.specs.Messages.{Begins}
+
+-- a text at whose head a whole message stands
+record IsWholeAt (bytes : List ℕ) : Type 0 where
+  long : 12 ≤ length bytes
+  none : header_fault (header_at bytes) ≡ None
+  fits : ((header_at bytes).a < 2 ^ 32) × ((header_at bytes).b < 2 ^ 32)
+  full : (header_at bytes).kind ≡ 2 → (header_at bytes).b ≤ length (drop 12 bytes)
+
+faultless_of : (f : Option FrameFault) (h : Header) (n : ℕ) → rest_after f h n ≡ whole → f ≡ None
+faultless_of (Some fault) h n e = absurd (cc)
+faultless_of None h n e = refl
+
+full_by : (b : Bool) (m index len : ℕ) → (if b then unfinished m index len else whole) ≡ whole → b ≡ false
+full_by true m index len e = absurd (cc)
+full_by false m index len e = refl
+
+and_false : (b c : Bool) → (b && c) ≡ false → b ≡ true → c ≡ false
+and_false true c e t = e
+and_false false c e t = absurd (cc)
+
+whole_at : (bytes : List ℕ) → AreBytes bytes → rest_of bytes ≡ whole → IsWholeAt bytes
+whole_at bytes small w =
+    let h = header_at bytes in let d = drop 12 bytes in
+    let long : 12 ≤ length bytes = elim (cases_lt (length bytes) 12) [ inl few ↦ let f : short ≡ whole = sym (rest_short bytes few) ∙ w in absurd (cc) | inr long ↦ long ] in
+    let after : rest_after (header_fault h) h (length d) ≡ whole = sym (rest_long bytes long) ∙ w in
+    let none : header_fault h ≡ None = faultless_of (header_fault h) h (length d) after in
+    let full : (h.kind == 2 && nat_lt (length d) h.b) ≡ false = full_by _ _ _ _ (ap (λ f. rest_after f h (length d)) (sym none) ∙ after) in
+    record { long = long; none = none; fits = header_fits bytes small; full = λ two. ltb-false (length d) h.b (and_false (h.kind == 2) (nat_lt (length d) h.b) full (eq-eqb h.kind 2 two)) }
+
+pub page_fits : (bytes : List ℕ) (h : Header) → AreBytes bytes → rest_of bytes ≡ whole → h ≡ header_at bytes → h.kind ≡ 2 → h.b + 12 ≤ length bytes
+page_fits bytes h small w is two =
+    let at = whole_at bytes small w in
+    let full : h.b ≤ length (drop 12 bytes) = subst (λ g. g.b ≤ length (drop 12 bytes)) (sym is) (at.full (subst (λ g. g.kind ≡ 2) is two)) in
+    let long = at.long in
+    omega (arith, length-drop 12 bytes)
+
+pub begins_open : (bytes more : List ℕ) (h : Header) → AreBytes bytes → rest_of bytes ≡ whole → h ≡ header_at bytes → h.kind ≡ 1 → more ≡ drop 12 bytes → Begins bytes (open_message h.«module» h.a h.b) more
+begins_open bytes more h small w is one goes =
+    let at = whole_at bytes small w in
+    let none : header_fault h ≡ None = ap header_fault is ∙ at.none in
+    let a_fits : h.a < 2 ^ 32 = subst (λ g. g.a < 2 ^ 32) (sym is) at.fits.0 in
+    let b_fits : h.b < 2 ^ 32 = subst (λ g. g.b < 2 ^ 32) (sym is) at.fits.1 in
+    let message = open_message h.«module» h.a h.b in
+    record { is = message_is message h (open_is h none one) none a_fits b_fits; spelled = sym (comes_by message more bytes at.long small (open_is h none one ∙ is) goes) }
+
+pub begins_page : (bytes payload more : List ℕ) (h : Header) → AreBytes bytes → rest_of bytes ≡ whole → h ≡ header_at bytes → h.kind ≡ 2 → payload ≡ take h.b (drop 12 bytes) → more ≡ drop h.b (drop 12 bytes) → Begins bytes (page_message h.«module» h.a payload) more
+begins_page bytes payload more h small w is two front goes =
+    let at = whole_at bytes small w in
+    let none : header_fault h ≡ None = ap header_fault is ∙ at.none in
+    let a_fits : h.a < 2 ^ 32 = subst (λ g. g.a < 2 ^ 32) (sym is) at.fits.0 in
+    let b_fits : h.b < 2 ^ 32 = subst (λ g. g.b < 2 ^ 32) (sym is) at.fits.1 in
+    let enough : h.b ≤ length (drop 12 bytes) = subst (λ g. g.b ≤ length (drop 12 bytes)) (sym is) (at.full (subst (λ g. g.kind ≡ 2) is two)) in
+    let len : length payload ≡ h.b = ap length front ∙ omega (arith, length-take h.b (drop 12 bytes)) in
+    let message = page_message h.«module» h.a payload in
+    let same : header_of message ≡ h = ap (λ n. page_header h.«module» h.a n) len ∙ page_is h none two in
+    let joined : payload ++ more ≡ drop 12 bytes = ap (λ l. l ++ more) front ∙ ap (λ l. take h.b (drop 12 bytes) ++ l) goes ∙ take-append-drop h.b (drop 12 bytes) in
+    record { is = message_is message h same none a_fits b_fits; spelled = sym (comes_by message more bytes at.long small (same ∙ is) joined) }
+
+pub begins_close : (bytes more : List ℕ) (h : Header) → AreBytes bytes → rest_of bytes ≡ whole → h ≡ header_at bytes → h.kind ≢ 1 → h.kind ≢ 2 → more ≡ drop 12 bytes → Begins bytes (close_message h.«module») more
+begins_close bytes more h small w is not_one not_two goes =
+    let at = whole_at bytes small w in
+    let none : header_fault h ≡ None = ap header_fault is ∙ at.none in
+    let three : h.kind ≡ 3 = elim (sound h none).kind [ inl two ↦ absurd (not_two two) | inr other ↦ elim other [ inl one ↦ absurd (not_one one) | inr three ↦ three ] ] in
+    let a_fits : h.a < 2 ^ 32 = subst (λ g. g.a < 2 ^ 32) (sym is) at.fits.0 in
+    let b_fits : h.b < 2 ^ 32 = subst (λ g. g.b < 2 ^ 32) (sym is) at.fits.1 in
+    let message = close_message h.«module» in
+    record { is = message_is message h (close_is h none three) none a_fits b_fits; spelled = sym (comes_by message more bytes at.long small (close_is h none three ∙ is) goes) }
+
+-- one more message of a text
+pub one_more : (bytes rest more : List ℕ) (messages : List Message) (message : Message) → bytes ≡ flat_map spelling messages ++ rest → Begins rest message more → bytes ≡ flat_map spelling (messages ++ message ∷ []) ++ more
+one_more bytes rest more messages message so begins =
+    so ∙ ap (λ l. flat_map spelling messages ++ l) begins.spelled
+    ∙ sym (append_assoc (flat_map spelling messages) (spelling message) more)
+    ∙ ap (λ l. l ++ more) (sym (flat_map-append spelling messages (message ∷ []) ∙ ap (λ l. flat_map spelling messages ++ l) (single message)))
+  where
+    single : (x : Message) → flat_map spelling (x ∷ []) ≡ spelling x
+    single x = append_nil_right (spelling x)
+      where
+        append_nil_right : (xs : List ℕ) → xs ++ [] ≡ xs
+        append_nil_right [] = refl
+        append_nil_right (y ∷ ys) = ap (λ l. y ∷ l) (append_nil_right ys)
+
+pub shorter : (rest more : List ℕ) (message : Message) → Begins rest message more → length more < length rest
+shorter rest more message begins =
+    let long = long_by (header_of message) (payload_of message) in
+    let len : length rest ≡ length (spelling message) + length more = ap length begins.spelled ∙ length-append (spelling message) more in
+    omega arith

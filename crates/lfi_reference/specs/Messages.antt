@@ -1,0 +1,23 @@
+-- What the plain program's messages and rests stand for. (docs/DEFINITIONS.md, "stream format")
+use Rattle.std.specs.Prelude.{◌≡◌, ℕ, List, ◌++◌}
+use Rattle.lfi_frame.specs.Streams.{Message, open_message, page_message, close_message, spelling, IsMessage, Rest, short, faulty, unfinished, whole}
+use Rattle.lfi_reference.specs.declared.message.PlainMessage.{PlainMessage}
+use Rattle.lfi_reference.specs.declared.message.PlainMessage.TheVariants.{Open, Page, Close}
+use Rattle.lfi_reference.specs.declared.rest.PlainRest.{PlainRest}
+use Rattle.lfi_reference.specs.declared.rest.PlainRest.TheVariants.{Short, Faulty, Unfinished, Whole}
+
+abbrev pub message_of : PlainMessage → Message
+message_of (Open m words entry) = open_message m words entry
+message_of (Page m index payload) = page_message m index payload.items
+message_of (Close m) = close_message m
+
+abbrev pub rest_by : PlainRest → Rest
+rest_by Short = short
+rest_by (Faulty fault) = faulty fault
+rest_by (Unfinished m index len) = unfinished m index len
+rest_by Whole = whole
+
+-- a text is the spelling of this message, and then more
+pub record Begins (bytes : List ℕ) (message : Message) (more : List ℕ) : Type 0 where
+  pub is : IsMessage message
+  pub spelled : bytes ≡ spelling message ++ more

@@ -1,0 +1,107 @@
+//! The messages of a text.
+
+ghost use Rattle.std.specs.Prelude.{◌≡◌, ◌≢◌, map, IfOk, MatchOption};
+ghost use Rattle.lfi_frame.specs.Streams.{Cut, rest_of, whole, header_of};
+ghost use Rattle.lfi_reference.specs.Messages.{message_of, Begins};
+
+use crate::rest::{PlainRest, rest_at};
+use lfi_frame::header::{HEADER_BYTES, Header};
+use std::alloc::{AllocError, Global};
+
+/// A whole message.
+#[derive(Drop)]
+pub enum PlainMessage {
+    /// A module begins: its number of words, and the word where it is entered.
+    Open {
+        module: u16,
+        words: u32,
+        entry: u32,
+    },
+    /// A page of a module.
+    Page {
+        module: u16,
+        index: u32,
+        payload: Vec<u8>,
+    },
+    /// A module is closed.
+    Close {
+        module: u16,
+    },
+}
+
+impl PlainMessage {
+    /// The module that the message is about.
+    pub fn module(&self) -> u16
+        ensures { result ≡ (header_of (message_of self.now)).«module» }
+    {
+        match self {
+            PlainMessage::Open { module, .. } => *module,
+            PlainMessage::Page { module, .. } => *module,
+            PlainMessage::Close { module } => *module,
+        }
+    }
+}
+
+/// The message with which a text begins, and what follows it; `None` where no whole message
+/// stands there.
+///
+/// # Errors
+///
+/// Where memory was refused.
+pub fn first_message(
+    alloc: Global,
+    bytes: &[u8],
+) -> Result<Option<(PlainMessage, &[u8])>, AllocError>
+    ensures { IfOk result (λ first. MatchOption first (rest_of bytes.now ≢ whole)
+        (λ found. Begins bytes.now (message_of found.0) found.1.now)) }
+{
+    if rest_at(bytes) != PlainRest::Whole {
+        return Ok(None);
+    }
+    let Some(head) = bytes.first_chunk::<HEADER_BYTES>() else {
+        return Ok(None);
+    };
+    let header = Header::read(head);
+    let module = header.module;
+    let after = &bytes[HEADER_BYTES..];
+    match header.kind {
+        1 => Ok(Some((
+            PlainMessage::Open {
+                module,
+                words: header.a,
+                entry: header.b,
+            },
+            after,
+        ))),
+        2 => {
+            let (front, more) = after.split_at(header.b as usize);
+            let payload = Vec::from_slice(alloc, front)?;
+            Ok(Some((
+                PlainMessage::Page {
+                    module,
+                    index: header.a,
+                    payload,
+                },
+                more,
+            )))
+        }
+        _ => Ok(Some((PlainMessage::Close { module }, after))),
+    }
+}
+
+/// The messages of a text, and the rest in which no whole message stands.
+///
+/// # Errors
+///
+/// Where memory was refused.
+pub fn cut(alloc: Global, bytes: &[u8]) -> Result<(Vec<PlainMessage>, &[u8]), AllocError>
+    ensures { IfOk result (λ found. Cut bytes.now (map message_of found.0.items) found.1.now) }
+{
+    let mut messages = Vec::new(alloc);
+    let mut rest = bytes;
+    while let Some((message, more)) = first_message(alloc, rest)? {
+        messages.push(message)?;
+        rest = more;
+    }
+    Ok((messages, rest))
+}

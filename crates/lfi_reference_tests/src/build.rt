@@ -1,0 +1,96 @@
+//! Streams from words, and the text of the report on them.
+
+use lfi_model::Cause;
+use lfi_reference::{PlainStream, report_on};
+use std::alloc::{AllocError, Global};
+
+/// NOP.
+pub const NOP: u32 = 0xD503201F;
+
+/// RET, a branch to the address in x30.
+pub const RET: u32 = 0xD65F03C0;
+
+/// The bytes of a stream, message by message.
+#[derive(Drop)]
+pub struct Text {
+    pub bytes: Vec<u8>,
+}
+
+impl Text {
+    /// No message.
+    pub fn new(alloc: Global) -> Text {
+        Text {
+            bytes: Vec::new(alloc),
+        }
+    }
+
+    fn header(&mut self, kind: u8, module: u16, a: u32, b: u32) -> Result<(), AllocError> {
+        self.bytes.push(kind)?;
+        self.bytes.push(0)?;
+        self.bytes.extend_from_slice(&module.to_le_bytes())?;
+        self.bytes.extend_from_slice(&a.to_le_bytes())?;
+        self.bytes.extend_from_slice(&b.to_le_bytes())?;
+        Ok(())
+    }
+
+    /// A module of so many words, entered at word 0.
+    pub fn open(&mut self, module: u16, words: u32) -> Result<(), AllocError> {
+        self.header(1, module, words, 0)
+    }
+
+    /// A page of a module, of at most 1,024 words.
+    pub fn page(&mut self, module: u16, index: u32, words: &[u32]) -> Result<(), AllocError> {
+        self.header(2, module, index, 4 * words.len().min(1024) as u32)?;
+        for word in words {
+            self.bytes.extend_from_slice(&word.to_le_bytes())?;
+        }
+        Ok(())
+    }
+
+    /// The end of a module.
+    pub fn close(&mut self, module: u16) -> Result<(), AllocError> {
+        self.header(3, module, 0, 0)
+    }
+}
+
+/// A whole module of one word.
+pub fn one_word(alloc: Global, module: u16, word: u32) -> Result<Text, AllocError> {
+    let mut text = Text::new(alloc);
+    text.open(module, 1)?;
+    text.page(module, 0, &[word])?;
+    text.close(module)?;
+    Ok(text)
+}
+
+/// A stream for which these modules are claimed.
+pub fn stream(
+    alloc: Global,
+    bytes: &[u8],
+    cause: Cause,
+    modules: &[u16],
+) -> Result<PlainStream, AllocError> {
+    let mut claimed = [false; 16];
+    for m in modules {
+        if *m < 16 {
+            claimed[*m as usize] = true;
+        }
+    }
+    Ok(PlainStream {
+        bytes: Vec::from_slice(alloc, bytes)?,
+        cause,
+        claimed,
+    })
+}
+
+/// The text of the report on one stream whose input ended so, for which these modules are claimed.
+pub fn told(
+    alloc: Global,
+    bytes: &[u8],
+    cause: Cause,
+    modules: &[u16],
+) -> Result<String, AllocError> {
+    let mut streams = Vec::new(alloc);
+    streams.push(stream(alloc, bytes, cause, modules)?)?;
+    let summary = report_on(alloc, streams.as_slice())?.summary();
+    format!(in alloc; "{summary}")
+}

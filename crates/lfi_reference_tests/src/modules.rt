@@ -1,0 +1,124 @@
+//! Modules of one page and of two, lawful and not.
+
+use crate::build::{NOP, RET, Text, one_word, stream};
+use crate::stage::both_tell;
+use lfi_model::Cause;
+use lfi_reference::report_on;
+use std::alloc::{AllocError, Global};
+use std::test::Fail;
+
+/// LDP X29, X30, [SP], #16: loads x30, and asks for a guard of it next.
+const LOAD_LINK: u32 = 0xA8C17BFD;
+
+/// ADD X30, X21, W30, UXTW: the guard of x30.
+const GUARD_LINK: u32 = 0x8B3E42BE;
+
+/// SUB SP, SP, #16: asks for an access through sp next.
+const MOVE_STACK: u32 = 0xD10043FF;
+
+/// SVC #0, which the profile hasn't.
+const SVC: u32 = 0xD4000001;
+
+/// MOV X21, X0, which writes the base of the slot.
+const WRITE_BASE: u32 = 0xAA0003F5;
+
+/// Module 0 of 1,025 words: NOPs, but for one word of page 0, and the one word of page 1.
+fn two_pages(alloc: Global, at: usize, word: u32, last: u32) -> Result<Text, AllocError> {
+    let mut words = [NOP; 1024];
+    if at < 1024 {
+        words[at] = word;
+    }
+    let mut text = Text::new(alloc);
+    text.open(0, 1025)?;
+    text.page(0, 0, &words)?;
+    text.page(0, 1, &[last])?;
+    text.close(0)?;
+    Ok(text)
+}
+
+#[test]
+fn one_word_modules(rt: HostRuntime) -> Result<(), Fail> {
+    for (word, want) in [
+        (RET, "module 0: complete, 1 words\nstrays 0\n"),
+        (NOP, "module 0: complete, 1 words\nstrays 0\n"),
+        (0xD4000000, "module 0: refused, word 0 rule 1\nstrays 0\n"),
+        (MOVE_STACK, "module 0: refused, word 0 rule 10\nstrays 0\n"),
+    ] {
+        let text = one_word(rt.alloc(), 0, word)?;
+        assert!(rt; both_tell(&rt, &text, &[0], want)?, "word {word:#x}");
+    }
+    Ok(())
+}
+
+#[test]
+fn two_page_modules(rt: HostRuntime) -> Result<(), Fail> {
+    for (at, word, last, want) in [
+        (
+            1023,
+            LOAD_LINK,
+            GUARD_LINK,
+            "module 0: complete, 1025 words\nstrays 0\n",
+        ),
+        (
+            1023,
+            LOAD_LINK,
+            NOP,
+            "module 0: refused, word 1024 rule 10\nstrays 0\n",
+        ),
+        (
+            5,
+            SVC,
+            WRITE_BASE,
+            "module 0: refused, word 5 rule 1\nstrays 0\n",
+        ),
+    ] {
+        let text = two_pages(rt.alloc(), at, word, last)?;
+        assert!(rt;
+            both_tell(&rt, &text, &[0], want)?,
+            "word {at} is {word:#x}"
+        );
+    }
+    Ok(())
+}
+
+#[test]
+fn closed_early(rt: HostRuntime) -> Result<(), Fail> {
+    let mut words = [NOP; 1024];
+    words[1023] = MOVE_STACK;
+    let mut text = Text::new(rt.alloc());
+    text.open(0, 1025)?;
+    text.page(0, 0, &words)?;
+    text.close(0)?;
+    let want = "module 0: incomplete, 1 of 2 pages\nstrays 0\n";
+    assert!(rt; both_tell(&rt, &text, &[0], want)?);
+    Ok(())
+}
+
+/// How many pages of module 0 are placed, and how many words the first of them has.
+fn placed(alloc: Global, text: &Text) -> Result<(usize, usize), AllocError> {
+    let mut streams = Vec::new(alloc);
+    streams.push(stream(alloc, text.bytes.as_slice(), Cause::End, &[0])?)?;
+    let report = report_on(alloc, streams.as_slice())?;
+    let Some(loaded) = report.modules.first() else {
+        return Ok((0, 0));
+    };
+    let words = match loaded.placed.first() {
+        Some(page) => page.len(),
+        None => 0,
+    };
+    Ok((loaded.placed.len(), words))
+}
+
+#[test]
+fn placed_pages(rt: HostRuntime) -> Result<(), Fail> {
+    let alloc = rt.alloc();
+    assert_eq!(rt; placed(alloc, &one_word(alloc, 0, RET)?)?, (1, 1));
+    assert_eq!(rt; placed(alloc, &one_word(alloc, 0, SVC)?)?, (0, 0));
+    let whole = two_pages(alloc, 1023, LOAD_LINK, GUARD_LINK)?;
+    assert_eq!(rt; placed(alloc, &whole)?, (2, 1024));
+    let late = two_pages(alloc, 1023, LOAD_LINK, NOP)?;
+    assert_eq!(rt; placed(alloc, &late)?, (1, 1024));
+    let early = two_pages(alloc, 5, SVC, WRITE_BASE)?;
+    assert_eq!(rt; placed(alloc, &early)?, (0, 0));
+    Ok(())
+}

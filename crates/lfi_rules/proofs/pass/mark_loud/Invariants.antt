@@ -1,0 +1,10 @@
+use Rattle.std.proofs.Common.{ℕ, ◌+◌, ◌≤◌}
+use Rattle.lfi_rules.specs.inner.Passing.{AreMarked}
+use Rattle.lfi_rules.proofs.pass.mark_loud.Given as goal
+
+abbrev pub invariant-loop-i : goal.invariant-loop-i
+invariant-loop-i g l = record {
+  count : l.marked + l.from ≤ l.count + l.i;
+  marked : (start : ℕ) → start ≤ l.from → AreMarked (g.W.Words.words l.words) l.first l.n start l.from l.initial.places l.count
+      → AreMarked (g.W.Words.words l.words) l.first l.n start l.i l.places l.marked;
+}

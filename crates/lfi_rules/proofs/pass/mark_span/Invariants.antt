@@ -1,0 +1,14 @@
+use Rattle.std.proofs.Common.{◌+◌, ◌-◌, ◌≤◌}
+use Rattle.lfi_rules.specs.inner.Passing.{AreMarked}
+use Rattle.lfi_rules.proofs.pass.mark_span.Given as goal
+
+abbrev pub invariant-loop-i : goal.invariant-loop-i
+invariant-loop-i g l = record {
+  low : l.start ≤ l.i;
+  high : l.i ≤ l.stop;
+  count : l.start + l.count ≤ l.i;
+  marked : AreMarked (g.W.Words.words l.words) l.first l.n l.start l.i l.places l.count;
+}
+
+abbrev pub decreases-loop-i : goal.decreases-loop-i
+decreases-loop-i g l = l.stop - l.i

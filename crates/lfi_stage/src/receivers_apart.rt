@@ -1,0 +1,32 @@
+//! Receivers are taken to pieces.
+
+ghost use Rattle.std.specs.Prelude.{◌≤◌, length};
+ghost use Rattle.lfi_stage.specs.inner.Apart.{AreApart};
+
+use crate::slots::{PLACES, empty, set};
+use lfi_board::ReceiverSeat;
+use lfi_model::Item;
+use lfi_queues::PutPass;
+use lfi_receive::Receiver;
+
+/// The passes and the seats of receivers, by the receivers' numbers.
+pub(crate) struct Apart {
+    pub(crate) puts: [Option<PutPass<Item>>; PLACES],
+    pub(crate) seats: [Option<ReceiverSeat>; PLACES],
+}
+
+/// Takes receivers to pieces.
+pub(crate) fn take_apart(mut receivers: Vec<Receiver>) -> Apart
+    requires few { length receivers.items ≤ 8 }
+    ensures { AreApart receivers.items result.puts result.seats }
+{
+    let mut puts = empty();
+    let mut seats = empty();
+    while let Some(receiver) = receivers.pop() {
+        let number = receivers.len();
+        let (pass, seat) = receiver.into_parts();
+        set(&mut puts[number], Some(pass));
+        set(&mut seats[number], Some(seat));
+    }
+    Apart { puts, seats }
+}

@@ -1,0 +1,23 @@
+//! What is there of each receiver or verifier, at the place of its number.
+
+ghost use Rattle.std.specs.Prelude.{◌≡◌, ℕ, None, get_or, length};
+
+use std::array;
+
+/// The most receivers of a stage, and the most verifiers.
+pub(crate) const PLACES: usize = 8;
+
+/// A place for each, with nothing there.
+pub(crate) fn empty<T>() -> [Option<T>; PLACES]
+    ensures long { length result ≡ 8 }
+    ensures empty { (k : ℕ) → get_or result k None ≡ None }
+{
+    array::from_fn(|_| None)
+}
+
+/// Puts a value at a place, and lets go what was there.
+pub(crate) fn set<T: Drop>(place: &mut T, value: T)
+    ensures { place.new ≡ value }
+{
+    *place = value;
+}

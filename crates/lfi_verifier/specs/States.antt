@@ -1,0 +1,82 @@
+-- What a state that a C caller keeps between calls stands for.
+use Rattle.std.specs.Prelude.{◌≡◌, ℕ, ◌+◌, ◌*◌, ◌%◌, ◌≤◌, ◌==◌, if◌then◌else◌, List, length, Option, Some, None}
+use Rattle.lfi_module.specs.Numbers.{most_words}
+use Rattle.a64_word.specs.Words.{words_of}
+use Rattle.lfi_rules.specs.Faults.{FirstFault}
+use Rattle.lfi_rules.specs.declared.fault.Fault.{Fault}
+use Rattle.lfi_rules.specs.declared.needs.Need.{Need}
+use Rattle.lfi_rules.specs.declared.needs.Need.TheVariants.{Nothing, Call, Guard, Probe}
+use Rattle.lfi_code.specs.Begun.{Begins}
+use Rattle.lfi_code.specs.declared.beginning.Beginning.{Beginning}
+use Rattle.lfi_verifier.specs.declared.fault.LfiFault.{LfiFault}
+use Rattle.lfi_verifier.specs.declared.state.LfiState.{LfiState}
+use Rattle.lfi_verifier.specs.declared.status.Status.{Status}
+use Rattle.lfi_verifier.specs.declared.status.Status.TheVariants.{Lawful, Refused, Incomplete}
+use Rattle.lfi_verifier.specs.Faults.{fault_at, fault_told}
+use Rattle.lfi_verifier.specs.Profiles.{IsKnown}
+use Rattle.lfi_verifier.specs.Statuses.{status_number}
+
+-- a module has so many words
+abbrev pub IsWordCount : ℕ → Type 0
+IsWordCount words = (1 ≤ words) × (words ≤ most_words)
+
+-- a need by its number in a state
+abbrev pub need_at : ℕ → Option Need
+need_at k = if k == 0 then Some Nothing else (if k == 1 then Some Call else (if k == 2 then Some Guard else (if k == 3 then Some Probe else None)))
+
+-- The state's numbers are those of a module of which a beginning has been judged.
+pub record Keeps (state : LfiState) (beginning : Beginning) : Type 0 where
+  pub profile : IsKnown state.profile
+  pub words : state.words ≡ beginning.words
+  pub judged : state.judged ≡ beginning.judged
+  pub fault : fault_at state.fault ≡ Some beginning.fault
+  pub need : need_at state.need ≡ Some beginning.tail
+
+-- no more words have been judged than a module has
+abbrev pub IsInRange : Beginning → Type 0
+IsInRange beginning = IsWordCount beginning.words × (beginning.judged ≤ beginning.words)
+
+-- The state's numbers are some that a module of which a beginning was judged can have.
+pub record IsState (state : LfiState) : Type 0 where
+  pub beginning : Beginning
+  pub keeps : Keeps state beginning
+  pub in_range : IsInRange beginning
+
+-- The state is one of a module of so many words, of which these bytes came, and it holds their first fault.
+pub record StandsFor (state : LfiState) (words : ℕ) (bytes : List ℕ) : Type 0 where
+  pub beginning : Beginning
+  pub keeps : Keeps state beginning
+  pub count : beginning.words ≡ words
+  pub some : 1 ≤ words
+  pub begins : Begins beginning bytes
+
+-- a piece of whole words, no more than are to come of a module of so many words of which these bytes came
+abbrev pub Fits : (words : ℕ) → (bytes piece : List ℕ) → Type 0
+Fits words bytes piece = (length piece % 4 ≡ 0) × (length bytes + length piece ≤ 4 * words)
+
+-- the same of a beginning
+abbrev pub HasRoom : Beginning → (piece : List ℕ) → Type 0
+HasRoom beginning piece = (length piece % 4 ≡ 0) × (4 * beginning.judged + length piece ≤ 4 * beginning.words)
+
+-- the status of a piece that was taken, by the first fault so far
+abbrev pub status_after : Option Fault → Status
+status_after (Some fault) = Refused
+status_after None = Lawful
+
+-- The status tells whether these bytes, the first of a module of so many words, have a fault.
+pub record TellsSoFar (words : ℕ) (bytes : List ℕ) (number : ℕ) : Type 0 where
+  pub fault : Option Fault
+  pub first : FirstFault (words_of bytes) words fault
+  pub told : number ≡ status_number (status_after fault)
+
+-- the status of a module of which words are still to come, by the first fault so far
+abbrev pub status_within : Option Fault → Status
+status_within (Some fault) = Refused
+status_within None = Incomplete
+
+-- Status and fault tell the first fault of these bytes, the first of a module of so many words, or that there is none and words are missing.
+pub record TellsPart (words : ℕ) (bytes : List ℕ) (number : ℕ) (told : LfiFault) : Type 0 where
+  pub fault : Option Fault
+  pub first : FirstFault (words_of bytes) words fault
+  pub status : number ≡ status_number (status_within fault)
+  pub tells : told ≡ fault_told fault

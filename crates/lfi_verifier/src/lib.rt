@@ -1,0 +1,16 @@
+//! The verifier as a static library, for hosts that are written in C or call C: include/lfi_verifier.h, docs/C.md.
+//!
+//! Each export turns the plain numbers that cross to C into the types of the crates below, and back; it has no state and
+//! takes no memory.
+#![tactic(auto)]
+
+mod explain;
+mod fault;
+mod laws;
+mod pieces;
+mod profile;
+mod state;
+mod status;
+mod whole;
+
+pub use laws::one_answer;

@@ -1,0 +1,2 @@
+// word 0 rule 3
+    ldp x20, x21, [sp, #16]

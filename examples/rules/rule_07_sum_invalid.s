@@ -1,0 +1,2 @@
+// word 0 rule 7
+    sub sp, sp, x0

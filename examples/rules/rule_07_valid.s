@@ -1,0 +1,2 @@
+// lawful, 1 words
+    add sp, x21, w29, uxtw

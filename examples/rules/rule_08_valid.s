@@ -1,0 +1,4 @@
+// lawful, 3 words
+    mov x0, x19
+    ldr x30, [x21, #16]
+    blr x30

@@ -1,0 +1,2 @@
+// word 0 rule 9
+    blr x8

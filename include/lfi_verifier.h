@@ -1,0 +1,149 @@
+/* lfi_verifier.h: the verifier of A64 code for Lightweight Fault Isolation, as a static library for hosts.
+ *
+ * What stands below "Ensures" is proved of the library's code. What stands below "The caller owes" is the caller's to keep:
+ * no tool looks at C. docs/C.md has both, with examples.
+ *
+ * The library has no state, takes no memory, asks for no function but memcpy, memmove and memset, starts no thread, writes
+ * nothing but what it is handed to write, and ends each call. Calls may run at the same time on any threads, as long as no call writes
+ * what another one is handed. No call ends the process.
+ */
+#ifndef LFI_VERIFIER_H
+#define LFI_VERIFIER_H
+
+#include <stddef.h>
+#include <stdint.h>
+
+#ifdef __cplusplus
+extern "C" {
+#define LFI_RESTRICT
+#else
+#define LFI_RESTRICT restrict
+#endif
+
+/* The number of this interface; lfi_version() answers that of the library that is linked. */
+#define LFI_VERSION 1u
+
+/* The one profile: the rules, registers and map of slots of docs/DEFINITIONS.md. Calls with another number answer
+ * LFI_UNKNOWN_PROFILE. */
+#define LFI_PROFILE_1 1u
+
+/* The most words of a module, the most bytes of its code, and how many slots there are for modules. */
+#define LFI_MAX_WORDS 4194304u
+#define LFI_MAX_BYTES 16777216u
+#define LFI_MODULES 16u
+
+/* What a call found, or why it found nothing. The numbers stay. */
+typedef uint32_t lfi_status;
+#define LFI_LAWFUL 0u          /* no word breaks a rule (of an unfinished module: none so far); what was asked for is done */
+#define LFI_REFUSED 1u         /* a word breaks a rule */
+#define LFI_BAD_LENGTH 2u      /* not 1 to 4,194,304 whole words; a piece: not whole words, or more than are to come */
+#define LFI_INCOMPLETE 3u      /* words are still to come, and those that came break no rule */
+#define LFI_BAD_STATE 4u       /* the numbers of a state, or of a fault, are none that these calls make */
+#define LFI_UNKNOWN_PROFILE 5u /* there is no such profile */
+#define LFI_UNKNOWN_MODULE 6u  /* there is no such module: the numbers are 0 to 15 */
+#define LFI_NO_ROOM 7u         /* a text is longer than 2,048 bytes, for which the library has room; none is known that is */
+
+/* The first fault: the place of a word, counted from 0, and the least rule that it breaks, 1 to 10. 0 and 0: none. */
+typedef struct lfi_fault {
+    uint32_t word;
+    uint32_t rule;
+} lfi_fault;
+
+/* A module of which a beginning has been judged: 24 bytes of the caller's, to be copied and dropped as it likes.
+ * The fields may be read; only lfi_verify_init and lfi_verify_update write them. */
+typedef struct lfi_state {
+    uint32_t profile; /* the profile by which it is judged */
+    uint32_t words;   /* how many words the module has */
+    uint32_t judged;  /* how many came */
+    lfi_fault fault;  /* the first fault so far */
+    uint32_t need;    /* what the last word asks of the next one */
+} lfi_state;
+
+/* The caller owes, at each call:
+ *  - no pointer is null, also where the size is 0;
+ *  - each pointer to a struct is aligned for it; bytes may lie at any address;
+ *  - `size` bytes can be read at `code` or `piece`, and `room` bytes written at `text`, each below 2^63, and nobody else
+ *    writes them during the call: bytes that another thread or process may still write are to be copied first;
+ *  - a struct that is written overlaps nothing else that the call is handed, and no other thread uses it during the call.
+ * A state needs no more than that: numbers that no call made are answered, by LFI_BAD_STATE where they can't be a state's.
+ */
+
+/* Judges whole code by a profile. Ensures:
+ *  - LFI_LAWFUL: these bytes are whole words, the lowest byte first, 1 to 4,194,304 of them, and none breaks a rule;
+ *    *fault is {0, 0};
+ *  - LFI_REFUSED: they are so many whole words, and *fault is the first fault;
+ *  - LFI_BAD_LENGTH: they aren't so many whole words; *fault is {0, 0};
+ *  - LFI_UNKNOWN_PROFILE: the profile isn't known, and nothing was judged; *fault is {0, 0}. */
+lfi_status lfi_verify(const uint8_t *LFI_RESTRICT code, size_t size, uint32_t profile, lfi_fault *LFI_RESTRICT fault);
+
+/* Begins to judge a module of so many words by a profile. Ensures:
+ *  - LFI_LAWFUL: *state stands for a module of so many words, of which none came;
+ *  - LFI_BAD_LENGTH: `words` isn't 1 to 4,194,304, and *state is as it was;
+ *  - LFI_UNKNOWN_PROFILE: the profile isn't known, and *state is as it was. */
+lfi_status lfi_verify_init(lfi_state *state, uint32_t words, uint32_t profile);
+
+/* Judges the next piece: whole words, in any cutting, also none. Ensures, where *state stood for a module of which certain
+ * bytes came:
+ *  - LFI_LAWFUL or LFI_REFUSED: *state stands for the same module of which these bytes and then the piece came, and the
+ *    status tells whether there is a fault in them;
+ *  - LFI_BAD_LENGTH: the piece isn't whole words, or is more than are to come, and *state is as it was.
+ * LFI_BAD_STATE: *state can't stand for any module, and is as it was. */
+lfi_status lfi_verify_update(lfi_state *LFI_RESTRICT state, const uint8_t *LFI_RESTRICT piece, size_t size);
+
+/* Tells what is found. *state may be used on. Ensures, where *state stands for a module of which certain bytes came:
+ *  - where these are all: status and *fault are those that lfi_verify tells of the same bytes;
+ *  - else LFI_REFUSED and the first fault of what came, or LFI_INCOMPLETE and {0, 0}.
+ * LFI_BAD_STATE: *state can't stand for any module; *fault is {0, 0}. */
+lfi_status lfi_verify_final(const lfi_state *LFI_RESTRICT state, lfi_fault *LFI_RESTRICT fault);
+
+/* Tells a fault as text, as `lfiload check --explain` does: the fault; the word before, where its need isn't met; the word
+ * with its address in the module's slot and its assembly text; and what the rule asks. It needs no more of the code than
+ * `word`, the one at the fault's place, and `before`, the one before it, which is not looked at where the place is 0.
+ * Ensures:
+ *  - LFI_LAWFUL: *size is the length of the text, and `text` begins with it, as far as `room` bytes reach; there is no 0 at
+ *    its end, and the bytes of `text` after it are as they were;
+ *  - else `text` and *size are as they were: LFI_UNKNOWN_PROFILE; LFI_UNKNOWN_MODULE; LFI_BAD_LENGTH, where `words` isn't
+ *    1 to 4,194,304 or fault->word is none of them; LFI_BAD_STATE, where *fault is {0, 0} or tells none; LFI_NO_ROOM. */
+lfi_status lfi_explain(uint32_t profile, uint32_t module, uint32_t words, const lfi_fault *LFI_RESTRICT fault, uint32_t word,
+                       uint32_t before, uint8_t *LFI_RESTRICT text, size_t room, size_t *LFI_RESTRICT size);
+
+/* Where the parts of a module's slot lie, in addresses and bytes. The guards, one directly below the base and one directly
+ * above the slot, are to be mapped without access; so is what lies between table and code. The table is read alone, and so
+ * is the code, but for fetching; from the code's end, rounded up to 4,096 bytes, on all is read and written. */
+typedef struct lfi_map {
+    uint64_t base;       /* the address at which the slot begins */
+    uint64_t size;       /* its bytes: 2^32 */
+    uint64_t guard;      /* the bytes of each guard */
+    uint64_t table;      /* the bytes of the table of entries, from the base on: 8 bytes each, the lowest byte first */
+    uint64_t code;       /* where the code begins, in bytes from the base */
+    uint64_t entry;      /* the address of the runtime's first entry, which is the table's first number */
+    uint64_t entry_step; /* from an entry to the next */
+    uint64_t entries;    /* how many entries there are */
+} lfi_map;
+
+/* The registers that code rests on, by their numbers, as they are to be when the module is entered. */
+typedef struct lfi_registers {
+    uint32_t base;           /* holds the slot's base */
+    uint32_t offset;         /* holds a number below 2^32 */
+    uint32_t first_address;  /* these four hold addresses in the slot */
+    uint32_t second_address;
+    uint32_t third_address;
+    uint32_t link;
+    uint32_t stack_reach;    /* how many bytes sp may be from the slot, at most */
+} lfi_registers;
+
+/* Tells the map of a module's slot. Ensures: LFI_LAWFUL, and *map is that of this module, 0 to 15; or LFI_UNKNOWN_PROFILE or
+ * LFI_UNKNOWN_MODULE, and *map is as it was. */
+lfi_status lfi_profile_map(uint32_t profile, uint32_t module, lfi_map *map);
+
+/* Tells the registers. Ensures: LFI_LAWFUL, and *registers are those of the profile; or LFI_UNKNOWN_PROFILE, and *registers
+ * are as they were. */
+lfi_status lfi_profile_registers(uint32_t profile, lfi_registers *registers);
+
+/* The number of the library's interface: LFI_VERSION of the header that goes with it. */
+uint32_t lfi_version(void);
+
+#ifdef __cplusplus
+}
+#endif
+#endif
