@@ -1,5 +1,5 @@
 /* Calls each function of the verifier on cases whose answers are written here. Exits with the number of the first check that
- * fails, or 0. The words are spelled by the Arm manual's C4.1; what the rules say of them is in docs/DEFINITIONS.md. */
+ * fails, or 0. The words are spelled by the Arm manual's C4.1; what the rules say of them is in docs/PROFILE.md. */
 #include "lfi_verifier.h"
 #include <stdio.h>
 #include <stdlib.h>

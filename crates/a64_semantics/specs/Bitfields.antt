@@ -1,4 +1,4 @@
--- Moves of a field of bits.
+-- Moves of a field of bits. Source: the Arm manual, C6.2, SBFM, BFM and UBFM.
 use Rattle.std.specs.Prelude.{ℕ, ◌+◌, ◌-◌, ◌*◌, ◌/◌, ◌%◌, ◌^◌, ◌==◌, nat_le, if◌then◌else◌}
 use Rattle.a64_word.specs.declared.operands.Width.{Width}
 use Rattle.a64_word.specs.declared.operands.BitfieldKind.{BitfieldKind}

@@ -1,4 +1,4 @@
--- ADR and ADRP, by their immediates.
+-- ADR and ADRP, by their immediates. Source: the Arm manual, C6.2, ADR and ADRP.
 use Rattle.std.specs.Prelude.{ℤ, true, false}
 use Rattle.a64_word.specs.declared.data_immediate.PcRelative.{PcRelative}
 

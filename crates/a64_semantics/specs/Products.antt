@@ -1,4 +1,4 @@
--- Products, and quotients rounded toward zero.
+-- Products, and quotients rounded toward zero. Source: the Arm manual, C6.2, SMULH, UMULH, SDIV and UDIV.
 use Rattle.std.specs.Prelude.{ℕ, ◌*◌, ◌/◌, ◌^◌, ◌*ℤ◌, ◌==◌, int_div, if◌then◌else◌}
 use Rattle.std.specs.Int.{cast_unsigned, w128}
 use Rattle.a64_word.specs.declared.operands.Width.{Width}

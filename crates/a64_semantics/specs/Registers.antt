@@ -1,4 +1,5 @@
--- Registers as operands, and results that are written to them: docs/DEFINITIONS.md, "Registers of the machine".
+-- Registers as operands, and results that are written to them. Source: the Arm manual, B1.2 "Registers in AArch64
+-- state", and C6.2 for number 31.
 use Rattle.std.specs.Prelude.{ℕ, ◌%◌, ◌^◌, ◌==◌, if◌then◌else◌, List, [], ◌∷◌, slice_index, slice_set}
 use Rattle.a64_word.specs.declared.operands.Width.{Width}
 use Rattle.a64_word.specs.declared.operands.Width.TheVariants as widths

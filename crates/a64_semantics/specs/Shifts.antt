@@ -1,4 +1,4 @@
--- Shifted and extended operands.
+-- Shifted and extended operands. Source: the Arm manual, `ShiftReg` and `ExtendReg` in its shared pseudocode.
 use Rattle.std.specs.Prelude.{ℕ, ◌*◌, ◌/◌, ◌%◌, ◌^◌}
 use Rattle.std.specs.Int.{cast_signed, int_shr, w8, w16, w32}
 use Rattle.a64_word.specs.declared.operands.Width.{Width}

@@ -1,4 +1,4 @@
--- Sums with a carry, and the flags N, Z, C and V.
+-- Sums with a carry, and the flags N, Z, C and V. Source: the Arm manual, `AddWithCarry` in its shared pseudocode.
 use Rattle.std.specs.Prelude.{ℕ, ℤ, pos, negsuc, ◌+◌, ◌-◌, ◌*◌, ◌/◌, ◌%◌, ◌^◌, ◌+ℤ◌, ◌==◌, nat_le, Bool, false, if◌then◌else◌, Option, Some, None}
 use Rattle.a64_word.specs.declared.operands.Width.{Width}
 use Rattle.a64_word.specs.Operands.{bit, data_size}

@@ -1,4 +1,4 @@
--- What the answer of each call says of the seat before and after. (docs/DEFINITIONS.md, "The board")
+-- What the answer of each call says of the seat before and after.
 use Rattle.std.specs.Prelude.{◌≡◌, ℕ, ◌<◌, ◌≤◌}
 use Rattle.lfi_board.specs.declared.hand.Hand.{Hand}
 use Rattle.lfi_board.specs.declared.seats.Claim.{Claim}

@@ -1,4 +1,4 @@
--- What a seat knows of its board, and what it may find there later. (docs/DEFINITIONS.md, "The board")
+-- What a seat knows of its board, and what it may find there later.
 use Rattle.std.specs.Prelude.{◌≡◌, ℕ, ◌+◌, ◌<◌, ◌≤◌, true, false, if◌then◌else◌, ◌==◌, List, [], ◌∷◌}
 use Rattle.lfi_module.specs.Numbers.{module_count}
 use Rattle.lfi_board.specs.declared.hand.Hand.{Hand}

@@ -1,4 +1,4 @@
--- What a clause sees of a board and of its seats. (docs/DEFINITIONS.md, "The board")
+-- What a clause sees of a board and of its seats.
 use Rattle.std.specs.Prelude.{ℕ}
 use Rattle.atomic_table.specs.Seated.{TableId}
 use Rattle.lfi_board.specs.declared.board.Board.{Board}

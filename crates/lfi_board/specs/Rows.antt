@@ -1,4 +1,4 @@
--- The seats of a board, taken together. A row has a place for each receiver that a board can have. (docs/DEFINITIONS.md, "The board")
+-- The seats of a board, taken together. A row has a place for each receiver that a board can have.
 use Rattle.std.specs.Prelude.{◌≡◌, ℕ, zero, suc, ◌+◌, ◌<◌, ◌≢◌, List, [], ◌∷◌, Option, Some, None, slice_index_or}
 use Rattle.atomic_table.specs.Seated.{TableId}
 use Rattle.lfi_board.specs.declared.board.Board.{Board}

@@ -1,6 +1,5 @@
 //! The board of the modules' phases: receivers claim modules on it, sequencers end them, and watchers see how many
-//! receivers have ended. Its parts run on several threads, and no call waits. Source: own, docs/DEFINITIONS.md, "The
-//! board".
+//! receivers have ended. Its parts run on several threads, and no call waits. Source: own.
 //!
 //! # How data flows
 //!

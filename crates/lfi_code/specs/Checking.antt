@@ -1,4 +1,4 @@
--- What the verifier finds of code. (this project's profile: docs/DEFINITIONS.md, "The program")
+-- What the verifier finds of code. Source: this project's profile, docs/COMMANDS.md.
 use Rattle.std.specs.Prelude.{◌≡◌, ℕ, ◌<◌, ◌≤◌, ◌%◌, ◌*◌, List, length, ◌++◌, codes, decimal, Some, None}
 use Rattle.a64_word.specs.Words.{words_of}
 use Rattle.lfi_module.specs.Numbers.{most_words}

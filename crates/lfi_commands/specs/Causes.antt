@@ -1,4 +1,4 @@
--- Why a device failed, and what is told of it. (this project's profile: docs/DEFINITIONS.md, "The program")
+-- Why a device failed, and what is told of it. Source: this project's profile, docs/COMMANDS.md.
 use Rattle.std.specs.Prelude.{ℕ, List, [], ◌++◌, codes}
 use Rattle.std.specs.declared.io.ErrorKind.{ErrorKind}
 use Rattle.std.specs.declared.io.ErrorKind.TheVariants as kind

@@ -1,4 +1,4 @@
--- What `lfiload check` does. (this project's profile: docs/DEFINITIONS.md, "The program")
+-- What `lfiload check` does. Source: this project's profile, docs/COMMANDS.md.
 use Rattle.std.specs.Prelude.{◌≡◌, ℕ, List, ◌++◌, codes, Option, IfSome}
 use Rattle.std.specs.Io.KnownBytes.{Appends}
 use Rattle.lfi_code.specs.declared.verdict.Verdict.{Verdict}

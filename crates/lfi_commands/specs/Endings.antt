@@ -1,4 +1,4 @@
--- How a run ends, by what it found. (this project's profile: docs/DEFINITIONS.md, "The program")
+-- How a run ends, by what it found. Source: this project's profile, docs/COMMANDS.md.
 use Rattle.std.specs.Prelude.{◌≡◌, ℕ, Bool, true, false, List, Option, Some, slice_get}
 use Rattle.lfi_frame.specs.declared.fault.FrameFault.{FrameFault}
 use Rattle.lfi_frame.specs.declared.fault.FrameFault.TheVariants.{ReadFailed}

@@ -1,4 +1,4 @@
--- Where failures are told. (this project's profile: docs/DEFINITIONS.md, "The program")
+-- Where failures are told. Source: this project's profile, docs/COMMANDS.md.
 use Rattle.std.specs.Prelude.{Bool}
 use Rattle.lfi_commands.specs.declared.errors.Errors.{Errors}
 

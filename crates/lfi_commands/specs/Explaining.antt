@@ -1,4 +1,5 @@
--- What is written of code that is judged, with what is explained of it. (docs/DEFINITIONS.md, "The program")
+-- What is written of code that is judged, with what is explained of it. Source: this project's profile,
+-- docs/COMMANDS.md.
 use Rattle.std.specs.Prelude.{◌≡◌, ℕ, List, ◌++◌, Option, IfSome, codes}
 use Rattle.std.specs.Io.KnownBytes.{Appends}
 use Rattle.a64_word.specs.Words.{words_of}

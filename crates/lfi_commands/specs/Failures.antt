@@ -1,4 +1,4 @@
--- What `lfiload` tells of a failure. (this project's profile: docs/DEFINITIONS.md, "The program")
+-- What `lfiload` tells of a failure. Source: this project's profile, docs/COMMANDS.md.
 use Rattle.std.specs.Prelude.{◌≡◌, ⊤, ℕ, Bool, true, false, List, ◌++◌, Option, Some, codes, slice_get, string_bytes}
 use Rattle.std.specs.List.{flat_map}
 use Rattle.std.specs.Io.KnownBytes.{Appends}

@@ -1,4 +1,5 @@
--- Where `lfiload load --out` writes the images, and what comes of each. (this project's profile: docs/DEFINITIONS.md, "The program")
+-- Where `lfiload load --out` writes the images, and what comes of each. Source: this project's profile,
+-- docs/COMMANDS.md.
 use Rattle.std.specs.Prelude.{◌≡◌, ℕ, Bool, true, false, List, [], ◌∷◌, ◌++◌, map, Option, Some, None, ⊤, codes, decimal, if◌then◌else◌, nat_lt}
 use Rattle.std.specs.List.{AllByRecursion, filter_map, flat_map}
 use Rattle.lfi_image.specs.Image.{Image, file_of}

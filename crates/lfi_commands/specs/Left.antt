@@ -1,4 +1,4 @@
--- What a run of the program leaves behind. (this project's profile: docs/DEFINITIONS.md, "The program")
+-- What a run of the program leaves behind. Source: this project's profile, docs/COMMANDS.md.
 use Rattle.std.specs.Prelude.{◌≡◌, ℕ, Bool, List, Option}
 
 -- what is there before a run and after it: the output, the files put, the errors, and whether some of these are lost

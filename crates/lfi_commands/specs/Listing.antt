@@ -1,4 +1,4 @@
--- What `lfiload disassemble` writes. (docs/DEFINITIONS.md, "The program")
+-- What `lfiload disassemble` writes. Source: this project's profile, docs/COMMANDS.md.
 use Rattle.std.specs.Prelude.{◌≡◌, ℕ, List, Option, IfSome, codes}
 use Rattle.std.specs.Io.KnownBytes.{Appends}
 use Rattle.a64_word.specs.Words.{words_of}

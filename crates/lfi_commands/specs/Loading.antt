@@ -1,4 +1,4 @@
--- What `lfiload load` finds, writes, puts and tells. (this project's profile: docs/DEFINITIONS.md, "The program")
+-- What `lfiload load` finds, writes, puts and tells. Source: this project's profile, docs/COMMANDS.md.
 use Rattle.std.specs.Prelude.{◌≡◌, ℕ, Bool, true, List, [], ◌++◌, Option, Some, None, length, slice_get}
 use Rattle.std.specs.Io.KnownBytes.{Appends}
 use Rattle.lfi_image.specs.Image.{Image}

@@ -1,4 +1,4 @@
--- What `lfiload pack` finds of code files, and writes. (docs/DEFINITIONS.md, "The program")
+-- What `lfiload pack` finds of code files, and writes. Source: this project's profile, docs/COMMANDS.md.
 use Rattle.std.specs.Prelude.{◌≡◌, ℕ, ◌<◌, ◌≤◌, Bool, true, false, List, ◌++◌, length, map, Option, Some, IfSome, codes, decimal, slice_get}
 use Rattle.std.specs.Io.KnownBytes.{Appends}
 use Rattle.a64_word.specs.Words.{words_of}

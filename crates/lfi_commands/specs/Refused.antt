@@ -1,4 +1,4 @@
--- What `lfiload load --explain` tells of refused modules. (this project's profile: docs/DEFINITIONS.md, "The program")
+-- What `lfiload load --explain` tells of refused modules. Source: this project's profile, docs/COMMANDS.md.
 use Rattle.std.specs.Prelude.{◌≡◌, ℕ, Bool, true, false, List, [], ◌∷◌, ◌++◌, Option, Some, None, codes, decimal}
 use Rattle.lfi_model.specs.declared.outcome.Outcome.{Outcome}
 use Rattle.lfi_model.specs.declared.outcome.Outcome.TheVariants as outcome_kind

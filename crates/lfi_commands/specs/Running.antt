@@ -1,4 +1,4 @@
--- What `lfiload run` finds, writes and tells. (this project's profile: docs/DEFINITIONS.md, "The program")
+-- What `lfiload run` finds, writes and tells. Source: this project's profile, docs/COMMANDS.md.
 use Rattle.std.specs.Prelude.{◌≡◌, ℕ, Bool, true, false, List, ◌++◌, Option, codes}
 use Rattle.lfi_run.specs.declared.image_run.ImageRun.{ImageRun}
 use Rattle.lfi_run.specs.Runs.{CameOf}

@@ -1,4 +1,4 @@
--- What a run of the program does, by its words and its ending. (this project's profile: docs/DEFINITIONS.md, "The program")
+-- What a run of the program does, by its words and its ending. Source: this project's profile, docs/COMMANDS.md.
 use Rattle.std.specs.Prelude.{◌≡◌, ◌⊎◌, ⊤, ℕ, false, List, [], ◌∷◌, Option, codes, map, option_map}
 use Rattle.lfi_command_line.specs.declared.line.Line.{Line}
 use Rattle.lfi_command_line.specs.declared.line.Line.TheVariants.{Check, Load, Serve, Run, Disassemble, Pack}

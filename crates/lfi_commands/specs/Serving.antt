@@ -1,4 +1,4 @@
--- What `lfiload serve` finds, writes, puts and tells. (this project's profile: docs/DEFINITIONS.md, "The program")
+-- What `lfiload serve` finds, writes, puts and tells. Source: this project's profile, docs/COMMANDS.md.
 use Rattle.std.specs.Prelude.{ℕ, Bool, List, ◌++◌, Option}
 use Rattle.std.specs.Io.KnownBytes.{Appends}
 use Rattle.lfi_model.specs.Texts.{summary_text}

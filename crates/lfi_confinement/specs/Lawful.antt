@@ -1,4 +1,4 @@
--- Lawful registers: docs/DEFINITIONS.md, "Slots and registers".
+-- Lawful registers. Source: this project's profile, docs/PROFILE.md.
 use Rattle.std.specs.Prelude.{◌≡◌, ℕ, ◌+◌, ◌^◌, ◌<◌, ◌≤◌, length}
 use Rattle.lfi_rules.specs.Registers as registers
 use Rattle.a64_semantics.specs.declared.registers.Registers.{Registers}

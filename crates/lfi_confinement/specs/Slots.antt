@@ -1,5 +1,5 @@
--- The map of a slot: what may be done with each byte of it and of its guards, and what the bytes hold that no step changes:
--- docs/DEFINITIONS.md, "Slots and registers".
+-- The map of a slot: what may be done with each byte of it and of its guards, and what the bytes hold that no step
+-- changes. Source: this project's profile, docs/PROFILE.md.
 use Rattle.std.specs.Prelude.{ℕ, ◌+◌, ◌-◌, ◌*◌, ◌/◌, ◌%◌, ◌^◌, ◌<◌, ◌≤◌, Bool, true, false, not, ◌&&◌, nat_lt, nat_le, ◌==◌, if◌then◌else◌, length, Option, Some, None, slice_index}
 use Rattle.lfi_module.specs.Numbers.{base_of}
 use Rattle.lfi_image.specs.Image.{Image}

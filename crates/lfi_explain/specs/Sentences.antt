@@ -1,4 +1,4 @@
--- What is told of a rule and of a word that breaks it (docs/DEFINITIONS.md, "Rules").
+-- What is told of a rule and of a word that breaks it. Source: this project's profile, docs/PROFILE.md.
 use Rattle.std.specs.Prelude.{ℕ, ℤ, List, [], ◌++◌, if◌then◌else◌, codes, decimal, Option, Some, None}
 use Rattle.std.specs.Fmt.{signed_decimal}
 use Rattle.a64_word.specs.declared.operands.Width.TheVariants.{X}

@@ -89,7 +89,7 @@ instruction_text word None = codes ".inst 0x" ++ hexadecimal 8 word
 abbrev pub spelling_text : Spelling → List ℕ
 spelling_text spelling = instruction_text spelling.word spelling.instruction
 
--- where the word at a place lies (docs/DEFINITIONS.md, "Slots and registers")
+-- where the word at a place lies. Source: this project's profile, docs/PROFILE.md.
 abbrev pub address_at : (slot place : ℕ) → ℕ
 address_at slot place = base_of slot + 65536 + 4 * place
 

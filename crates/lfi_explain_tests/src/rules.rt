@@ -1,4 +1,4 @@
-//! Explanations, written out by hand from the rules (docs/DEFINITIONS.md, "Rules"), and all words of a module that break one.
+//! Explanations, written out by hand from the rules (docs/PROFILE.md), and all words of a module that break one.
 ghost use Rattle.std.specs.Prelude.{◌<◌};
 
 use lfi_explain::{explain, explain_word, write_refusals};

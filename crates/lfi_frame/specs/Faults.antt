@@ -1,4 +1,4 @@
--- The numbers of the faults. Source: docs/DEFINITIONS.md, "stream format".
+-- The numbers of the faults. Source: this project's format, docs/PROFILE.md.
 use Rattle.std.specs.Prelude.{ℕ, List, codes}
 use Rattle.lfi_frame.specs.declared.fault.FrameFault.{FrameFault}
 use Rattle.lfi_frame.specs.declared.fault.FrameFault.TheVariants.{Kind, SecondByte, Module, PageLength, CloseNumbers, WordCount, Entry, NoMemory, Ended, ReadFailed}

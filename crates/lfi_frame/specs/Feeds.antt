@@ -1,4 +1,4 @@
--- What a feed stands for, and what its answers tell. The messages are those of docs/DEFINITIONS.md, "stream format".
+-- What a feed stands for, and what its answers tell. Source: this project's format, docs/PROFILE.md.
 use Rattle.std.specs.Prelude.{◌≡◌, ◌≢◌, ℕ, ◌%◌, ◌≤◌, ◌<◌, ◌+◌, ◌==◌, ◌^◌, true, false, List, [], ◌∷◌, ◌++◌, length, take, drop, ◌⊎◌, Option, Some, None, Result, Ok, Err, All, if◌then◌else◌}
 use Rattle.lfi_module.specs.Numbers.{page_bytes}
 use Rattle.lfi_frame.specs.declared.header.Header.{Header}

@@ -1,4 +1,4 @@
--- A stream of bytes as messages. Source of all here: docs/DEFINITIONS.md, "stream format" (this project's own format).
+-- A stream of bytes as messages. Source: this project's format, docs/PROFILE.md.
 use Rattle.std.specs.Prelude.{◌≡◌, ◌≢◌, ℕ, ◌<◌, ◌==◌, ◌%◌, ◌^◌, nat_lt, nat_le, ◌||◌, ◌&&◌, not, if◌then◌else◌, Bool, List, [], ◌∷◌, ◌++◌, length, drop, slice_index, Option, Some, None, flat_map, All}
 use Rattle.byteorder.specs.Endian.{little_bytes, little_number}
 use Rattle.lfi_module.specs.Numbers.{module_count, most_words, page_bytes}

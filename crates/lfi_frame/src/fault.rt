@@ -10,7 +10,7 @@ use std::fmt;
 /// more after it.
 ///
 /// The first seven are faults of a header, in the order in which a header is judged. Source:
-/// docs/DEFINITIONS.md, "stream format".
+/// docs/PROFILE.md, "Faults".
 #[derive(Clone, Copy, Debug, PartialEq, Eq)]
 pub enum FrameFault {
     /// The kind, a header's first byte, isn't 1 (Open), 2 (Page) or 3 (Close).

@@ -1,6 +1,6 @@
 //! A feed, which is given a stream in pieces and tells its messages.
 //!
-//! Source of the format: docs/DEFINITIONS.md, "stream format".
+//! Source of the format: docs/PROFILE.md, "Streams".
 
 ghost use Rattle.std.specs.Prelude.{◌≡◌, ◌≢◌, ℕ, ◌<◌, ◌≤◌, ◌⊎◌, List, [], ◌++◌, length, take, Result, Ok, Err, Option, Some, None, IfSome, IfOk};
 ghost use Rattle.lfi_frame.specs.inner.Positions.{filled_at, left_at, is_between};

@@ -2,7 +2,7 @@
 //!
 //! A message is a header of 12 bytes, `kind u8, 0 u8, module u16, a u32, b u32`, little-endian; the
 //! header of a Page is followed by its payload of `b`
-//! bytes. Source: docs/DEFINITIONS.md, "stream format".
+//! bytes. Source: docs/PROFILE.md, "Streams".
 
 ghost use Rattle.std.specs.Prelude.{◌≡◌, IfOk};
 ghost use Rattle.std.specs.Result.{result_err};

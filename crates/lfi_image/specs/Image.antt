@@ -1,4 +1,5 @@
--- Modules that are put together, images, and the files of images. Their format is this project's own (docs/DEFINITIONS.md, "Image files").
+-- Modules that are put together, images, and the files of images. Their format is this project's own. Source: this
+-- project's format, docs/PROFILE.md.
 use Rattle.std.specs.Prelude.{◌≡◌, ℕ, ◌<◌, List, [], ◌∷◌, ◌++◌, length, flat_map}
 use Rattle.byteorder.specs.Endian.{little_bytes}
 use Rattle.lfi_module.specs.Numbers.{module_count, base_of}

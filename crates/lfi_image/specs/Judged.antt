@@ -1,4 +1,4 @@
--- Pages with their verdicts. (docs/DEFINITIONS.md, "Judged pages")
+-- Pages with their verdicts.
 use Rattle.std.specs.Prelude.{◌≡◌, ℕ, List, length}
 use Rattle.lfi_module.specs.Numbers.{page_words}
 use Rattle.lfi_module.specs.Pages.{words_due}

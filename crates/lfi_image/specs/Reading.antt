@@ -1,4 +1,5 @@
--- Which fault a file has. What is asked, and in which order, is this project's own (docs/DEFINITIONS.md, "Image files").
+-- Which fault a file has. What is asked, and in which order, is this project's own. Source: this project's format,
+-- docs/PROFILE.md.
 use Rattle.std.specs.Prelude.{◌≡◌, ℕ, ◌+◌, ◌*◌, ◌/◌, ◌^◌, ◌<◌, ◌==◌, nat_lt, nat_le, not, ◌||◌, ◌&&◌, Bool, if◌then◌else◌, List, ◌++◌, length, take, drop, min, Option, Some, None, ⊤}
 use Rattle.byteorder.specs.Endian.{little_number}
 use Rattle.lfi_module.specs.Numbers.{module_count, most_words, page_words, page_bytes, base_of}

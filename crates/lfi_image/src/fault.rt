@@ -6,7 +6,7 @@ ghost use Rattle.lfi_image.specs.Faults.{number_of, fault_text};
 use lfi_rules::Fault;
 use std::fmt;
 
-/// Why an image file was not read, or not written. Its numbers are those of reports (docs/DEFINITIONS.md, "Image files").
+/// Why an image file was not read, or not written. Its numbers are those of reports (docs/PROFILE.md, "Faults").
 #[derive(Clone, Copy, Debug, PartialEq, Eq)]
 pub enum ImageFault {
     /// The file does not begin with `LFI1`.

@@ -1,4 +1,4 @@
--- What contracts see of an item, and what its type keeps. (docs/DEFINITIONS.md, "Items")
+-- What contracts see of an item, and what its type keeps.
 use Rattle.std.specs.Prelude.{◌≡◌, ℕ, ◌+◌, ◌-◌, ◌<◌, ◌≤◌, List, length}
 use Rattle.lfi_module.specs.Numbers.{module_count, most_words, page_words}
 use Rattle.lfi_module.specs.Pages.{page_count, words_in_page, bytes_in_page}

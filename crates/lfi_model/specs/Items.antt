@@ -1,4 +1,4 @@
--- The items of one connection, module by module. (docs/DEFINITIONS.md, "Items of a connection")
+-- The items of one connection, module by module. Source: this project's format, docs/PROFILE.md.
 use Rattle.std.specs.Prelude.{◌≡◌, ℕ, ◌+◌, ◌<◌, ◌==◌, Bool, true, false, ◌||◌, not, if◌then◌else◌, List, [], ◌∷◌, ◌++◌, length, Option, Some, None, fold, filter, sum_by}
 use Rattle.std.specs.List.{list_any}
 use Rattle.lfi_module.specs.Numbers.{module_count, page_words}

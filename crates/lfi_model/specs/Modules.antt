@@ -1,4 +1,4 @@
--- How the items of one module follow each other. (docs/DEFINITIONS.md, "A module's items")
+-- How the items of one module follow each other.
 use Rattle.std.specs.Prelude.{◌≡◌, ℕ, ◌==◌, List, [], ◌∷◌, ◌++◌, length, filter, None, ◌⊎◌}
 use Rattle.lfi_model.specs.Item.{ItemView, KindView}
 use Rattle.lfi_model.specs.declared.item.ItemKind.TheVariants.{Open}

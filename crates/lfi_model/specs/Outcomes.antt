@@ -1,4 +1,4 @@
--- What becomes of a module, by one plain pass over its items. (docs/DEFINITIONS.md, "Outcomes")
+-- What becomes of a module, by one plain pass over its items. Source: this project's format, docs/PROFILE.md.
 use Rattle.std.specs.Prelude.{◌≡◌, ℕ, ◌≤◌, ◌==◌, if◌then◌else◌, List, [], ◌∷◌, ◌++◌, length, Bool, true, false, Option, Some, None, flat_map}
 use Rattle.lfi_model.specs.Item.{ItemView, KindView}
 use Rattle.lfi_model.specs.declared.item.ItemKind.TheVariants.{Page, End}

@@ -1,4 +1,4 @@
--- What is printed of an outcome, and of a whole run. (docs/DEFINITIONS.md, "Reports")
+-- What is printed of an outcome, and of a whole run.
 use Rattle.std.specs.Prelude.{◌≡◌, All, IsTrue, suc, [], ◌∷◌, List, ℕ, ◌++◌, codes, decimal, Option, Some, None}
 use Rattle.lfi_rules.specs.Texts.{fault_text}
 use Rattle.lfi_frame.specs.declared.fault.FrameFault.{FrameFault}

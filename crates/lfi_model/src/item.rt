@@ -48,7 +48,7 @@ pub enum ItemKind<P> {
 
 /// One of the numbered items of a module. Its type keeps that ordinal 0 is the Open alone, with an
 /// entry below the words, that no ordinal is above 4,097, and that a page has exactly the words due
-/// (docs/DEFINITIONS.md, "Items").
+/// (specs/Item.antt).
 ///
 /// A contract sees it as its numbers and the bytes of its page, whether that was judged or not.
 #[derive(Drop)]

@@ -1,4 +1,4 @@
--- How large a module is, and where it is entered. (docs/DEFINITIONS.md, "Modules and their slots")
+-- How large a module is, and where it is entered. Source: this project's profile, docs/PROFILE.md.
 use Rattle.std.specs.Prelude.{ℕ, ◌<◌, ◌≤◌}
 use Rattle.lfi_module.specs.Numbers.{most_words}
 

@@ -1,4 +1,4 @@
--- The numbers of this project's profile that speak of modules. (docs/DEFINITIONS.md, "Modules and their slots")
+-- The numbers of this project's profile that speak of modules. Source: this project's profile, docs/PROFILE.md.
 use Rattle.std.specs.Prelude.{ℕ, ◌+◌, ◌*◌, ◌^◌}
 
 -- how many modules there are, and slots for them

@@ -1,4 +1,5 @@
--- A module's words, cut into pages of `size` words, of which only the last may have fewer. (docs/DEFINITIONS.md, "Modules and their slots")
+-- A module's words, cut into pages of `size` words, of which only the last may have fewer. Source: this project's
+-- profile, docs/PROFILE.md.
 use Rattle.std.specs.Prelude.{ℕ, ◌+◌, ◌-◌, ◌*◌, ◌/◌, ◌==◌, ◌&&◌, nat_lt, min, Bool}
 
 -- how many pages n words take

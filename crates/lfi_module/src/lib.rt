@@ -1,5 +1,5 @@
 //! Modules by their numbers: which module it is, how many words it has and where it is entered, and how its words are
-//! cut into pages. Source: this project's profile, docs/DEFINITIONS.md, "Modules and their slots".
+//! cut into pages. Source: this project's profile, docs/PROFILE.md.
 //!
 //! # How data flows
 //!

@@ -1,4 +1,4 @@
--- Why a module isn't packed. (docs/DEFINITIONS.md, "Packing")
+-- Why a module isn't packed. Source: this project's format, docs/PROFILE.md.
 use Rattle.std.specs.Prelude.{ℕ, ◌<◌, List, length, Option, IfSome, ⊤, codes}
 use Rattle.lfi_pack.specs.declared.fault.PackFault.{PackFault}
 use Rattle.lfi_pack.specs.declared.fault.PackFault.TheVariants.{Shorter, Longer, ReadFailed, WriteFailed}

@@ -1,4 +1,4 @@
--- What a receiver hears of packed modules. (docs/DEFINITIONS.md, "Packing")
+-- What a receiver hears of packed modules. Source: this project's format, docs/PROFILE.md.
 use Rattle.std.specs.Prelude.{◌≡◌, ◌≢◌, ℕ, ◌+◌, Bool, true, List, [], ◌∷◌, ◌++◌, length, Some}
 use Rattle.a64_word.specs.Words.{words_of}
 use Rattle.lfi_module.specs.Extents.{ExtentView}

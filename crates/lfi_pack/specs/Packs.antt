@@ -1,4 +1,4 @@
--- A module's code, written as a stream. (docs/DEFINITIONS.md, "Packing")
+-- A module's code, written as a stream. Source: this project's format, docs/PROFILE.md.
 use Rattle.std.specs.Prelude.{◌≡◌, ℕ, ◌+◌, ◌<◌, List, [], ◌∷◌, ◌++◌, length, Option, Some, slice_get, flat_map}
 use Rattle.std.specs.Io.KnownBytes.{Consumes, Appends, IsAtEnd}
 use Rattle.lfi_module.specs.Extents.{ExtentView}

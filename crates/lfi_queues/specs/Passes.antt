@@ -1,4 +1,4 @@
--- What contracts see of a queue, and of the passes that put to it or take from it. (docs/DEFINITIONS.md, "Passes")
+-- What contracts see of a queue, and of the passes that put to it or take from it.
 use Rattle.std.specs.Prelude.{◌≡◌, ℕ, zero, suc, ◌<◌, ◌≤◌, List, [], ◌∷◌, ◌++◌, Option, Some, None, MatchOption, get_or, slice_get}
 use Rattle.std.specs.Option.{option_map, option_map_or}
 use Rattle.atomic_table.specs.Seated.{TableId}

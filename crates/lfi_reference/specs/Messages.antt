@@ -1,4 +1,4 @@
--- What the plain program's messages and rests stand for. (docs/DEFINITIONS.md, "stream format")
+-- What the plain program's messages and rests stand for. Source: this project's format, docs/PROFILE.md.
 use Rattle.std.specs.Prelude.{◌≡◌, ℕ, List, ◌++◌}
 use Rattle.lfi_frame.specs.Streams.{Message, open_message, page_message, close_message, spelling, IsMessage, Rest, short, faulty, unfinished, whole}
 use Rattle.lfi_reference.specs.declared.message.PlainMessage.{PlainMessage}

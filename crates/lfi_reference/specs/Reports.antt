@@ -1,4 +1,4 @@
--- What the plain program reports of several streams. (docs/DEFINITIONS.md, "Reports")
+-- What the plain program reports of several streams.
 use Rattle.std.specs.Prelude.{◌≡◌, ℕ, ◌+◌, ◌≤◌, List, [], ◌∷◌, length, Option, Some, None, position, slice_get}
 use Rattle.lfi_module.specs.Numbers.{module_count, most_words}
 use Rattle.lfi_model.specs.Item.{ItemView}

@@ -1,4 +1,4 @@
--- What the plain program's items and shares stand for. (docs/DEFINITIONS.md, "Items of a connection")
+-- What the plain program's items and shares stand for. Source: this project's format, docs/PROFILE.md.
 use Rattle.std.specs.Prelude.{ℕ, List, [], map, slice_index_or}
 use Rattle.std.specs.Global.{Vec}
 use Rattle.lfi_model.specs.Item.{ItemView, KindView}

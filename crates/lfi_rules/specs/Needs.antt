@@ -1,4 +1,4 @@
--- What an instruction asks of the next one: docs/DEFINITIONS.md, "Needs".
+-- What an instruction asks of the next one. Source: this project's profile, docs/PROFILE.md.
 use Rattle.std.specs.Prelude.{◌==◌, if◌then◌else◌, ◌&&◌, ◌||◌, nat_lt, not, Bool, true, false, ℤ, pos, negsuc}
 use Rattle.a64_word.specs.declared.instruction.Instruction.{Instruction}
 use Rattle.a64_word.specs.declared.instruction.Instruction.TheVariants as instructions

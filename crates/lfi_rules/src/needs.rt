@@ -1,4 +1,4 @@
-//! What an instruction asks of the next one: docs/DEFINITIONS.md, "Needs".
+//! What an instruction asks of the next one: docs/PROFILE.md.
 
 ghost use Rattle.std.specs.Prelude.{◌≡◌};
 ghost use Rattle.lfi_rules.specs.Needs as spec;

@@ -1,4 +1,4 @@
-//! Modules of a few words, each with its first fault by this project's rules (docs/DEFINITIONS.md, "Rules" and "First fault").
+//! Modules of a few words, each with its first fault by this project's rules (docs/PROFILE.md).
 use crate::words::fault_of;
 use lfi_rules::{Fault, Rule};
 use std::test::Fail;

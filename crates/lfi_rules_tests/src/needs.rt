@@ -1,4 +1,4 @@
-//! What instructions ask of the next word, and whether they meet it: docs/DEFINITIONS.md, "Needs".
+//! What instructions ask of the next word, and whether they meet it: docs/PROFILE.md.
 use a64_word::decode;
 use lfi_rules::{Need, meets, opens};
 use std::test::Fail;

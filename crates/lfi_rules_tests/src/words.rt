@@ -1,4 +1,4 @@
-//! Words and small modules, each with its first fault by this project's rules (docs/DEFINITIONS.md, "Rules"); words are
+//! Words and small modules, each with its first fault by this project's rules (docs/PROFILE.md); words are
 //! spelled by the Arm manual's C4.1.
 use lfi_rules::{Fault, Rule, check_all};
 use std::alloc::AllocError;

@@ -1,4 +1,4 @@
--- An output that grows, where its bytes are known. (this project's profile: docs/DEFINITIONS.md, "The program")
+-- An output that grows, where its bytes are known. Source: this project's profile, docs/COMMANDS.md.
 use Rattle.std.specs.Prelude.{ℕ, List, Option}
 use Rattle.std.specs.Io.KnownBytes.{Appends, Keeps, append_known}
 

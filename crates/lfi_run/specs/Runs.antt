@@ -1,4 +1,4 @@
--- What comes of an image file that is run. (this project's profile: docs/DEFINITIONS.md, "The program")
+-- What comes of an image file that is run. Source: this project's profile, docs/COMMANDS.md.
 use Rattle.std.specs.Prelude.{◌≡◌, ◌↔◌, ◌≤◌, ◌⊎◌, ℕ, List, Option, IfSome}
 use Rattle.std.specs.Io.KnownBytes.{Keeps}
 use Rattle.sparse_memory.specs.Kept.{byte_at}

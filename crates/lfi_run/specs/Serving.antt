@@ -1,4 +1,4 @@
--- What the program's runtime does at a call. (this project's profile: docs/DEFINITIONS.md, "The program")
+-- What the program's runtime does at a call. Source: this project's profile, docs/COMMANDS.md.
 use Rattle.std.specs.Prelude.{◌≡◌, ℕ, ◌-◌, ◌%◌, ◌^◌, ◌==◌, if◌then◌else◌, List, [], ◌∷◌, Option, slice_set}
 use Rattle.std.specs.Io.KnownBytes.{Appends, Keeps}
 use Rattle.a64_semantics.specs.declared.registers.Registers.{Registers}

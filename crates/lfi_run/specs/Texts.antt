@@ -1,4 +1,4 @@
--- What is told of an image file that was run. (this project's profile: docs/DEFINITIONS.md, "The program")
+-- What is told of an image file that was run. Source: this project's profile, docs/COMMANDS.md.
 use Rattle.std.specs.Prelude.{ℕ, List, ◌++◌, codes, decimal}
 use Rattle.lfi_explain.specs.Spellings.{hexadecimal}
 use Rattle.lfi_rules.specs.Texts.{fault_text}

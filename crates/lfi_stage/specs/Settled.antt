@@ -1,4 +1,4 @@
--- What has come to the modules' sequences. (docs/DEFINITIONS.md, "Settling")
+-- What has come to the modules' sequences.
 use Rattle.std.specs.Prelude.{◌≡◌, ℕ, ◌<◌, List, Option, Some, None, get_or, slice_get}
 use Rattle.lfi_module.specs.Numbers.{module_count}
 use Rattle.lfi_model.specs.Item.{ItemView}

@@ -9,13 +9,13 @@ use crate::status::Status;
 use lfi_module::ModuleNumber;
 use lfi_rules::registers::{BASE, FIRST_ADDRESS, LINK, OFFSET, SECOND_ADDRESS, THIRD_ADDRESS};
 
-/// The number of the one profile: docs/DEFINITIONS.md.
+/// The number of the one profile: docs/PROFILE.md.
 pub(crate) const PROFILE: u32 = 1;
 
 /// The number of this interface, which grows with each change of it.
 const VERSION: u32 = 1;
 
-/// Where the parts of a module's slot lie, in addresses and bytes: docs/DEFINITIONS.md, "Slots and registers".
+/// Where the parts of a module's slot lie, in addresses and bytes: docs/PROFILE.md.
 #[repr(C)]
 #[derive(Clone, Copy)]
 pub struct LfiMap {

@@ -1,4 +1,4 @@
--- The kinds of messages by their numbers. (docs/DEFINITIONS.md, "Stream format")
+-- The kinds of messages by their numbers. Source: this project's format, docs/PROFILE.md.
 use Rattle.std.specs.Prelude.{ℕ, ◌==◌, if◌then◌else◌, Option, Some, None}
 use Rattle.lfi_frame.specs.declared.header.MessageKind.{MessageKind}
 use Rattle.lfi_frame.specs.declared.header.MessageKind.TheVariants.{Open, Page, Close}
