@@ -10,6 +10,7 @@
 //! The third word asks for times. Without words each is run once, by small counts and without times.
 #![tactic(auto)]
 
+mod carriers;
 mod image;
 mod machine;
 mod pages;

@@ -10,7 +10,7 @@ use crate::sequence::{Sequence, Told};
 use lfi_board::{Board, SequencerSeat};
 use lfi_model::Judged;
 use lfi_module::ModuleNumber;
-use lfi_queues::{Lane, TakePass};
+use lfi_queues::{Lane, LaneTake};
 use std::alloc::{AllocError, Global};
 use std::sync::Wait;
 
@@ -26,7 +26,7 @@ pub enum SequencerTurn {
 /// The sequencer of a module.
 #[derive(Drop)]
 pub struct Sequencer {
-    pub(crate) pass: TakePass<Judged>,
+    pub(crate) pass: LaneTake<Judged>,
     pub(crate) seat: SequencerSeat,
     pub(crate) sequence: Sequence,
     pub ghost seated: { module_of seat ≡ sequence.«module» },
@@ -45,7 +45,7 @@ impl Sequencer {
     pub fn new(
         alloc: Global,
         module: ModuleNumber,
-        pass: TakePass<Judged>,
+        pass: LaneTake<Judged>,
         seat: SequencerSeat,
     ) -> Result<Sequencer, AllocError>
         requires fresh { pass.items ≡ [] }
@@ -110,7 +110,7 @@ impl Sequencer {
     }
 
     /// Its pass of its lane, its seat, and what it holds.
-    pub fn into_parts(self) -> (TakePass<Judged>, SequencerSeat, Sequence)
+    pub fn into_parts(self) -> (LaneTake<Judged>, SequencerSeat, Sequence)
         ensures pass { result.0 ≡ lane_pass_of self }
         ensures seat { result.1 ≡ seat_of self }
         ensures sequence { result.2 ≡ sequence_of self }

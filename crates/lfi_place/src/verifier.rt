@@ -9,7 +9,7 @@ ghost use Rattle.lfi_place.specs.declared.verifier.VerifierTurn.TheVariants as t
 
 use lfi_model::{Item, Judged};
 use lfi_module::ModuleNumber;
-use lfi_queues::{Intake, Lane, PutPass, TakePass, Taken};
+use lfi_queues::{Intake, Lane, LanePut, TakePass, Taken};
 use std::sync::Wait;
 
 /// What a verifier tells of before and after it judges an item.
@@ -49,7 +49,7 @@ pub enum VerifierTurn {
 #[derive(Drop)]
 pub struct Verifier {
     pub(crate) pass: TakePass<Item>,
-    pub(crate) lanes: Vec<PutPass<Judged>>,
+    pub(crate) lanes: Vec<LanePut<Judged>>,
     pub(crate) hand: Option<Judged>,
     ghost all: { length lanes.items ≡ module_count },
 }
@@ -70,7 +70,7 @@ impl Verifier {
 
     /// A verifier with its pass of the intake and its passes of the lanes, one a module. Nothing is
     /// in its hand.
-    pub fn new(pass: TakePass<Item>, lanes: Vec<PutPass<Judged>>) -> Verifier
+    pub fn new(pass: TakePass<Item>, lanes: Vec<LanePut<Judged>>) -> Verifier
         requires { length lanes.items ≡ module_count }
         ensures pass { take_pass_of result ≡ pass }
         ensures lanes { lane_puts_of result ≡ lanes.items }
@@ -120,7 +120,7 @@ impl Verifier {
     {
         match self.hand.take() {
             Some(held) => self.put(rt, lanes, held),
-            None => match intake.take(rt, &mut self.pass) {
+            None => match intake.take(&mut self.pass) {
                 Taken::Item(item) => self.put(rt, lanes, judged(gate, item)),
                 Taken::Empty => VerifierTurn::Idle,
                 Taken::Again => VerifierTurn::Again,
@@ -129,7 +129,7 @@ impl Verifier {
     }
 
     /// Its pass of the intake, its passes of the lanes, and the item in its hand.
-    pub fn into_parts(self) -> (TakePass<Item>, Vec<PutPass<Judged>>, Option<Judged>)
+    pub fn into_parts(self) -> (TakePass<Item>, Vec<LanePut<Judged>>, Option<Judged>)
         ensures pass { result.0 ≡ take_pass_of self }
         ensures lanes { result.1.items ≡ lane_puts_of self }
         ensures hand { result.2 ≡ hand_of self }

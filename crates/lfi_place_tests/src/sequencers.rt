@@ -10,7 +10,7 @@ use crate::items::{Part, UNKNOWN, judged, mark, module};
 use lfi_board::{Board, Claim, Phase, ReceiverSeat};
 use lfi_model::{Judged, Reason};
 use lfi_place::{Sequencer, SequencerTurn};
-use lfi_queues::{Lane, PutPass};
+use lfi_queues::{Lane, LanePut};
 use std::alloc::Global;
 use std::sync::Wait;
 use std::test::Fail;
@@ -21,7 +21,7 @@ struct Row {
     board: Board,
     seat: ReceiverSeat,
     lane: Lane<Judged>,
-    put: PutPass<Judged>,
+    put: LanePut<Judged>,
     sequencer: Sequencer,
     ghost seats: { (board_of seat ≡ board_id board) × (sequencer_board (seat_of sequencer) ≡ board_id board) },
     ghost passes: { (put.queue ≡ lane) × ((lane_pass_of sequencer).queue ≡ lane) },

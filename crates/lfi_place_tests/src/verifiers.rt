@@ -7,7 +7,7 @@ use crate::items::{Part, UNKNOWN, WORDS, item_of, mark};
 use lfi_model::{Item, ItemKind, Judged, Reason};
 use lfi_module::WordCount;
 use lfi_place::{Lanes, OpenGate, Verifier, VerifierTurn};
-use lfi_queues::{Intake, Lane, PutPass, TakePass};
+use lfi_queues::{Intake, Lane, LaneTake, PutPass};
 use std::alloc::Global;
 use std::sync::Wait;
 use std::test::Fail;
@@ -18,7 +18,7 @@ struct Row {
     intake: Intake<Item>,
     put: PutPass<Item>,
     lanes: Vec<Lane<Judged>>,
-    take: TakePass<Judged>,
+    take: LaneTake<Judged>,
     verifier: Verifier,
     ghost intakes: { (put.queue ≡ intake) × ((take_pass_of verifier).queue ≡ intake) },
     ghost passes: { AreLanes lanes.items (lane_puts_of verifier) },
@@ -44,10 +44,10 @@ impl Row {
     }
 
     /// Puts an item to the intake.
-    fn put<R: Wait + AllocGlobal>(&mut self, rt: &R, part: Part) -> Result<(), Fail> {
+    fn put<R: AllocGlobal>(&mut self, rt: &R, part: Part) -> Result<(), Fail> {
         let item = item_of(rt.alloc(), WordCount::of(WORDS), part)?;
-        if self.intake.put(rt, &mut self.put, item).is_err() {
-            return Err(Fail::from("the intake is full"));
+        if self.intake.put(&mut self.put, item).is_err() {
+            return Err(Fail::from("the intake refused it"));
         }
         Ok(())
     }

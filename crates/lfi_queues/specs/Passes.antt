@@ -2,11 +2,17 @@
 use Rattle.std.specs.Prelude.{◌≡◌, ℕ, zero, suc, ◌<◌, ◌≤◌, List, [], ◌∷◌, ◌++◌, Option, Some, None, MatchOption, get_or, slice_get}
 use Rattle.std.specs.Option.{option_map, option_map_or}
 use Rattle.atomic_table.specs.Seated.{TableId}
-use Rattle.lfi_queues.specs.Kept.{Kept}
+use Rattle.atomic_blocks.specs.Lent.{RowsId}
+use Rattle.lfi_queues.specs.Kept.{Kept, IsShuffle}
+
+-- where a queue's items lie: in one ring, or in parts, one for each putter
+pub data Home : Type 0 where
+  OneRing : TableId → Home
+  InParts : List RowsId → Home
 
 -- which queue it is, and how many passes put to it and take from it
 pub record QueueId : Type 0 where
-  pub table : TableId
+  pub home : Home
   pub putters : ℕ
   pub takers : ℕ
 
@@ -78,3 +84,16 @@ module _ {X : Type 0} where
     pub takes : ℕ → List X
     pub kept : Kept puts takes held
     pub mine : takes pass.number ≡ pass.items
+
+  -- At one moment all that had been put in a part of the intake was taken: by taker t this.
+  pub record EmptyPart (t : ℕ) (share : List X) : Type 0 where
+    pub puts : ℕ → List X
+    pub takes : ℕ → List X
+    pub kept : Kept puts takes []
+    pub mine : takes t ≡ share
+
+  -- Each part of the intake was empty, at a moment of its own, when this pass had taken its items.
+  pub record SeenEmptyEach (pass : PassView X) : Type 0 where
+    pub shares : ℕ → List X
+    pub mine : IsShuffle shares pass.items
+    pub empty : (p : ℕ) → p < pass.queue.putters → EmptyPart pass.number (shares p)

@@ -1,15 +1,22 @@
-//! The intake: the queue from those who make items to those who judge them.
+//! The intake: the queue from those who make items to those who judge them. Each putter has a part
+//! of its own, and each taker takes from all parts. Putting and taking never wait.
 
-ghost use Rattle.std.specs.Prelude.{◌≡◌, ◌+◌, ◌<◌, [], ◌∷◌, ◌++◌, List, length, IfOk, OnOk, IfErr, ⊤};
+ghost use Rattle.std.specs.Prelude.{◌≡◌, ◌+◌, ◌≤◌, ◌<◌, [], ◌∷◌, ◌++◌, List, length, IfOk, OnOk, IfErr, ⊤};
 ghost use Rattle.lfi_queues.specs.Kept.{Kept};
-ghost use Rattle.lfi_queues.specs.Passes.{new_passes, IsSamePass, SeenByPutter, SeenByTaker, AreAllPasses, items_at, with_first, after_rest, IsFirstOf};
+ghost use Rattle.lfi_queues.specs.Passes.{new_passes, IsSamePass, SeenEmptyEach, AreAllPasses, items_at, with_first, after_rest, IsFirstOf};
 ghost use Rattle.lfi_queues.specs.Taken.{MatchTaken};
 
-use crate::pass::{PutPass, TakePass};
-use crate::queue::RuledQueue;
+use crate::auxiliary::Auxiliary;
+use crate::making::{HomeOf, NoItems, new_owners, new_takers, put_passes, take_passes};
+use crate::part::{Home, Owner, PartPuts};
+use crate::pass::Next;
+use crate::round::TakeEnds;
 use std::alloc::{AllocError, Global};
+use std::collections::LinkedList;
 use std::marker::Model;
-use std::sync::Wait;
+
+/// How many items each putter's part has room for at first.
+pub(crate) const ROOM: usize = 256;
 
 /// What a take answered.
 #[derive(Drop)]
@@ -18,14 +25,57 @@ pub enum Taken<T> {
     Item(T),
     /// There was none.
     Empty,
-    /// Another taker came between: take again. An intake of one queue never answers this.
+    /// Another taker came between: take again.
     Again,
 }
 
-/// A queue of at most 256 items, which threads share by `&`.
+/// The right to put to an intake. It can be sent to another thread.
+#[derive(Drop)]
+pub struct PutPass<T> {
+    pub(crate) owner: Owner<T>,
+    pub(crate) home: Auxiliary<Home>,
+    pub(crate) number: Auxiliary<u64>,
+    pub(crate) calls: Auxiliary<u64>,
+}
+
+impl<T> Model for PutPass<T> {
+    ghost use Rattle.std.specs.Prelude.{◌≡◌, ◌≤◌, Some, length, slice_get};
+    ghost use Rattle.crossbeam_deque.specs.Handles.{worker_deque, worker_view, worker_index, worker_capacity, worker_flavor};
+    ghost use Rattle.lfi_queues.specs.Passes.{PassView};
+
+    ghost Value = { PassView T };
+
+    ghost use Rattle.lfi_queues.specs.inner.Ports.{items_of};
+    ghost use Rattle.lfi_queues.specs.inner.Parts.{intake_id, owning};
+
+    ghost view = { λ p. record { queue = intake_id p.home.value; number = p.number.value; calls = p.calls.value; items = items_of (worker_view p.owner).puts } };
+
+    ghost invariant = { λ p. (worker_view p.owner ≡ owning p.home.value.takers (items_of (worker_view p.owner).puts)) × (slice_get p.home.value.parts p.number.value ≡ Some (worker_deque p.owner).0) × (256 ≤ worker_capacity p.owner) × (worker_index p.owner ≤ length (items_of (worker_view p.owner).puts)) × (worker_flavor p.owner ≡ 0) };
+}
+
+/// The right to take from an intake. It can be sent to another thread.
+#[derive(Drop)]
+pub struct TakePass<T> {
+    pub(crate) ends: TakeEnds<T>,
+}
+
+impl<T> Model for TakePass<T> {
+    ghost use Rattle.lfi_queues.specs.Passes.{PassView};
+
+    ghost Value = { PassView T };
+
+    ghost use Rattle.lfi_queues.specs.inner.Parts.{take_pass, IsWhole};
+
+    ghost view = { λ p. take_pass p.ends };
+
+    ghost invariant = { λ p. IsWhole p.ends };
+}
+
+/// A queue in which each putter has a part of its own, which threads share by `&`.
 #[derive(Drop)]
 pub struct Intake<T> {
-    queue: RuledQueue<T, 256>,
+    pub(crate) home: Auxiliary<Home>,
+    pub(crate) of: Auxiliary<LinkedList<T>>,
 }
 
 impl<T> Model for Intake<T> {
@@ -33,12 +83,13 @@ impl<T> Model for Intake<T> {
 
     ghost Value = { QueueId };
 
-    ghost view = { λ i. i.queue };
+    ghost use Rattle.lfi_queues.specs.inner.Parts.{intake_id};
+
+    ghost view = { λ i. intake_id i.home.value };
 }
 
 impl<T> Intake<T> {
-    /// An empty intake with its passes, in the order of their numbers. This is its only call that
-    /// takes memory. There is at least one taker.
+    /// An empty intake with its passes, in the order of their numbers.
     ///
     /// # Errors
     ///
@@ -50,61 +101,45 @@ impl<T> Intake<T> {
     ) -> Result<(Intake<T>, Vec<PutPass<T>>, Vec<TakePass<T>>), AllocError>
     where
         T: Drop,
-        requires takers { 0 < takers }
         ensures counts { IfOk result (λ r. (r.0.putters ≡ putters) × (r.0.takers ≡ takers)) }
         ensures puts { IfOk result (λ r. r.1.items ≡ new_passes r.0 putters) }
         ensures takes { IfOk result (λ r. r.2.items ≡ new_passes r.0 takers) }
     {
-        let (queue, puts, takes) = RuledQueue::new(alloc, putters, takers)?;
-        Ok((Intake { queue }, puts, takes))
+        let mut ends = new_takers(alloc, takers)?;
+        let owners = new_owners(alloc, putters, &mut ends)?;
+        let home = Auxiliary::of::<(&Vec<Owner<T>>, usize), HomeOf>(&(&owners, takers));
+        let puts = put_passes(alloc, owners, &home)?;
+        let takes = take_passes(alloc, ends, &home)?;
+        let of = Auxiliary::of::<usize, NoItems>(&takers);
+        Ok((Intake { home, of }, puts, takes))
     }
 
-    /// Puts the item at the end.
+    /// Puts the item at the end of the putter's part. A putter's first 256 puts succeed.
     ///
     /// # Errors
     ///
-    /// The item itself, where the intake was full.
-    pub fn put<R: Wait>(&self, rt: &R, pass: &mut PutPass<T>, item: T) -> Result<(), T>
+    /// The item itself, where the part could not grow.
+    pub fn put(&self, pass: &mut PutPass<T>, item: T) -> Result<(), T>
         requires { pass.old.queue ≡ self.now }
         ensures same { IsSamePass pass.old pass.new }
         ensures counted { pass.new.calls ≡ pass.old.calls + 1 }
         ensures ok { OnOk result (pass.new.items ≡ pass.old.items ++ item ∷ []) }
         ensures err { IfErr result (λ back. (back ≡ item) × (pass.new.items ≡ pass.old.items)) }
-        ensures full { IfErr result (λ _. (held : List T) × (length held ≡ 256) × SeenByPutter pass.old held) }
+        ensures room { IfErr result (λ _. 256 ≤ length pass.old.items) }
     {
-        self.queue.put(rt, pass, item)
+        pass.calls = Auxiliary::of::<Auxiliary<u64>, Next>(&pass.calls);
+        pass.owner.push_as::<PartPuts>(item)
     }
 
-    /// Takes the item that was put first, if there is one.
-    pub fn take<R: Wait>(&self, rt: &R, pass: &mut TakePass<T>) -> Taken<T>
+    /// Tries one steal a part, from the part after that of the last item on. An item is the first of
+    /// its part.
+    pub fn take(&self, pass: &mut TakePass<T>) -> Taken<T>
         requires { pass.old.queue ≡ self.now }
         ensures same { IsSamePass pass.old pass.new }
         ensures counted { pass.new.calls ≡ pass.old.calls + 1 }
         ensures taken { MatchTaken result (λ item. pass.new.items ≡ pass.old.items ++ item ∷ []) (pass.new.items ≡ pass.old.items) (pass.new.items ≡ pass.old.items) }
-        ensures empty { MatchTaken result (λ _. ⊤) (SeenByTaker pass.old []) ⊤ }
+        ensures empty { MatchTaken result (λ _. ⊤) (SeenEmptyEach pass.old) ⊤ }
     {
-        match self.queue.take(rt, pass) {
-            Some(item) => Taken::Item(item),
-            None => Taken::Empty,
-        }
-    }
-
-    /// Takes an item that is left, as the first taker, which doesn't count as a call. It is handed
-    /// all passes, each at the place of its number; where it answers None nothing is left, and what
-    /// was put is what was taken.
-    pub fn rest<R: Wait>(
-        &self,
-        rt: &R,
-        puts: &mut [Option<PutPass<T>>],
-        takes: &mut [Option<TakePass<T>>],
-    ) -> Option<T>
-        requires takers { 0 < self.now.takers }
-        requires puts { AreAllPasses self.now self.now.putters puts.old }
-        requires takes { AreAllPasses self.now self.now.takers takes.old }
-        ensures puts { puts.new ≡ puts.old }
-        ensures takes { takes.new ≡ with_first takes.old (λ pass. after_rest pass result) }
-        ensures kept { (held : List T) × Kept (items_at puts.old) (items_at takes.old) held × IsFirstOf held result }
-    {
-        self.queue.rest(rt, puts, takes)
+        pass.ends.take()
     }
 }

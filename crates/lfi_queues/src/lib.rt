@@ -3,11 +3,12 @@
 //!
 //! # How data flows
 //!
-//! An item goes by a `PutPass` into a `RuledQueue`, which has 256 places as `Intake` and 64 as `Lane`, and by a
-//! `TakePass` it comes out, the oldest first. It is the ruled array queue of crossbeam_queue, shared by `&`: passes may
-//! stand in any thread, no lock is taken, and only `new` takes memory. What a pass put or took, contracts know by
-//! `Auxiliary` values, which take no bytes. Handed all passes, `rest` takes what is left, and tells what became of all
-//! that was put (`Kept`).
+//! In an `Intake` each `PutPass` has a part of its own, a work-stealing deque of crossbeam_deque with room for 256 items
+//! at first: the item goes to its back. A `TakePass` has an end of each part, and takes from their fronts by turns. No
+//! call of it waits. A `Lane` is a `RuledQueue` of 64 places, the ruled array queue of crossbeam_queue, from `LanePut` to
+//! `LaneTake`, the oldest first. Both are shared by `&`: passes may stand in any thread, no lock is taken, and but for
+//! `new` only a part that is full takes memory. What a pass put or took, contracts know by `Auxiliary` values, which take
+//! no bytes. Handed all passes, `rest` takes what is left, and tells what became of all that was put (`Kept`).
 //!
 //! What these calls do is told by specs/: Passes, Kept, Taken; what always holds is in `laws`.
 //!
@@ -26,25 +27,38 @@
 //!   what a queue holds is no value that a call could tell. Each call says what it adds to its own pass's list; the
 //!   rule below it, kept by every atomic step, ties all lists; and `rest`, handed all passes, reads the tie off. So
 //!   nothing asks for `Kept` any more: it is what `rest` answers.
-//! - **"Full" and "empty" can't be said exactly of one pass.** `full` of `put` and `empty` of `take` say that there are
-//!   lists of all passes that go with it; such lists can always be made up, so these two clauses refuse no wrong body.
-//!   A body that never takes is refused by tests, and, through all passes, by `rest`.
-//! - **`rest` counts as no call**, and takes as the first taker: its pass is the one that knows how many passes there
-//!   are.
-//! - **A queue's call takes `Wait`**, the toolchain's leave to block, since the ruled array queue asks for it. So does
-//!   all that calls it, up to `run_words`: such a function owes no return. Loops that wait on a queue (`hear`,
-//!   `finish`) are written `rt.forever()`.
+//! - **The intake has a part for each putter.** A putter never waits for another, and where a part can't grow its
+//!   putter alone is refused. `Kept` speaks of each pass's list, so it holds of parts as it does of one ring; in which
+//!   order items of several parts come no clause says.
+//! - **A put of the intake is refused only where memory is**, and no putter's first 256 are. What the intake holds is
+//!   bounded by what is put, not by places: in a load by the pages of the claimed modules.
+//! - **"Full" and "empty" can't be said exactly of one pass.** `full` of a lane's `put` and `empty` of `take` say that
+//!   there are lists of all passes that go with it; such lists can always be made up, so these clauses refuse no wrong
+//!   body. A body that never takes is refused by tests, and, through all passes, by `rest`. The intake's `empty` says it
+//!   of each part, at a moment of its own: parts are looked at one after another.
+//! - **`Again` has no clause**: it is answered where no part gave an item and a steal was to be tried again.
+//! - **`rest` counts as no call**, and takes as the first taker. That of the intake has all takers' ends in an array, so
+//!   that what each took of each part is known in one place; so it is for 8 takers at most.
+//! - **A lane's call takes `Wait`**, the toolchain's leave to block, since the ruled array queue asks for it. So does
+//!   all that calls it, up to `run_words`: such a function owes no return. Loops that wait on a lane (`finish`) or rest
+//!   (`hear`) are written `rt.forever()`. The intake's calls take none, nor does a receiver's turn, which so returns, by
+//!   its contract.
 #![tactic(auto)]
 
 pub mod auxiliary;
 pub mod intake;
 pub mod lane;
 pub mod laws;
+mod left;
 mod log;
+mod making;
+mod part;
 pub mod pass;
 pub mod queue;
+mod round;
 
-pub use intake::{Intake, Taken};
+pub use intake::{Intake, PutPass, TakePass, Taken};
 pub use lane::Lane;
-pub use pass::{PutPass, TakePass};
+pub use left::TAKERS;
+pub use pass::{LanePut, LaneTake};
 pub use queue::RuledQueue;

@@ -35,13 +35,13 @@ impl Reading<Auxiliary<u64>, u64> for Next {
 
 /// The right to put to a queue. It can be sent to another thread.
 #[derive(Drop)]
-pub struct PutPass<T> {
+pub struct LanePut<T> {
     pub(crate) seat: Pass<T, Log<T>>,
     pub(crate) calls: Auxiliary<u64>,
     pub(crate) counts: Auxiliary<(u64, u64)>,
 }
 
-impl<T> Model for PutPass<T> {
+impl<T> Model for LanePut<T> {
     ghost use Rattle.std.specs.Prelude.{◌≡◌, []};
     ghost use Rattle.crossbeam_queue.specs.Passes.{view as known};
     ghost use Rattle.lfi_queues.specs.Passes.{PassView};
@@ -57,13 +57,13 @@ impl<T> Model for PutPass<T> {
 
 /// The right to take from a queue. It can be sent to another thread.
 #[derive(Drop)]
-pub struct TakePass<T> {
+pub struct LaneTake<T> {
     pub(crate) seat: Pass<T, Log<T>>,
     pub(crate) calls: Auxiliary<u64>,
     pub(crate) counts: Auxiliary<(u64, u64)>,
 }
 
-impl<T> Model for TakePass<T> {
+impl<T> Model for LaneTake<T> {
     ghost use Rattle.std.specs.Prelude.{◌≡◌, []};
     ghost use Rattle.crossbeam_queue.specs.Passes.{view as known};
     ghost use Rattle.lfi_queues.specs.Passes.{PassView};
@@ -78,12 +78,12 @@ impl<T> Model for TakePass<T> {
 }
 
 /// The pass of the next putter.
-fn new_putter<T>(queue: &Ring<T>, maker: &mut Pass<T, Log<T>>, counts: &(u64, u64)) -> PutPass<T>
+fn new_putter<T>(queue: &Ring<T>, maker: &mut Pass<T, Log<T>>, counts: &(u64, u64)) -> LanePut<T>
     requires { IsPassOf queue.now maker.old × IsSome (known maker.old).made }
     ensures maker { IsSamePort maker.old maker.new × (known maker.new ≡ log (known maker.old).puts (known maker.old).takes (one_more_putter (known maker.old).made)) }
     ensures pass { result ≡ new_pass (queue_id queue.now.table.shared.table_id counts.now) (next_putter (known maker.old).made) }
 {
-    PutPass {
+    LanePut {
         seat: queue.another::<NewPutter>(maker),
         calls: Auxiliary::of::<(u64, u64), Zero>(counts),
         counts: Auxiliary::of::<(u64, u64), Same>(counts),
@@ -96,7 +96,7 @@ pub(crate) fn new_putters<T: Drop>(
     queue: &Ring<T>,
     maker: &mut Pass<T, Log<T>>,
     counts: &(u64, u64),
-) -> Result<Vec<PutPass<T>>, AllocError>
+) -> Result<Vec<LanePut<T>>, AllocError>
     requires { IsPassOf queue.now maker.old × (known maker.old ≡ log [] [] (Some (0, 0))) }
     ensures maker { OnOk result (IsSamePort maker.old maker.new × (known maker.new ≡ log [] [] (Some (counts.now.0, 0)))) }
     ensures passes { IfOk result (λ passes. passes.items ≡ new_passes (queue_id queue.now.table.shared.table_id counts.now) counts.now.0) }
@@ -109,13 +109,13 @@ pub(crate) fn new_putters<T: Drop>(
 }
 
 /// The pass of a taker but the first.
-fn later_taker<T>(queue: &Ring<T>, maker: &mut Pass<T, Log<T>>, counts: &(u64, u64)) -> TakePass<T>
+fn later_taker<T>(queue: &Ring<T>, maker: &mut Pass<T, Log<T>>, counts: &(u64, u64)) -> LaneTake<T>
     requires maker { IsPassOf queue.now maker.old × IsSome (known maker.old).made }
     requires later { 0 < next_taker (known maker.old).made }
     ensures maker { IsSamePort maker.old maker.new × (known maker.new ≡ log (known maker.old).puts (known maker.old).takes (one_more_taker (known maker.old).made)) }
     ensures pass { result ≡ new_pass (queue_id queue.now.table.shared.table_id counts.now) (next_taker (known maker.old).made) }
 {
-    TakePass {
+    LaneTake {
         seat: queue.another::<NewTaker>(maker),
         calls: Auxiliary::of::<(u64, u64), Zero>(counts),
         counts: Auxiliary::of::<(u64, u64), Same>(counts),
@@ -128,7 +128,7 @@ fn later_takers<T: Drop>(
     queue: &Ring<T>,
     maker: &mut Pass<T, Log<T>>,
     counts: &(u64, u64),
-) -> Result<Vec<TakePass<T>>, AllocError>
+) -> Result<Vec<LaneTake<T>>, AllocError>
     requires maker { IsPassOf queue.now maker.old × (known maker.old ≡ log [] [] (Some (counts.now.0, 1))) }
     requires some { 0 < counts.now.1 }
     ensures maker { OnOk result (IsSamePort maker.old maker.new × (known maker.new ≡ log [] [] (Some (counts.now.0, counts.now.1)))) }
@@ -148,7 +148,7 @@ pub(crate) fn new_takers<T: Drop>(
     queue: &Ring<T>,
     mut maker: Pass<T, Log<T>>,
     counts: &(u64, u64),
-) -> Result<Vec<TakePass<T>>, AllocError>
+) -> Result<Vec<LaneTake<T>>, AllocError>
     requires maker { IsPassOf queue.now maker × (known maker ≡ log [] [] (Some (counts.now.0, 0))) }
     requires some { 0 < counts.now.1 }
     ensures passes { IfOk result (λ passes. passes.items ≡ new_passes (queue_id queue.now.table.shared.table_id counts.now) counts.now.1) }
@@ -156,7 +156,7 @@ pub(crate) fn new_takers<T: Drop>(
     let first = queue.another::<NewTaker>(&mut maker);
     let mut passes = later_takers(alloc, queue, &mut maker, counts)?;
     queue.absorb::<All>(&mut maker, first);
-    let first = TakePass {
+    let first = LaneTake {
         seat: maker,
         calls: Auxiliary::of::<(u64, u64), Zero>(counts),
         counts: Auxiliary::of::<(u64, u64), Same>(counts),

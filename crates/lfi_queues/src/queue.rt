@@ -3,12 +3,12 @@
 ghost use Rattle.std.specs.Prelude.{◌≡◌, ◌+◌, ◌<◌, [], ◌∷◌, ◌++◌, List, length, IfOk, OnOk, IfErr, IfNone, IfSome};
 ghost use Rattle.crossbeam_queue.specs.Passes.{view as known, IsSamePass as IsSamePort};
 ghost use Rattle.lfi_queues.specs.Kept.{Kept};
-ghost use Rattle.lfi_queues.specs.Passes.{new_passes, IsSamePass, SeenByPutter, SeenByTaker, AreAllPasses, items_at, with_first, after_rest, IsFirstOf};
+ghost use Rattle.lfi_queues.specs.Passes.{OneRing, new_passes, IsSamePass, SeenByPutter, SeenByTaker, AreAllPasses, items_at, with_first, after_rest, IsFirstOf};
 ghost use Rattle.lfi_queues.specs.inner.Ports.{AreOfQueue, AreLaterOf, EndsInFirst, HasTaken, LearnedAll, LearnedAs};
 
 use crate::auxiliary::Auxiliary;
 use crate::log::{All, Log, OnePutter, OneTaker, Puts, Ring, Takes};
-use crate::pass::{Next, PutPass, Same, TakePass, new_putters, new_takers};
+use crate::pass::{LanePut, LaneTake, Next, Same, new_putters, new_takers};
 use crossbeam_queue::Pass;
 use std::alloc::{AllocError, Global};
 use std::marker::Model;
@@ -47,7 +47,7 @@ impl<T, const CAPACITY: usize> RuledQueue<T, CAPACITY> {
         alloc: Global,
         putters: usize,
         takers: usize,
-    ) -> Result<(RuledQueue<T, CAPACITY>, Vec<PutPass<T>>, Vec<TakePass<T>>), AllocError>
+    ) -> Result<(RuledQueue<T, CAPACITY>, Vec<LanePut<T>>, Vec<LaneTake<T>>), AllocError>
     where
         T: Drop,
         requires capacity { 0 < CAPACITY }
@@ -72,7 +72,7 @@ impl<T, const CAPACITY: usize> RuledQueue<T, CAPACITY> {
     /// # Errors
     ///
     /// The item itself, where the queue was full.
-    pub fn put<R: Wait>(&self, rt: &R, pass: &mut PutPass<T>, item: T) -> Result<(), T>
+    pub fn put<R: Wait>(&self, rt: &R, pass: &mut LanePut<T>, item: T) -> Result<(), T>
         requires { pass.old.queue ≡ self.now }
         ensures same { IsSamePass pass.old pass.new }
         ensures counted { pass.new.calls ≡ pass.old.calls + 1 }
@@ -85,7 +85,7 @@ impl<T, const CAPACITY: usize> RuledQueue<T, CAPACITY> {
     }
 
     /// Takes the item that was put first, if there is one.
-    pub fn take<R: Wait>(&self, rt: &R, pass: &mut TakePass<T>) -> Option<T>
+    pub fn take<R: Wait>(&self, rt: &R, pass: &mut LaneTake<T>) -> Option<T>
         requires { pass.old.queue ≡ self.now }
         ensures same { IsSamePass pass.old pass.new }
         ensures counted { pass.new.calls ≡ pass.old.calls + 1 }
@@ -103,9 +103,9 @@ impl<T, const CAPACITY: usize> RuledQueue<T, CAPACITY> {
         &self,
         rt: &R,
         seat: &mut Pass<T, Log<T>>,
-        takes: &mut [Option<TakePass<T>>],
+        takes: &mut [Option<LaneTake<T>>],
     ) -> Option<T>
-        requires seat { (seat.old.table_id ≡ self.now.table) × (seat.old.me.1 ≡ []) × EndsInFirst (known seat.old).takes }
+        requires seat { (OneRing seat.old.table_id ≡ self.now.home) × (seat.old.me.1 ≡ []) × EndsInFirst (known seat.old).takes }
         requires takes { AreLaterOf self.now takes.old }
         ensures seat { IsSamePort seat.old seat.new }
         ensures takes { takes.new ≡ takes.old }
@@ -118,7 +118,7 @@ impl<T, const CAPACITY: usize> RuledQueue<T, CAPACITY> {
         let Some(pass) = slot.take() else {
             return self.rest_of_takes(rt, seat, later);
         };
-        let TakePass {
+        let LaneTake {
             seat: lent,
             calls,
             counts,
@@ -126,7 +126,7 @@ impl<T, const CAPACITY: usize> RuledQueue<T, CAPACITY> {
         self.queue.absorb::<All>(seat, lent);
         let item = self.rest_of_takes(rt, seat, later);
         let back = self.queue.another::<OneTaker>(seat);
-        *slot = Some(TakePass {
+        *slot = Some(LaneTake {
             seat: back,
             calls,
             counts,
@@ -140,10 +140,10 @@ impl<T, const CAPACITY: usize> RuledQueue<T, CAPACITY> {
         &self,
         rt: &R,
         seat: &mut Pass<T, Log<T>>,
-        puts: &mut [Option<PutPass<T>>],
-        takes: &mut [Option<TakePass<T>>],
+        puts: &mut [Option<LanePut<T>>],
+        takes: &mut [Option<LaneTake<T>>],
     ) -> Option<T>
-        requires seat { (seat.old.table_id ≡ self.now.table) × (seat.old.me.1 ≡ []) × EndsInFirst (known seat.old).takes }
+        requires seat { (OneRing seat.old.table_id ≡ self.now.home) × (seat.old.me.1 ≡ []) × EndsInFirst (known seat.old).takes }
         requires puts { AreOfQueue self.now puts.old }
         requires takes { AreLaterOf self.now takes.old }
         ensures seat { IsSamePort seat.old seat.new }
@@ -158,7 +158,7 @@ impl<T, const CAPACITY: usize> RuledQueue<T, CAPACITY> {
         let Some(pass) = slot.take() else {
             return self.rest_of_puts(rt, seat, later, takes);
         };
-        let PutPass {
+        let LanePut {
             seat: lent,
             calls,
             counts,
@@ -166,7 +166,7 @@ impl<T, const CAPACITY: usize> RuledQueue<T, CAPACITY> {
         self.queue.absorb::<All>(seat, lent);
         let item = self.rest_of_puts(rt, seat, later, takes);
         let back = self.queue.another::<OnePutter>(seat);
-        *slot = Some(PutPass {
+        *slot = Some(LanePut {
             seat: back,
             calls,
             counts,
@@ -180,8 +180,8 @@ impl<T, const CAPACITY: usize> RuledQueue<T, CAPACITY> {
     pub fn rest<R: Wait>(
         &self,
         rt: &R,
-        puts: &mut [Option<PutPass<T>>],
-        takes: &mut [Option<TakePass<T>>],
+        puts: &mut [Option<LanePut<T>>],
+        takes: &mut [Option<LaneTake<T>>],
     ) -> Option<T>
         requires takers { 0 < self.now.takers }
         requires puts { AreAllPasses self.now self.now.putters puts.old }
@@ -202,9 +202,9 @@ impl<T, const CAPACITY: usize> RuledQueue<T, CAPACITY> {
     fn rest_as<R: Wait>(
         &self,
         rt: &R,
-        first: &mut TakePass<T>,
-        puts: &mut [Option<PutPass<T>>],
-        takes: &mut [Option<TakePass<T>>],
+        first: &mut LaneTake<T>,
+        puts: &mut [Option<LanePut<T>>],
+        takes: &mut [Option<LaneTake<T>>],
     ) -> Option<T>
         requires first { (first.old.queue ≡ self.now) × (first.old.number ≡ 0) }
         requires puts { AreOfQueue self.now puts.old }

@@ -16,7 +16,6 @@ use lfi_board::Board;
 use lfi_model::{Cause, Item};
 use lfi_queues::Intake;
 use std::io::Read;
-use std::sync::Wait;
 
 impl Receiver {
     /// Reads once, where no bytes are left to use, and tells the end of the input, or that the read
@@ -39,9 +38,8 @@ impl Receiver {
     /// read where none are left. A read of no bytes is the end of the input, and any read that
     /// fails, however, is the fault ReadFailed. With an item in hand, or once the input is over,
     /// nothing is read.
-    pub fn pull<S: Wait, R: Read + Drop>(
+    pub fn pull<R: Read + Drop>(
         &mut self,
-        rt: &S,
         board: &Board,
         intake: &Intake<Item>,
         input: &mut Input<R>,
@@ -61,11 +59,11 @@ impl Receiver {
         ensures board { board_of (seat_of self.new) ≡ board_of (seat_of self.old) }
     {
         if self.needs_no_bytes() {
-            let (_, did) = self.turn(rt, board, intake, &[]);
+            let (_, did) = self.turn(board, intake, &[]);
             return did;
         }
         self.fetch(input);
-        let (used, did) = self.turn(rt, board, intake, input.unread());
+        let (used, did) = self.turn(board, intake, input.unread());
         input.use_up(used);
         did
     }

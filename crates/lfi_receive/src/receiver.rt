@@ -25,7 +25,6 @@ use lfi_model::{Cause, Item, ItemKind, Progress, Reason};
 use lfi_module::{Extent, ModuleNumber, PageSize};
 use lfi_queues::{Intake, PutPass};
 use std::alloc::Global;
-use std::sync::Wait;
 
 /// What a turn did.
 #[derive(Clone, Copy, Debug, PartialEq, Eq)]
@@ -113,7 +112,7 @@ impl Receiver {
     }
 
     /// Puts what is in hand, or keeps it there where the intake refuses it.
-    fn put_hand<R: Wait>(&mut self, rt: &R, intake: &Intake<Item>) -> ReceiverTurn
+    fn put_hand(&mut self, intake: &Intake<Item>) -> ReceiverTurn
         requires held { IsSome self.old.hand }
         requires part { self.old.pass.queue ≡ intake.now }
         ensures puts { PutsAsTold result self.old.pass self.new.pass }
@@ -126,7 +125,7 @@ impl Receiver {
         let Some(item) = self.hand.take() else {
             return ReceiverTurn::More;
         };
-        match intake.put(rt, &mut self.pass, item) {
+        match intake.put(&mut self.pass, item) {
             Ok(()) => ReceiverTurn::Put,
             Err(item) => {
                 self.hand = Some(item);
@@ -376,7 +375,7 @@ impl Receiver {
     }
 
     /// Puts the End that is due next; where none is, the receiver is finished, and tells it.
-    fn turn_ended<R: Wait>(&mut self, rt: &R, board: &Board, intake: &Intake<Item>) -> ReceiverTurn
+    fn turn_ended(&mut self, board: &Board, intake: &Intake<Item>) -> ReceiverTurn
         requires free { self.old.hand ≡ None }
         requires ended { IsSome self.old.cause }
         requires part { self.old.pass.queue ≡ intake.now }
@@ -391,7 +390,7 @@ impl Receiver {
         ensures told { (knows self.new).ended ≡ (if is_finished result then true else (knows self.old).ended) }
     {
         if self.end_next() {
-            return self.put_hand(rt, intake);
+            return self.put_hand(intake);
         }
         self.seat.tell_end(board);
         ReceiverTurn::Finished
@@ -401,9 +400,8 @@ impl Receiver {
     /// the piece, up to the end of a header or a payload, and puts the item that came of them. At
     /// an Open it claims the module on the board; once it is finished it tells the board, once.
     /// It answers how many bytes it used, and what it did. Give it what it didn't use again.
-    pub fn turn<R: Wait>(
+    pub fn turn(
         &mut self,
-        rt: &R,
         board: &Board,
         intake: &Intake<Item>,
         piece: &[u8],
@@ -424,16 +422,16 @@ impl Receiver {
         ensures board { board_of (seat_of self.new) ≡ board_of (seat_of self.old) }
     {
         if self.hand.is_some() {
-            return (0, self.put_hand(rt, intake));
+            return (0, self.put_hand(intake));
         }
         if self.cause.is_some() {
-            return (0, self.turn_ended(rt, board, intake));
+            return (0, self.turn_ended(board, intake));
         }
         let (used, stray) = self.read(board, piece);
         if stray {
             (used, ReceiverTurn::Stray)
         } else if self.hand.is_some() {
-            (used, self.put_hand(rt, intake))
+            (used, self.put_hand(intake))
         } else {
             (used, ReceiverTurn::More)
         }

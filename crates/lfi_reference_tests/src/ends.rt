@@ -40,7 +40,7 @@ fn three_open(alloc: Global) -> Result<Text, AllocError> {
 fn ends_come_in_the_order_of_the_modules(rt: HostRuntime) -> Result<(), Fail> {
     let mut stage = pair(rt.alloc())?;
     let text = three_open(rt.alloc())?;
-    let put = receive_all(&rt, &mut stage, 0, &mut input(rt.alloc(), &text)?);
+    let put = receive_all(&mut stage, 0, &mut input(rt.alloc(), &text)?);
     assert!(rt; put == ReceiverTurn::Finished);
     let gate = Digits {
         seen: AtomicU64::new(1),

@@ -118,7 +118,7 @@ fn an_input_tells_that_its_reader_failed(rt: HostRuntime) -> Result<(), Fail> {
         },
     )?;
     assert!(rt; !input.has_failed());
-    let did = receive_all(&rt, &mut stage, 0, &mut input);
+    let did = receive_all(&mut stage, 0, &mut input);
     assert!(rt; did == ReceiverTurn::Finished);
     assert!(rt; input.has_failed());
     Ok(())

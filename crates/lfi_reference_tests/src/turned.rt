@@ -23,8 +23,7 @@ pub fn pair(alloc: Global) -> Result<Stage, AllocError>
 }
 
 /// One turn of a receiver over its input.
-pub fn receive<S: Wait, R: Read + Drop>(
-    rt: &S,
+pub fn receive<R: Read + Drop>(
     stage: &mut Stage,
     number: usize,
     input: &mut Input<R>,
@@ -34,13 +33,12 @@ pub fn receive<S: Wait, R: Read + Drop>(
     ensures { IsPair stage.new }
 {
     let shared = &stage.shared;
-    stage.receivers[number].pull(rt, &shared.board, &shared.intake, input)
+    stage.receivers[number].pull(&shared.board, &shared.intake, input)
 }
 
 /// Turns a receiver over its input until it has put all of it, or the intake refuses an item: what
 /// its last turn did.
-pub fn receive_all<S: Wait, R: Read + Drop>(
-    rt: &S,
+pub fn receive_all<R: Read + Drop>(
     stage: &mut Stage,
     number: usize,
     input: &mut Input<R>,
@@ -50,7 +48,7 @@ pub fn receive_all<S: Wait, R: Read + Drop>(
     ensures { IsPair stage.new }
 {
     for _ in 0..10_000 {
-        let did = receive(rt, stage, number, input);
+        let did = receive(stage, number, input);
         if did == ReceiverTurn::Finished || did == ReceiverTurn::Blocked {
             return did;
         }

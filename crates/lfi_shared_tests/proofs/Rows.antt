@@ -19,3 +19,20 @@ module _ {X : Type 0} where
   pub placed : (q : QueueId) (row : List (Option (PassView X))) (n : ℕ) (pass : PassView X) → n < length row → pass.queue ≡ q → pass.number ≡ n → AreAllPasses q n row → AreAllPasses q (n + 1) (set row n (Some pass))
   placed q row n pass low queue number all k =
       set_at (λ place. MatchOption place (n + 1 ≤ k) (IsPass q (n + 1) k)) row n k (Some pass) None low (λ e. (omega arith, queue, omega arith)) (λ ne. one_more q n k (get_or row k None) ne (all k))
+
+  -- a row of one pass
+  pub one_put : (q : QueueId) (pass : PassView X) → IsPass q 1 0 pass → AreAllPasses q 1 (Some pass ∷ [])
+  one_put q pass is zero = is
+  one_put q pass is (suc k) = omega arith
+
+  -- a row of eight places with one pass
+  pub one_take : (q : QueueId) (pass : PassView X) → IsPass q 1 0 pass → AreAllPasses q 1 (Some pass ∷ None ∷ None ∷ None ∷ None ∷ None ∷ None ∷ None ∷ [])
+  one_take q pass is zero = is
+  one_take q pass is (suc zero) = omega arith
+  one_take q pass is (suc (suc zero)) = omega arith
+  one_take q pass is (suc (suc (suc zero))) = omega arith
+  one_take q pass is (suc (suc (suc (suc zero)))) = omega arith
+  one_take q pass is (suc (suc (suc (suc (suc zero))))) = omega arith
+  one_take q pass is (suc (suc (suc (suc (suc (suc zero)))))) = omega arith
+  one_take q pass is (suc (suc (suc (suc (suc (suc (suc zero))))))) = omega arith
+  one_take q pass is (suc (suc (suc (suc (suc (suc (suc (suc k)))))))) = omega arith

@@ -5,6 +5,8 @@
 mod board_rows;
 pub mod ends;
 #[cfg(test)]
+mod intake_rows;
+#[cfg(test)]
 mod queue_rows;
 pub mod relay;
 #[cfg(test)]

@@ -1,11 +1,11 @@
-//! Queues on one thread.
+//! Lanes, and queues of other sizes, on one thread.
 
 ghost use Rattle.std.specs.Prelude.{◌≡◌, ◌<◌, ◌≤◌, vec_len};
 ghost use Rattle.lfi_shared_tests.specs.Relayed.{ArePasses, AreTakers};
 
 use crate::relay::{Queue, Taker, drain, row_of_puts, row_of_takes, take_one, takers_of};
 use crate::threads::new_queue;
-use lfi_queues::{Intake, Lane, PutPass, RuledQueue, TakePass, Taken};
+use lfi_queues::{Lane, LanePut, LaneTake, RuledQueue};
 use std::process::Abort;
 use std::sync::Wait;
 use std::test::Fail;
@@ -14,7 +14,7 @@ use std::test::Fail;
 fn fill<const CAPACITY: usize>(
     rt: &(impl Abort + Wait),
     queue: &RuledQueue<u64, CAPACITY>,
-    pass: &mut PutPass<u64>,
+    pass: &mut LanePut<u64>,
     count: u64,
 )
     requires { pass.old.queue ≡ queue.now }
@@ -29,7 +29,7 @@ fn fill<const CAPACITY: usize>(
 fn empty<const CAPACITY: usize>(
     rt: &(impl Abort + Wait),
     queue: &RuledQueue<u64, CAPACITY>,
-    pass: &mut TakePass<u64>,
+    pass: &mut LaneTake<u64>,
     count: u64,
 )
     requires { pass.old.queue ≡ queue.now }
@@ -75,33 +75,11 @@ fn a_lane_holds_64(rt: HostRuntime) -> Result<(), Fail> {
     Ok(())
 }
 
-/// Puts the numbers from 0 on, so many, to an intake.
-fn fill_intake(rt: &(impl Abort + Wait), intake: &Intake<u64>, pass: &mut PutPass<u64>, count: u64)
-    requires { pass.old.queue ≡ intake.now }
-    ensures { pass.new.queue ≡ intake.now }
-{
-    for number in 0..count {
-        assert!(rt; intake.put(rt, pass, number).is_ok(), "{number}");
-    }
-}
-
-#[test]
-fn an_intake_holds_256(rt: HostRuntime) -> Result<(), Fail> {
-    let (intake, mut puts, mut takes) = Intake::<u64>::new(rt.alloc(), 1, 1)?;
-    let (put, take) = (&mut puts[0], &mut takes[0]);
-    assert!(rt; matches!(intake.take(&rt, take), Taken::Empty));
-    fill_intake(&rt, &intake, put, 256);
-    assert_eq!(rt; intake.put(&rt, put, 256), Err(256));
-    assert!(rt; matches!(intake.take(&rt, take), Taken::Item(0)));
-    assert!(rt; matches!(intake.take(&rt, take), Taken::Item(1)));
-    Ok(())
-}
-
 /// Puts by the pass at a place.
 fn put_at(
     rt: &(impl Abort + Wait),
     queue: &Queue,
-    passes: &mut Vec<PutPass<u64>>,
+    passes: &mut Vec<LanePut<u64>>,
     at: usize,
     number: u64,
 )

@@ -7,7 +7,7 @@ ghost use Rattle.lfi_queues.specs.Passes.{IsSamePass, AreAllPasses, items_at};
 ghost use Rattle.lfi_shared_tests.specs.Relayed.{ArePasses, AreTakers};
 
 use crate::ends::Ends;
-use lfi_queues::{PutPass, RuledQueue, TakePass};
+use lfi_queues::{LanePut, LaneTake, RuledQueue};
 use std::alloc::{AllocError, Global};
 use std::sync::Wait;
 use std::thread;
@@ -16,15 +16,15 @@ use std::thread;
 pub type Queue = RuledQueue<u64, 16>;
 
 /// The passes of all putters, by their numbers.
-pub type PutRow = [Option<PutPass<u64>>; 8];
+pub type PutRow = [Option<LanePut<u64>>; 8];
 
 /// The passes of all takers, by their numbers.
-pub type TakeRow = [Option<TakePass<u64>>; 8];
+pub type TakeRow = [Option<LaneTake<u64>>; 8];
 
 /// A taker's pass, with the numbers that it took.
 #[derive(Drop)]
 pub struct Taker {
-    pub pass: TakePass<u64>,
+    pub pass: LaneTake<u64>,
     pub numbers: Vec<u64>,
     /// Whether a number was lost for want of memory.
     pub is_short: bool,
@@ -34,7 +34,7 @@ pub struct Taker {
 pub fn takers_of(
     alloc: Global,
     queue: &Queue,
-    passes: Vec<TakePass<u64>>,
+    passes: Vec<LaneTake<u64>>,
 ) -> Result<Vec<Taker>, AllocError>
     requires { ArePasses queue.now passes.items }
     ensures takers { IfOk result (λ takers. AreTakers queue.now takers.items) }
@@ -56,9 +56,9 @@ pub fn put_all<R: Wait>(
     rt: &R,
     queue: &Queue,
     ends: &Ends,
-    mut pass: PutPass<u64>,
+    mut pass: LanePut<u64>,
     job: &[u64],
-) -> PutPass<u64>
+) -> LanePut<u64>
     requires queue { pass.queue ≡ queue.now }
     requires new { pass.items ≡ [] }
     ensures same { IsSamePass pass result }
@@ -123,7 +123,7 @@ pub fn take_all<R: Wait>(
 }
 
 /// The putters' passes, each at its place.
-pub fn row_of_puts(queue: &Queue, passes: Vec<PutPass<u64>>) -> PutRow
+pub fn row_of_puts(queue: &Queue, passes: Vec<LanePut<u64>>) -> PutRow
     requires passes { ArePasses queue.now passes.items × (vec_len passes ≤ 8) }
     ensures { AreAllPasses queue.now (vec_len passes) result }
 {

@@ -6,7 +6,7 @@ ghost use Rattle.lfi_shared_tests.specs.Relayed.{ArePasses, AreUnused, AreTakers
 
 use crate::ends::Ends;
 use crate::relay::{Queue, Taker, drain, put_all, row_of_puts, row_of_takes, take_all, takers_of};
-use lfi_queues::{PutPass, TakePass};
+use lfi_queues::{LanePut, LaneTake};
 use std::alloc::Global;
 use std::sync::Wait;
 use std::thread;
@@ -20,7 +20,7 @@ pub struct PutsOf<'a> {
     pub job: &'a [u64],
 }
 
-impl<'a> Promise<PutPass<u64>> for PutsOf<'a> {
+impl<'a> Promise<LanePut<u64>> for PutsOf<'a> {
     ghost kept_by = { λ p r. (r.queue ≡ p.queue.now) × (r.number ≡ p.number) × (r.items ≡ take (length r.items) p.job.now) };
 }
 
@@ -35,7 +35,7 @@ impl<'a> Promise<Taker> for TakesOf<'a> {
     ghost kept_by = { λ p r. (r.pass.queue ≡ p.queue.now) × (r.pass.number ≡ p.number) };
 }
 
-pub type PutHandle<'a> = PromisedHandle<PutPass<u64>, PutsOf<'a>>;
+pub type PutHandle<'a> = PromisedHandle<LanePut<u64>, PutsOf<'a>>;
 
 pub type TakeHandle<'a> = PromisedHandle<Taker, TakesOf<'a>>;
 
@@ -46,7 +46,7 @@ fn start_putter<'s, 'e, R: Wait + Sync>(
     queue: &'e Queue,
     ends: &'e Ends,
     number: usize,
-    pass: PutPass<u64>,
+    pass: LanePut<u64>,
     job: &'e [u64],
 ) -> Option<PutHandle<'e>>
     requires pass { (pass.queue ≡ queue.now) × (pass.number ≡ number) × (pass.items ≡ []) }
@@ -69,7 +69,7 @@ fn start_putters<'s, 'e, R: Threads + Wait + Sync>(
     rt: &'e R,
     queue: &'e Queue,
     ends: &'e Ends,
-    passes: Vec<PutPass<u64>>,
+    passes: Vec<LanePut<u64>>,
     jobs: &'e [Vec<u64>],
     handles: &mut Vec<PutHandle<'e>>,
 ) -> bool
@@ -154,7 +154,7 @@ fn join_putters<R: Threads>(
     rt: &R,
     queue: &Queue,
     handles: Vec<PutHandle<'_>>,
-) -> Option<Vec<PutPass<u64>>>
+) -> Option<Vec<LanePut<u64>>>
     requires { (k : ℕ) (d : _) → k < vec_len handles → ((get_or handles.items k d).promise.queue.now ≡ queue.now) × ((get_or handles.items k d).promise.number ≡ k) }
     ensures passes { IfSome result (λ v. ArePasses queue.now v.items) }
     ensures all { IfSome result (λ v. vec_len v ≡ vec_len handles.entry) }
@@ -198,10 +198,10 @@ fn run_in<'s, 'e, R: Threads + Wait + Sync>(
     alloc: Global,
     queue: &'e Queue,
     ends: &'e Ends,
-    puts: Vec<PutPass<u64>>,
+    puts: Vec<LanePut<u64>>,
     takers: Vec<Taker>,
     jobs: &'e [Vec<u64>],
-) -> Option<(Vec<PutPass<u64>>, Vec<Taker>)>
+) -> Option<(Vec<LanePut<u64>>, Vec<Taker>)>
     requires puts { ArePasses queue.now puts.items × AreUnused puts.items }
     requires takers { AreTakers queue.now takers.items }
     requires jobs { vec_len puts ≡ length jobs.now }
@@ -226,10 +226,10 @@ fn run<R: Threads + Wait + Sync>(
     rt: &R,
     alloc: Global,
     queue: &Queue,
-    puts: Vec<PutPass<u64>>,
+    puts: Vec<LanePut<u64>>,
     takers: Vec<Taker>,
     jobs: &[Vec<u64>],
-) -> Option<(Vec<PutPass<u64>>, Vec<Taker>)>
+) -> Option<(Vec<LanePut<u64>>, Vec<Taker>)>
     requires puts { ArePasses queue.now puts.items × AreUnused puts.items }
     requires takers { AreTakers queue.now takers.items }
     requires jobs { vec_len puts ≡ length jobs.now }
@@ -241,7 +241,7 @@ fn run<R: Threads + Wait + Sync>(
     thread::scope(
         thread::scope_env(),
         rt,
-        move |scope| -> Option<(Vec<PutPass<u64>>, Vec<Taker>)>
+        move |scope| -> Option<(Vec<LanePut<u64>>, Vec<Taker>)>
             requires { (ArePasses queue.now puts.items × AreUnused puts.items) × AreTakers queue.now takers.items × (vec_len puts ≡ length jobs.now) }
             ensures { IfSome result (λ r. (ArePasses queue.entry.now r.0.items × (vec_len r.0 ≡ vec_len puts)) × (AreTakers queue.entry.now r.1.items × (vec_len r.1 ≡ vec_len takers))) }
         { run_in(scope, rt, alloc, queue, ends, puts, takers, jobs) },
@@ -254,7 +254,7 @@ pub fn new_queue(
     alloc: Global,
     putters: usize,
     takers: usize,
-) -> Option<(Queue, Vec<PutPass<u64>>, Vec<TakePass<u64>>)>
+) -> Option<(Queue, Vec<LanePut<u64>>, Vec<LaneTake<u64>>)>
     requires { 0 < takers }
     ensures counts { IfSome result (λ r. (r.0.putters ≡ putters) × (r.0.takers ≡ takers)) }
     ensures puts { IfSome result (λ r. (vec_len r.1 ≡ putters) × ArePasses r.0 r.1.items × AreUnused r.1.items) }
@@ -272,7 +272,7 @@ fn settle<R: Wait>(
     rt: &R,
     alloc: Global,
     queue: &Queue,
-    puts: Vec<PutPass<u64>>,
+    puts: Vec<LanePut<u64>>,
     takers: Vec<Taker>,
 ) -> Option<Vec<Vec<u64>>>
     requires puts { ArePasses queue.now puts.items × (vec_len puts ≡ queue.now.putters) × (vec_len puts ≤ 8) }

@@ -39,6 +39,6 @@ pub fn bring_all<R: Wait>(
     } = take_apart(verifiers);
     let mut sequences = drain_lanes(rt, lanes, &mut rows, sequencers);
     carry_hands(&mut hands, &mut sequences);
-    drain_intake(rt, intake, puts, &mut takes, &mut sequences);
+    drain_intake(intake, puts, &mut takes, &mut sequences);
     sequences
 }

@@ -12,8 +12,7 @@ use crate::slots::PLACES;
 use lfi_model::{Item, Judged};
 use lfi_module::ModuleNumber;
 use lfi_place::Sequence;
-use lfi_queues::{Intake, PutPass, TakePass};
-use std::sync::Wait;
+use lfi_queues::{Intake, PutPass, TAKERS, TakePass};
 
 /// Brings an item to a sequence, where there is one.
 fn handle_in(slot: &mut Option<Sequence>, item: Judged)
@@ -49,11 +48,10 @@ pub(crate) fn carry_hands(
 }
 
 /// Brings all that is left in the intake to the sequences: the first taker takes it.
-pub(crate) fn drain_intake<R: Wait>(
-    rt: &R,
+pub(crate) fn drain_intake(
     intake: &Intake<Item>,
     puts: &mut [Option<PutPass<Item>>],
-    takes: &mut [Option<TakePass<Item>>],
+    takes: &mut [Option<TakePass<Item>>; TAKERS],
     sequences: &mut [Option<Sequence>; ModuleNumber::COUNT],
 )
     requires takers { 0 < intake.now.takers }
@@ -63,7 +61,7 @@ pub(crate) fn drain_intake<R: Wait>(
     ensures kept { Kept (items_at puts.old) (items_at takes.new) [] }
     ensures settles { Settles (items_at takes.old) sequences.old → Settles (items_at takes.new) sequences.new }
 {
-    while let Some(item) = intake.rest(rt, puts, takes) {
+    while let Some(item) = intake.rest(puts, takes) {
         carry(sequences, item.judge());
     }
 }

@@ -15,12 +15,12 @@ use crate::slots::{PLACES, empty, set};
 use lfi_model::Judged;
 use lfi_module::ModuleNumber;
 use lfi_place::{Sequence, Sequencer};
-use lfi_queues::{Lane, PutPass, TakePass};
+use lfi_queues::{Lane, LanePut, LaneTake};
 use std::array;
 use std::sync::Wait;
 
 /// Takes the last pass out of a row, where there is a row.
-fn last_pass(row: &mut Option<Vec<PutPass<Judged>>>) -> Option<PutPass<Judged>>
+fn last_pass(row: &mut Option<Vec<LanePut<Judged>>>) -> Option<LanePut<Judged>>
     ensures { Popped (passes_in row.old) result (passes_in row.new) }
 {
     match row {
@@ -30,7 +30,7 @@ fn last_pass(row: &mut Option<Vec<PutPass<Judged>>>) -> Option<PutPass<Judged>>
 }
 
 /// Takes the last pass out of each row.
-fn gather(rows: &mut [Option<Vec<PutPass<Judged>>>; PLACES]) -> [Option<PutPass<Judged>>; PLACES]
+fn gather(rows: &mut [Option<Vec<LanePut<Judged>>>; PLACES]) -> [Option<LanePut<Judged>>; PLACES]
     ensures { (k : ℕ) → Popped (row_of rows.old k) (pass_at result k) (row_of rows.new k) }
 {
     let mut puts = empty();
@@ -44,8 +44,8 @@ fn gather(rows: &mut [Option<Vec<PutPass<Judged>>>; PLACES]) -> [Option<PutPass<
 fn drain_lane<R: Wait>(
     rt: &R,
     lane: &Lane<Judged>,
-    puts: &mut [Option<PutPass<Judged>>],
-    takes: &mut [Option<TakePass<Judged>>],
+    puts: &mut [Option<LanePut<Judged>>],
+    takes: &mut [Option<LaneTake<Judged>>],
     sequence: &mut Sequence,
 )
     requires takers { 0 < lane.now.takers }
@@ -66,7 +66,7 @@ fn drain_lane<R: Wait>(
 fn drain_one<R: Wait>(
     rt: &R,
     lane: &Lane<Judged>,
-    rows: &mut [Option<Vec<PutPass<Judged>>>; PLACES],
+    rows: &mut [Option<Vec<LanePut<Judged>>>; PLACES],
     sequencer: Sequencer,
 ) -> Sequence
     requires takers { lane.now.takers ≡ 1 }
@@ -86,7 +86,7 @@ fn drain_one<R: Wait>(
 pub(crate) fn drain_lanes<R: Wait>(
     rt: &R,
     lanes: &[Lane<Judged>],
-    rows: &mut [Option<Vec<PutPass<Judged>>>; PLACES],
+    rows: &mut [Option<Vec<LanePut<Judged>>>; PLACES],
     mut sequencers: Vec<Sequencer>,
 ) -> [Option<Sequence>; ModuleNumber::COUNT]
     requires lanes { length lanes.now ≡ module_count }

@@ -12,7 +12,7 @@ use lfi_receive::{Receiver, ReceiverTurn};
 use std::sync::Wait;
 
 /// One turn of a receiver whose input has ended: whether it has put all its items.
-fn finish_once<R: Wait>(rt: &R, receiver: &mut Receiver, shared: &Shared) -> bool
+fn finish_once(receiver: &mut Receiver, shared: &Shared) -> bool
     requires ended { IsSome (cause_of receiver.old) }
     requires is { (c : ℕ) × IsReceiver shared.now c receiver.old }
     ensures stands { (bytes : List ℕ) → StandsFor receiver.old bytes → StandsFor receiver.new bytes }
@@ -21,7 +21,7 @@ fn finish_once<R: Wait>(rt: &R, receiver: &mut Receiver, shared: &Shared) -> boo
     ensures claimed { (m : ℕ) → claimed_by receiver.new m ≡ claimed_by receiver.old m }
     ensures is { (c : ℕ) → IsReceiver shared.now c receiver.old → IsReceiver shared.now c receiver.new }
 {
-    let (_, did) = receiver.turn(rt, &shared.board, &shared.intake, &[]);
+    let (_, did) = receiver.turn(&shared.board, &shared.intake, &[]);
     did == ReceiverTurn::Finished
 }
 
@@ -42,7 +42,7 @@ fn finish<R: Wait>(
 {
     receiver.end();
     for _ in rt.forever() {
-        if finish_once(rt, receiver, shared) {
+        if finish_once(receiver, shared) {
             return;
         }
         turn_others(rt, verifiers, sequencers, shared, &OpenGate);

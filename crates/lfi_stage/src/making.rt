@@ -12,7 +12,7 @@ use lfi_board::{ReceiverSeat, SequencerSeat};
 use lfi_model::{CONNECTIONS, Item, Judged};
 use lfi_module::ModuleNumber;
 use lfi_place::{Sequencer, Verifier};
-use lfi_queues::{PutPass, TakePass};
+use lfi_queues::{LanePut, LaneTake, PutPass, TakePass};
 use lfi_receive::Receiver;
 use std::alloc::{AllocError, Global};
 
@@ -39,7 +39,7 @@ pub(crate) fn make_receivers(
 pub(crate) fn make_verifiers(
     alloc: Global,
     takes: Vec<TakePass<Item>>,
-    rows: Vec<Vec<PutPass<Judged>>>,
+    rows: Vec<Vec<LanePut<Judged>>>,
 ) -> Result<Vec<Verifier>, AllocError>
     requires { AreRowsOf (length takes.items) rows.items }
     ensures { IfOk result (λ made. AreVerifiersOf takes.items rows.items made.items) }
@@ -55,7 +55,7 @@ pub(crate) fn make_verifiers(
 /// A sequencer for each module, with the pass and the seat at its place.
 pub(crate) fn make_sequencers(
     alloc: Global,
-    takes: Vec<TakePass<Judged>>,
+    takes: Vec<LaneTake<Judged>>,
     seats: Vec<SequencerSeat>,
 ) -> Result<Vec<Sequencer>, AllocError>
     requires count { length takes.items ≡ module_count }

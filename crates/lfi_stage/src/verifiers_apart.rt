@@ -6,14 +6,14 @@ ghost use Rattle.lfi_stage.specs.inner.Rows.{AreApart};
 use crate::slots::{PLACES, empty, set};
 use lfi_model::{Item, Judged};
 use lfi_place::Verifier;
-use lfi_queues::{PutPass, TakePass};
+use lfi_queues::{LanePut, TakePass};
 
 /// The pieces of verifiers, by the verifiers' numbers.
 pub(crate) struct Apart {
     /// Their passes of the intake.
     pub(crate) takes: [Option<TakePass<Item>>; PLACES],
     /// Their passes of the lanes, by the lanes' numbers.
-    pub(crate) rows: [Option<Vec<PutPass<Judged>>>; PLACES],
+    pub(crate) rows: [Option<Vec<LanePut<Judged>>>; PLACES],
     /// What is in their hands.
     pub(crate) hands: [Option<Judged>; PLACES],
 }

@@ -20,7 +20,7 @@ use std::sync::Wait;
 const LOOK_TURNS: u32 = 64;
 
 /// One turn of a receiver whose input is over.
-fn put_one<S: Wait>(rt: &S, place: Place<'_>, receiver: &mut Receiver) -> ReceiverTurn
+fn put_one(place: Place<'_>, receiver: &mut Receiver) -> ReceiverTurn
     requires is { IsReceiver place.shared.now place.number receiver.old }
     requires over { IsSome (cause_of receiver.old) }
     ensures is { IsReceiver place.entry.shared.now place.entry.number receiver.new }
@@ -28,13 +28,12 @@ fn put_one<S: Wait>(rt: &S, place: Place<'_>, receiver: &mut Receiver) -> Receiv
     ensures finished { result ≡ turn.Finished → IsFinished receiver.new }
 {
     let shared = place.shared;
-    let (_, did) = receiver.turn(rt, &shared.board, &shared.intake, &[]);
+    let (_, did) = receiver.turn(&shared.board, &shared.intake, &[]);
     did
 }
 
 /// One turn of a receiver over its input, or, once that is over, over what is still to be put.
-fn pull_one<S: Wait, R: Read + Drop>(
-    rt: &S,
+fn pull_one<R: Read + Drop>(
     place: Place<'_>,
     receiver: &mut Receiver,
     input: &mut Input<R>,
@@ -45,10 +44,10 @@ fn pull_one<S: Wait, R: Read + Drop>(
     ensures finished { result ≡ turn.Finished → IsFinished receiver.new }
 {
     if receiver.is_over() {
-        return put_one(rt, place, receiver);
+        return put_one(place, receiver);
     }
     let shared = place.shared;
-    receiver.pull(rt, &shared.board, &shared.intake, input)
+    receiver.pull(&shared.board, &shared.intake, input)
 }
 
 /// What a receiver's thread keeps beside its receiver.
@@ -133,7 +132,7 @@ fn hear_once<S: Wait, R: Read + Drop, N: Notices>(
     if ends.are_stopped() {
         return Some(Leaving::Stopped);
     }
-    let did = pull_one(rt, place, receiver, input);
+    let did = pull_one(place, receiver, input);
     watch.look_after(place, notices, receiver, did);
     watch.rest_after(rt, ends, did);
     if did == ReceiverTurn::Finished {

@@ -8,7 +8,7 @@ use Rattle.lfi_stage.proofs.Carrying.{settles_more, settles_as, rest_last}
 use Rattle.lfi_stage.proofs.carry.drain_intake.Goals as goal
 
 pub loop-item-smaller : goal.loop-item-smaller
-loop-item-smaller g c =
+loop-item-smaller c =
     let q : QueueId = c.args.intake.now in
     let i = c.loop-item.invariant in
     let x : ItemView = c.in-Some.item in
@@ -21,7 +21,7 @@ loop-item-smaller g c =
     (rest_smaller q q.takers c.loop-item.puts c.loop-item.takes x kept.0 kept.2.0 c.requires.takers i.takes kept.1 kept.2.1))
 
 pub loop-item-preserved : goal.loop-item-preserved
-loop-item-preserved g c =
+loop-item-preserved c =
     let q : QueueId = c.args.intake.now in
     let i = c.loop-item.invariant in
     let x : ItemView = c.in-Some.item in

@@ -1,0 +1,119 @@
+//! What a taking pass does: one steal a part.
+
+ghost use Rattle.std.specs.Prelude.{◌≡◌, ◌+◌, ◌≤◌, ◌<◌, [], ◌∷◌, ◌++◌, length, ℕ, Some, IfSome, ⊤};
+ghost use Rattle.crossbeam_deque.specs.Steals.{MatchSteal};
+ghost use Rattle.lfi_queues.specs.Taken.{MatchTaken};
+ghost use Rattle.lfi_queues.specs.inner.Parts.{EndView, SeenEmpty, StealsFrom, SeenEmptyFrom, TakesFrom, with_item};
+ghost use Rattle.lfi_queues.specs.inner.Rounds.{MatchRound};
+
+use crate::auxiliary::{Auxiliary, Reading};
+use crate::intake::Taken;
+use crate::part::{Home, TakeEnd};
+use crate::pass::Next;
+use crossbeam_deque::Steal;
+use std::collections::LinkedList;
+use std::marker::Model;
+
+/// What a round over some parts gave.
+enum Round<T> {
+    /// An item, and the part that it came from.
+    Got(usize, T),
+    /// Nothing: each part was empty.
+    Empty,
+    /// Nothing, and a steal has to be tried again.
+    Again,
+}
+
+/// One steal, where there is an end.
+fn steal_at<T>(slot: &mut Option<TakeEnd<T>>) -> Steal<T>
+    ensures { MatchSteal result ((slot.new ≡ slot.old) × IfSome slot.old SeenEmpty) (slot.new ≡ slot.old) (λ item. (end : EndView T) × (slot.old ≡ Some end) × (slot.new ≡ Some (with_item end item))) }
+{
+    match slot {
+        Some(end) => end.steal(),
+        None => Steal::Empty,
+    }
+}
+
+/// One steal from each of these parts, until one gives an item.
+fn try_parts<T>(ends: &mut [Option<TakeEnd<T>>], from: usize, to: usize) -> Round<T>
+    requires { to ≤ length ends.old }
+    ensures { MatchRound result (λ p item. StealsFrom ends.old ends.new p item) ((ends.new ≡ ends.old) × SeenEmptyFrom ends.old from to) (ends.new ≡ ends.old) }
+{
+    let mut again = false;
+    for number in from..to {
+        match steal_at(&mut ends[number]) {
+            Steal::Success(item) => return Round::Got(number, item),
+            Steal::Empty => {}
+            Steal::Retry => again = true,
+        }
+    }
+    if again { Round::Again } else { Round::Empty }
+}
+
+/// One steal a part, from this part on and round to it.
+fn try_round<T>(ends: &mut [Option<TakeEnd<T>>], next: usize) -> Round<T>
+    requires { next ≤ length ends.old }
+    ensures { MatchRound result (λ p item. StealsFrom ends.old ends.new p item) ((ends.new ≡ ends.old) × SeenEmptyFrom ends.old 0 (length ends.old)) (ends.new ≡ ends.old) }
+{
+    let count = ends.len();
+    match try_parts(ends, next, count) {
+        Round::Got(number, item) => Round::Got(number, item),
+        Round::Empty => try_parts(ends, 0, next),
+        Round::Again => match try_parts(ends, 0, next) {
+            Round::Got(number, item) => Round::Got(number, item),
+            Round::Empty | Round::Again => Round::Again,
+        },
+    }
+}
+
+/// The list with one more item.
+pub(crate) struct WithLast;
+
+impl<'a, T> Reading<(&'a Auxiliary<LinkedList<T>>, &'a T), LinkedList<T>> for WithLast {
+    ghost use Rattle.std.specs.Prelude.{[], ◌∷◌, ◌++◌};
+
+    ghost reads = { λ p. p.0.now.value ++ p.1.now ∷ [] };
+}
+
+/// What a taking pass has: its end of each part, and where its next round begins. The rest is known
+/// to contracts alone.
+#[derive(Drop)]
+pub(crate) struct TakeEnds<T> {
+    pub(crate) ends: Vec<Option<TakeEnd<T>>>,
+    pub(crate) next: usize,
+    pub(crate) home: Auxiliary<Home>,
+    pub(crate) number: Auxiliary<u64>,
+    pub(crate) calls: Auxiliary<u64>,
+    pub(crate) items: Auxiliary<LinkedList<T>>,
+}
+
+impl<T> Model for TakeEnds<T> {
+    ghost use Rattle.lfi_queues.specs.inner.Parts.{TakeView};
+
+    ghost Value = { TakeView T };
+
+    ghost view = { λ t. record { home = t.home.value; number = t.number.value; calls = t.calls.value; items = t.items.value; ends = t.ends.items } };
+}
+
+impl<T> TakeEnds<T> {
+    /// One steal a part, from the part after that of the last item on.
+    pub(crate) fn take(&mut self) -> Taken<T>
+        ensures { MatchTaken result (λ item. (p : ℕ) × TakesFrom (record self.old { calls = self.old.calls + 1 }) self.new p item) ((self.new ≡ record self.old { calls = self.old.calls + 1 }) × SeenEmptyFrom self.old.ends 0 (length self.old.ends)) (self.new ≡ record self.old { calls = self.old.calls + 1 }) }
+    {
+        self.calls = Auxiliary::of::<Auxiliary<u64>, Next>(&self.calls);
+        let from = self.next.min(self.ends.len());
+        let round = try_round(self.ends.as_mut_slice(), from);
+        match round {
+            Round::Got(number, item) => {
+                self.next = number + 1;
+                self.items = Auxiliary::of::<(&Auxiliary<LinkedList<T>>, &T), WithLast>(&(
+                    &self.items,
+                    &item,
+                ));
+                Taken::Item(item)
+            }
+            Round::Empty => Taken::Empty,
+            Round::Again => Taken::Again,
+        }
+    }
+}
