@@ -71,10 +71,10 @@ fn put_all(intake: &Intake<u64>, mut pass: PutPass<u64>, count: u64) -> (u64, Pu
     requires { IsPass intake.now 1 0 pass }
     ensures { IsPass intake.now 1 0 result.1 }
 {
-    let mut done = 0;
+    let mut done = 0u64;
     for number in 0..count {
         if intake.put(&mut pass, number).is_ok() {
-            done += 1;
+            done = done.wrapping_add(1);
         }
     }
     (done, pass)
@@ -85,11 +85,11 @@ fn take_some(intake: &Intake<u64>, mut pass: TakePass<u64>, tries: u64) -> (u64,
     requires { IsPass intake.now 1 0 pass }
     ensures { IsPass intake.now 1 0 result.1 }
 {
-    let mut next = 0;
+    let mut next = 0u64;
     for _ in 0..tries {
         if let Taken::Item(item) = intake.take(&mut pass) {
             if item == next {
-                next += 1;
+                next = next.wrapping_add(1);
             }
         }
     }
@@ -127,7 +127,7 @@ type PutRow = [Option<PutPass<u64>>; 1];
 /// The taker's pass, at its place.
 type TakeRow = [Option<TakePass<u64>>; 8];
 
-/// Takes what is left, the numbers from this one on: the first that doesn't come.
+/// Takes what is left, the numbers from this one on, and tells the first that doesn't come, or 1,001.
 fn rest_from(
     rt: &impl Abort,
     intake: &Intake<u64>,
@@ -139,12 +139,13 @@ fn rest_from(
     requires puts { AreAllPasses intake.now 1 puts.old }
     requires takes { AreAllPasses intake.now 1 takes.old }
 {
-    let mut next = first;
-    while let Some(item) = intake.rest(puts, takes) {
-        assert_eq!(rt; item, next);
-        next = next.wrapping_add(1);
+    for next in first..1001 {
+        match intake.rest(puts, takes) {
+            Some(item) => assert_eq!(rt; item, next),
+            None => return next,
+        }
     }
-    next
+    1001
 }
 
 /// Takes what is left, with both passes in hand.
