@@ -6,6 +6,9 @@
 //! `SealedPage` has 1 to 1,024 whole words, which are read and never written. Pages move from part to part; their bytes
 //! stay where they were written.
 //!
+//! A `Pool` has room for 64 pages that nobody needs any more: `give` puts one there, `get` takes one, as an open page in
+//! which nothing is written. Threads share it by `&`, each by a seat of its own, and no call waits.
+//!
 //! # What it may not know
 //!
 //! What a page's words mean, whose page it is.
@@ -22,12 +25,23 @@
 //! - `word(i)` has the condition that `i` is below the number of words, and `len_words` tells that this is 1 to 1,024.
 //! - A sealed page of given bytes is one function, `SealedPage::of`. A block is given back in the `drop` of one private
 //!   struct that both kinds of page hold.
-//! - Taking a page up again for other bytes is left out until there is a pool of pages.
+//! - **A page is made empty only once a slot is won for it**, so that what `give` hands back is the page as it was.
+//!   Whoever got a page reads nothing of what it was before, since the length of what is written is 0.
+//! - **A pool is 64 slots over `atomic_table`**, each with a word that says whether it is empty, full, or a seat is at
+//!   it. A seat tries each slot once, from slot 0 on, and waits for none that another is at: so `None` of `get` and `Err`
+//!   of `give` say that each slot was found not full, or not empty, each at a moment of its own. One call could find so
+//!   much in a pool that is never empty, or never full; then a page is made anew, or freed.
 #![tactic(auto)]
 
+mod hand;
+mod member;
 mod page;
+mod pool;
 mod raw_bytes;
 #[cfg(test)]
 mod tests;
 
+pub use hand::{Hand, Sighting};
+pub use member::PoolMember;
 pub use page::{OpenPage, PAGE_BYTES, SealedPage};
+pub use pool::{Pool, PoolSeat};

@@ -31,6 +31,13 @@ impl Block {
         self.bytes.append(self.len, source);
         self.len += source.len();
     }
+
+    fn clear(&mut self)
+        ensures { self.new.bytes.written ≡ [] }
+    {
+        self.bytes.clear();
+        self.len = 0;
+    }
 }
 
 impl Drop for Block {
@@ -140,6 +147,15 @@ impl OpenPage {
 }
 
 impl SealedPage {
+    /// The page's memory as an open page in which nothing is written.
+    pub(crate) fn reopen(self) -> OpenPage
+        ensures { result ≡ [] }
+    {
+        let SealedPage { mut block } = self;
+        block.clear();
+        OpenPage { block }
+    }
+
     /// A page of these bytes, which make 1 to 1,024 whole words.
     ///
     /// # Errors

@@ -1,0 +1,22 @@
+-- What a call of the pool found at its slots. Source: this project's own, crates/page_buf/src/lib.rt.
+use Rattle.std.specs.Prelude.{◌≡◌, ◌≢◌, ℕ, zero, suc, ◌<◌, List, ◌∷◌}
+use Rattle.page_buf.specs.declared.hand.Sighting.{Sighting}
+
+-- the numbers of a slot's word
+abbrev pub empty : ℕ
+empty = 0
+
+abbrev pub busy : ℕ
+busy = 1
+
+abbrev pub full : ℕ
+full = 2
+
+-- slots 0 to k-1 were each found to hold another number than n, the last first
+abbrev pub Passed : ℕ → ℕ → List Sighting → List Sighting → Type 0
+Passed n zero old new = new ≡ old
+Passed n (suc k) old new = (found : ℕ) × (rest : List Sighting) × (found ≢ n) × (new ≡ record { slot = k; number = found } ∷ rest) × Passed n k old rest
+
+-- slots 0 to k-1 were each found to hold another number than n, and slot k to hold n
+abbrev pub Found : ℕ → List Sighting → List Sighting → Type 0
+Found n old new = (k : ℕ) × (rest : List Sighting) × (k < 64) × (new ≡ record { slot = k; number = n } ∷ rest) × Passed n k old rest

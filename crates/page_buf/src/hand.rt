@@ -1,0 +1,47 @@
+//! What a seat of the pool knows, the rule of the pool, and what each step tells.
+
+ghost use Rattle.page_buf.specs.inner.Slots.{Kept, idle};
+ghost use Rattle.page_buf.specs.inner.Steps.{sat, tried, done};
+
+use crate::page::OpenPage;
+use atomic_table::{Play, TableRule};
+use std::collections::LinkedList;
+
+/// The word of a slot was seen to hold a number.
+pub struct Sighting {
+    pub slot: u64,
+    pub number: u64,
+}
+
+/// What a seat knows. No value of it is made.
+pub struct Hand {
+    /// 0, or 1 more than the slot that is out with the seat.
+    pub out: u64,
+    pub seen: LinkedList<Sighting>,
+}
+
+pub struct Slots;
+
+impl TableRule<Option<OpenPage>, Hand, ()> for Slots {
+    ghost holds = { λ _. Kept };
+
+    ghost first = { λ _. idle };
+}
+
+pub(crate) struct Sit;
+
+impl Play<Option<OpenPage>, Hand> for Sit {
+    ghost then = { sat };
+}
+
+pub(crate) struct Try;
+
+impl Play<Option<OpenPage>, Hand> for Try {
+    ghost then = { tried };
+}
+
+pub(crate) struct PutBack;
+
+impl Play<Option<OpenPage>, Hand> for PutBack {
+    ghost then = { done };
+}

@@ -1,0 +1,75 @@
+//! A pool that parts of a program share, each with a seat of its own.
+
+ghost use Rattle.std.specs.Prelude.{◌≡◌, [], IfSome, IfNone, IfOk, IfErr, OnOk, OnErr};
+ghost use Rattle.std.specs.Arc.{arc_value};
+ghost use Rattle.page_buf.specs.Pools.{pool_id, pool_of};
+
+use crate::page::{OpenPage, SealedPage};
+use crate::pool::{Pool, PoolSeat};
+use std::alloc::{AllocError, Global};
+use std::sync::Arc;
+
+/// A seat at a pool, with the pool, which is there as long as one of its members is. It can be sent
+/// to another thread.
+#[derive(Drop)]
+pub struct PoolMember {
+    pool: Arc<Pool, Global>,
+    seat: PoolSeat,
+    ghost tie: { pool_of seat ≡ pool_id (arc_value pool) },
+}
+
+impl PoolMember {
+    ghost use Rattle.page_buf.specs.Sightings.{Found, Passed, empty, full};
+    ghost use Rattle.page_buf.specs.Members.{pool_at, seen_at};
+
+    /// The first member of a new pool, in which no page is.
+    ///
+    /// # Errors
+    ///
+    /// `AllocError` where memory is refused.
+    pub fn new(alloc: Global) -> Result<PoolMember, AllocError> {
+        let (pool, _) = Pool::new(alloc, 0)?;
+        let seat = pool.seat();
+        Ok(PoolMember {
+            pool: Arc::new(alloc, pool)?,
+            seat,
+        })
+    }
+
+    /// One more member of the same pool. It takes no memory.
+    ///
+    /// # Errors
+    ///
+    /// `AllocError` where the pool has 2^63 members.
+    pub fn another(&self) -> Result<PoolMember, AllocError>
+        ensures { IfOk result (λ other. pool_at other ≡ pool_at self.now) }
+    {
+        let pool = Arc::try_clone(&self.pool)?;
+        let seat = pool.seat();
+        Ok(PoolMember { pool, seat })
+    }
+
+    /// `get` of the pool.
+    pub fn get(&mut self) -> Option<OpenPage>
+        ensures pool { pool_at self.new ≡ pool_at self.old }
+        ensures empty { IfSome result (λ page. page ≡ []) }
+        ensures some { IfSome result (λ _. Found full (seen_at self.old) (seen_at self.new)) }
+        ensures none { IfNone result (Passed full 64 (seen_at self.old) (seen_at self.new)) }
+    {
+        self.pool.get(&mut self.seat)
+    }
+
+    /// `give` of the pool.
+    ///
+    /// # Errors
+    ///
+    /// The page as it was, only where each slot was found not empty, at a moment of the call.
+    pub fn give(&mut self, page: SealedPage) -> Result<(), SealedPage>
+        ensures pool { pool_at self.new ≡ pool_at self.old }
+        ensures ok { OnOk result (Found empty (seen_at self.old) (seen_at self.new)) }
+        ensures back { IfErr result (λ back. back ≡ page) }
+        ensures err { OnErr result (Passed empty 64 (seen_at self.old) (seen_at self.new)) }
+    {
+        self.pool.give(&mut self.seat, page)
+    }
+}
