@@ -57,7 +57,7 @@ abbrev pub access_text : Option Address → List ℕ
 access_text (Some address) = at_text address
 access_text None = codes "let it go through x18, x21, x23, x24 or sp"
 
--- a register that the guard alone writes, or that and a few others
+-- a register that the guard writes, alone or beside a few others
 abbrev pub guarded_text : (name : List ℕ) → List ℕ
 guarded_text name = codes "let it write a free register xM; then add " ++ name ++ codes ", x21, wM, uxtw writes " ++ name
 

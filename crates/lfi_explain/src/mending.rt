@@ -160,7 +160,7 @@ impl fmt::Display for Access {
     }
 }
 
-/// A register, by its name, that the guard alone writes, or that and a few others.
+/// A register, by its name, that the guard writes, alone or beside a few others.
 #[derive(Clone, Copy)]
 struct Guarded(&'static str);
 

@@ -219,6 +219,40 @@ fn none_of_lawful_words(rt: HostRuntime) -> Result<(), Fail> {
     Ok(())
 }
 
+/// Words that were mended as they are told to, and NOP after them.
+const MENDED: [[u32; 4]; 19] = [
+    [0x8B3342B2, 0xB9400241, 0xD503201F, 0xD503201F], // LDR W1, [X19] by a guard
+    [0x8B2142B7, 0x394002E0, 0x91000421, 0xD503201F], // LDRB W0, [X1], #1 by a guard, and a word that changes X1
+    [0xF9400640, 0xD503201F, 0xD503201F, 0xD503201F], // LDR X0, [X18, #8]!, not changing it
+    [0x0B010EB6, 0xF8764AA0, 0xD503201F, 0xD503201F], // LDR X0, [X21, X1, LSL #3] by a sum
+    [0x0B2143E9, 0xF8694AA0, 0xD503201F, 0xD503201F], // LDR X0, [SP, W1, UXTW] by a sum
+    [0xAA0003E9, 0xD503201F, 0xD503201F, 0xD503201F], // MOV X21, X0 into a free register
+    [0x8B020029, 0x8B2942B7, 0xD503201F, 0xD503201F], // ADD X23, X1, X2 into one, then the guard
+    [0xA9407BE9, 0x8B3E42BE, 0x8B2942B7, 0xD503201F], // LDP X23, X30, [SP] so, after what it opens
+    [0xAA0003E9, 0x8B2942BE, 0xD503201F, 0xD503201F], // MOV X30, X0
+    [0x2A0003F6, 0xD503201F, 0xD503201F, 0xD503201F], // MOV X22, X0 as W22
+    [0xF94003E9, 0x2A0903F6, 0xD503201F, 0xD503201F], // LDR X22, [SP] into a free register
+    [0xAA1D03E9, 0x8B2942BF, 0xD503201F, 0xD503201F], // MOV SP, X29
+    [0xF9400ABE, 0xD63F03C0, 0xD503201F, 0xD503201F], // BL out of the module by the table
+    [0x8B2542BE, 0xD65F03C0, 0xD503201F, 0xD503201F], // RET X5
+    [0x8B2842B8, 0xD61F0300, 0xD503201F, 0xD503201F], // BR X8
+    [0xAA1303E0, 0xF94006BE, 0xD63F03C0, 0xD503201F], // a call, with nothing between
+    [0xF9400A5E, 0x8B3E42BE, 0xD63F03C0, 0xD503201F], // a load of X30, guarded
+    [0xD10043FF, 0xF94003FF, 0xF90007E0, 0xD503201F], // SUB SP, SP, #16, touched
+    [0xF81F0FE0, 0xF90007E1, 0xD503201F, 0xD503201F], // the same by an access that is indexed
+];
+
+#[test]
+fn mended_words_are_lawful(rt: HostRuntime) -> Result<(), Fail> {
+    for words in &MENDED {
+        let words = Vec::from_array(rt.alloc(), *words)?;
+        let mut out = Vec::new(rt.alloc());
+        let refused = write_refusals(rt.alloc(), &words, ModuleNumber::at(0), &mut out)?;
+        assert!(rt; refused == 0);
+    }
+    Ok(())
+}
+
 /// A writer that takes nothing.
 #[derive(Drop)]
 struct FullWriter;
