@@ -23,7 +23,7 @@ pub const EXPLAIN: &str =
 
 /// Of `--explain`, where modules are loaded.
 pub const EXPLAIN_MODULES: &str =
-    "also explain the first fault of each refused module, and say faults in words";
+    "also explain each refused module's first fault, and say faults in words";
 
 /// Of `--all`.
 pub const ALL: &str = "say so of each word that breaks a rule, and how many they are";
