@@ -18,11 +18,12 @@ Example: lfiload check --explain module.code";
 pub const FILE: &str = "plain code words, the lowest byte first";
 
 /// Of `--explain`.
-pub const EXPLAIN: &str = "also say what the word at fault does, and what its rule asks";
+pub const EXPLAIN: &str =
+    "also say what the word at fault does, what its rule asks, and how it is mended";
 
 /// Of `--explain`, where modules are loaded.
 pub const EXPLAIN_MODULES: &str =
-    "also say what the first word at fault of each refused module does";
+    "also explain each refused module's first fault, and say faults in words";
 
 /// Of `--all`.
 pub const ALL: &str = "say so of each word that breaks a rule, and how many they are";
@@ -69,6 +70,7 @@ With --explain, these lines follow `word K rule R`:
                          hexadecimal digits, its assembly text. Where the rule is on what follows
                          a word, the line of the word before stands above it.
   A sentence             What the rule asks, and what the word does.
+  mend: TEXT             What to write instead. A free register is any but x18, x21 to x24 and x30.
 With --all, all of these lines for each word that breaks a rule, in order, and then:
   words refused: N       How many they are.
 
@@ -100,6 +102,10 @@ With --explain, these lines follow for each module M that was refused:
                             digits, its assembly text. Where the rule is on what follows a word,
                             the line of the word before stands above it.
   A sentence                What the rule asks, and what the word does.
+  mend: TEXT                What to write instead. A free register is any but x18, x21 to x24 and
+                            x30.
+and then one for each connection C that has a fault:
+  connection C: TEXT        The fault in words.
 
 With --out DIR, the image of each complete module M is written to DIR/module-MM.img, M in two
 digits.
@@ -139,7 +145,7 @@ its slot in sp, and 0 in all other registers. Calls of the runtime: entry 0 ends
 low byte of x0 as its status; entry 1 writes the low byte of x0 to the standard output; every other
 sets all bits of x0.
 
-Prints one line on the standard error:
+Prints one line on the standard error, and a second one where it says so:
   halt 1 after N steps             All steps were used (status 0).
   halt 2 at ADDRESS after N steps  The byte at ADDRESS may not be accessed so (status 1).
   halt 3 at ADDRESS after N steps  No word of the code begins at pc, which is ADDRESS (status 1).
@@ -150,7 +156,8 @@ Prints one line on the standard error:
   halt 7 after N steps             There was no memory for a byte that is written (status 3).
   image refused, fault F           There is no image: 1 it doesn't begin with LFI1, 2 its profile,
                                    3 its counts, 4 its base, 5 it is cut, 6 bytes follow it (status
-                                   1), 8 no memory, 9 a read failed (status 3).
+                                   1), 8 no memory, 9 a read failed (status 3). The second line has
+                                   the fault in words, after two spaces.
   image refused, fault 7, word K rule R  Its code breaks a rule (status 1).
   lfiload: cannot read PATH        The file can't be opened (status 3).
   lfiload: no memory               There was no memory for the machine (status 3).

@@ -27,12 +27,12 @@ abbrev pub AreKnown : List (Option (List ℕ)) → (ℕ → List ℕ) → Type 0
 AreKnown streams bytes = (c : ℕ) (stream : Option (List ℕ)) → slice_get streams c ≡ Some stream → stream ≡ Some (bytes c)
 
 -- What `lfiload load` did with streams that have these bytes, as far as they are known, by so many verifiers: it found one report, wrote its text, then what
--- is told of its refused modules, where that is asked for, put its images into the folder, where one is named, and ended by it.
+-- is told of its refused modules and its faults, where that is asked for, put its images into the folder, where one is named, and ended by it.
 pub record HasLoaded (verifiers : ℕ) (streams : List (Option (List ℕ))) (folder : Option (List ℕ)) (explain : Bool) (old new : Left) (ending : Ending) : Type 0 where
   pub report : Report
   pub loaded : (bytes : ℕ → List ℕ) → AreKnown streams bytes → IsLoaded (length streams) verifiers bytes report
   pub explained : List ℕ
-  pub explains : TellAsked explain report.modules explained
+  pub explains : TellAsked explain report.modules report.faults explained
   pub written : Appends old.out new.out (summary_text (summary_of report) ++ explained)
   -- whether all images were put
   pub all : Bool

@@ -13,12 +13,12 @@ use Rattle.lfi_commands.specs.Loading.{asked_images, folder_or_none}
 use Rattle.lfi_commands.specs.Refused.{TellAsked}
 
 -- What `lfiload serve` did with what so many connections sent, by so many verifiers: it found one report, and whether all of them were taken, wrote its text,
--- then what is told of its refused modules, where that is asked for, put its images into the folder, where one is named, and ended by it.
+-- then what is told of its refused modules and its faults, where that is asked for, put its images into the folder, where one is named, and ended by it.
 pub record HasServedAll (connections verifiers : ℕ) (folder : Option (List ℕ)) (explain : Bool) (old new : Left) (ending : Ending) : Type 0 where
   pub found : Served
   pub served : HasServed connections verifiers found
   pub explained : List ℕ
-  pub explains : TellAsked explain found.report.modules explained
+  pub explains : TellAsked explain found.report.modules found.report.faults explained
   pub written : Appends old.out new.out (summary_text (summary_of found.report) ++ explained)
   -- whether all images were put
   pub all : Bool

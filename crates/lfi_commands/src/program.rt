@@ -153,7 +153,7 @@ fn write_asked_images<D: Disk, E: Write>(
 }
 
 /// Loads the modules of the streams in these files, with so many verifiers, writes the report, then what is told of refused
-/// modules where that is asked for, and writes the whole images to a folder where one is named.
+/// modules and of faults where that is asked for, and writes the whole images to a folder where one is named.
 fn run_load<
     'a,
     S: Threads + Wait + Files + Net + Sync,
@@ -189,7 +189,7 @@ fn run_load<
         Err(CommandFault::NotWritten(cause)) => return Err(Failure::of_output(cause)),
         Err(_) => return Err(Failure::NoMemory),
     };
-    match write_asked_refused(explain, &report.modules, out) {
+    match write_asked_refused(explain, &report.modules, &report.faults, out) {
         Ok(()) => {}
         Err(error) => return Err(Failure::of_output(DeviceCause::of(&error))),
     }
@@ -198,7 +198,8 @@ fn run_load<
 }
 
 /// Loads the modules of what so many connections send over a socket at this path, with so many verifiers, writes the report,
-/// then what is told of refused modules where that is asked for, and writes the whole images to a folder where one is named.
+/// then what is told of refused modules and of faults where that is asked for, and writes the whole images to a folder where
+/// one is named.
 fn run_serve<
     S: Threads + Wait + Files + Net + Sync,
     D: Disk,
@@ -246,7 +247,7 @@ fn run_serve<
         Err(CommandFault::NotWritten(cause)) => return Err(Failure::of_output(cause)),
         Err(_) => return Err(Failure::NoMemory),
     };
-    match write_asked_refused(explain, &served.report.modules, out) {
+    match write_asked_refused(explain, &served.report.modules, &served.report.faults, out) {
         Ok(()) => {}
         Err(error) => return Err(Failure::of_output(DeviceCause::of(&error))),
     }

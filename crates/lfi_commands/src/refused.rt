@@ -1,10 +1,11 @@
-//! What is told of refused modules.
+//! What is told of refused modules, and of connections with a fault.
 
 ghost use Rattle.std.specs.Prelude.{◌≡◌, ◌++◌, ℕ, List, IfOk, OnOk};
 ghost use Rattle.std.specs.Io.KnownBytes.{Appends};
-ghost use Rattle.lfi_commands.specs.Refused.{IsRefusal, refusal_lines, TellRefused, TellAsked};
+ghost use Rattle.lfi_commands.specs.Refused.{IsRefusal, refusal_lines, fault_line, fault_lines, TellRefused, TellAsked};
 
 use lfi_explain::{Explanation, explain_word};
+use lfi_frame::FrameFault;
 use lfi_model::Outcome;
 use lfi_place::{ImageState, ModuleReport};
 use std::io::{self, Write};
@@ -56,7 +57,28 @@ pub fn write_refused<W: Write>(modules: &[ModuleReport], out: &mut W) -> io::Res
     Ok(())
 }
 
-/// Writes so of these modules, where that is asked for, and else nothing.
+/// Writes the line of a connection, where it came to a fault.
+fn write_fault<W: Write>(number: usize, fault: Option<FrameFault>, out: &mut W) -> io::Result<()>
+    ensures { OnOk result (Appends (W.contents out.old) (W.contents out.new) (fault_line number fault)) }
+{
+    match fault {
+        Some(fault) => writeln!(out, "connection {number}: {fault}"),
+        None => Ok(()),
+    }
+}
+
+/// Writes a line for each of these connections that came to a fault, by their numbers: `connection 1: `, and then the fault
+/// in words.
+fn write_faults<W: Write>(faults: &[Option<FrameFault>], out: &mut W) -> io::Result<()>
+    ensures { OnOk result (Appends (W.contents out.old) (W.contents out.new) (fault_lines faults.now)) }
+{
+    for (number, fault) in faults.iter().enumerate() {
+        write_fault(number, *fault, out)?;
+    }
+    Ok(())
+}
+
+/// Writes so of these modules, and then of these connections, where that is asked for, and else nothing.
 ///
 /// # Errors
 ///
@@ -64,12 +86,14 @@ pub fn write_refused<W: Write>(modules: &[ModuleReport], out: &mut W) -> io::Res
 pub(crate) fn write_asked_refused<W: Write>(
     explain: bool,
     modules: &[ModuleReport],
+    faults: &[Option<FrameFault>],
     out: &mut W,
 ) -> io::Result<()>
-    ensures { IfOk result (λ _. (text : List ℕ) × TellAsked explain modules.now text × Appends (W.contents out.old) (W.contents out.new) text) }
+    ensures { IfOk result (λ _. (text : List ℕ) × TellAsked explain modules.now faults.now text × Appends (W.contents out.old) (W.contents out.new) text) }
 {
     if !explain {
         return Ok(());
     }
-    write_refused(modules, out)
+    write_refused(modules, out)?;
+    write_faults(faults, out)
 }

@@ -220,12 +220,16 @@ struct Answer {
 
 /// What is explained of a word that no instruction spells.
 const UNSPELLED: &str =
-    "word 0 rule 1\n  0x0000000100010000  00000000  .inst 0x00000000\n  an instruction of the profile spells each word; none spells this one\n";
+    "word 0 rule 1\n  0x0000000100010000  00000000  .inst 0x00000000\n  an instruction of the profile spells each word; none spells this one\n  mend: put instructions of the profile in its place: docs/PROFILE.md lists them, and what stands in for others\n";
 
 /// The report on a module with that word.
 const REFUSED: &str = "module 0: refused, word 0 rule 1\nstrays 0\n";
 
-const ANSWERS: [Answer; 7] = [
+/// What is told of a stream that ends after its Open, with its fault in words.
+const CUT: &str =
+    "module 0: lost, fault 9\nconnection 0: fault 9\nstrays 0\nconnection 0: input ended too early\n";
+
+const ANSWERS: [Answer; 8] = [
     Answer {
         line: "lfiload check written.tmp/written.code",
         length: 16,
@@ -237,6 +241,10 @@ const ANSWERS: [Answer; 7] = [
     Answer {
         line: "lfiload load --explain written.tmp/zero.stream",
         length: REFUSED.len() + 10 + UNSPELLED.len(),
+    },
+    Answer {
+        line: "lfiload load --explain written.tmp/cut.stream",
+        length: CUT.len(),
     },
     Answer {
         line: "lfiload check --explain written.tmp/zero.code",
@@ -263,6 +271,7 @@ fn output_that_fails(rt: HostRuntime) -> Result<(), Fail> {
     fs::write(&rt, "written.tmp/written.stream", ONE_RET.as_slice())?;
     fs::write(&rt, "written.tmp/zero.code", &[0, 0, 0, 0])?;
     fs::write(&rt, "written.tmp/zero.stream", ZERO.as_slice())?;
+    fs::write(&rt, "written.tmp/cut.stream", &ONE_RET[..12])?;
     for answer in ANSWERS {
         let line = answer.line;
         for left in 0..answer.length {

@@ -15,13 +15,13 @@ const RUNS: [Run; 9] = [
     Run {
         line: "lfiload check --explain explained.tmp/three.code",
         status: 1,
-        out: "word 0 rule 2\n  0x0000000100010000  b9400261  ldr w1, [x19]\n  a load or store goes through x18, x21, x23, x24 or sp at an immediate offset, through sp and changes it, or through x21 by a W register with uxtw and no shift; this one goes through x19\n",
+        out: "word 0 rule 2\n  0x0000000100010000  b9400261  ldr w1, [x19]\n  a load or store goes through x18, x21, x23, x24 or sp at an immediate offset, through sp and changes it, or through x21 by a W register with uxtw and no shift; this one goes through x19\n  mend: put add xD, x21, w19, uxtw before it, D being 18, 23 or 24, and let it go through xD\n",
         err: "",
     },
     Run {
         line: "lfiload check --explain explained.tmp/unmet.code",
         status: 1,
-        out: "word 1 rule 10\n  0x0000000100010000  f94006be  ldr x30, [x21, #8]\n  0x0000000100010004  d503201f  nop\n  a load of a table entry into x30 is followed by blr x30; this word isn't that\n",
+        out: "word 1 rule 10\n  0x0000000100010000  f94006be  ldr x30, [x21, #8]\n  0x0000000100010004  d503201f  nop\n  a load of a table entry into x30 is followed by blr x30; this word isn't that\n  mend: put blr x30 right after the load, and before the load what stood between them\n",
         err: "",
     },
     Run {
@@ -70,7 +70,7 @@ const RUNS: [Run; 9] = [
 
 /// What is told of all words of THREE that break a rule.
 const OF_THREE: &str =
-    "word 0 rule 2\n  0x0000000100010000  b9400261  ldr w1, [x19]\n  a load or store goes through x18, x21, x23, x24 or sp at an immediate offset, through sp and changes it, or through x21 by a W register with uxtw and no shift; this one goes through x19\nword 2 rule 3\n  0x0000000100010008  aa0003f5  orr x21, xzr, x0\n  x21 holds where the slot begins and is never written; this one writes it\nword 3 rule 10\n  0x000000010001000c  f94006be  ldr x30, [x21, #8]\n  the last word asks nothing of a next one; this one asks for blr x30\nwords refused: 3\n";
+    "word 0 rule 2\n  0x0000000100010000  b9400261  ldr w1, [x19]\n  a load or store goes through x18, x21, x23, x24 or sp at an immediate offset, through sp and changes it, or through x21 by a W register with uxtw and no shift; this one goes through x19\n  mend: put add xD, x21, w19, uxtw before it, D being 18, 23 or 24, and let it go through xD\nword 2 rule 3\n  0x0000000100010008  aa0003f5  orr x21, xzr, x0\n  x21 holds where the slot begins and is never written; this one writes it\n  mend: let it write a free register in place of x21\nword 3 rule 10\n  0x000000010001000c  f94006be  ldr x30, [x21, #8]\n  the last word asks nothing of a next one; this one asks for blr x30\n  mend: put blr x30 right after the load, and before the load what stood between them\nwords refused: 3\n";
 
 /// These words as the bytes of a file.
 fn bytes_of(alloc: Global, words: &[u32]) -> Result<Vec<u8>, AllocError> {

@@ -186,22 +186,22 @@ const BROKEN: [Broken; 4] = [
     Broken {
         at: 0,
         byte: 0x4D,
-        err: "image refused, fault 1\n",
+        err: "image refused, fault 1\n  it is no image file\n",
     },
     Broken {
         at: 12,
         byte: 2,
-        err: "image refused, fault 2\n",
+        err: "image refused, fault 2\n  its profile is not 1\n",
     },
     Broken {
         at: 4,
         byte: 0,
-        err: "image refused, fault 3\n",
+        err: "image refused, fault 3\n  its word count or its entry is out of range\n",
     },
     Broken {
         at: 20,
         byte: 0,
-        err: "image refused, fault 4\n",
+        err: "image refused, fault 4\n  its base is that of no slot\n",
     },
 ];
 
@@ -229,20 +229,20 @@ const RUNS: [Run; 4] = [
         line: "lfiload run cut.tmp/cut.img --steps 5",
         status: 1,
         out: "",
-        err: "image refused, fault 5\n",
+        err: "image refused, fault 5\n  it ends before its code does\n",
     },
     Run {
         line: "lfiload run cut.tmp/long.img --steps 5",
         status: 1,
         out: "",
-        err: "image refused, fault 6\n",
+        err: "image refused, fault 6\n  bytes follow its code\n",
     },
     // A folder is opened, and then can't be read.
     Run {
         line: "lfiload run cut.tmp --steps 5",
         status: 3,
         out: "",
-        err: "image refused, fault 9\n",
+        err: "image refused, fault 9\n  a read or a write failed\n",
     },
     Run {
         line: "lfiload run missing.img --steps 5",

@@ -1,4 +1,4 @@
-//! `lfiload load --explain` over streams of which some modules are refused.
+//! `lfiload load --explain` over streams of which some modules are refused, and some have a fault.
 
 use crate::runs::{ONE_RET, ONE_RET_REPORT, Run, assert_runs, begin};
 use lfi_commands::{WrittenNotices, load};
@@ -30,9 +30,13 @@ pub const THREE: [u8; 124] = [
 
 /// What is told of them, with the lines of `--explain`.
 pub const EXPLAINED: &str =
-    "module 1: refused, word 1 rule 10\nmodule 2: complete, 1 words\nmodule 3: refused, word 0 rule 1\nstrays 0\nmodule 1: word 1 rule 10\n  0x0000000300010000  f94006be  ldr x30, [x21, #8]\n  0x0000000300010004  d503201f  nop\n  a load of a table entry into x30 is followed by blr x30; this word isn't that\nmodule 3: word 0 rule 1\n  0x0000000700010000  d4000001  .inst 0xd4000001\n  an instruction of the profile spells each word; none spells this one\n";
+    "module 1: refused, word 1 rule 10\nmodule 2: complete, 1 words\nmodule 3: refused, word 0 rule 1\nstrays 0\nmodule 1: word 1 rule 10\n  0x0000000300010000  f94006be  ldr x30, [x21, #8]\n  0x0000000300010004  d503201f  nop\n  a load of a table entry into x30 is followed by blr x30; this word isn't that\n  mend: put blr x30 right after the load, and before the load what stood between them\nmodule 3: word 0 rule 1\n  0x0000000700010000  d4000001  .inst 0xd4000001\n  an instruction of the profile spells each word; none spells this one\n  mend: put instructions of the profile in its place: docs/PROFILE.md lists them, and what stands in for others\n";
 
-const RUNS: [Run; 4] = [
+/// The same beside a connection whose first message is of no kind.
+const EXPLAINED_WITH_FAULTS: &str =
+    "module 1: refused, word 1 rule 10\nmodule 2: complete, 1 words\nmodule 3: refused, word 0 rule 1\nconnection 1: fault 1\nstrays 0\nmodule 1: word 1 rule 10\n  0x0000000300010000  f94006be  ldr x30, [x21, #8]\n  0x0000000300010004  d503201f  nop\n  a load of a table entry into x30 is followed by blr x30; this word isn't that\n  mend: put blr x30 right after the load, and before the load what stood between them\nmodule 3: word 0 rule 1\n  0x0000000700010000  d4000001  .inst 0xd4000001\n  an instruction of the profile spells each word; none spells this one\n  mend: put instructions of the profile in its place: docs/PROFILE.md lists them, and what stands in for others\nconnection 1: unknown kind of message\n";
+
+const RUNS: [Run; 7] = [
     Run {
         line: "lfiload load --explain refused.tmp/three.stream",
         status: 1,
@@ -51,7 +55,25 @@ const RUNS: [Run; 4] = [
         out: EXPLAINED,
         err: "",
     },
-    // Where no module is refused, nothing follows the report.
+    Run {
+        line: "lfiload load --explain refused.tmp/three.stream refused.tmp/kind.stream",
+        status: 1,
+        out: EXPLAINED_WITH_FAULTS,
+        err: "",
+    },
+    Run {
+        line: "lfiload load --explain refused.tmp/cut.stream refused.tmp/kind.stream",
+        status: 1,
+        out: "module 0: lost, fault 9\nconnection 0: fault 9\nconnection 1: fault 1\nstrays 0\nconnection 0: input ended too early\nconnection 1: unknown kind of message\n",
+        err: "",
+    },
+    Run {
+        line: "lfiload load refused.tmp/cut.stream",
+        status: 1,
+        out: "module 0: lost, fault 9\nconnection 0: fault 9\nstrays 0\n",
+        err: "",
+    },
+    // Where no module is refused and no connection has a fault, nothing follows the report.
     Run {
         line: "lfiload load refused.tmp/one_ret.stream --explain",
         status: 0,
@@ -65,6 +87,12 @@ fn refused_modules(rt: HostRuntime) -> Result<(), Fail> {
     begin(&rt, "refused.tmp")?;
     fs::write(&rt, "refused.tmp/three.stream", THREE.as_slice())?;
     fs::write(&rt, "refused.tmp/one_ret.stream", ONE_RET.as_slice())?;
+    fs::write(&rt, "refused.tmp/cut.stream", &ONE_RET[..12])?;
+    fs::write(
+        &rt,
+        "refused.tmp/kind.stream",
+        &[4, 0, 0, 0, 0, 0, 0, 0, 0, 0, 0, 0],
+    )?;
     assert_runs(&rt, RUNS.as_slice())?;
     assert!(rt; fs::exists(&rt, "refused.tmp/module-02.img")?);
     assert!(rt; !fs::exists(&rt, "refused.tmp/module-03.img")?);

@@ -10,6 +10,7 @@ use Rattle.lfi_explain.specs.declared.spelling.Spelling.{Spelling}
 use Rattle.lfi_explain.specs.declared.explanation.Explanation.{Explanation}
 use Rattle.lfi_explain.specs.Spellings.{IsSpelling, located_text, is_nothing}
 use Rattle.lfi_explain.specs.Sentences.{unmet_in, sentence_text}
+use Rattle.lfi_explain.specs.Mendings.{mending_text}
 
 abbrev pub is_need_met : Rule → Bool
 is_need_met NeedMet = true
@@ -29,10 +30,14 @@ opener_text e = by_before e.before
     by_before None = []
 
 -- three or four lines: the fault; the word before, where its need isn't met; the word; what the rule asks
-abbrev pub explanation_text : Explanation → List ℕ
-explanation_text e =
+abbrev pub told_text : Explanation → List ℕ
+told_text e =
     fault_text e.fault ++ codes "\n" ++ opener_text e ++ codes "  " ++ located_text e.slot e.fault.word e.at ++ codes "\n  "
     ++ sentence_text e
+
+-- these, and a line that says how the word is mended
+abbrev pub explanation_text : Explanation → List ℕ
+explanation_text e = told_text e ++ codes "\n  mend: " ++ mending_text e
 
 -- the word before place k, if there is one
 abbrev pub word_before : List ℕ → (k : ℕ) → Option ℕ

@@ -1,4 +1,5 @@
 pub mod Spellings
 pub mod Sentences
+pub mod Mendings
 pub mod Explanations
 pub mod Listings

@@ -6,6 +6,7 @@ ghost use Rattle.lfi_explain.specs.Explanations as spec;
 ghost use Rattle.lfi_explain.specs.Sentences.{unmet_in};
 
 use crate::located::Located;
+use crate::mending::Mending;
 use crate::sentence::Sentence;
 use crate::spelling::Spelling;
 use a64_word::Words;
@@ -75,24 +76,37 @@ impl fmt::Display for Opener {
     }
 }
 
-impl fmt::Display for Explanation {
-    ghost output = { λ explanation. Some (spec.explanation_text explanation) };
+/// What is told of a fault, but how it is mended.
+#[derive(Clone, Copy)]
+struct Told(Explanation);
 
-    /// Writes three lines, without the end of the last: the fault, as `word 16 rule 2`; the word at its address, after that of
-    /// the word before where its need isn't met; and what the rule asks.
+impl fmt::Display for Told {
+    ghost output = { λ told. Some (spec.told_text told.0) };
+
     fn fmt<W: fmt::Write>(&self, f: &mut fmt::Formatter<W>) -> fmt::Result {
+        let told = &self.0;
         let located = Located {
-            slot: self.slot,
-            place: self.fault.word,
-            spelling: self.at,
+            slot: told.slot,
+            place: told.fault.word,
+            spelling: told.at,
         };
         write!(
             f,
             "{}\n{}  {located}\n  {}",
-            self.fault,
-            Opener(*self),
-            Sentence(*self)
+            told.fault,
+            Opener(*told),
+            Sentence(*told)
         )
+    }
+}
+
+impl fmt::Display for Explanation {
+    ghost output = { λ explanation. Some (spec.explanation_text explanation) };
+
+    /// Writes four lines, without the end of the last: the fault, as `word 16 rule 2`; the word at its address, after that of
+    /// the word before where its need isn't met; what the rule asks; and how the word is mended.
+    fn fmt<W: fmt::Write>(&self, f: &mut fmt::Formatter<W>) -> fmt::Result {
+        write!(f, "{}\n  mend: {}", Told(*self), Mending(*self))
     }
 }
 

@@ -31,6 +31,12 @@
 //!   that need alone.
 //! - **The number of refusals is a line of its own form** (`words refused: 1`), which needs no plural.
 //! - **A sentence names registers by wM and xD** where any would do.
+//! - **How a word is mended is a line of its own**, which begins with `mend:` and is chosen by the rule, the word's own
+//!   registers and the need that isn't met. What it advises keeps the rule, whatever the registers are: so it names no
+//!   place for the word that writes a guarded register, since a load of a pair can open a need besides; it leaves the
+//!   choice of D and M, since a store may have its data in any of them; and it takes the index of a sum as W, since an
+//!   offset from x21 has 32 bits.
+//! - **`Told` is all but that line**: one `write!` of both has too many parts for the search.
 #![tactic(auto)]
 
 mod digits;
@@ -38,6 +44,7 @@ mod explanation;
 mod kept;
 mod listing;
 mod located;
+mod mending;
 mod refusals;
 mod sentence;
 mod spelling;

@@ -1,5 +1,5 @@
 pub mod Growing
 pub mod Faults
-mod Lines
+pub mod Lines
 pub mod Numbered
 pub mod OneText

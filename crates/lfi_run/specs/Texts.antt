@@ -3,6 +3,7 @@ use Rattle.std.specs.Prelude.{ℕ, List, ◌++◌, codes, decimal}
 use Rattle.lfi_explain.specs.Spellings.{hexadecimal}
 use Rattle.lfi_rules.specs.Texts.{fault_text}
 use Rattle.lfi_image.specs.Faults.{number_of}
+use Rattle.lfi_image.specs.Faults as images
 use Rattle.lfi_image.specs.declared.fault.ImageFault.{ImageFault}
 use Rattle.lfi_image.specs.declared.fault.ImageFault.TheVariants.{Unlawful}
 use Rattle.lfi_confinement.specs.declared.cause.Cause.{Cause}
@@ -30,12 +31,12 @@ halt_text (Stopped cause) = stop_text cause
 halt_text StepsUsed = codes "halt 1"
 halt_text NoMemory = codes "halt 7"
 
--- why there is no image
+-- why there is no image: the number of the fault and, on a second line, the fault in words; of unlawful code the fault of the code
 abbrev pub refusal_text : ImageFault → List ℕ
 refusal_text (Unlawful fault) = codes "image refused, fault 7, " ++ fault_text fault
-refusal_text fault = codes "image refused, fault " ++ decimal (number_of fault)
+refusal_text fault = codes "image refused, fault " ++ decimal (number_of fault) ++ codes "\n  " ++ images.fault_text fault
 
--- the line, without its end
+-- the line, or two where there is no image, without the end of the last
 abbrev pub run_text : ImageRun → List ℕ
 run_text (Refused fault) = refusal_text fault
 run_text (Ended halt steps) = halt_text halt ++ codes " after " ++ decimal steps ++ codes " steps"

@@ -34,7 +34,7 @@ impl fmt::Display for Refusal {
     fn fmt<W: fmt::Write>(&self, f: &mut fmt::Formatter<W>) -> fmt::Result {
         match self.0 {
             ImageFault::Unlawful(fault) => write!(f, "image refused, fault 7, {fault}"),
-            other => write!(f, "image refused, fault {}", other.number()),
+            other => write!(f, "image refused, fault {}\n  {other}", other.number()),
         }
     }
 }
@@ -67,7 +67,7 @@ impl fmt::Display for Ending {
 impl fmt::Display for ImageRun {
     ghost output = { λ run. Some (run_text run) };
 
-    /// Writes what is told of it, without the line's end.
+    /// Writes what is told of it, in a line, or in two where there is no image; without the end of the last.
     fn fmt<W: fmt::Write>(&self, f: &mut fmt::Formatter<W>) -> fmt::Result {
         match self {
             ImageRun::Refused(fault) => write!(f, "{}", Refusal(*fault)),
