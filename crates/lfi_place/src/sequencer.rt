@@ -11,6 +11,7 @@ use lfi_board::{Board, SequencerSeat};
 use lfi_model::Judged;
 use lfi_module::ModuleNumber;
 use lfi_queues::{Lane, LaneTake};
+use page_buf::PoolMember;
 use std::alloc::{AllocError, Global};
 use std::sync::Wait;
 
@@ -35,8 +36,8 @@ pub struct Sequencer {
 impl Sequencer {
     ghost use Rattle.lfi_place.specs.Turns.{lane_pass_of, seat_of, sequence_of, told_of_sequencer, IsSequenced, LaneTaken, TellsBoard};
 
-    /// The sequencer of a module, with its pass of the module's lane and its seat of the board. No
-    /// item has come. The memory for the module's pages is reserved, and so is a place for each
+    /// The sequencer of a module, with its pass of the module's lane, its seat of the board, and the
+    /// pool to which it gives the pages that it doesn't place. No item has come. The memory for the module's pages is reserved, and so is a place for each
     /// item.
     ///
     /// # Errors
@@ -47,6 +48,7 @@ impl Sequencer {
         module: ModuleNumber,
         pass: LaneTake<Judged>,
         seat: SequencerSeat,
+        pool: PoolMember,
     ) -> Result<Sequencer, AllocError>
         requires fresh { pass.items ≡ [] }
         requires seat { module_of seat ≡ «module» }
@@ -55,7 +57,7 @@ impl Sequencer {
         ensures module { IfOk result (λ s. (sequence_of s).«module» ≡ «module») }
         ensures sequenced { IfOk result IsSequenced }
     {
-        let sequence = Sequence::new(alloc, module)?;
+        let sequence = Sequence::new(alloc, module, pool)?;
         Ok(Sequencer {
             pass,
             seat,

@@ -6,6 +6,7 @@ use lfi_model::{Outcome, Reason};
 use lfi_module::WordCount;
 use lfi_place::{ImageState, ModuleReport, RefusedWord, Sequence};
 use lfi_rules::{Fault, Rule};
+use page_buf::PoolMember;
 use std::alloc::Global;
 use std::test::Fail;
 
@@ -41,7 +42,7 @@ fn order(alloc: Global, count: usize, number: usize) -> Result<Vec<usize>, Fail>
 
 /// What became of the module whose items came in this order.
 fn placed(alloc: Global, parts: &[Part]) -> Result<ModuleReport, Fail> {
-    let mut sequence = Sequence::new(alloc, module())?;
+    let mut sequence = Sequence::new(alloc, module(), PoolMember::new(alloc)?)?;
     for part in parts {
         sequence.handle(judged(alloc, *part)?);
     }
@@ -50,7 +51,7 @@ fn placed(alloc: Global, parts: &[Part]) -> Result<ModuleReport, Fail> {
 
 /// The same, with the parts in order `number`.
 fn placed_by(alloc: Global, parts: &[Part; 5], number: usize) -> Result<ModuleReport, Fail> {
-    let mut sequence = Sequence::new(alloc, module())?;
+    let mut sequence = Sequence::new(alloc, module(), PoolMember::new(alloc)?)?;
     for place in order(alloc, 5, number)? {
         let part = parts.get(place).ok_or("no such part")?;
         sequence.handle(judged(alloc, *part)?);
@@ -163,7 +164,7 @@ fn a_need_is_unmet_by_the_next_page(rt: HostRuntime) -> Result<(), Fail> {
 #[test]
 fn nothing_is_before_the_first_word(rt: HostRuntime) -> Result<(), Fail> {
     let words = WordCount::of(1);
-    let mut sequence = Sequence::new(rt.alloc(), module())?;
+    let mut sequence = Sequence::new(rt.alloc(), module(), PoolMember::new(rt.alloc())?)?;
     for part in [
         Part::Open,
         Part::Page(0, UNKNOWN),
@@ -196,6 +197,38 @@ fn the_first_of_an_ordinal_is_placed(rt: HostRuntime) -> Result<(), Fail> {
     Ok(())
 }
 
+/// How many pages are in the pool of a sequence that was handed these items.
+fn given_back(alloc: Global, parts: &[Part]) -> Result<u64, Fail> {
+    let mut member = PoolMember::new(alloc)?;
+    let mut sequence = Sequence::new(alloc, module(), member.another()?)?;
+    for part in parts {
+        sequence.handle(judged(alloc, *part)?);
+    }
+    let mut count = 0u64;
+    for _ in 0..64 {
+        count = count.wrapping_add(u64::from(member.get().is_some()));
+    }
+    Ok(count)
+}
+
+#[test]
+fn pages_that_are_not_placed_go_to_the_pool(rt: HostRuntime) -> Result<(), Fail> {
+    let [open, first, second, third, end] = LAWFUL;
+    let unlawful = Part::Page(1, UNKNOWN);
+    let again = Part::Page(0, mark(99));
+    for (parts, count) in [
+        ([open, first, second, third, end, end], 0),
+        ([open, first, unlawful, third, end, end], 2),
+        ([third, unlawful, first, open, end, end], 2),
+        ([open, first, again, second, third, end], 1),
+        ([first, again, open, second, third, end], 1),
+        ([open, first, second, third, end, again], 1),
+    ] {
+        assert_eq!(rt; given_back(rt.alloc(), &parts)?, count);
+    }
+    Ok(())
+}
+
 #[test]
 fn nothing_follows_an_end(rt: HostRuntime) -> Result<(), Fail> {
     let [open, first, _, third, _] = LAWFUL;
@@ -210,7 +243,7 @@ fn nothing_follows_an_end(rt: HostRuntime) -> Result<(), Fail> {
 
 #[test]
 fn items_of_other_words_never_come(rt: HostRuntime) -> Result<(), Fail> {
-    let mut sequence = Sequence::new(rt.alloc(), module())?;
+    let mut sequence = Sequence::new(rt.alloc(), module(), PoolMember::new(rt.alloc())?)?;
     let other = item_of(rt.alloc(), WordCount::of(1030), Part::Page(0, mark(99)))?;
     sequence.handle(other.judge());
     sequence.handle(judged(rt.alloc(), Part::Open)?);

@@ -11,6 +11,7 @@ use lfi_board::{Board, Claim, Phase, ReceiverSeat};
 use lfi_model::{Judged, Reason};
 use lfi_place::{Sequencer, SequencerTurn};
 use lfi_queues::{Lane, LanePut};
+use page_buf::PoolMember;
 use std::alloc::Global;
 use std::sync::Wait;
 use std::test::Fail;
@@ -47,7 +48,7 @@ impl Row {
         let put = puts.swap_remove(0);
         let take = takes.swap_remove(0);
         let of = seats.sequencers.swap_remove(3);
-        let sequencer = Sequencer::new(alloc, module(), take, of)?;
+        let sequencer = Sequencer::new(alloc, module(), take, of, PoolMember::new(alloc)?)?;
         Ok(Row {
             board,
             seat,

@@ -24,6 +24,7 @@ use lfi_frame::{Feed, FrameFault, Got, Step};
 use lfi_model::{Cause, Item, ItemKind, Progress, Reason};
 use lfi_module::{Extent, ModuleNumber, PageSize};
 use lfi_queues::{Intake, PutPass};
+use page_buf::PoolMember;
 use std::alloc::Global;
 
 /// What a turn did.
@@ -86,8 +87,8 @@ impl Receiver {
     ghost use Rattle.lfi_receive.specs.Receivers.{pass_of, seat_of, claimed_by, cause_of, hand_of, fault_of, strays_at, cause_after, StandsFor, IsOver, IsDuePage, IsFinished, due_of, AfterEnd};
 
     /// A receiver of which no byte has come, with its pass of the intake and its seat at the board,
-    /// neither of which was used.
-    pub fn new(alloc: Global, pass: PutPass<Item>, seat: ReceiverSeat) -> Receiver
+    /// neither of which was used, and the pool that it asks for pages first.
+    pub fn new(alloc: Global, pass: PutPass<Item>, seat: ReceiverSeat, pool: PoolMember) -> Receiver
         requires pass { pass.items ≡ [] }
         requires unclaimed { (known_by seat).claimed ≡ [] }
         requires running { (known_by seat).ended ≡ false }
@@ -98,7 +99,7 @@ impl Receiver {
         ensures running { cause_of result ≡ None }
     {
         Receiver {
-            memory: PageMemory::new(alloc),
+            memory: PageMemory::new(alloc, pool),
             feed: Feed::new(),
             pass,
             seat: OwnSeat { seat, told: false },

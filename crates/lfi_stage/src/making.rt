@@ -14,13 +14,15 @@ use lfi_module::ModuleNumber;
 use lfi_place::{Sequencer, Verifier};
 use lfi_queues::{LanePut, LaneTake, PutPass, TakePass};
 use lfi_receive::Receiver;
+use page_buf::PoolMember;
 use std::alloc::{AllocError, Global};
 
-/// A receiver for each of these passes, with the seat at the pass's place.
+/// A receiver for each of these passes, with the seat at the pass's place and a seat at the pool.
 pub(crate) fn make_receivers(
     alloc: Global,
     puts: Vec<PutPass<Item>>,
     mut seats: [Option<ReceiverSeat>; CONNECTIONS],
+    pool: &PoolMember,
 ) -> Result<Vec<Receiver>, AllocError>
     requires few { length puts.items ≤ 8 }
     requires puts { AreUnused puts.items }
@@ -30,7 +32,7 @@ pub(crate) fn make_receivers(
     let mut receivers = Vec::with_capacity(alloc, puts.len())?;
     for pass in puts {
         let seat = seats[receivers.len()].take().unwrap();
-        receivers.push(Receiver::new(alloc, pass, seat))?;
+        receivers.push(Receiver::new(alloc, pass, seat, pool.another()?))?;
     }
     Ok(receivers)
 }
@@ -52,11 +54,12 @@ pub(crate) fn make_verifiers(
     Ok(verifiers)
 }
 
-/// A sequencer for each module, with the pass and the seat at its place.
+/// A sequencer for each module, with the pass and the seat at its place and a seat at the pool.
 pub(crate) fn make_sequencers(
     alloc: Global,
     takes: Vec<LaneTake<Judged>>,
     seats: Vec<SequencerSeat>,
+    pool: &PoolMember,
 ) -> Result<Vec<Sequencer>, AllocError>
     requires count { length takes.items ≡ module_count }
     requires seats { length seats.items ≡ module_count }
@@ -69,7 +72,7 @@ pub(crate) fn make_sequencers(
     for pass in takes {
         let module = ModuleNumber::at(sequencers.len());
         let seat = seats.next().unwrap();
-        sequencers.push(Sequencer::new(alloc, module, pass, seat)?)?;
+        sequencers.push(Sequencer::new(alloc, module, pass, seat, pool.another()?)?)?;
     }
     Ok(sequencers)
 }
