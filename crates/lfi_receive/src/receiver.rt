@@ -97,6 +97,8 @@ impl Receiver {
         ensures seat { seat_of result ≡ seat }
         ensures empty_handed { hand_of result ≡ None }
         ensures running { cause_of result ≡ None }
+        ensures faultless { fault_of result ≡ None }
+        ensures strays { strays_at result ≡ 0 }
     {
         Receiver {
             memory: PageMemory::new(alloc, pool),
