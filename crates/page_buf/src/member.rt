@@ -1,12 +1,12 @@
 //! A pool that parts of a program share, each with a seat of its own.
 
 ghost use Rattle.std.specs.Prelude.{◌≡◌, [], IfSome, IfNone, IfOk, IfErr, OnOk, OnErr};
-ghost use Rattle.std.specs.Arc.{arc_value};
-ghost use Rattle.page_buf.specs.Pools.{pool_id, pool_of};
+ghost use Rattle.page_buf.specs.Sightings.{Found, Passed, empty, full};
 
 use crate::page::{OpenPage, SealedPage};
 use crate::pool::{Pool, PoolSeat};
 use std::alloc::{AllocError, Global};
+use std::marker::Model;
 use std::sync::Arc;
 
 /// A seat at a pool, with the pool, which is there as long as one of its members is. It can be sent
@@ -15,13 +15,22 @@ use std::sync::Arc;
 pub struct PoolMember {
     pool: Arc<Pool, Global>,
     seat: PoolSeat,
-    ghost tie: { pool_of seat ≡ pool_id (arc_value pool) },
+}
+
+impl Model for PoolMember {
+    ghost use Rattle.std.specs.Prelude.{◌≡◌};
+    ghost use Rattle.std.specs.Arc.{arc_value};
+    ghost use Rattle.page_buf.specs.Members.{MemberView};
+    ghost use Rattle.page_buf.specs.Pools.{pool_id, pool_of, seen_by};
+
+    ghost Value = { MemberView };
+
+    ghost view = { λ m. record { pool = pool_id (arc_value m.pool); seen = seen_by m.seat } };
+
+    ghost invariant = { λ m. pool_of m.seat ≡ pool_id (arc_value m.pool) };
 }
 
 impl PoolMember {
-    ghost use Rattle.page_buf.specs.Sightings.{Found, Passed, empty, full};
-    ghost use Rattle.page_buf.specs.Members.{pool_at, seen_at};
-
     /// The first member of a new pool, in which no page is.
     ///
     /// # Errors
@@ -42,7 +51,7 @@ impl PoolMember {
     ///
     /// `AllocError` where the pool has 2^63 members.
     pub fn another(&self) -> Result<PoolMember, AllocError>
-        ensures { IfOk result (λ other. pool_at other ≡ pool_at self.now) }
+        ensures { IfOk result (λ other. other.pool ≡ self.now.pool) }
     {
         let pool = Arc::try_clone(&self.pool)?;
         let seat = pool.seat();
@@ -51,10 +60,10 @@ impl PoolMember {
 
     /// `get` of the pool.
     pub fn get(&mut self) -> Option<OpenPage>
-        ensures pool { pool_at self.new ≡ pool_at self.old }
+        ensures pool { self.new.pool ≡ self.old.pool }
         ensures empty { IfSome result (λ page. page ≡ []) }
-        ensures some { IfSome result (λ _. Found full (seen_at self.old) (seen_at self.new)) }
-        ensures none { IfNone result (Passed full 64 (seen_at self.old) (seen_at self.new)) }
+        ensures some { IfSome result (λ _. Found full self.old.seen self.new.seen) }
+        ensures none { IfNone result (Passed full 64 self.old.seen self.new.seen) }
     {
         self.pool.get(&mut self.seat)
     }
@@ -65,10 +74,10 @@ impl PoolMember {
     ///
     /// The page as it was, only where each slot was found not empty, at a moment of the call.
     pub fn give(&mut self, page: SealedPage) -> Result<(), SealedPage>
-        ensures pool { pool_at self.new ≡ pool_at self.old }
-        ensures ok { OnOk result (Found empty (seen_at self.old) (seen_at self.new)) }
+        ensures pool { self.new.pool ≡ self.old.pool }
+        ensures ok { OnOk result (Found empty self.old.seen self.new.seen) }
         ensures back { IfErr result (λ back. back ≡ page) }
-        ensures err { OnErr result (Passed empty 64 (seen_at self.old) (seen_at self.new)) }
+        ensures err { OnErr result (Passed empty 64 self.old.seen self.new.seen) }
     {
         self.pool.give(&mut self.seat, page)
     }
