@@ -8,6 +8,6 @@ use Rattle.lfi_commands.proofs.refused.write_fault.Goals as goal
 pub returns-in-Some : goal.returns-in-Some
 returns-in-Some g c =
     on_ok_weaker c.writeln.result (λ written.
-      subst (λ (fault : Option FrameFault). Appends (g.W.Write.contents c.args.out.now) (g.W.Write.contents c.writeln.new.self) (fault_line c.args.number fault))
-      (sym c.in-Some.is) (simp append_assoc written))
+    subst (λ (fault : Option FrameFault). Appends (g.W.Write.contents c.args.out.now) (g.W.Write.contents c.writeln.new.self) (fault_line c.args.number fault))
+    (sym c.in-Some.is) (simp append_assoc written))
     c.writeln.ensures.bytes
