@@ -3,8 +3,8 @@ use Rattle.lfi_board.specs.Known.{sequencer_board, module_of}
 use Rattle.lfi_place_tests.proofs.Seats.{seat_on, module_at}
 use Rattle.lfi_place_tests.proofs.sequencers.Row.new.Goals as goal
 
-pub new-requires-3-clause-seat : goal.new-requires-3-clause-seat
-new-requires-3-clause-seat c =
+pub new-requires-4-clause-seat : goal.new-requires-4-clause-seat
+new-requires-4-clause-seat c =
     let made = c.in_ok-board.ensures in
     let seat = c.swap_remove-of in
     let of = module_at c.in_ok-board.board 1 0 3 c.in_ok-board.seats.sequencers.items seat.result made.sequencers.1 (omega (arith, made.sequencers.0)) in
