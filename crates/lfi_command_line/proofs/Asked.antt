@@ -20,7 +20,7 @@ use Rattle.clap.specs.declared.error.kind.ErrorKind.TheVariants as kind
 use Rattle.lfi_command_line.specs.declared.fault.LineFault.{LineFault}
 use Rattle.lfi_command_line.specs.declared.fault.LineFault.TheVariants.{NoMemory, Help, Wrong, TooManyStreams, TooManyModules}
 use Rattle.lfi_command_line.specs.Apps.{lfiload_app}
-use Rattle.lfi_command_line.specs.CommandLine.{AreTakenFor, IsLineFault, IsFlag, IsNumber, IsNumberOr, fault_by, fault_from, is_help}
+use Rattle.lfi_command_line.specs.CommandLine.{AreTakenFor, IsLineFault, IsFlag, IsNumber, IsNumberIfAny, IsNumberOr, fault_by, fault_from, is_help}
 use Rattle.lfi_command_line.specs.inner.Given.{AreTakenBy, IsFaultOfLoad, IsFaultOfPack, IsNumberGiven}
 use Rattle.lfi_command_line.proofs.Needs.{AllGive, Asks, asks, picked, shape_named}
 
@@ -81,6 +81,22 @@ number_read {E} G default least most id given r is none some only = go (first_of
 
     go : (o : Option Text) → first_of id given ≡ o → IsNumberOr default least most o (unwrap_or r default)
     go None at = rw (none (none_of id given at)) refl
+    go (Some t) at = let given' = is t at in read t r (some t given'.0) given'.1
+
+-- a number that is given is read as it is given, and none where none is
+pub number_read_if_any : {E : Type 0} (G : List ℕ → Result ℕ E → Type 0) (least most : ℕ) (id : Text) (given : List Row) (r : Option ℕ) → IsNumberGiven least most id given
+    → (one_of id given ≡ None → r ≡ None) → ((t : List ℕ) → one_of id given ≡ Some t → ReadsOne G t r) → ((u : List ℕ) (x : Result ℕ E) → G u x → ParsesUnsigned 64 10 u x)
+    → IsNumberIfAny least most (first_of id given) r
+number_read_if_any {E} G least most id given r is none some only = go (first_of id given) refl
+  where
+    read : (t : Text) (r : Option ℕ) → ReadsOne G t r → IsUnsignedIn least most t → IsNumberIfAny least most (Some t) r
+    read t (Some n) reads number =
+        let parsed = only t (Ok n) reads in
+        (n, refl, (number.0, parsed.1, rw parsed.1 number.2, rw parsed.1 number.3))
+    read t None reads number = absurd (only t (Err reads.0) reads.1 (number.0, number.1))
+
+    go : (o : Option Text) → first_of id given ≡ o → IsNumberIfAny least most o r
+    go None at = none (none_of id given at)
     go (Some t) at = let given' = is t at in read t r (some t given'.0) given'.1
 
 is_memory : ErrorKind → Bool

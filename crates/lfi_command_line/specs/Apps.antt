@@ -42,11 +42,12 @@ abbrev pub load_app : App
 load_app = with_rule (with_rule (with_rule (with_rule (new_app (codes "load")) (number_rule (codes "verifiers") (Unsigned 1 8))) (option_rule (codes "out"))) (several_rule (codes "STREAM")))
     (flag_rule (codes "explain"))
 
--- `serve --socket P --connections C [--verifiers V] [--out DIR] [--explain]`
+-- `serve --socket P --connections C [--verifiers V] [--seconds N] [--out DIR] [--explain]`
 abbrev pub serve_app : App
-serve_app = with_rule (with_rule (with_rule (with_rule (with_rule (new_app (codes "serve"))
+serve_app = with_rule (with_rule (with_rule (with_rule (with_rule (with_rule (new_app (codes "serve"))
     (needed (option_rule (codes "socket")))) (needed (number_rule (codes "connections") (Unsigned 1 8))))
-    (number_rule (codes "verifiers") (Unsigned 1 8))) (option_rule (codes "out"))) (flag_rule (codes "explain"))
+    (number_rule (codes "verifiers") (Unsigned 1 8))) (number_rule (codes "seconds") (Unsigned 1 86400)))
+    (option_rule (codes "out"))) (flag_rule (codes "explain"))
 
 -- `run IMAGE --steps N`
 abbrev pub run_app : App

@@ -23,6 +23,11 @@ abbrev pub IsNumberOr : (default least most : ℕ) → Option Text → ℕ → T
 IsNumberOr default least most None n = n ≡ default
 IsNumberOr default least most (Some text) n = IsNumber least most text n
 
+-- the number is what was given, and there is none where nothing was
+abbrev pub IsNumberIfAny : (least most : ℕ) → Option Text → Option ℕ → Type 0
+IsNumberIfAny least most None number = number ≡ None
+IsNumberIfAny least most (Some text) number = (n : ℕ) × (number ≡ Some n) × IsNumber least most text n
+
 -- a flag is given, by the value that the parser keeps for it
 abbrev pub IsFlag : Option Text → Bool → Type 0
 IsFlag None given = given ≡ false
@@ -44,9 +49,10 @@ IsAskedBy name given (Check file explain) = (name ≡ codes "check") × (first_o
 IsAskedBy name given (Load verifiers out explain streams) = (name ≡ codes "load") × IsFlag (one_of (codes "explain") given) explain × IsNumberOr 2 1 8 (first_of (codes "verifiers") given) verifiers
     × (first_of (codes "out") given ≡ option_map (λ s. s.now) out)
     × (all_of (codes "STREAM") given ≡ Some (map (λ s. s.now) streams.items)) × (1 ≤ length streams.items) × (length streams.items ≤ 8)
-IsAskedBy name given (Serve socket connections verifiers out explain) = (name ≡ codes "serve") × IsFlag (one_of (codes "explain") given) explain × (first_of (codes "socket") given ≡ Some socket.now)
+IsAskedBy name given (Serve socket connections verifiers seconds out explain) = (name ≡ codes "serve") × IsFlag (one_of (codes "explain") given) explain × (first_of (codes "socket") given ≡ Some socket.now)
     × ((text : Text) × (first_of (codes "connections") given ≡ Some text) × IsNumber 1 8 text connections)
-    × IsNumberOr 2 1 8 (first_of (codes "verifiers") given) verifiers × (first_of (codes "out") given ≡ option_map (λ s. s.now) out)
+    × IsNumberOr 2 1 8 (first_of (codes "verifiers") given) verifiers × IsNumberIfAny 1 86400 (first_of (codes "seconds") given) seconds
+    × (first_of (codes "out") given ≡ option_map (λ s. s.now) out)
 IsAskedBy name given (Run image steps) = (name ≡ codes "run") × (first_of (codes "IMAGE") given ≡ Some image.now)
     × ((text : Text) × (first_of (codes "steps") given ≡ Some text) × IsNumber 0 1000000000 text steps)
 IsAskedBy name given (Disassemble file) = (name ≡ codes "disassemble") × (first_of (codes "FILE") given ≡ Some file.now)

@@ -19,6 +19,9 @@ const MOST_CONNECTIONS: u64 = 8;
 /// The most verifiers that are asked for.
 const MOST_VERIFIERS: u64 = 8;
 
+/// The most seconds that `serve` is given: a day.
+const MOST_SECONDS: u64 = 86_400;
+
 /// The last module's number.
 const LAST_MODULE: u64 = 15;
 
@@ -138,6 +141,7 @@ fn serve_command<'a>(alloc: Global) -> Result<Command<'a>, AllocError>
         help::VERIFIERS,
         (1, MOST_VERIFIERS),
     );
+    let seconds = number_argument(alloc, "seconds", "N", help::SECONDS, (1, MOST_SECONDS));
     let out = option_argument(alloc, "out", "DIR", help::OUT);
     let explain = flag(alloc, "explain", help::EXPLAIN_MODULES);
     Command::new(alloc, "serve")
@@ -146,6 +150,7 @@ fn serve_command<'a>(alloc: Global) -> Result<Command<'a>, AllocError>
         .arg(socket)?
         .arg(connections)?
         .arg(verifiers)?
+        .arg(seconds)?
         .arg(out)?
         .arg(explain)
 }

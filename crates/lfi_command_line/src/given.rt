@@ -2,7 +2,7 @@
 
 ghost use Rattle.std.specs.Prelude.{◌≡◌, ℕ, IfOk, IfErr, true, is_some, codes};
 ghost use Rattle.clap.specs.Words.{first_of, one_of, rows_of, found_of};
-ghost use Rattle.lfi_command_line.specs.CommandLine.{IsAskedBy, IsFlag, IsNumberOr, explain_by};
+ghost use Rattle.lfi_command_line.specs.CommandLine.{IsAskedBy, IsFlag, IsNumberIfAny, IsNumberOr, explain_by};
 ghost use Rattle.lfi_command_line.specs.inner.Given.{IsNumberGiven, IsFaultOfLoad, IsFaultOfPack};
 
 use crate::fault::LineFault;
@@ -58,6 +58,14 @@ fn number_or(matches: &ArgMatches<'_>, id: &str, default: u64) -> u64
     matches.get_one::<u64>(id).unwrap_or(default)
 }
 
+/// The number that is given to this argument, where one is.
+fn number_if_any(matches: &ArgMatches<'_>, id: &str) -> Option<u64>
+    ensures { (least most : ℕ) → IsNumberGiven least most id.now (rows_of (found_of matches.now))
+        → IsNumberIfAny least most (first_of id.now (rows_of (found_of matches.now))) result }
+{
+    matches.get_one::<u64>(id)
+}
+
 /// What `load` asks for.
 ///
 /// # Errors
@@ -88,12 +96,14 @@ pub(crate) fn serve_line<'a>(serve: &ArgMatches<'a>) -> Line<'a>
     requires connections { is_some (first_of (codes "connections") (rows_of (found_of serve.now))) ≡ true }
     requires connection_count { IsNumberGiven 1 8 (codes "connections") (rows_of (found_of serve.now)) }
     requires verifiers { IsNumberGiven 1 8 (codes "verifiers") (rows_of (found_of serve.now)) }
+    requires seconds { IsNumberGiven 1 86400 (codes "seconds") (rows_of (found_of serve.now)) }
     ensures { IsAskedBy (codes "serve") (rows_of (found_of serve.now)) result }
 {
     Line::Serve {
         socket: serve.get_str("socket").unwrap(),
         connections: number_or(serve, "connections", 0) as usize,
         verifiers: number_or(serve, "verifiers", VERIFIERS) as usize,
+        seconds: number_if_any(serve, "seconds"),
         out: serve.get_str("out"),
         explain: is_given(serve, "explain"),
     }

@@ -43,6 +43,10 @@ pub const SOCKET: &str = "the path of the Unix socket; it is removed after the l
 /// Of `--connections`.
 pub const CONNECTIONS: &str = "how many connections are taken, 1 to 8";
 
+/// Of `--seconds`.
+pub const SECONDS: &str =
+    "how long it serves at the most, 1 to 86400; no limit where it isn't said";
+
 /// Of `--steps`.
 pub const STEPS: &str = "how many steps it may take, 0 to 1000000000";
 
@@ -125,9 +129,14 @@ Example: lfiload load --verifiers 4 --out images a.stream b.stream";
 pub const SERVE: &str =
     "Takes C connections, numbers them from 0 as they come, and reads each by a thread of its own.
 Prints the report once all of them have ended, as load does, and writes images as load does. The
-report waits for each connection, also for one that sends nothing: a limit of time is the user's,
-as in `timeout 60 lfiload serve ..`. The status is load's; it is 3 as well where a connection could
-not be taken: that one has no messages.
+report waits for each connection, also for one that sends nothing. The status is load's; it is 3 as
+well where a connection was not taken: that one has no messages.
+
+With --seconds N it waits for N seconds at the most. A connection that has not come by then has no
+messages (status 3), and one that is open ends where it is, as if its client had closed it.
+
+The path is removed after the last connection, and when the time is over. A signal ends the program
+at once and leaves the path; serve can't listen there again before it is removed.
 
 On the standard error:
   module M refused            A connection's thread has seen that module M is refused; the report
@@ -136,7 +145,7 @@ On the standard error:
   lfiload: cannot write PATH  An image can't be written (status 3).
   lfiload: no memory          There was no memory, or a thread could not be started (status 3).
 
-Example: lfiload serve --socket /tmp/lfi.sock --connections 2 --verifiers 4 --out images";
+Example: lfiload serve --socket /tmp/lfi.sock --connections 2 --seconds 60 --out images";
 
 /// Of `run`: its lines.
 pub const RUN: &str =

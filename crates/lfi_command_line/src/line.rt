@@ -39,12 +39,13 @@ pub enum Line<'a> {
         streams: Vec<&'a str>,
     },
     /// To listen at a socket's path, to load the modules of the streams of so many connections, 1 to
-    /// 8, with so many verifiers, 1 to 8, to explain why modules are refused, and to write the whole
-    /// images into a folder.
+    /// 8, with so many verifiers, 1 to 8, for so many seconds, 1 to 86,400, where that is said, to
+    /// explain why modules are refused, and to write the whole images into a folder.
     Serve {
         socket: &'a str,
         connections: usize,
         verifiers: usize,
+        seconds: Option<u64>,
         out: Option<&'a str>,
         explain: bool,
     },

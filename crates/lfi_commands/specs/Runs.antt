@@ -29,7 +29,7 @@ ChecksFile explain bytes old new ending = HasExplained explain bytes old new end
 abbrev pub CarriesOut : Line → (List ℕ → Option (List ℕ)) → (old new : Left) → Ending → Type 0
 CarriesOut (Check file explain) file_at = ChecksFile explain (file_at file.now)
 CarriesOut (Load verifiers folder explain streams) file_at = HasLoaded verifiers (map (λ s. file_at s.now) streams.items) (option_map (λ s. s.now) folder) explain
-CarriesOut (Serve socket connections verifiers folder explain) file_at = HasServedAll connections verifiers (option_map (λ s. s.now) folder) explain
+CarriesOut (Serve socket connections verifiers seconds folder explain) file_at = HasServedAll connections verifiers seconds (option_map (λ s. s.now) folder) explain
 CarriesOut (Run image steps) file_at = HasRun (file_at image.now) steps
 CarriesOut (Disassemble file) file_at = HasListed (file_at file.now)
 CarriesOut (Pack first entry files) file_at = HasPacked first entry (map (λ s. s.now) files.items) file_at
@@ -38,7 +38,7 @@ CarriesOut (Pack first entry files) file_at = HasPacked first entry (map (λ s. 
 abbrev pub FailsAs : Line → Failure → Type 0
 FailsAs (Check file explain) = FailsOn (file.now ∷ [])
 FailsAs (Load verifiers folder explain streams) = FailsOn (map (λ s. s.now) streams.items)
-FailsAs (Serve socket connections verifiers folder explain) = FailsServing
+FailsAs (Serve socket connections verifiers seconds folder explain) = FailsServing
 FailsAs (Run image steps) = IsOfReading image.now
 FailsAs (Disassemble file) = FailsOn (file.now ∷ [])
 FailsAs (Pack first entry files) = FailsOn (map (λ s. s.now) files.items)

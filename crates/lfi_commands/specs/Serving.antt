@@ -1,5 +1,7 @@
 -- What `lfiload serve` finds, writes, puts and tells. Source: this project's profile, docs/COMMANDS.md.
-use Rattle.std.specs.Prelude.{ℕ, Bool, List, ◌++◌, Option}
+use Rattle.std.specs.Prelude.{◌≡◌, ℕ, ◌*◌, Bool, List, ◌++◌, Option, Some, None}
+use Rattle.std.specs.Duration.{as_nanos}
+use Rattle.std.specs.declared.time.Duration.{Duration}
 use Rattle.std.specs.Io.KnownBytes.{Appends}
 use Rattle.lfi_model.specs.Texts.{summary_text}
 use Rattle.lfi_stage.specs.Summaries.{summary_of}
@@ -12,11 +14,17 @@ use Rattle.lfi_commands.specs.Left.{Left}
 use Rattle.lfi_commands.specs.Loading.{asked_images, folder_or_none}
 use Rattle.lfi_commands.specs.Refused.{TellAsked}
 
--- What `lfiload serve` did with what so many connections sent, by so many verifiers: it found one report, and whether all of them were taken, wrote its text,
--- then what is told of its refused modules and its faults, where that is asked for, put its images into the folder, where one is named, and ended by it.
-pub record HasServedAll (connections verifiers : ℕ) (folder : Option (List ℕ)) (explain : Bool) (old new : Left) (ending : Ending) : Type 0 where
+-- the limit of time of so many seconds; none where they aren't said
+abbrev pub IsLimit : (seconds : Option ℕ) → Option Duration → Type 0
+IsLimit None limit = limit ≡ None
+IsLimit (Some seconds) limit = (time : Duration) × (limit ≡ Some time) × (as_nanos time ≡ seconds * 1000000000)
+
+-- What `lfiload serve` did with what so many connections sent, by so many verifiers and within so many seconds: it found one report, and whether all of them
+-- were taken, wrote its text, then what is told of its refused modules and its faults, where that is asked for, put its images into the folder, where one is named, and ended by it.
+pub record HasServedAll (connections verifiers : ℕ) (seconds : Option ℕ) (folder : Option (List ℕ)) (explain : Bool) (old new : Left) (ending : Ending) : Type 0 where
   pub found : Served
   pub served : HasServed connections verifiers found
+  pub limited : IsLimit seconds found.limit
   pub explained : List ℕ
   pub explains : TellAsked explain found.report.modules found.report.faults explained
   pub written : Appends old.out new.out (summary_text (summary_of found.report) ++ explained)

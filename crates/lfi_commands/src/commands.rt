@@ -25,8 +25,10 @@ use std::alloc::Global;
 use std::fs::Files;
 use std::io::{self, Read, Write};
 use std::os::unix::net::UnixListener;
+use std::rt::Clock;
 use std::sync::Wait;
 use std::thread::Threads;
+use std::time::Duration;
 
 /// Why a command comes to no answer, or can't tell it.
 #[derive(Clone, Copy, PartialEq, Eq, Debug)]
@@ -182,24 +184,27 @@ pub fn load<S: Threads + Wait + Sync, R: Read + Send + Drop, N: Notices + Sync, 
 
 /// Takes so many connections of a listener at this path, loads the modules of their streams as
 /// `load` does, each from when its connection was taken, and writes the report. After the last was
-/// taken the path is removed.
+/// taken the path is removed. Where the time is limited, a connection that hasn't come when it is over
+/// isn't taken, and all others end where they are.
 ///
 /// # Errors
 ///
 /// Where the write fails, or there is no memory for the stage, or a thread can't be started.
-pub fn serve<S: Threads + Wait + Files + Sync, N: Notices + Sync, W: Write>(
+pub fn serve<S: Threads + Wait + Files + Clock + Sync, N: Notices + Sync, W: Write>(
     rt: &S,
     alloc: Global,
     listener: UnixListener,
     path: &str,
     connections: usize,
     verifiers: usize,
+    limit: Option<Duration>,
     notices: &N,
     writer: &mut W,
 ) -> Result<Served, CommandFault>
     requires connections { (1 ≤ connections) × (connections ≤ 8) }
     requires verifiers { (1 ≤ verifiers) × (verifiers ≤ 8) }
     ensures report { IfOk result (HasServed connections verifiers) }
+    ensures limit { IfOk result (λ served. served.limit ≡ limit) }
     ensures written { IfOk result (λ served. Appends (W.contents writer.old) (W.contents writer.new) (summary_text (summary_of served.report))) }
     ensures unwritten { IfErr result (λ fault. is_of_a_write fault ≡ false → writer.new ≡ writer.old) }
 {
@@ -210,6 +215,7 @@ pub fn serve<S: Threads + Wait + Files + Sync, N: Notices + Sync, W: Write>(
         path,
         connections,
         verifiers,
+        limit,
         &OpenGate,
         notices,
     ) else {

@@ -22,6 +22,8 @@ pub enum DeviceCause {
     BrokenPipe,
     AddressInUse,
     EndedEarly,
+    /// Text that isn't UTF-8.
+    InvalidData,
     /// None of these: nothing is told.
     Other,
 }
@@ -52,6 +54,7 @@ impl DeviceCause {
             io::ErrorKind::BrokenPipe => DeviceCause::BrokenPipe,
             io::ErrorKind::AddrInUse => DeviceCause::AddressInUse,
             io::ErrorKind::UnexpectedEof => DeviceCause::EndedEarly,
+            io::ErrorKind::InvalidData => DeviceCause::InvalidData,
             _ => DeviceCause::Other,
         }
     }
@@ -74,6 +77,7 @@ impl DeviceCause {
             DeviceCause::BrokenPipe => "Broken pipe",
             DeviceCause::AddressInUse => "Address already in use",
             DeviceCause::EndedEarly => "The file ended early",
+            DeviceCause::InvalidData => "Not valid UTF-8",
             DeviceCause::Other => "",
         }
     }

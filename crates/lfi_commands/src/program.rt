@@ -11,7 +11,7 @@ ghost use Rattle.lfi_commands.specs.Left.{left};
 ghost use Rattle.lfi_commands.specs.Listing.{FindsListing};
 ghost use Rattle.lfi_commands.specs.Loading.{asked_images, folder_or_none, HasLoaded};
 ghost use Rattle.lfi_commands.specs.Packing.{FindsPacked};
-ghost use Rattle.lfi_commands.specs.Serving.{HasServedAll};
+ghost use Rattle.lfi_commands.specs.Serving.{HasServedAll, IsLimit};
 ghost use Rattle.lfi_commands.specs.Runs.{FailsAs, CarriesOut, Runs};
 ghost use Rattle.lfi_commands.specs.inner.Found.{FindsRun, FindsVerdict};
 ghost use Rattle.lfi_commands.specs.inner.Opening.{IsInRange};
@@ -37,8 +37,10 @@ use std::fs::Files;
 use std::io::Write;
 use std::net::Net;
 use std::os::unix::net::UnixListener;
+use std::rt::Clock;
 use std::sync::Wait;
 use std::thread::Threads;
+use std::time::Duration;
 
 /// Judges the code that the reader of a file has left, and writes what is found of it. Where nothing is to be explained,
 /// the code isn't kept.
@@ -197,11 +199,21 @@ fn run_load<
     Ok(Ending::of_load(&report, true, all))
 }
 
-/// Loads the modules of what so many connections send over a socket at this path, with so many verifiers, writes the report,
-/// then what is told of refused modules and of faults where that is asked for, and writes the whole images to a folder where
-/// one is named.
+/// The limit of time of so many seconds, where they are said.
+fn limit_of(seconds: Option<u64>) -> Option<Duration>
+    ensures { IsLimit seconds result }
+{
+    match seconds {
+        Some(seconds) => Some(Duration::from_secs(seconds)),
+        None => None,
+    }
+}
+
+/// Loads the modules of what so many connections send over a socket at this path, with so many verifiers, for so many
+/// seconds at the most where they are said, writes the report, then what is told of refused modules and of faults where that
+/// is asked for, and writes the whole images to a folder where one is named.
 fn run_serve<
-    S: Threads + Wait + Files + Net + Sync,
+    S: Threads + Wait + Files + Net + Clock + Sync,
     D: Disk,
     N: Notices + Sync,
     O: Write,
@@ -214,6 +226,7 @@ fn run_serve<
     socket: &str,
     connections: usize,
     verifiers: usize,
+    seconds: Option<u64>,
     folder: Option<&str>,
     explain: bool,
     out: &mut O,
@@ -221,7 +234,7 @@ fn run_serve<
 ) -> Result<Ending, Failure<'static>>
     requires verifiers { (1 ≤ verifiers) × (verifiers ≤ 8) }
     requires connections { (1 ≤ connections) × (connections ≤ 8) }
-    ensures found { IfOk result (HasServedAll connections verifiers (option_map (λ s. s.now) folder.entry) explain
+    ensures found { IfOk result (HasServedAll connections verifiers seconds (option_map (λ s. s.now) folder.entry) explain
         (left (O.contents out.old) (D.put_files disk.old) (is_lost_of errors.old) (E.contents (writer_of errors.old)))
         (left (O.contents out.new) (D.put_files disk.new) (is_lost_of errors.new) (E.contents (writer_of errors.new)))) }
     ensures failure { IfErr result FailsServing }
@@ -240,6 +253,7 @@ fn run_serve<
         socket,
         connections,
         verifiers,
+        limit_of(seconds),
         notices,
         out,
     ) {
@@ -280,7 +294,14 @@ fn run_run<'a, D: Disk, O: Write, E: Write>(
 }
 
 /// Carries out what the program is asked for.
-fn run<'a, S: Threads + Wait + Files + Net + Sync, D: Disk, N: Notices + Sync, O: Write, E: Write>(
+fn run<
+    'a,
+    S: Threads + Wait + Files + Net + Clock + Sync,
+    D: Disk,
+    N: Notices + Sync,
+    O: Write,
+    E: Write,
+>(
     rt: &S,
     alloc: Global,
     disk: &mut D,
@@ -312,6 +333,7 @@ fn run<'a, S: Threads + Wait + Files + Net + Sync, D: Disk, N: Notices + Sync, O
             socket,
             connections,
             verifiers,
+            seconds,
             out: folder,
             explain,
         } => run_serve(
@@ -322,6 +344,7 @@ fn run<'a, S: Threads + Wait + Files + Net + Sync, D: Disk, N: Notices + Sync, O
             socket,
             connections,
             verifiers,
+            seconds,
             folder,
             explain,
             out,
@@ -376,7 +399,7 @@ fn tell_fault<O: Write, E: Write>(fault: &LineFault, out: &mut O, errors: &mut E
 /// files of the disk, writes the answer to `out`, and tells what went wrong. While modules are loaded, the notices are told of
 /// those that are refused.
 pub fn run_words<
-    S: Threads + Wait + Files + Net + Sync,
+    S: Threads + Wait + Files + Net + Clock + Sync,
     D: Disk,
     N: Notices + Sync,
     O: Write,

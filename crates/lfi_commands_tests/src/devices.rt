@@ -351,7 +351,7 @@ fn errors_that_fail(rt: HostRuntime) -> Result<(), Fail> {
 }
 
 /// What follows a failure's line, by the kind of the system's error.
-const CAUSES: [(io::ErrorKind, &str); 15] = [
+const CAUSES: [(io::ErrorKind, &str); 16] = [
     (io::ErrorKind::NotFound, "\n  No such file or directory"),
     (io::ErrorKind::PermissionDenied, "\n  Permission denied"),
     (io::ErrorKind::IsADirectory, "\n  Is a directory"),
@@ -371,6 +371,7 @@ const CAUSES: [(io::ErrorKind, &str); 15] = [
     (io::ErrorKind::BrokenPipe, "\n  Broken pipe"),
     (io::ErrorKind::AddrInUse, "\n  Address already in use"),
     (io::ErrorKind::UnexpectedEof, "\n  The file ended early"),
+    (io::ErrorKind::InvalidData, "\n  Not valid UTF-8"),
     (io::ErrorKind::Other, ""),
     (io::ErrorKind::Uncategorized, ""),
 ];

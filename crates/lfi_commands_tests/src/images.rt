@@ -9,6 +9,7 @@ use std::fs::{self, File, Files};
 use std::io::{self, Write};
 use std::net::Net;
 use std::process::Abort;
+use std::rt::Clock;
 use std::sync::Wait;
 use std::test::Fail;
 use std::thread::Threads;
@@ -150,7 +151,7 @@ const HELLO: [u32; 8] = [
 ];
 
 /// Runs the image of each row's words, and compares.
-fn assert_rows<R: Files<File = File> + Net + AllocGlobal + Abort + Threads + Wait + Sync>(
+fn assert_rows<R: Files<File = File> + Net + AllocGlobal + Abort + Threads + Wait + Clock + Sync>(
     rt: &R,
     rows: &[Row],
 ) -> Result<(), Fail> {

@@ -7,6 +7,7 @@ use std::fs::{self, File, Files};
 use std::io::{self, Write};
 use std::net::Net;
 use std::process::Abort;
+use std::rt::Clock;
 use std::sync::Wait;
 use std::test::Fail;
 use std::thread::Threads;
@@ -56,7 +57,7 @@ fn words(alloc: Global, line: &str) -> Result<Vec<String>, AllocError> {
 }
 
 /// Runs the program on the words of a line, over any disk and writers.
-pub fn run_over<S: Threads + Wait + Files + Net + Sync, D: Disk, O: Write, E: Write>(
+pub fn run_over<S: Threads + Wait + Files + Net + Clock + Sync, D: Disk, O: Write, E: Write>(
     rt: &S,
     alloc: Global,
     disk: &mut D,
@@ -69,7 +70,7 @@ pub fn run_over<S: Threads + Wait + Files + Net + Sync, D: Disk, O: Write, E: Wr
 }
 
 /// Runs the program on the words of a line, over the system's files.
-pub fn run_line<R: Files<File = File> + Net + AllocGlobal + Threads + Wait + Sync>(
+pub fn run_line<R: Files<File = File> + Net + AllocGlobal + Threads + Wait + Clock + Sync>(
     rt: &R,
     line: &str,
 ) -> Result<Ran, AllocError> {
@@ -86,10 +87,9 @@ pub fn run_line<R: Files<File = File> + Net + AllocGlobal + Threads + Wait + Syn
 }
 
 /// Runs each line, and compares.
-pub fn assert_runs<R: Files<File = File> + Net + AllocGlobal + Abort + Threads + Wait + Sync>(
-    rt: &R,
-    runs: &[Run],
-) -> Result<(), Fail> {
+pub fn assert_runs<
+    R: Files<File = File> + Net + AllocGlobal + Abort + Threads + Wait + Clock + Sync,
+>(rt: &R, runs: &[Run]) -> Result<(), Fail> {
     for run in runs {
         let ran = run_line(rt, run.line)?;
         let line = run.line;

@@ -67,6 +67,35 @@ fn one_client(rt: HostRuntime) -> Result<(), Fail> {
 }
 
 #[test]
+fn no_client_in_time(rt: HostRuntime) -> Result<(), Fail> {
+    begin(&rt, "nobody.tmp")?;
+    let line = "lfiload serve --socket nobody.tmp/socket --connections 1 --seconds 1";
+    let ran = run_line(&rt, line)?;
+    assert!(rt; ran.status == 3 && ran.err.is_empty());
+    assert!(rt; ran.out.as_slice() == b"strays 0\n".as_slice());
+    assert!(rt; !fs::exists(&rt, "nobody.tmp/socket")?);
+    fs::remove_dir_all(&rt, "nobody.tmp")?;
+    Ok(())
+}
+
+#[test]
+fn a_client_in_time(rt: HostRuntime) -> Result<(), Fail> {
+    begin(&rt, "timed.tmp")?;
+    let line = "lfiload serve --socket timed.tmp/socket --connections 1 --seconds 86400";
+    let (ran, sent) = join(
+        &rt,
+        || run_line(&rt, line),
+        || send(&rt, "timed.tmp/socket", ONE_RET.as_slice()),
+    );
+    sent?;
+    let ran = ran?;
+    assert!(rt; ran.status == 0 && ran.err.is_empty());
+    assert!(rt; ran.out.as_slice() == b"module 0: complete, 1 words\nstrays 0\n".as_slice());
+    fs::remove_dir_all(&rt, "timed.tmp")?;
+    Ok(())
+}
+
+#[test]
 fn refused_modules_of_a_client(rt: HostRuntime) -> Result<(), Fail> {
     begin(&rt, "refusing.tmp")?;
     let line = "lfiload serve --socket refusing.tmp/socket --connections 1 --explain";

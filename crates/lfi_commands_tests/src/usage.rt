@@ -3,7 +3,7 @@
 use crate::runs::run_line;
 use std::test::Fail;
 
-const WRONG: [&str; 34] = [
+const WRONG: [&str; 38] = [
     "lfiload",
     "lfiload check",
     "lfiload check a b",
@@ -19,6 +19,10 @@ const WRONG: [&str; 34] = [
     "lfiload serve --connections 1",
     "lfiload serve --socket a --connections 9",
     "lfiload serve --socket a --connections 0",
+    "lfiload serve --socket a --connections 1 --seconds 0",
+    "lfiload serve --socket a --connections 1 --seconds 86401",
+    "lfiload serve --socket a --connections 1 --seconds soon",
+    "lfiload load a --seconds 5",
     "lfiload run",
     "lfiload run a",
     "lfiload run --steps 5",
@@ -73,7 +77,7 @@ const HELPS: [Help; 7] = [
     },
     Help {
         line: "lfiload serve --help",
-        text: "lfiload: cannot listen",
+        text: "--seconds <N>",
     },
     Help {
         line: "lfiload run --help",

@@ -179,7 +179,9 @@ pub(crate) fn hear<S: Wait, R: Read + Drop, N: Notices>(
     ensures { IsHeardBy place.entry.shared.now place.entry.number (left_of R.remaining input) result }
 {
     ends.wait_for_go(rt);
-    match hear_on(rt, place, ends, notices, &mut receiver, &mut input) {
+    let leaving = hear_on(rt, place, ends, notices, &mut receiver, &mut input);
+    ends.tell_heard();
+    match leaving {
         Leaving::Finished => Heard::Finished(receiver),
         Leaving::Stopped => Heard::GaveUp,
     }

@@ -11,17 +11,20 @@ use std::fs::Files;
 use std::io::{self, Read, Write};
 use std::net::Net;
 use std::os::unix::net::{UnixListener, UnixStream};
+use std::rt::Clock;
 use std::sync::Wait;
 use std::sync::atomic::{AtomicU64, Ordering};
 use std::test::Fail;
 use std::thread::{Threads, join, yield_now};
+use std::time::Duration;
 
 /// The text of the report on so many connections, 1 to 8, and whether all were accepted.
-fn served<S: Threads + Wait + Files + Sync + AllocGlobal, G: Gate + Sync>(
+pub(crate) fn served<S: Threads + Wait + Files + Clock + Sync + AllocGlobal, G: Gate + Sync>(
     rt: &S,
     listener: UnixListener,
     path: &str,
     connections: usize,
+    limit: Option<Duration>,
     gate: &G,
 ) -> io::Result<(String, bool)> {
     let served = serve_on(
@@ -31,6 +34,7 @@ fn served<S: Threads + Wait + Files + Sync + AllocGlobal, G: Gate + Sync>(
         path,
         connections.max(1).min(8),
         2,
+        limit,
         gate,
         &NoNotices,
     )?;
@@ -73,7 +77,7 @@ fn send_pieces(
 }
 
 /// Sends these texts beside each other, in pieces of these sizes, a piece of each in turn.
-fn send_all<S: Net + AllocGlobal>(
+pub(crate) fn send_all<S: Net + AllocGlobal>(
     rt: &S,
     path: &str,
     texts: &[Vec<u8>],
@@ -89,11 +93,12 @@ fn send_all<S: Net + AllocGlobal>(
 }
 
 /// Two whole modules, number 0 and number 3.
-fn modules_0_and_3(alloc: Global) -> Result<Vec<Vec<u8>>, AllocError> {
+pub(crate) fn modules_0_and_3(alloc: Global) -> Result<Vec<Vec<u8>>, AllocError> {
     Ok(Vec::from_array(alloc, [one_word(alloc, 0, RET)?, one_word(alloc, 3, RET)?])?)
 }
 
-const BOTH: &str = "module 0: complete, 1 words\nmodule 3: complete, 1 words\nstrays 0\n";
+pub(crate) const BOTH: &str =
+    "module 0: complete, 1 words\nmodule 3: complete, 1 words\nstrays 0\n";
 
 /// Modules 0 to 7, each of 1,030 NOPs and in a text of its own.
 fn eight_of_two_pages(alloc: Global) -> Result<Vec<Vec<u8>>, AllocError> {
@@ -172,7 +177,7 @@ fn clients_beside_each_other(rt: HostRuntime) -> Result<(), Fail> {
         let listener = UnixListener::bind(&rt, path)?;
         let (told, sent) = join(
             &rt,
-            || served(&rt, listener, path, texts.len(), &OpenGate),
+            || served(&rt, listener, path, texts.len(), None, &OpenGate),
             || send_all(&rt, path, texts.as_slice(), sizes),
         );
         sent?;
@@ -190,7 +195,7 @@ fn a_client_more_than_are_taken(rt: HostRuntime) -> Result<(), Fail> {
     let listener = UnixListener::bind(&rt, path)?;
     send_all(&rt, path, modules_0_and_3(rt.alloc())?.as_slice(), &[4096])?;
     let mut third = UnixStream::connect(&rt, path)?;
-    let (report, all_accepted) = served(&rt, listener, path, 2, &OpenGate)?;
+    let (report, all_accepted) = served(&rt, listener, path, 2, None, &OpenGate)?;
     assert_eq!(rt; report.as_str(), BOTH);
     assert!(rt; all_accepted);
     assert!(rt; third.read(&mut [0]).unwrap_or(0) == 0);
@@ -204,7 +209,7 @@ fn a_client_that_is_not_accepted(rt: HostRuntime) -> Result<(), Fail> {
     let listener = UnixListener::bind(&rt, path)?;
     send_all(&rt, path, &[one_word(rt.alloc(), 7, RET)?], &[4096])?;
     listener.set_nonblocking(true)?;
-    let (report, all_accepted) = served(&rt, listener, path, 3, &OpenGate)?;
+    let (report, all_accepted) = served(&rt, listener, path, 3, None, &OpenGate)?;
     assert_eq!(rt; report.as_str(), "module 7: complete, 1 words\nstrays 0\n");
     assert!(rt; !all_accepted);
     Ok(())
@@ -241,7 +246,7 @@ fn the_path_is_gone_once_all_are_taken(rt: HostRuntime) -> Result<(), Fail> {
     let listener = UnixListener::bind(&rt, path)?;
     let (told, gone) = join(
         &rt,
-        || served(&rt, listener, path, 2, &OpenGate),
+        || served(&rt, listener, path, 2, None, &OpenGate),
         || send_once_the_path_is_gone(&rt, path, texts.as_slice()),
     );
     assert!(rt; gone?);
@@ -304,7 +309,7 @@ fn the_first_client_is_served_before_the_second_comes(rt: HostRuntime) -> Result
     let listener = UnixListener::bind(&rt, path)?;
     let (told, judged) = join(
         &rt,
-        || served(&rt, listener, path, 2, &gate),
+        || served(&rt, listener, path, 2, None, &gate),
         || send_one_after_the_other(&rt, path, &gate),
     );
     assert!(rt; judged?);

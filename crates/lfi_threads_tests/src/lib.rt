@@ -10,6 +10,8 @@ mod gates;
 #[cfg(test)]
 mod inputs;
 #[cfg(test)]
+mod limits;
+#[cfg(test)]
 mod reads;
 #[cfg(test)]
 mod workers;

@@ -18,7 +18,7 @@ pub record AreInputsOf {R : Type 0} (remaining : R → Option (List ℕ)) (texts
 abbrev pub IsInRange : Line → Type 0
 IsInRange (Check file explain) = ⊤
 IsInRange (Load verifiers out explain streams) = ((1 ≤ verifiers) × (verifiers ≤ 8)) × ((1 ≤ length streams.items) × (length streams.items ≤ 8))
-IsInRange (Serve socket connections verifiers out explain) = ((1 ≤ verifiers) × (verifiers ≤ 8)) × ((1 ≤ connections) × (connections ≤ 8))
+IsInRange (Serve socket connections verifiers seconds out explain) = ((1 ≤ verifiers) × (verifiers ≤ 8)) × ((1 ≤ connections) × (connections ≤ 8))
 IsInRange (Run image steps) = ⊤
 IsInRange (Disassemble file) = ⊤
 IsInRange (Pack first entry files) = first + length files.items ≤ 16

@@ -19,5 +19,6 @@ returns c =
     let first = with_argument new_is socket_is socket_local c.in_ok-arg.ensures in
     let second = with_argument first connections_is connections_local c.in_ok-arg-2.ensures in
     let third = with_argument second c.number_argument-verifiers.ensures.rule c.number_argument-verifiers.ensures.local c.in_ok-arg-3.ensures in
-    let fourth = with_argument third c.option_argument-out.ensures.rule c.option_argument-out.ensures.local c.in_ok-arg-4.ensures in
-    IfOk-weaker c.arg-5.result _ _ (λ made added. with_argument fourth c.flag-explain.ensures.rule c.flag-explain.ensures.local added) c.arg-5.ensures
+    let fourth = with_argument third c.number_argument-seconds.ensures.rule c.number_argument-seconds.ensures.local c.in_ok-arg-4.ensures in
+    let fifth = with_argument fourth c.option_argument-out.ensures.rule c.option_argument-out.ensures.local c.in_ok-arg-5.ensures in
+    IfOk-weaker c.arg-6.result _ _ (λ made added. with_argument fifth c.flag-explain.ensures.rule c.flag-explain.ensures.local added) c.arg-6.ensures

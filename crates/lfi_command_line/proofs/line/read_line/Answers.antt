@@ -54,6 +54,11 @@ serve_line-requires-clause-verifiers c =
     let given = given_for (map string_bytes c.args.words.now) c.in_ok-matches.matches (codes "serve") _ c.in_ok-matches.ensures.taken (c.in-Some-subcommand_matches-2.ensures.found.0 refl) c.in-Some-subcommand_matches-2.ensures.rows in
     given.1.1.0.1
 
+pub serve_line-requires-clause-seconds : goal.serve_line-requires-clause-seconds
+serve_line-requires-clause-seconds c =
+    let given = given_for (map string_bytes c.args.words.now) c.in_ok-matches.matches (codes "serve") _ c.in_ok-matches.ensures.taken (c.in-Some-subcommand_matches-2.ensures.found.0 refl) c.in-Some-subcommand_matches-2.ensures.rows in
+    given.1.1.1.0.1
+
 pub returns-in-Some-subcommand_matches-2-clause-line : goal.returns-in-Some-subcommand_matches-2-clause-line
 returns-in-Some-subcommand_matches-2-clause-line c =
     let taken = taken_for (map string_bytes c.args.words.now) c.in_ok-matches.matches (codes "serve") _ c.in_ok-matches.ensures.taken (c.in-Some-subcommand_matches-2.ensures.found.0 refl) c.in-Some-subcommand_matches-2.ensures.rows in

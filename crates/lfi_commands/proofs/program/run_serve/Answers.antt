@@ -1,6 +1,8 @@
+use Rattle.std.proofs.Common.{sym, subst}
 use Rattle.std.proofs.KnownBytes.{Appends-trans}
 use Rattle.lfi_model.specs.Texts.{summary_text}
 use Rattle.lfi_stage.specs.Summaries.{summary_of}
+use Rattle.lfi_commands.specs.Serving.{IsLimit}
 use Rattle.lfi_commands.proofs.program.run_serve.Goals as goal
 
 pub returns-clause-found : goal.returns-clause-found
@@ -9,6 +11,7 @@ returns-clause-found g c =
     record {
       found = c.in-Ok-serve.served;
       served = c.in-Ok-serve.ensures.report;
+      limited = subst (IsLimit c.args.seconds) (sym c.in-Ok-serve.ensures.limit) c.limit_of.ensures;
       explained = told.0;
       explains = told.1;
       written = Appends-trans (g.O.Write.contents c.args.out.now) (g.O.Write.contents c.serve.new.writer) (g.O.Write.contents c.write_asked_refused.new.out)
