@@ -21,7 +21,7 @@ extern "C" {
 #endif
 
 /* The number of this interface; lfi_version() answers that of the library that is linked. */
-#define LFI_VERSION 1u
+#define LFI_VERSION 2u
 
 /* The one profile: the rules, registers and map of slots of docs/DEFINITIONS.md. Calls with another number answer
  * LFI_UNKNOWN_PROFILE. */
@@ -59,10 +59,60 @@ typedef struct lfi_state {
     uint32_t need;    /* what the last word asks of the next one */
 } lfi_state;
 
+/* A connection's stream, of which some bytes came: plain numbers of the caller's, to be copied and dropped as it likes.
+ * Only lfi_stream_init, lfi_stream_next and lfi_stream_end write them. */
+typedef struct lfi_stream_feed {
+    uint32_t place;   /* 0: in a header; 1: in a page's payload; 2: at the stream's fault */
+    uint32_t number;  /* the header's bytes that came; the payload's bytes that are to come; the fault's number */
+    uint8_t held[12]; /* the header's bytes */
+} lfi_stream_feed;
+
+typedef struct lfi_stream_page {
+    uint32_t module; /* whose page is coming; 16: none is, or it is passed over */
+    size_t come;     /* how many of its bytes came */
+} lfi_stream_page;
+
+typedef struct lfi_stream_module {
+    uint32_t phase; /* 0: it wasn't opened; 1: it is open; 2: it has ended */
+    uint32_t words; /* of an open one, its words in all */
+    uint32_t pages; /* of an open one, how many of its pages came */
+} lfi_stream_module;
+
+typedef struct lfi_stream {
+    lfi_stream_feed feed;
+    lfi_stream_page page;
+    lfi_stream_module modules[16];
+} lfi_stream;
+
+/* What bytes of a stream brought. What a kind doesn't tell is 0. */
+typedef struct lfi_event {
+    uint32_t kind;   /* LFI_NOTHING and the others below */
+    uint32_t module; /* of LFI_OPEN, LFI_CODE, LFI_STRAY and LFI_END */
+    uint32_t words;  /* the module's words in all, of LFI_OPEN and LFI_END */
+    uint32_t entry;  /* the word at which it is entered, of LFI_OPEN */
+    uint32_t pages;  /* how many of its pages came, of LFI_END; a page has 4,096 bytes, the last one what is left */
+    uint32_t reason; /* of LFI_END: LFI_CLOSED and the others below */
+    uint32_t number; /* of LFI_FAULT and LFI_LOST the fault, 1 to 10; of LFI_PAGE_FAULT the index of the page */
+    uint32_t ended;  /* of LFI_CODE: 1 where its last byte is a page's last one, else 0 */
+    size_t offset;   /* of LFI_CODE: where in the module's code the first of these bytes belongs */
+} lfi_event;
+
+#define LFI_NOTHING 0u   /* nothing that a host has to do */
+#define LFI_OPEN 1u      /* the module opens */
+#define LFI_CODE 2u      /* the bytes used are code of the module */
+#define LFI_STRAY 3u     /* a message of the module that is passed over */
+#define LFI_END 4u       /* the module has ended */
+#define LFI_FAULT 5u     /* the stream's fault: nothing after it is read */
+#define LFI_NO_STREAM 6u /* the numbers are those of no stream */
+
+#define LFI_CLOSED 1u     /* by its Close: complete where all its pages came, else incomplete */
+#define LFI_LOST 2u       /* by the stream's fault */
+#define LFI_PAGE_FAULT 3u /* by a page that isn't the one due, or hasn't its length */
+
 /* The caller owes, at each call:
  *  - no pointer is null, also where the size is 0;
  *  - each pointer to a struct is aligned for it; bytes may lie at any address;
- *  - `size` bytes can be read at `code` or `piece`, and `room` bytes written at `text`, each below 2^63, and nobody else
+ *  - `size` bytes can be read at `code`, `piece` or `bytes`, and `room` bytes written at `text`, each below 2^63, and nobody else
  *    writes them during the call: bytes that another thread or process may still write are to be copied first;
  *  - a struct that is written overlaps nothing else that the call is handed, and no other thread uses it during the call.
  * A state needs no more than that: numbers that no call made are answered, by LFI_BAD_STATE where they can't be a state's.
@@ -107,6 +157,29 @@ lfi_status lfi_verify_final(const lfi_state *LFI_RESTRICT state, lfi_fault *LFI_
  *    1 to 4,194,304 or fault->word is none of them; LFI_BAD_STATE, where *fault is {0, 0} or tells none; LFI_NO_ROOM. */
 lfi_status lfi_explain(uint32_t profile, uint32_t module, uint32_t words, const lfi_fault *LFI_RESTRICT fault, uint32_t word,
                        uint32_t before, uint8_t *LFI_RESTRICT text, size_t room, size_t *LFI_RESTRICT size);
+
+/* Begins a stream (docs/PROFILE.md, "Streams") whose code is to be judged by a profile. Ensures: LFI_LAWFUL, and *stream
+ * stands for a stream of which no byte came; or LFI_UNKNOWN_PROFILE, and *stream is as it was. */
+lfi_status lfi_stream_init(lfi_stream *stream, uint32_t profile);
+
+/* Goes on in the next bytes of a stream, up to the end of a header or of a payload, and answers how many it used: 0 to
+ * `size`, and at least 1 where there are any, unless *event is LFI_FAULT or LFI_NO_STREAM. What it didn't use comes first
+ * in the next call. Ensures, where *stream stood for a stream of which certain bytes came, in whatever pieces:
+ *  - unless *event is LFI_FAULT, *stream stands for the stream of which these bytes and then those used came, and *event tells
+ *    what they brought, and all of it: LFI_OPEN, a module that wasn't opened before opens; LFI_CODE, all bytes used are payload of the page that is
+ *    due of an open module, and belong at `offset` of its code; LFI_STRAY, a message is passed over; LFI_END, by a Close
+ *    or a page that isn't due;
+ *  - LFI_FAULT: the bytes used end a header with this fault.
+ * At the stream's fault every call answers 0 and tells it. LFI_NO_STREAM: *stream can't stand for any stream, and is as it
+ * was. Bytes of a module are lawful where lfi_verify says so: judge them where they lie. */
+size_t lfi_stream_next(lfi_stream *LFI_RESTRICT stream, const uint8_t *LFI_RESTRICT bytes, size_t size, lfi_event *LFI_RESTRICT event);
+
+/* Tells the end of the input. Ensures, where *stream stood for a stream of which certain bytes came: LFI_LAWFUL, and
+ *  - LFI_NOTHING: it ended between two messages, and no module is open; *stream is as it was;
+ *  - LFI_FAULT: it ended within a message, or a module is open; this is the stream's fault.
+ * At the stream's fault each call ends the open module of the least number, LFI_END by LFI_LOST, and LFI_NOTHING tells that none
+ * is open. LFI_BAD_STATE: *stream can't stand for any stream, and is as it was; *event is LFI_NO_STREAM. */
+lfi_status lfi_stream_end(lfi_stream *LFI_RESTRICT stream, lfi_event *LFI_RESTRICT event);
 
 /* Where the parts of a module's slot lie, in addresses and bytes. The guards, one directly below the base and one directly
  * above the slot, are to be mapped without access; so is what lies between table and code. The table is read alone, and so

@@ -56,4 +56,4 @@ for (const [words, wanted] of rows) {
     process.exit(1);
   }
 }
-if (whole([RET], 2) !== '5 0 0' || whole([]) !== '2 0 0' || lfi.lfi_version() !== 1) process.exit(2);
+if (whole([RET], 2) !== '5 0 0' || whole([]) !== '2 0 0' || lfi.lfi_version() !== 2) process.exit(2);

@@ -2,7 +2,7 @@
 //!
 //! Source of the format: docs/PROFILE.md, "Streams".
 
-ghost use Rattle.std.specs.Prelude.{◌≡◌, ◌≢◌, ℕ, ◌<◌, ◌≤◌, ◌⊎◌, List, [], ◌++◌, length, take, Result, Ok, Err, Option, Some, None, IfSome, IfOk};
+ghost use Rattle.std.specs.Prelude.{◌≡◌, ◌≢◌, ℕ, ◌<◌, ◌≤◌, ◌⊎◌, List, [], ◌++◌, length, take, Result, Ok, Err, Option, Some, None, IfSome, IfNone, IfOk, All};
 ghost use Rattle.lfi_frame.specs.inner.Positions.{filled_at, left_at, is_between};
 
 use crate::answer::{Got, Step};
@@ -32,8 +32,8 @@ pub struct Feed {
 
 impl Feed {
     ghost use Rattle.lfi_frame.specs.declared.fault.FrameFault.TheVariants.{NoMemory, Ended, ReadFailed};
-    ghost use Rattle.lfi_frame.specs.Streams.{Message, header_at};
-    ghost use Rattle.lfi_frame.specs.Feeds.{FeedStands, IsFed, IsInRange, feed_fault, UsesAll, UsesPayload, IsHeaderUsed, fault_at, fault_told, used_in, IsAtEnd, fault_ended, answer_to, position_after};
+    ghost use Rattle.lfi_frame.specs.Streams.{Message, IsMessage, header_at};
+    ghost use Rattle.lfi_frame.specs.Feeds.{FeedStands, IsAt, IsFed, IsInRange, feed_fault, UsesAll, UsesPayload, IsHeaderUsed, fault_at, fault_told, used_in, IsAtEnd, fault_ended, answer_to, position_after};
 
     /// A feed of which no byte has come.
     pub fn new() -> Feed
@@ -44,6 +44,36 @@ impl Feed {
             held: [0; HEADER_BYTES],
             position: Position::Header { filled: 0 },
         }
+    }
+
+    /// A feed that goes on from the bytes that another one held and where that was; `None` where no
+    /// feed can be.
+    pub fn at(held: [u8; HEADER_BYTES], position: Position) -> Option<Feed>
+        ensures stands { IfSome result (λ feed. (messages : List Message) (rest : List ℕ) → All IsMessage messages → IsAt held position rest →
+            FeedStands feed messages rest) }
+        ensures fault { IfSome result (λ feed. feed_fault feed ≡ fault_at position) }
+        ensures none { IfNone result ((rest : List ℕ) → ¬ (IsAt held position rest)) }
+    {
+        let can_be = match position {
+            Position::Header { filled } => filled < HEADER_BYTES,
+            Position::Payload { left } => left > 0,
+            Position::Faulty(_) => true,
+        };
+        if can_be {
+            Some(Feed { held, position })
+        } else {
+            None
+        }
+    }
+
+    /// The bytes that it holds and where it is, of which `at` makes it again.
+    pub fn parts(&self) -> ([u8; HEADER_BYTES], Position)
+        ensures stands { (messages : List Message) (rest : List ℕ) → FeedStands self.now messages rest →
+            All IsMessage messages × IsAt result.0 result.1 rest }
+        ensures fault { fault_at result.1 ≡ feed_fault self.now }
+        ensures room { filled_at result.1 < 12 }
+    {
+        (self.held, self.position)
     }
 
     /// Uses bytes of the piece, up to the end of a header or of a payload, and tells what they

@@ -4,3 +4,4 @@ pub mod Faults
 pub mod Verdicts
 pub mod States
 pub mod Explained
+pub mod StreamEvents

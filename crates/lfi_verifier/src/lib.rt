@@ -11,6 +11,7 @@ mod pieces;
 mod profile;
 mod state;
 mod status;
+mod stream;
 mod whole;
 
 pub use laws::one_answer;

@@ -1,0 +1,211 @@
+/* streams COUNT SEED: random streams, with mistakes of all kinds, in random pieces. What lfi_stream_next tells of them, put
+ * together, must be what one plain pass over all their bytes makes of them: the same modules, strays, ends and faults in the
+ * same order, and the same bytes of code at the same places. */
+#include "lfi_verifier.h"
+#include <stdio.h>
+#include <stdlib.h>
+#include <string.h>
+
+#define MOST 60000u
+#define ROOM 20000u
+
+static uint64_t seed;
+
+static uint32_t number(uint32_t below) {
+    seed ^= seed << 13;
+    seed ^= seed >> 7;
+    seed ^= seed << 17;
+    return (uint32_t)(seed >> 16) % below;
+}
+
+/* What was told of a stream: a line of numbers for each event but code, and the code of each module. */
+typedef struct told {
+    char lines[40000];
+    size_t size;
+    uint8_t code[LFI_MODULES][ROOM];
+} told;
+
+static told whole, cut;
+
+static void line(told *to, const char *what, uint32_t a, uint32_t b, uint32_t c, uint32_t d) {
+    if (to->size + 100 > sizeof to->lines) abort();
+    to->size += (size_t)sprintf(to->lines + to->size, "%s %u %u %u %u\n", what, a, b, c, d);
+}
+
+/* ---- a random stream */
+
+static uint8_t text[MOST];
+static size_t length;
+
+static void put(uint32_t value, int bytes) {
+    for (int k = 0; k < bytes; k++) text[length++] = (uint8_t)(value >> (8 * k));
+}
+
+static void header(uint32_t kind, uint32_t module, uint32_t a, uint32_t b) {
+    put(kind, 1);
+    put(0, 1);
+    put(module, 2);
+    put(a, 4);
+    put(b, 4);
+}
+
+static uint32_t words_of[LFI_MODULES], pages_of[LFI_MODULES];
+
+static void page(uint32_t module) {
+    uint32_t left = words_of[module] - 1024 * pages_of[module], words = left < 1024 ? left : 1024;
+    if (words_of[module] <= 1024 * pages_of[module] || words == 0) words = 1 + number(1024);
+    header(2, module, number(30) ? pages_of[module] : number(5), 4 * (number(30) ? words : 1 + number(1024)));
+    uint32_t bytes = (uint32_t)text[length - 4] | (uint32_t)text[length - 3] << 8;
+    for (uint32_t i = 0; i < bytes; i++) text[length++] = (uint8_t)number(256);
+    pages_of[module]++;
+}
+
+static void make(void) {
+    uint32_t messages = number(25);
+    length = 0;
+    memset(words_of, 0, sizeof words_of);
+    memset(pages_of, 0, sizeof pages_of);
+    for (uint32_t i = 0; i < messages && length + 5000 < MOST; i++) {
+        uint32_t module = number(3) + (number(20) ? 0 : 13), what = number(8);
+        if (what == 0 || words_of[module] == 0) {
+            words_of[module] = 1 + number(number(2) ? 4000 : 100);
+            pages_of[module] = 0;
+            header(1, module, words_of[module], number(words_of[module]));
+        } else if (what == 1 || 1024 * pages_of[module] >= words_of[module]) {
+            header(3, module, 0, 0);
+        } else {
+            page(module);
+        }
+    }
+    if (number(4) == 0 && length > 0) text[number((uint32_t)length)] ^= (uint8_t)(1 + number(255));
+    if (number(4) == 0 && length > 0) length = number((uint32_t)length);
+}
+
+/* ---- one plain pass over all bytes */
+
+static uint32_t at(size_t place, int bytes) {
+    uint32_t value = 0;
+    for (int k = 0; k < bytes; k++) value |= (uint32_t)text[place + (size_t)k] << (8 * k);
+    return value;
+}
+
+static uint32_t fault_of(uint32_t kind, uint32_t second, uint32_t module, uint32_t a, uint32_t b) {
+    if (kind < 1 || kind > 3) return 1;
+    if (second) return 2;
+    if (module > 15) return 3;
+    if (kind == 2 && (b == 0 || b > 4096 || b % 4)) return 4;
+    if (kind == 3 && (a || b)) return 5;
+    if (kind == 1 && (a == 0 || a > LFI_MAX_WORDS)) return 6;
+    return kind == 1 && b >= a ? 7 : 0;
+}
+
+static void pass(told *to) {
+    uint32_t phase[LFI_MODULES] = {0}, words[LFI_MODULES] = {0}, pages[LFI_MODULES] = {0}, fault = 0;
+    size_t place = 0;
+    while (!fault && length - place >= 12) {
+        uint32_t kind = at(place, 1), m = at(place + 2, 2), a = at(place + 4, 4), b = at(place + 8, 4);
+        if ((fault = fault_of(kind, at(place + 1, 1), m, a, b))) break;
+        if (kind == 1 && phase[m] == 0) {
+            line(to, "open", m, a, b, 0);
+            phase[m] = 1, words[m] = a;
+        } else if (kind == 3 && phase[m] == 1) {
+            line(to, "end", m, words[m], pages[m], LFI_CLOSED);
+            phase[m] = 2;
+        } else if (kind == 2 && phase[m] == 1) {
+            uint32_t all = (words[m] + 1023) / 1024, left = words[m] - 1024 * a;
+            if (a == pages[m] && a < all && b == 4 * (left < 1024 ? left : 1024)) {
+                size_t here = length - place - 12 < b ? length - place - 12 : b;
+                if (4096 * (size_t)a + here <= ROOM) memcpy(to->code[m] + 4096 * (size_t)a, text + place + 12, here);
+                if (here == b) line(to, "page", m, pages[m]++, 0, 0);
+            } else {
+                line(to, "page fault", m, words[m], pages[m], a);
+                phase[m] = 2;
+            }
+        } else {
+            line(to, "stray", m, 0, 0, 0);
+        }
+        size_t size = 12 + (kind == 2 ? (size_t)b : 0);
+        if (length - place < size) fault = 9;
+        else place += size;
+    }
+    if (!fault && place < length) fault = 9;
+    for (uint32_t m = 0; m < LFI_MODULES; m++)
+        if (phase[m] == 1 && !fault) fault = 9;
+    if (fault) line(to, "fault", fault, 0, 0, 0);
+    for (uint32_t m = 0; m < LFI_MODULES; m++)
+        if (phase[m] == 1) line(to, "lost", m, words[m], pages[m], fault);
+}
+
+/* ---- the same in pieces */
+
+static void tell(told *to, const lfi_event *event, const uint8_t *bytes, size_t used) {
+    if (event->kind == LFI_OPEN) line(to, "open", event->module, event->words, event->entry, 0);
+    if (event->kind == LFI_STRAY) line(to, "stray", event->module, 0, 0, 0);
+    if (event->kind == LFI_CODE) {
+        if (event->offset + used <= ROOM) memcpy(to->code[event->module] + event->offset, bytes, used);
+        if (event->ended) line(to, "page", event->module, (uint32_t)((event->offset + used - 1) / 4096), 0, 0);
+    }
+    if (event->kind == LFI_END && event->reason == LFI_CLOSED) line(to, "end", event->module, event->words, event->pages, LFI_CLOSED);
+    if (event->kind == LFI_END && event->reason == LFI_PAGE_FAULT) line(to, "page fault", event->module, event->words, event->pages, event->number);
+    if (event->kind == LFI_END && event->reason == LFI_LOST) line(to, "lost", event->module, event->words, event->pages, event->number);
+    if (event->kind == LFI_FAULT) line(to, "fault", event->number, 0, 0, 0);
+}
+
+static int in_pieces(told *to, uint32_t longest) {
+    lfi_stream stream, copy;
+    lfi_event event, again;
+    size_t place = 0;
+    if (lfi_stream_init(&stream, LFI_PROFILE_1)) return 1;
+    event.kind = LFI_NOTHING;
+    while (place < length && event.kind != LFI_FAULT) {
+        size_t size = 1 + number(longest);
+        if (size > length - place) size = length - place;
+        copy = stream;
+        size_t used = lfi_stream_next(&stream, text + place, size, &event);
+        if (used != lfi_stream_next(&copy, text + place, size, &again) || used > size || memcmp(&event, &again, sizeof event)) return 2;
+        if (event.kind == LFI_NO_STREAM || (used == 0 && event.kind != LFI_FAULT)) return 3;
+        tell(to, &event, text + place, used);
+        place += used;
+    }
+    if (event.kind == LFI_FAULT && (lfi_stream_next(&stream, text, 12, &again) != 0 || again.kind != LFI_FAULT || again.number != event.number)) return 4;
+    do {
+        if (lfi_stream_end(&stream, &event)) return 5;
+        tell(to, &event, text, 0);
+    } while (event.kind != LFI_NOTHING);
+    return 0;
+}
+
+static int bad_states(void) {
+    lfi_stream stream, before;
+    lfi_event event;
+    uint8_t bytes[12] = {0};
+    memset(&stream, 0, sizeof stream);
+    if (lfi_stream_init(&stream, 2) != LFI_UNKNOWN_PROFILE || lfi_stream_init(&stream, LFI_PROFILE_1)) return 1;
+    stream.feed.place = 3;
+    before = stream;
+    if (lfi_stream_next(&stream, bytes, 12, &event) != 0 || event.kind != LFI_NO_STREAM || memcmp(&stream, &before, sizeof stream)) return 2;
+    if (lfi_stream_end(&stream, &event) != LFI_BAD_STATE || event.kind != LFI_NO_STREAM || memcmp(&stream, &before, sizeof stream)) return 3;
+    stream.feed.place = 0, stream.feed.number = 12;
+    return lfi_stream_end(&stream, &event) == LFI_BAD_STATE ? 0 : 4;
+}
+
+int main(int count, char **words) {
+    if (count != 3) return 9;
+    if (bad_states()) return 8;
+    long streams = atol(words[1]), faulty = 0;
+    seed = 88172645463325252ull + (uint64_t)atol(words[2]);
+    for (long i = 0; i < streams; i++) {
+        make();
+        memset(&whole, 0, sizeof whole);
+        memset(&cut, 0, sizeof cut);
+        pass(&whole);
+        int failed = in_pieces(&cut, i % 3 == 0 ? 13 : i % 3 == 1 ? 700 : MOST);
+        if (failed || whole.size != cut.size || memcmp(&whole, &cut, sizeof whole)) {
+            fprintf(stderr, "stream %ld: %d\n%s---- in pieces\n%s", i, failed, whole.lines, cut.lines);
+            return 1;
+        }
+        faulty += strstr(whole.lines, "fault") != NULL;
+    }
+    printf("%ld streams, %ld with a fault\n", streams, faulty);
+    return 0;
+}

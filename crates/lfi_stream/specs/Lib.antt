@@ -1,0 +1,5 @@
+pub mod Numbers
+pub mod Streams
+pub mod Events
+pub mod Endings
+pub mod Outcomes

@@ -1,0 +1,55 @@
+-- What the numbers stand for that a caller keeps of a stream. Source: include/lfi_verifier.h, docs/PROFILE.md.
+use Rattle.std.specs.Prelude.{ℕ, ◌≤◌, ◌==◌, ◌||◌, nat_lt, nat_le, if◌then◌else◌, List, get_or, Option, Some, None, option_map}
+use Rattle.lfi_module.specs.Numbers.{module_count, most_words, page_words}
+use Rattle.lfi_module.specs.Pages.{page_count}
+use Rattle.lfi_frame.specs.declared.fault.FrameFault.{FrameFault}
+use Rattle.lfi_frame.specs.declared.fault.FrameFault.TheVariants as fault
+use Rattle.lfi_frame.specs.declared.feed.Position.{Position}
+use Rattle.lfi_frame.specs.declared.feed.Position.TheVariants.{Header, Payload, Faulty}
+use Rattle.lfi_model.specs.declared.connection.Progress.{Progress}
+use Rattle.lfi_model.specs.declared.connection.Progress.TheVariants.{Unclaimed, Going, Ended}
+use Rattle.lfi_stream.specs.declared.numbers.LfiStreamModule.{LfiStreamModule}
+use Rattle.lfi_stream.specs.declared.numbers.LfiStreamPage.{LfiStreamPage}
+use Rattle.lfi_stream.specs.declared.numbers.Coming.{Coming}
+
+-- the fault with a number
+abbrev pub fault_at_number : ℕ → Option FrameFault
+fault_at_number k =
+    if k == 1 then Some fault.Kind else if k == 2 then Some fault.SecondByte else if k == 3 then Some fault.Module
+    else if k == 4 then Some fault.PageLength else if k == 5 then Some fault.CloseNumbers else if k == 6 then Some fault.WordCount
+    else if k == 7 then Some fault.Entry else if k == 8 then Some fault.NoMemory else if k == 9 then Some fault.Ended
+    else if k == 10 then Some fault.ReadFailed else None
+
+-- where in its stream a feed with these numbers is
+abbrev pub position_at : (place number : ℕ) → Option Position
+position_at place number =
+    if place == 0 then Some (Header number) else if place == 1 then Some (Payload number)
+    else if place == 2 then option_map Faulty (fault_at_number number) else None
+
+-- how far an open module of so many words is, of which so many pages came; numbers that no module has are those of one that has ended
+abbrev pub going_by : (words pages : ℕ) → Progress
+going_by words pages =
+    if words == 0 || nat_lt most_words words then Ended
+    else if nat_lt (page_count page_words words) pages then Ended else Going words pages
+
+-- how far a module with these numbers is
+abbrev pub progress_of : LfiStreamModule → Progress
+progress_of numbers =
+    if numbers.phase == 0 then Unclaimed else if numbers.phase == 1 then going_by numbers.words numbers.pages else Ended
+
+-- no more pages of a module have come than it has
+abbrev pub IsPossible : Progress → Type 0
+IsPossible (Going words pages) = pages ≤ page_count page_words words
+IsPossible progress = Unit {0}
+
+-- the numbers of a module that wasn't opened
+abbrev pub untouched : LfiStreamModule
+untouched = record { phase = 0; words = 0; pages = 0 }
+
+-- how far module m of a stream is
+abbrev pub progress_at : List LfiStreamModule → ℕ → Progress
+progress_at modules m = progress_of (get_or modules m untouched)
+
+-- the page that is coming
+abbrev pub page_at : LfiStreamPage → Option Coming
+page_at page = if nat_le module_count page.«module» then None else Some (record { «module» = page.«module»; come = page.come })

@@ -1,0 +1,23 @@
+-- What becomes of a module, by the first fault of its whole pages and by its end. Source: docs/PROFILE.md, "Streams".
+use Rattle.std.specs.Prelude.{ℕ, List, [], flat_map, Option, Some, None}
+use Rattle.lfi_rules.specs.declared.fault.Fault.{Fault}
+use Rattle.lfi_model.specs.Item.{ItemView, KindView}
+use Rattle.lfi_model.specs.Outcomes.{by_end}
+use Rattle.lfi_model.specs.declared.item.ItemKind.TheVariants.{Page}
+use Rattle.lfi_model.specs.declared.item.Reason.{Reason}
+use Rattle.lfi_model.specs.declared.outcome.Outcome.{Outcome}
+use Rattle.lfi_model.specs.declared.outcome.Outcome.TheVariants.{Refused}
+
+-- the bytes of a page
+abbrev pub bytes_at : KindView → List ℕ
+bytes_at (Page bytes) = bytes
+bytes_at kind = []
+
+-- the code of the whole pages that came of a module
+abbrev pub code_of : List ItemView → List ℕ
+code_of items = flat_map (λ item. bytes_at item.kind) items
+
+-- refused with its first fault; or what its end tells, where there is none
+abbrev pub outcome_by : ℕ → List ItemView → Option Fault → Reason → Outcome
+outcome_by words items (Some fault) reason = Refused fault
+outcome_by words items None reason = by_end words items reason

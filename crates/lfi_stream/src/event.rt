@@ -1,0 +1,37 @@
+//! What the bytes of a stream bring.
+
+use lfi_frame::FrameFault;
+use lfi_model::Reason;
+use lfi_module::{Extent, ModuleNumber};
+
+/// What the bytes that a call used have brought.
+#[derive(Clone, Copy, Debug, PartialEq, Eq)]
+pub enum Event {
+    /// Nothing that a host has to do.
+    Nothing,
+    /// This module opens: so many words, entered at this one.
+    Open {
+        module: ModuleNumber,
+        extent: Extent,
+    },
+    /// The used bytes are code of this module, from this byte of it on. Where the page ended, the last of them is its
+    /// page's last byte.
+    Code {
+        module: ModuleNumber,
+        offset: usize,
+        ended: bool,
+    },
+    /// A message of this module that is passed over.
+    Stray {
+        module: ModuleNumber,
+    },
+    /// This module, of so many words, ended when so many of its pages had come.
+    End {
+        module: ModuleNumber,
+        words: u32,
+        pages: u32,
+        reason: Reason,
+    },
+    /// The stream's fault: nothing after it is read.
+    Fault(FrameFault),
+}

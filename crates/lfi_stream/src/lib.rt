@@ -1,0 +1,26 @@
+//! A connection's stream as it comes, in plain numbers that a caller keeps: which module opens, where the bytes of its
+//! code belong, how it ends.
+//!
+//! # How data flows
+//!
+//! A [`LfiStream`] is the numbers that are kept between two pieces. [`next`] goes on in a piece, up to the end of a
+//! header or a payload, and tells what the bytes that it used brought: an [`Event`]. [`end`] tells the end of the input,
+//! and then the modules that are lost by it.
+//!
+//! # What it may not know
+//!
+//! What words mean, where code lies, who keeps the numbers.
+#![tactic(auto)]
+
+mod beginning;
+mod ending;
+mod event;
+pub mod laws;
+mod numbers;
+mod stream;
+
+pub use beginning::begin;
+pub use ending::end;
+pub use event::Event;
+pub use numbers::{LfiStream, LfiStreamFeed, LfiStreamModule, LfiStreamPage};
+pub use stream::next;

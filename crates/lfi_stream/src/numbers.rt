@@ -1,0 +1,209 @@
+//! The numbers that a caller keeps of a stream between two pieces, and what they stand for.
+
+ghost use Rattle.std.specs.Prelude.{◌≡◌, ◌<◌, ◌==◌, ℕ, if◌then◌else◌, Some};
+ghost use Rattle.lfi_frame.specs.inner.Positions.{filled_at};
+ghost use Rattle.lfi_stream.specs.Numbers.{fault_at_number, position_at, going_by, progress_of, IsPossible, page_at};
+
+use lfi_frame::feed::Position;
+use lfi_frame::{FrameFault, HEADER_BYTES};
+use lfi_model::Progress;
+use lfi_module::{ModuleNumber, PageSize, WordCount};
+
+/// Where a stream is in its messages.
+#[repr(C)]
+#[derive(Clone, Copy)]
+pub struct LfiStreamFeed {
+    /// 0: in a header; 1: in a page's payload; 2: at its fault.
+    pub place: u32,
+    /// The bytes of the header that came; those of the payload that are to come; the fault's number.
+    pub number: u32,
+    /// The bytes of the header.
+    pub held: [u8; HEADER_BYTES],
+}
+
+/// How far a module of a stream is.
+#[repr(C)]
+#[derive(Clone, Copy)]
+pub struct LfiStreamModule {
+    /// 0: it wasn't opened; 1: it is open; 2: it has ended.
+    pub phase: u32,
+    /// Where it is open, how many words it has.
+    pub words: u32,
+    /// Where it is open, how many of its pages came.
+    pub pages: u32,
+}
+
+/// The page whose payload is coming.
+#[repr(C)]
+#[derive(Clone, Copy)]
+pub struct LfiStreamPage {
+    /// Its module; 16: no page is coming, or it is passed over.
+    pub module: u32,
+    /// How many of its bytes came.
+    pub come: usize,
+}
+
+/// A stream of which some bytes came, as its caller keeps it.
+#[repr(C)]
+#[derive(Clone, Copy)]
+pub struct LfiStream {
+    /// Where it is in its messages.
+    pub feed: LfiStreamFeed,
+    /// The page whose payload is coming.
+    pub page: LfiStreamPage,
+    /// How far the modules are, by their numbers.
+    pub modules: [LfiStreamModule; ModuleNumber::COUNT],
+}
+
+/// The page that is coming, where one is.
+#[derive(Clone, Copy)]
+pub(crate) struct Coming {
+    pub(crate) module: ModuleNumber,
+    pub(crate) come: usize,
+}
+
+/// A module that is open: its number, its words in all, and how many of its pages came.
+#[derive(Clone, Copy)]
+pub(crate) struct OpenModule {
+    pub(crate) number: ModuleNumber,
+    pub(crate) words: WordCount,
+    pub(crate) pages: u32,
+}
+
+/// The fault with this number.
+fn fault_of(number: u32) -> Option<FrameFault>
+    ensures { result ≡ fault_at_number number }
+{
+    match number {
+        1 => Some(FrameFault::Kind),
+        2 => Some(FrameFault::SecondByte),
+        3 => Some(FrameFault::Module),
+        4 => Some(FrameFault::PageLength),
+        5 => Some(FrameFault::CloseNumbers),
+        6 => Some(FrameFault::WordCount),
+        7 => Some(FrameFault::Entry),
+        8 => Some(FrameFault::NoMemory),
+        9 => Some(FrameFault::Ended),
+        10 => Some(FrameFault::ReadFailed),
+        _ => None,
+    }
+}
+
+/// The position that two numbers tell.
+pub(crate) fn position_of(place: u32, number: u32) -> Option<Position>
+    ensures { result ≡ position_at place number }
+{
+    match place {
+        0 => Some(Position::Header {
+            filled: number as usize,
+        }),
+        1 => Some(Position::Payload { left: number }),
+        2 => {
+            let fault = fault_of(number)?;
+            Some(Position::Faulty(fault))
+        }
+        _ => None,
+    }
+}
+
+/// The numbers of a position, and the bytes of its header.
+pub(crate) fn feed_at(held: [u8; HEADER_BYTES], position: Position) -> LfiStreamFeed
+    requires { filled_at position < 12 }
+    ensures position { position_at result.place result.number ≡ Some position }
+    ensures held { result.held ≡ held }
+{
+    let (place, number) = match position {
+        Position::Header { filled } => (0, filled as u32),
+        Position::Payload { left } => (1, left),
+        Position::Faulty(fault) => (2, u32::from(fault.number())),
+    };
+    LfiStreamFeed {
+        place,
+        number,
+        held,
+    }
+}
+
+/// How far an open module of so many words is, of which so many pages came. Where these numbers are none of a module, it is
+/// as one that has ended.
+fn going(words: u32, pages: u32) -> Progress
+    ensures { result ≡ going_by words pages }
+{
+    if words == 0 || words > WordCount::MOST.number() {
+        return Progress::Ended;
+    }
+    let count = WordCount::of(words);
+    if pages > count.pages(PageSize::PROFILE) {
+        return Progress::Ended;
+    }
+    Progress::Going {
+        words: count,
+        pages,
+    }
+}
+
+impl LfiStreamModule {
+    /// How far it is.
+    pub(crate) fn progress(self) -> Progress
+        ensures is { result ≡ progress_of self }
+        ensures possible { IsPossible result }
+    {
+        match self.phase {
+            0 => Progress::Unclaimed,
+            1 => going(self.words, self.pages),
+            _ => Progress::Ended,
+        }
+    }
+
+    /// The numbers of a module that is so far.
+    pub(crate) fn of(progress: Progress) -> LfiStreamModule
+        requires { IsPossible progress }
+        ensures { progress_of result ≡ progress }
+    {
+        let (phase, words, pages) = match progress {
+            Progress::Unclaimed => (0, 0, 0),
+            Progress::Going { words, pages } => (1, words.number(), pages),
+            Progress::Ended => (2, 0, 0),
+        };
+        LfiStreamModule {
+            phase,
+            words,
+            pages,
+        }
+    }
+}
+
+impl LfiStreamPage {
+    /// No page is coming.
+    pub(crate) fn none() -> LfiStreamPage
+        ensures { page_at result ≡ None }
+    {
+        LfiStreamPage {
+            module: ModuleNumber::COUNT as u32,
+            come: 0,
+        }
+    }
+
+    /// The numbers of this page.
+    pub(crate) fn of(page: Coming) -> LfiStreamPage
+        ensures { page_at result ≡ Some page }
+    {
+        LfiStreamPage {
+            module: u32::from(page.module.number()),
+            come: page.come,
+        }
+    }
+
+    /// The page that is coming, where one is.
+    pub(crate) fn coming(self) -> Option<Coming>
+        ensures { result ≡ page_at self }
+    {
+        if self.module as usize >= ModuleNumber::COUNT {
+            return None;
+        }
+        Some(Coming {
+            module: ModuleNumber::at(self.module as usize),
+            come: self.come,
+        })
+    }
+}

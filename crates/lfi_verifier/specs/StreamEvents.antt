@@ -1,0 +1,60 @@
+-- The events of a stream as C sees them: include/lfi_verifier.h.
+use Rattle.std.specs.Prelude.{◌≡◌, ℕ, true, false, Bool, List}
+use Rattle.lfi_frame.specs.Streams.{Message}
+use Rattle.lfi_frame.specs.Faults.{number_of}
+use Rattle.lfi_frame.specs.declared.fault.FrameFault.{FrameFault}
+use Rattle.lfi_model.specs.declared.item.Reason.{Reason}
+use Rattle.lfi_model.specs.declared.item.Reason.TheVariants.{Close, Lost, PageFault, NoMemory}
+use Rattle.lfi_stream.specs.declared.event.Event.{Event}
+use Rattle.lfi_stream.specs.declared.event.Event.TheVariants.{Nothing, Open, Code, Stray, End, Fault}
+use Rattle.lfi_stream.specs.declared.numbers.LfiStream.{LfiStream}
+use Rattle.lfi_stream.specs.Events.{Tells}
+use Rattle.lfi_stream.specs.Endings.{Ends, Loses}
+use Rattle.lfi_verifier.specs.declared.stream.LfiEvent.{LfiEvent}
+
+-- the numbers of nothing
+abbrev pub nothing_told : LfiEvent
+nothing_told = record { kind = 0; «module» = 0; words = 0; entry = 0; pages = 0; reason = 0; number = 0; ended = 0; offset = 0 }
+
+-- the numbers are those of no stream
+abbrev pub no_stream : LfiEvent
+no_stream = record nothing_told { kind = 6 }
+
+-- why a module ended: its number, and that of the fault or of the page
+abbrev pub reason_numbers : Reason → ℕ × ℕ
+reason_numbers Close = (1, 0)
+reason_numbers (Lost fault) = (2, number_of fault)
+reason_numbers (PageFault index) = (3, index)
+reason_numbers NoMemory = (4, 0)
+
+-- 1 for yes
+abbrev pub one_if : Bool → ℕ
+one_if true = 1
+one_if false = 0
+
+-- the numbers of an event
+abbrev pub event_numbers : Event → LfiEvent
+event_numbers Nothing = nothing_told
+event_numbers (Open k extent) = record nothing_told { kind = 1; «module» = k; words = extent.words; entry = extent.entry }
+event_numbers (Code k offset ended) = record nothing_told { kind = 2; «module» = k; ended = one_if ended; offset = offset }
+event_numbers (Stray k) = record nothing_told { kind = 3; «module» = k }
+event_numbers (End k words pages reason) = record nothing_told { kind = 4; «module» = k; words = words; pages = pages; reason = (reason_numbers reason).0; number = (reason_numbers reason).1 }
+event_numbers (Fault fault) = record nothing_told { kind = 5; number = number_of fault }
+
+-- The numbers tell an event that tells what the used bytes brought, after this text.
+pub record TellsNext (told : LfiEvent) (stream : LfiStream) (messages : List Message) (rest used : List ℕ) : Type 0 where
+  pub event : Event
+  pub numbers : told ≡ event_numbers event
+  pub tells : Tells event stream messages rest used
+
+-- They tell what the end of the input makes of this text.
+pub record TellsEnd (told : LfiEvent) (old new : LfiStream) (messages : List Message) (rest : List ℕ) : Type 0 where
+  pub event : Event
+  pub numbers : told ≡ event_numbers event
+  pub ends : Ends event old new messages rest
+
+-- They tell the next module that is lost by this fault, or that none is left.
+pub record TellsLost (fault : FrameFault) (told : LfiEvent) (old new : LfiStream) : Type 0 where
+  pub event : Event
+  pub numbers : told ≡ event_numbers event
+  pub loses : Loses fault old new event

@@ -1,0 +1,189 @@
+//! A connection's stream, in a state that the caller keeps.
+
+ghost use Rattle.std.specs.Prelude.{◌≡◌, ◌≢◌, ◌<◌, ◌≤◌, ℕ, List, [], length, take, Some};
+ghost use Rattle.lfi_frame.specs.declared.fault.FrameFault.{FrameFault};
+ghost use Rattle.lfi_frame.specs.declared.feed.Position.TheVariants.{Faulty};
+ghost use Rattle.lfi_frame.specs.Streams.{Message};
+ghost use Rattle.lfi_stream.specs.Numbers.{position_at};
+ghost use Rattle.lfi_stream.specs.Streams.{IsIn, StandsFor};
+ghost use Rattle.lfi_stream.specs.declared.event.Event.TheVariants.{Fault};
+ghost use Rattle.lfi_verifier.specs.Profiles.{IsKnown};
+ghost use Rattle.lfi_verifier.specs.Statuses.{status_number};
+ghost use Rattle.lfi_verifier.specs.StreamEvents.{reason_numbers, event_numbers, no_stream, TellsNext, TellsEnd, TellsLost};
+
+use crate::profile::is_known;
+use crate::status::Status;
+use lfi_model::Reason;
+use lfi_stream::{Event, LfiStream};
+
+/// What the bytes of a stream brought, in numbers. What a kind doesn't tell is 0.
+#[repr(C)]
+#[derive(Clone, Copy)]
+pub struct LfiEvent {
+    /// 0: nothing; 1: a module opens; 2: code; 3: a message is passed over; 4: a module ended; 5: the stream's fault; 6: the
+    /// numbers are those of no stream.
+    pub kind: u32,
+    /// The module, of kinds 1 to 4.
+    pub module: u32,
+    /// How many words the module has, of kinds 1 and 4.
+    pub words: u32,
+    /// The word at which it is entered, of kind 1.
+    pub entry: u32,
+    /// How many of its pages came, of kind 4.
+    pub pages: u32,
+    /// Why it ended, of kind 4: 1 a Close, 2 the stream's fault, 3 a page that isn't the one due, 4 no memory.
+    pub reason: u32,
+    /// The stream's fault, of kind 5, and of kind 4 where it is the reason; the index of that page.
+    pub number: u32,
+    /// Whether a page ended with these bytes, of kind 2: 1 or 0.
+    pub ended: u32,
+    /// Where in the module's code the used bytes belong, of kind 2.
+    pub offset: usize,
+}
+
+/// No event.
+const NO_EVENT: LfiEvent = LfiEvent {
+    kind: 0,
+    module: 0,
+    words: 0,
+    entry: 0,
+    pages: 0,
+    reason: 0,
+    number: 0,
+    ended: 0,
+    offset: 0,
+};
+
+/// The numbers of a reason, and of what it tells.
+fn reason_of(reason: Reason) -> (u32, u32)
+    ensures { result ≡ reason_numbers reason }
+{
+    match reason {
+        Reason::Close => (1, 0),
+        Reason::Lost(fault) => (2, u32::from(fault.number())),
+        Reason::PageFault(index) => (3, index),
+        Reason::NoMemory => (4, 0),
+    }
+}
+
+/// An event in numbers.
+fn numbers_of(event: Event) -> LfiEvent
+    ensures { result ≡ event_numbers event }
+{
+    match event {
+        Event::Nothing => NO_EVENT,
+        Event::Open { module, extent } => LfiEvent {
+            kind: 1,
+            module: u32::from(module.number()),
+            words: extent.words().number(),
+            entry: extent.entry(),
+            ..NO_EVENT
+        },
+        Event::Code {
+            module,
+            offset,
+            ended,
+        } => LfiEvent {
+            kind: 2,
+            module: u32::from(module.number()),
+            offset,
+            ended: u32::from(ended),
+            ..NO_EVENT
+        },
+        Event::Stray { module } => LfiEvent {
+            kind: 3,
+            module: u32::from(module.number()),
+            ..NO_EVENT
+        },
+        Event::End {
+            module,
+            words,
+            pages,
+            reason,
+        } => {
+            let (why, number) = reason_of(reason);
+            LfiEvent {
+                kind: 4,
+                module: u32::from(module.number()),
+                words,
+                pages,
+                reason: why,
+                number,
+                ..NO_EVENT
+            }
+        }
+        Event::Fault(fault) => LfiEvent {
+            kind: 5,
+            number: u32::from(fault.number()),
+            ..NO_EVENT
+        },
+    }
+}
+
+/// Begins a stream whose code is to be judged by a profile.
+#[unsafe(no_mangle)]
+pub extern "C" fn lfi_stream_init(stream: &mut LfiStream, profile: u32) -> u32
+    ensures begun { IsKnown profile → StandsFor stream.new [] [] × (result ≡ status_number Status.Lawful) }
+    ensures unknown { ¬ (IsKnown profile) → (result ≡ status_number Status.UnknownProfile) × (stream.new ≡ stream.old) }
+{
+    if !is_known(profile) {
+        return Status::UnknownProfile.number();
+    }
+    *stream = lfi_stream::begin();
+    Status::Lawful.number()
+}
+
+/// Goes on in the next bytes, and tells how many it used and what they brought.
+#[unsafe(no_mangle)]
+pub extern "C" fn lfi_stream_next(
+    stream: &mut LfiStream,
+    bytes: &[u8],
+    event: &mut LfiEvent,
+) -> usize
+    ensures told { (messages : List Message) (rest : List ℕ) → StandsFor stream.old messages rest →
+        TellsNext event.new stream.new messages rest (take result bytes.now) }
+    ensures within { result ≤ length bytes.now }
+    ensures moves { (rest : List ℕ) → IsIn stream.old.feed rest → bytes.now ≢ [] → 0 < result }
+    ensures over { (fault : FrameFault) → position_at stream.old.feed.place stream.old.feed.number ≡ Some (Faulty fault) →
+        (result ≡ 0) × (event.new ≡ event_numbers (Fault fault)) × (stream.new ≡ stream.old) }
+    ensures bad { event.new ≡ no_stream → (stream.new ≡ stream.old) × ((rest : List ℕ) → ¬ (IsIn stream.old.feed rest)) }
+{
+    match lfi_stream::next(stream, bytes) {
+        Some((used, brought)) => {
+            *event = numbers_of(brought);
+            used
+        }
+        None => {
+            *event = LfiEvent {
+                kind: 6,
+                ..NO_EVENT
+            };
+            0
+        }
+    }
+}
+
+/// Tells the end of the input, and then the modules that are lost by the stream's fault, one a call.
+#[unsafe(no_mangle)]
+pub extern "C" fn lfi_stream_end(stream: &mut LfiStream, event: &mut LfiEvent) -> u32
+    ensures told { (messages : List Message) (rest : List ℕ) → StandsFor stream.old messages rest →
+        TellsEnd event.new stream.old stream.new messages rest × (result ≡ status_number Status.Lawful) }
+    ensures over { (fault : FrameFault) → position_at stream.old.feed.place stream.old.feed.number ≡ Some (Faulty fault) →
+        TellsLost fault event.new stream.old stream.new × (result ≡ status_number Status.Lawful) }
+    ensures bad { result ≡ status_number Status.BadState →
+        (event.new ≡ no_stream) × (stream.new ≡ stream.old) × ((rest : List ℕ) → ¬ (IsIn stream.old.feed rest)) }
+{
+    match lfi_stream::end(stream) {
+        Some(told) => {
+            *event = numbers_of(told);
+            Status::Lawful.number()
+        }
+        None => {
+            *event = LfiEvent {
+                kind: 6,
+                ..NO_EVENT
+            };
+            Status::BadState.number()
+        }
+    }
+}
