@@ -103,28 +103,6 @@ fn cut_at_every_byte(rt: HostRuntime) -> Result<(), Fail> {
 }
 
 #[test]
-fn an_input_tells_that_its_reader_failed(rt: HostRuntime) -> Result<(), Fail> {
-    let text = one_word(rt.alloc(), 0, RET)?;
-    let mut stage = pair(rt.alloc())?;
-    let mut input = Input::new(
-        rt.alloc(),
-        FailsOnce {
-            before: Pieces { left: &[], most: 0 },
-            failed: false,
-            after: Pieces {
-                left: text.bytes.as_slice(),
-                most: 40,
-            },
-        },
-    )?;
-    assert!(rt; !input.has_failed());
-    let did = receive_all(&mut stage, 0, &mut input);
-    assert!(rt; did == ReceiverTurn::Finished);
-    assert!(rt; input.has_failed());
-    Ok(())
-}
-
-#[test]
 fn in_pieces_of_every_length(rt: HostRuntime) -> Result<(), Fail> {
     let text = one_word(rt.alloc(), 0, RET)?;
     for most in 1..=41usize {
