@@ -14,6 +14,8 @@ mod images;
 #[cfg(test)]
 mod loads;
 #[cfg(test)]
+mod noticed;
+#[cfg(test)]
 mod packs;
 #[cfg(test)]
 mod refused;
