@@ -1,27 +1,18 @@
-//! Tests of the commands: whole runs over files, and readers, writers and disks that give and take little, or fail.
+//! Tests of the commands: readers, writers and disks that give and take little, or fail, and each command once over files.
+//! Whole runs of the program over files are rows of checks/runs.
 #![tactic(auto)]
 
-#[cfg(test)]
-mod checks;
 #[cfg(test)]
 mod devices;
 #[cfg(test)]
 mod disks;
 #[cfg(test)]
-mod explains;
+mod files;
 #[cfg(test)]
 mod images;
 #[cfg(test)]
-mod loads;
-#[cfg(test)]
-mod noticed;
-#[cfg(test)]
-mod packs;
-#[cfg(test)]
-mod refused;
+mod notices;
 #[cfg(test)]
 mod runs;
 #[cfg(test)]
 mod serves;
-#[cfg(test)]
-mod usage;

@@ -1,6 +1,5 @@
-//! The lines that are written of refused modules while others are still loaded.
+//! The notice of a refused module.
 
-use crate::refused::THREE;
 use crate::runs::{begin, run_noticed};
 use lfi_commands::{Disk, Ending, Errors, WrittenNotices, load};
 use lfi_image::CompleteImage;
@@ -14,6 +13,19 @@ use std::rt::Clock;
 use std::sync::Wait;
 use std::test::Fail;
 use std::thread::{Threads, join};
+
+/// A stream of modules 1 and 2. The first word of module 1 asks for another one than follows it, and module 2 is lawful.
+const TWO: [u8; 84] = [
+    1, 0, 1, 0, 2, 0, 0, 0, 0, 0, 0, 0, // Open of module 1: 2 words, entry 0
+    2, 0, 1, 0, 0, 0, 0, 0, 8, 0, 0, 0, // Page 0, 8 bytes
+    0xBE, 0x06, 0x40, 0xF9, // ldr x30, [x21, #8]
+    0x1F, 0x20, 0x03, 0xD5, // nop
+    3, 0, 1, 0, 0, 0, 0, 0, 0, 0, 0, 0, // Close
+    1, 0, 2, 0, 1, 0, 0, 0, 0, 0, 0, 0, // Open of module 2: 1 word, entry 0
+    2, 0, 2, 0, 0, 0, 0, 0, 4, 0, 0, 0, // Page 0, 4 bytes
+    0xC0, 0x03, 0x5F, 0xD6, // ret
+    3, 0, 2, 0, 0, 0, 0, 0, 0, 0, 0, 0, // Close
+];
 
 /// Closes module 9, which nobody opened.
 const STRAY: [u8; 12] = [3, 0, 9, 0, 0, 0, 0, 0, 0, 0, 0, 0];
@@ -76,7 +88,7 @@ fn one_notice_of_a_refused_module(rt: HostRuntime) -> Result<(), Fail> {
     begin(&rt, "noticed.tmp")?;
     let told = File::create(&rt, "noticed.tmp/told")?;
     let mut out = Vec::new(rt.alloc());
-    let is_loaded = is_loaded_until_told(&rt, rt.alloc(), &THREE[..84], &told, &mut out)?;
+    let is_loaded = is_loaded_until_told(&rt, rt.alloc(), TWO.as_slice(), &told, &mut out)?;
     assert!(rt; is_loaded);
     assert!(rt; out.as_slice().starts_with(TWO_REPORT.as_bytes()));
     let lines = fs::read(&rt, "noticed.tmp/told")?;
@@ -138,7 +150,7 @@ fn run_told<S: Threads + Wait + Files + Net + Clock + Sync>(
     told: &File,
 ) -> Result<(Ending, Vec<u8>), AllocError> {
     let mut disk = UntilToldDisk {
-        text: &THREE[..84],
+        text: TWO.as_slice(),
         told,
     };
     let notices = WrittenNotices { writer: told };
@@ -169,7 +181,7 @@ fn one_notice_of_a_client(rt: HostRuntime) -> Result<(), Fail> {
     let (ran, sent) = join(
         &rt,
         || run_told(&rt, rt.alloc(), line, &told),
-        || send_until_told(&rt, "serve_noticed.tmp/socket", &THREE[..84], &told),
+        || send_until_told(&rt, "serve_noticed.tmp/socket", TWO.as_slice(), &told),
     );
     sent?;
     let (ending, out) = ran?;
