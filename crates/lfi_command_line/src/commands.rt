@@ -13,8 +13,8 @@ use std::alloc::{AllocError, Global};
 /// The most steps that `run` is asked for.
 const MOST_STEPS: u64 = 1_000_000_000;
 
-/// The most connections that `serve` is asked for.
-const MOST_CONNECTIONS: u64 = 8;
+/// The most connections that `serve` is asked for, and streams that `load` is given.
+pub(crate) const MOST_CONNECTIONS: u64 = 8;
 
 /// The most verifiers that are asked for.
 const MOST_VERIFIERS: u64 = 8;
@@ -23,7 +23,7 @@ const MOST_VERIFIERS: u64 = 8;
 const MOST_SECONDS: u64 = 86_400;
 
 /// The last module's number.
-const LAST_MODULE: u64 = 15;
+pub(crate) const LAST_MODULE: u64 = 15;
 
 /// The last word of the longest code.
 const LAST_WORD: u64 = 4_194_303;

@@ -5,6 +5,7 @@ ghost use Rattle.clap.specs.Words.{first_of, one_of, rows_of, found_of};
 ghost use Rattle.lfi_command_line.specs.CommandLine.{IsAskedBy, IsFlag, IsNumberIfAny, IsNumberOr, explain_by};
 ghost use Rattle.lfi_command_line.specs.inner.Given.{IsNumberGiven, IsFaultOfLoad, IsFaultOfPack};
 
+use crate::commands::{LAST_MODULE, MOST_CONNECTIONS};
 use crate::fault::LineFault;
 use crate::line::{Explain, Line};
 use clap::ArgMatches;
@@ -14,10 +15,10 @@ use std::alloc::Global;
 const VERIFIERS: u64 = 2;
 
 /// The most streams.
-const MOST_STREAMS: usize = 8;
+const MOST_STREAMS: usize = MOST_CONNECTIONS as usize;
 
 /// How many modules there are.
-const MODULES: usize = 16;
+const MODULES: usize = LAST_MODULE as usize + 1;
 
 /// Whether a flag is given.
 fn is_given(matches: &ArgMatches<'_>, id: &str) -> bool

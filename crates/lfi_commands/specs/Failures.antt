@@ -7,6 +7,8 @@ use Rattle.std.specs.declared.io.ErrorKind.TheVariants.{OutOfMemory}
 use Rattle.lfi_commands.specs.declared.device_cause.DeviceCause.{DeviceCause}
 use Rattle.lfi_commands.specs.declared.commands.CommandFault.{CommandFault}
 use Rattle.lfi_commands.specs.declared.commands.CommandFault.TheVariants as fault
+use Rattle.lfi_commands.specs.declared.commands.LoadFault.{LoadFault}
+use Rattle.lfi_commands.specs.declared.commands.LoadFault.TheVariants as load_fault
 use Rattle.lfi_commands.specs.declared.failure.Target.{Target}
 use Rattle.lfi_commands.specs.declared.failure.Target.TheVariants.{StandardOutput, File}
 use Rattle.lfi_commands.specs.declared.failure.Failure.{Failure}
@@ -37,6 +39,16 @@ failure_lines failures = flat_map failure_line failures
 abbrev pub is_of_a_write : CommandFault → Bool
 is_of_a_write (fault.NotWritten cause) = true
 is_of_a_write _ = false
+
+-- the fault of a load is that of writing its report
+abbrev pub is_of_the_report : LoadFault → Bool
+is_of_the_report (load_fault.NotWritten cause) = true
+is_of_the_report (load_fault.NotLoaded why) = false
+
+-- what it says: there is one line for memory and for threads
+abbrev pub failure_of_load : LoadFault → Failure
+failure_of_load (load_fault.NotWritten cause) = CannotWrite StandardOutput cause
+failure_of_load (load_fault.NotLoaded why) = NoMemory
 
 -- the failure is that of the output
 abbrev pub is_of_output : Failure → Bool

@@ -9,7 +9,7 @@ ghost use Rattle.lfi_receive.specs.declared.input.Input.{Input};
 ghost use Rattle.lfi_stage.specs.Stages.{IsLoaded};
 ghost use Rattle.lfi_threads.specs.Served.{HasServed};
 ghost use Rattle.lfi_code.specs.Checking.{Checks, verdict_text};
-ghost use Rattle.lfi_commands.specs.Failures.{fault_of_read, is_of_a_write};
+ghost use Rattle.lfi_commands.specs.Failures.{fault_of_read, is_of_a_write, is_of_the_report};
 ghost use Rattle.lfi_model.specs.Texts.{summary_text};
 ghost use Rattle.lfi_stage.specs.Summaries.{summary_of};
 
@@ -20,7 +20,7 @@ use lfi_code::{MOST_BYTES, Verdict, judge_code};
 use lfi_place::OpenGate;
 use lfi_receive::Input;
 use lfi_stage::settle::Report;
-use lfi_threads::{Notices, Served, load_all, serve_on};
+use lfi_threads::{LoadError, Notices, Served, load_all, serve_on};
 use std::alloc::Global;
 use std::fs::Files;
 use std::io::{self, Read, Write};
@@ -39,6 +39,26 @@ pub enum CommandFault {
     NotRead(DeviceCause),
     /// A write failed, for this cause.
     NotWritten(DeviceCause),
+}
+
+/// Why streams weren't loaded, or the report on them isn't told.
+#[derive(Clone, Copy, PartialEq, Eq, Debug)]
+pub enum LoadFault {
+    /// They weren't loaded, for this.
+    NotLoaded(LoadError),
+    /// The report can't be written, for this cause.
+    NotWritten(DeviceCause),
+}
+
+impl From<LoadError> for LoadFault {
+    ghost use Rattle.std.specs.Prelude.{◌≡◌};
+    ghost use Rattle.lfi_commands.specs.declared.commands.LoadFault.TheVariants.{NotLoaded};
+
+    ghost from_gives = { λ error fault. fault ≡ NotLoaded error };
+
+    fn from(error: LoadError) -> LoadFault {
+        LoadFault::NotLoaded(error)
+    }
 }
 
 impl CommandFault {
@@ -141,14 +161,14 @@ pub fn check_file<R: Read + Drop, W: Write>(
 }
 
 /// Writes the text of a report.
-fn write_report<W: Write>(report: &Report, writer: &mut W) -> Result<(), CommandFault>
+fn write_report<W: Write>(report: &Report, writer: &mut W) -> Result<(), LoadFault>
     ensures written { OnOk result (Appends (W.contents writer.old) (W.contents writer.new) (summary_text (summary_of report.now))) }
-    ensures fault { IfErr result (λ fault. is_of_a_write fault ≡ true) }
+    ensures fault { IfErr result (λ fault. is_of_the_report fault ≡ true) }
 {
     let summary = report.summary();
     match write!(writer, "{summary}") {
         Ok(()) => Ok(()),
-        Err(error) => Err(CommandFault::NotWritten(DeviceCause::of(&error))),
+        Err(error) => Err(LoadFault::NotWritten(DeviceCause::of(&error))),
     }
 }
 
@@ -158,7 +178,8 @@ fn write_report<W: Write>(report: &Report, writer: &mut W) -> Result<(), Command
 ///
 /// # Errors
 ///
-/// Where the write fails, or there is no memory for the stage, or a thread can't be started.
+/// `NotLoaded` where there is no memory for the stage, or a thread can't be started, and then nothing
+/// is written; `NotWritten` where the write fails.
 pub fn load<S: Threads + Wait + Sync, R: Read + Send + Drop, N: Notices + Sync, W: Write>(
     rt: &S,
     alloc: Global,
@@ -166,16 +187,14 @@ pub fn load<S: Threads + Wait + Sync, R: Read + Send + Drop, N: Notices + Sync, 
     verifiers: usize,
     notices: &N,
     writer: &mut W,
-) -> Result<Report, CommandFault>
+) -> Result<Report, LoadFault>
     requires connections { (1 ≤ length inputs.items) × (length inputs.items ≤ 8) }
     requires verifiers { (1 ≤ verifiers) × (verifiers ≤ 8) }
     ensures report { IfOk result (λ report. (texts : ℕ → List ℕ) → ((c : ℕ) (input : Input R) → slice_get inputs.items c ≡ Some input → left_of R.remaining input ≡ Some (texts c)) → IsLoaded (length inputs.items) verifiers texts report) }
     ensures written { IfOk result (λ report. Appends (W.contents writer.old) (W.contents writer.new) (summary_text (summary_of report))) }
-    ensures unwritten { IfErr result (λ fault. is_of_a_write fault ≡ false → writer.new ≡ writer.old) }
+    ensures unwritten { IfErr result (λ fault. is_of_the_report fault ≡ false → writer.new ≡ writer.old) }
 {
-    let Ok(report) = load_all(rt, alloc, inputs, verifiers, &OpenGate, notices) else {
-        return Err(CommandFault::NoMemory);
-    };
+    let report = load_all(rt, alloc, inputs, verifiers, &OpenGate, notices)?;
     match write_report(&report, writer) {
         Ok(()) => Ok(report),
         Err(fault) => Err(fault),
@@ -189,7 +208,8 @@ pub fn load<S: Threads + Wait + Sync, R: Read + Send + Drop, N: Notices + Sync, 
 ///
 /// # Errors
 ///
-/// Where the write fails, or there is no memory for the stage, or a thread can't be started.
+/// `NotLoaded` where there is no memory for the stage, or a thread can't be started, and then nothing
+/// is written; `NotWritten` where the write fails.
 pub fn serve<S: Threads + Wait + Files + Clock + Sync, N: Notices + Sync, W: Write>(
     rt: &S,
     alloc: Global,
@@ -200,15 +220,15 @@ pub fn serve<S: Threads + Wait + Files + Clock + Sync, N: Notices + Sync, W: Wri
     limit: Option<Duration>,
     notices: &N,
     writer: &mut W,
-) -> Result<Served, CommandFault>
+) -> Result<Served, LoadFault>
     requires connections { (1 ≤ connections) × (connections ≤ 8) }
     requires verifiers { (1 ≤ verifiers) × (verifiers ≤ 8) }
     ensures report { IfOk result (HasServed connections verifiers) }
     ensures limit { IfOk result (λ served. served.limit ≡ limit) }
     ensures written { IfOk result (λ served. Appends (W.contents writer.old) (W.contents writer.new) (summary_text (summary_of served.report))) }
-    ensures unwritten { IfErr result (λ fault. is_of_a_write fault ≡ false → writer.new ≡ writer.old) }
+    ensures unwritten { IfErr result (λ fault. is_of_the_report fault ≡ false → writer.new ≡ writer.old) }
 {
-    let Ok(served) = serve_on(
+    let served = serve_on(
         rt,
         alloc,
         listener,
@@ -218,9 +238,7 @@ pub fn serve<S: Threads + Wait + Files + Clock + Sync, N: Notices + Sync, W: Wri
         limit,
         &OpenGate,
         notices,
-    ) else {
-        return Err(CommandFault::NoMemory);
-    };
+    )?;
     match write_report(&served.report, writer) {
         Ok(()) => Ok(served),
         Err(fault) => Err(fault),

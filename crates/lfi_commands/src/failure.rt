@@ -5,8 +5,9 @@ ghost use Rattle.std.specs.IoError.{error_kind};
 ghost use Rattle.lfi_commands.specs.Causes.{cause_of};
 ghost use Rattle.lfi_commands.specs.Failures.{failure_text, fault_of_read, is_of_a_write, is_of_output, target_text, FailsOn, IsOfReading, TellsOf};
 
-use crate::commands::CommandFault;
+use crate::commands::{CommandFault, LoadFault};
 use crate::device_cause::DeviceCause;
+use lfi_threads::LoadError;
 use std::alloc::AllocError;
 use std::{fmt, io};
 
@@ -28,7 +29,7 @@ pub enum Failure<'a> {
     CannotWrite(Target, DeviceCause),
     /// It can't be listened at the path of a socket.
     CannotListen(DeviceCause),
-    /// There was no memory.
+    /// There was no memory, or a thread can't be started.
     NoMemory,
 }
 
@@ -64,6 +65,21 @@ impl<'a> From<AllocError> for Failure<'a> {
 
     fn from(_error: AllocError) -> Failure<'a> {
         Failure::NoMemory
+    }
+}
+
+impl<'a> From<LoadFault> for Failure<'a> {
+    ghost use Rattle.std.specs.Prelude.{◌≡◌};
+    ghost use Rattle.lfi_commands.specs.Failures.{failure_of_load};
+
+    ghost from_gives = { λ fault failure. failure ≡ failure_of_load fault };
+
+    /// What is told of it: that a thread can't be started by the line that tells of memory.
+    fn from(fault: LoadFault) -> Failure<'a> {
+        match fault {
+            LoadFault::NotLoaded(LoadError::NoMemory | LoadError::NoThread) => Failure::NoMemory,
+            LoadFault::NotWritten(cause) => Failure::of_output(cause),
+        }
     }
 }
 

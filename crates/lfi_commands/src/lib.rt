@@ -114,7 +114,7 @@ mod program;
 mod refused;
 mod whole;
 
-pub use commands::{CommandFault, check, check_file, load, serve};
+pub use commands::{CommandFault, LoadFault, check, check_file, load, serve};
 pub use device_cause::DeviceCause;
 pub use disk::{Disk, SystemDisk};
 pub use ending::Ending;

@@ -12,7 +12,7 @@ use crate::commands::CommandFault;
 use crate::device_cause::DeviceCause;
 use a64_word::WORD_BYTES;
 use lfi_code::{Beginning, Verdict};
-use std::alloc::Global;
+use std::alloc::{AllocError, Global};
 use std::io::Read;
 
 /// How many bytes are read at once.
@@ -25,7 +25,7 @@ fn buffer(alloc: Global, size: usize) -> Result<Vec<u8>, CommandFault>
 {
     match Vec::from_elem(alloc, 0u8, size) {
         Ok(buffer) => Ok(buffer),
-        Err(_) => Err(CommandFault::NoMemory),
+        Err(AllocError) => Err(CommandFault::NoMemory),
     }
 }
 

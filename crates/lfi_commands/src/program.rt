@@ -186,11 +186,7 @@ fn run_load<
     ensures errors { OnErr result (errors.new ≡ errors.old) }
 {
     let inputs = open_all(alloc, disk, paths)?;
-    let report = match load(rt, alloc, inputs, verifiers, notices, out) {
-        Ok(report) => report,
-        Err(CommandFault::NotWritten(cause)) => return Err(Failure::of_output(cause)),
-        Err(_) => return Err(Failure::NoMemory),
-    };
+    let report = load(rt, alloc, inputs, verifiers, notices, out)?;
     match write_asked_refused(explain, &report.modules, &report.faults, out) {
         Ok(()) => {}
         Err(error) => return Err(Failure::of_output(DeviceCause::of(&error))),
@@ -246,7 +242,7 @@ fn run_serve<
         Ok(listener) => listener,
         Err(error) => return Err(Failure::CannotListen(DeviceCause::of(&error))),
     };
-    let served = match serve(
+    let served = serve(
         rt,
         alloc,
         listener,
@@ -256,11 +252,7 @@ fn run_serve<
         limit_of(seconds),
         notices,
         out,
-    ) {
-        Ok(served) => served,
-        Err(CommandFault::NotWritten(cause)) => return Err(Failure::of_output(cause)),
-        Err(_) => return Err(Failure::NoMemory),
-    };
+    )?;
     match write_asked_refused(explain, &served.report.modules, &served.report.faults, out) {
         Ok(()) => {}
         Err(error) => return Err(Failure::of_output(DeviceCause::of(&error))),

@@ -1,7 +1,7 @@
 //! Runs of the program over the system's files, and what they must answer.
 
 use lfi_commands::{Disk, Ending, Errors, SystemDisk, run_words};
-use lfi_threads::NoNotices;
+use lfi_threads::{NoNotices, Notices};
 use std::alloc::{AllocError, Global};
 use std::fs::{self, File, Files};
 use std::io::{self, Write};
@@ -56,6 +56,26 @@ fn words(alloc: Global, line: &str) -> Result<Vec<String>, AllocError> {
         .try_collect(alloc)
 }
 
+/// Runs the program on the words of a line, over any disk, notices and writers.
+pub fn run_noticed<
+    S: Threads + Wait + Files + Net + Clock + Sync,
+    D: Disk,
+    N: Notices + Sync,
+    O: Write,
+    E: Write,
+>(
+    rt: &S,
+    alloc: Global,
+    disk: &mut D,
+    notices: &N,
+    line: &str,
+    out: &mut O,
+    errors: &mut Errors<E>,
+) -> Result<Ending, AllocError> {
+    let words = words(alloc, line)?;
+    Ok(run_words(rt, alloc, disk, notices, &words, out, errors))
+}
+
 /// Runs the program on the words of a line, over any disk and writers.
 pub fn run_over<S: Threads + Wait + Files + Net + Clock + Sync, D: Disk, O: Write, E: Write>(
     rt: &S,
@@ -65,8 +85,7 @@ pub fn run_over<S: Threads + Wait + Files + Net + Clock + Sync, D: Disk, O: Writ
     out: &mut O,
     errors: &mut Errors<E>,
 ) -> Result<Ending, AllocError> {
-    let words = words(alloc, line)?;
-    Ok(run_words(rt, alloc, disk, &NoNotices, &words, out, errors))
+    run_noticed(rt, alloc, disk, &NoNotices, line, out, errors)
 }
 
 /// Runs the program on the words of a line, over the system's files.

@@ -6,7 +6,7 @@
 
 ghost use Rattle.std.specs.Prelude.{◌≡◌, IfOk};
 ghost use Rattle.std.specs.Result.{result_err};
-ghost use Rattle.lfi_frame.specs.Streams.{header_at, header_fault, is_page_length};
+ghost use Rattle.lfi_frame.specs.Streams.{header_at, header_bytes, header_fault, is_page_length};
 ghost use Rattle.lfi_frame.specs.inner.Kinds.{kind_of};
 ghost use Rattle.lfi_frame.specs.Feeds.{IsInRange, answer_to};
 
@@ -75,6 +75,20 @@ impl Header {
             a: LittleEndian::read_u32(&bytes[4..]),
             b: LittleEndian::read_u32(&bytes[8..]),
         }
+    }
+
+    /// The twelve bytes that spell this header: [`Header::read`] has it again.
+    pub fn bytes(self) -> [u8; HEADER_BYTES]
+        ensures spells { result ≡ header_bytes self }
+        ensures back { header_at result ≡ self }
+    {
+        let mut bytes = [0; HEADER_BYTES];
+        bytes[0] = self.kind;
+        bytes[1] = self.second;
+        LittleEndian::write_u16(&mut bytes[2..], self.module);
+        LittleEndian::write_u32(&mut bytes[4..], self.a);
+        LittleEndian::write_u32(&mut bytes[8..], self.b);
+        bytes
     }
 
     /// The first fault that a header shows by itself, in the order of the faults' numbers.

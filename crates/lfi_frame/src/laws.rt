@@ -1,11 +1,17 @@
 //! Laws of streams and feeds.
 
-ghost use Rattle.std.specs.Prelude.{◌≡◌, ℕ, List, [], ◌∷◌, ◌++◌, flat_map};
+ghost use Rattle.std.specs.Prelude.{◌≡◌, ◌<◌, ◌^◌, ℕ, List, [], ◌∷◌, ◌++◌, flat_map};
 ghost use Rattle.lfi_frame.specs.declared.fault.FrameFault.{FrameFault};
 ghost use Rattle.lfi_frame.specs.declared.feed.Feed.{Feed};
-ghost use Rattle.lfi_frame.specs.Streams.{AreBytes, Message, Cut, spelling, rest_of, faulty};
+ghost use Rattle.lfi_frame.specs.declared.header.Header.{Header};
+ghost use Rattle.lfi_frame.specs.Streams.{AreBytes, Message, Cut, header_at, header_bytes, spelling, rest_of, faulty};
 ghost use Rattle.lfi_frame.specs.Feeds.{FeedStands};
 ghost use Rattle.lfi_frame.specs.Runs.{Call, AreCalls, used_by, hear, nothing_heard, joined, UseUp};
+
+/// Who reads the twelve bytes of a header, whose numbers fit theirs, has that header again.
+pub fn header_reads_back()
+    ensures { (h : Header) → h.module < 2 ^ 16 → h.a < 2 ^ 32 → h.b < 2 ^ 32 → header_at (header_bytes h) ≡ h }
+{}
 
 /// Every text of bytes is cut in exactly one way.
 pub fn one_cut()

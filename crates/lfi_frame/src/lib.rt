@@ -4,8 +4,8 @@
 //!
 //! A [`Feed`] is given a stream in pieces of any lengths and answers what they bring: a whole Open, the header of a
 //! page, payload of a page, a whole Close, or the one fault of the stream. `Header::read` and `Header::judge` take 12
-//! bytes to what a message begins with, or to its fault. The laws in [`laws`] say that what a feed tells is the one cut
-//! of all the bytes as messages.
+//! bytes to what a message begins with, or to its fault; `Header::bytes` and [`messages`] take it to the 12 bytes again.
+//! The laws in [`laws`] say that what a feed tells is the one cut of all the bytes as messages.
 //!
 //! # What it may not know
 //!
@@ -43,6 +43,7 @@ pub mod fault;
 pub mod feed;
 pub mod header;
 pub mod laws;
+pub mod messages;
 
 pub use answer::{Got, Step};
 pub use fault::FrameFault;

@@ -12,17 +12,6 @@ use Rattle.a64_word.specs.Words.{words_of}
 use Rattle.a64_word.proofs.WordLaws.{words_count}
 use Rattle.lfi_image.specs.Image.{code_of}
 
-pub take_split : (a b : ℕ) (old new : List ℕ) → a ≤ b → take a new ≡ take a old → take a old ++ slice_range new a b ≡ take b new
-take_split a b old new h front =
-    let same : a + (b - a) ≡ b = omega arith in
-    ap (λ l. l ++ slice_range new a b) (sym front) ∙ sym (take-add a (b - a) new) ∙ ap (λ n. take n new) same
-
-pub slice_range-put_mid : (a k n : ℕ) (xs ys : List ℕ) → a ≤ length xs → n ≤ length ys → slice_range (put_mid a k xs ys) a (a + n) ≡ take n ys
-slice_range-put_mid a k n xs ys within fits =
-    let same : (a + n) - a ≡ n = omega arith in
-    let after = post_of a k xs in
-    ap (take ((a + n) - a)) (drop_at (take a xs) (ys ++ after) a (length-take-le a xs within)) ∙ ap (λ m. take m (ys ++ after)) same ∙ take-append-le n ys after fits
-
 abbrev pub IsBytes : List ℕ → Type 0
 IsBytes xs = (i : ℕ) → get_or xs i 0 < 256
 
@@ -55,11 +44,6 @@ words_of-append [] ys whole = refl
 pub code_of-append : (ws vs : List ℕ) → code_of (ws ++ vs) ≡ code_of ws ++ code_of vs
 code_of-append [] vs = refl
 code_of-append (w ∷ ws) vs = ap (λ l. to_le_bytes w32 w ++ l) (code_of-append ws vs) ∙ sym (append_assoc (to_le_bytes w32 w) (code_of ws) (code_of vs))
-
--- a writer that took the front of what was left
-pub grown : (a b c : Option (List ℕ)) (xs : List ℕ) (at n next : ℕ) → next ≡ at + n → Appends a b (take at xs) → Appends b c (take n (take (length xs - at) (drop at xs))) → Appends a c (take next xs)
-grown a b c xs at n next e before now =
-    subst (Appends a c) (ap (λ l. take at xs ++ take n l) (take_rest xs at) ∙ sym (take-add at n xs) ∙ ap (λ m. take m xs) (sym e)) (Appends-trans a b c _ _ before now)
 
 -- a writer that took nothing more
 pub grown_none : (a b c : Option (List ℕ)) (xs : List ℕ) → Appends a b xs → Appends b c [] → Appends a c xs

@@ -8,7 +8,7 @@ use Rattle.lfi_image.specs.declared.fault.ImageFault.{ImageFault}
 use Rattle.lfi_image.specs.declared.fault.ImageFault.TheVariants.{Device}
 use Rattle.lfi_image.specs.Image.{code_of}
 use Rattle.lfi_image.specs.Built.{words_in}
-use Rattle.lfi_image.specs.Writing.{AppendsBeginning}
+use Rattle.in_full.specs.Beginnings.{AppendsBeginning}
 use Rattle.lfi_image.specs.inner.Writing.{Writes}
 use Rattle.lfi_image.proofs.Pieces.{code_of-append}
 

@@ -2,6 +2,5 @@ pub mod Judged
 pub mod Image
 pub mod Reading
 pub mod Built
-pub mod Writing
 pub mod Faults
 pub mod inner

@@ -13,26 +13,10 @@ use crate::builder::{Builder, CompleteImage};
 use crate::fault::ImageFault;
 use crate::header::{HEADER_BYTES, Header};
 use crate::judged::JudgedPage;
+use in_full::fill;
 use page_buf::{PAGE_BYTES, SealedPage};
 use std::alloc::Global;
-use std::io::{self, Read};
-
-/// Reads until the buffer is full or the input ends, and answers how many bytes it read.
-fn fill<R: Read>(reader: &mut R, bytes: &mut [u8]) -> io::Result<usize>
-    ensures within { IfOk result (λ n. n ≤ length bytes.new) }
-    ensures consumed { IfOk result (λ n. Consumes (R.remaining reader.old) (R.remaining reader.new) (take n bytes.new)) }
-    ensures end { IfOk result (λ n. n < length bytes.new → IsAtEnd (R.remaining reader.new)) }
-{
-    let mut at = 0;
-    while at < bytes.len() {
-        let count = reader.read(&mut bytes[at..])?;
-        if count == 0 {
-            return Ok(at);
-        }
-        at += count;
-    }
-    Ok(at)
-}
+use std::io::Read;
 
 /// Fills the buffer.
 fn read_bytes<R: Read>(reader: &mut R, bytes: &mut [u8]) -> Result<(), ImageFault>

@@ -6,12 +6,13 @@ ghost use Rattle.a64_word.specs.Words.{words_of};
 ghost use Rattle.lfi_image.specs.Image.{file_of, header_of, code_of};
 ghost use Rattle.lfi_image.specs.Built.{words_in};
 ghost use Rattle.lfi_image.specs.declared.fault.ImageFault.TheVariants.{Device};
-ghost use Rattle.lfi_image.specs.Writing.{AppendsBeginning};
+ghost use Rattle.in_full.specs.Beginnings.{AppendsBeginning};
 ghost use Rattle.lfi_image.specs.inner.Writing.{Writes};
 
 use crate::builder::CompleteImage;
 use crate::fault::ImageFault;
 use crate::header::encode;
+use in_full::write_in_full;
 use page_buf::SealedPage;
 use std::io::Write;
 
@@ -19,15 +20,10 @@ use std::io::Write;
 fn write_bytes<W: Write>(writer: &mut W, bytes: &[u8]) -> Result<(), ImageFault>
     ensures { Writes (W.contents writer.old) (W.contents writer.new) bytes.now result }
 {
-    let mut at = 0;
-    while at < bytes.len() {
-        match writer.write(&bytes[at..]) {
-            Ok(0) => return Err(ImageFault::Device),
-            Ok(count) => at += count,
-            Err(_) => return Err(ImageFault::Device),
-        }
+    match write_in_full(writer, bytes) {
+        Ok(()) => Ok(()),
+        Err(_) => Err(ImageFault::Device),
     }
-    Ok(())
 }
 
 /// Writes the bytes of a page: those of its words.

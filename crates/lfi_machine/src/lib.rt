@@ -57,5 +57,5 @@ pub use laws::{held_is_not_refused, ran_is_reached};
 pub use lfi_confinement::Cause;
 pub use machine::Machine;
 pub use runtime::{Answer, Runtime};
-pub use slot::{Data, DataFault, bytes_of};
+pub use slot::{Access, Data, DataFault, bytes_of};
 pub use start::{StartFault, start_registers};

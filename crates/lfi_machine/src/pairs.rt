@@ -20,7 +20,7 @@ ghost use Rattle.lfi_machine.specs.inner.Addresses.{unsigned_access, signed_acce
 
 use crate::halt::Halt;
 use crate::singles::located;
-use crate::slot::Data;
+use crate::slot::{Access, Data};
 use a64_semantics::Registers;
 use a64_word::{Pair, PairMode, Size, Width};
 
@@ -72,7 +72,7 @@ fn load_pair(slot: &Data, registers: &mut Registers, i: &Pair, address: u64) -> 
 {
     let size = pair_size(i.width);
     let half = register_bytes(i.width);
-    let offset = located(slot, false, pair_bytes(i.width), address)?;
+    let offset = located(slot, Access::Load, pair_bytes(i.width), address)?;
     let first = slot.load(size, offset);
     let second = slot.load(size, offset + half);
     registers.put(i.rt, i.width, first);
@@ -93,7 +93,7 @@ fn store_pair(slot: &mut Data, registers: &Registers, i: &Pair, address: u64) ->
     let size = pair_size(i.width);
     let half = register_bytes(i.width);
     let bytes = pair_bytes(i.width);
-    let offset = located(slot, true, bytes, address)?;
+    let offset = located(slot, Access::Store, bytes, address)?;
     match slot.keep(offset, bytes) {
         Ok(()) => {
             slot.put(size, offset, registers.x(i.rt));

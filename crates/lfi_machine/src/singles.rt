@@ -13,13 +13,13 @@ ghost use Rattle.lfi_image.specs.Image.{IsImage};
 ghost use Rattle.lfi_confinement.specs.Moves.{escape};
 ghost use Rattle.lfi_confinement.specs.Slots.{base};
 ghost use Rattle.lfi_machine.specs.Keeping.{KeepsStored};
-ghost use Rattle.lfi_machine.specs.Owned.{memory, state_of, IsLocated};
+ghost use Rattle.lfi_machine.specs.Owned.{memory, state_of, writes_by, IsLocated};
 ghost use Rattle.lfi_machine.specs.Halting.{CarriesOut};
 ghost use Rattle.lfi_machine.specs.inner.Transfers.{Transfers, denied_in, access_move, Accesses, base_write, Finishes};
 ghost use Rattle.lfi_machine.specs.inner.Addresses.{unsigned_access, signed_access, index_access, pair_access};
 
 use crate::halt::Halt;
-use crate::slot::{Data, bytes_of};
+use crate::slot::{Access, Data, bytes_of};
 use a64_semantics::Registers;
 use a64_word::{
     IndexExtend, IndexMode, Register, RegisterOffset, SignedOffset, Size, Transfer, UnsignedOffset,
@@ -67,14 +67,14 @@ fn data_width(size: Size, transfer: Transfer) -> Width
 
 /// The offset of bytes that may be accessed so.
 #[inline(always)]
-pub(crate) fn located(slot: &Data, stores: bool, bytes: u32, address: u64) -> Result<u32, Halt>
+pub(crate) fn located(slot: &Data, access: Access, bytes: u32, address: u64) -> Result<u32, Halt>
     requires some { 1 ≤ bytes }
     requires few { bytes ≤ 16 }
     requires within { address + bytes < 2 ^ 64 }
-    ensures ok { IfOk result (λ offset. IsLocated slot.now stores bytes address offset) }
-    ensures denied { IfErr result (λ halt. (at : ℕ) × (halt ≡ Halt.Stopped (Cause.NoAccess at)) × (denied_in slot.now (record { stores = stores; bytes = bytes; address = address }) ≡ Some at)) }
+    ensures ok { IfOk result (λ offset. IsLocated slot.now (writes_by access) bytes address offset) }
+    ensures denied { IfErr result (λ halt. (at : ℕ) × (halt ≡ Halt.Stopped (Cause.NoAccess at)) × (denied_in slot.now (record { stores = writes_by access; bytes = bytes; address = address }) ≡ Some at)) }
 {
-    match slot.locate(stores, bytes, address) {
+    match slot.locate(access, bytes, address) {
         Ok(offset) => Ok(offset),
         Err(denied) => Err(Halt::Stopped(Cause::NoAccess(denied))),
     }
@@ -100,14 +100,14 @@ fn transfer(
     let bytes = bytes_of(size);
     match transfer {
         Transfer::Store => {
-            let offset = located(slot, true, bytes, address)?;
+            let offset = located(slot, Access::Store, bytes, address)?;
             if slot.keep(offset, bytes).is_err() {
                 return Err(Halt::NoMemory);
             }
             slot.put(size, offset, registers.x(rt));
         }
         _ => {
-            let offset = located(slot, false, bytes, address)?;
+            let offset = located(slot, Access::Load, bytes, address)?;
             let value = slot.load(size, offset);
             let value = extended_load(size, transfer, value);
             registers.put(rt, data_width(size, transfer), value);

@@ -1,11 +1,11 @@
-ghost use Rattle.std.specs.Prelude.{◌≡◌, ℕ, ◌+◌, ◌-◌, ◌*◌, ◌^◌, ◌<◌, ◌≤◌, true, false, Bool, length, SomeIff, IfOk, IfErr, OnOk, OnErr, IsErrOf, IsTrue, Some, None};
+ghost use Rattle.std.specs.Prelude.{◌≡◌, ℕ, ◌+◌, ◌-◌, ◌*◌, ◌^◌, ◌<◌, ◌≤◌, true, false, not, Bool, length, SomeIff, IfOk, IfErr, OnOk, OnErr, IsErrOf, IsTrue, Some, None};
 ghost use Rattle.a64_word.specs.Operands.{size_code};
 ghost use Rattle.sparse_memory.specs.Bytes.{number_at};
 ghost use Rattle.sparse_memory.specs.Kept.{byte_at, AreKept, KeepsOnly, SameBytes, SamePages, WritesByte, WritesNumber};
 ghost use Rattle.lfi_image.specs.Image.{IsImage};
 ghost use Rattle.lfi_confinement.specs.Slots.{base, permission_at, is_permitted, byte_in};
 ghost use Rattle.lfi_confinement.specs.Moves.{first_denied};
-ghost use Rattle.lfi_machine.specs.Owned.{memory, fault_number, IsLocated};
+ghost use Rattle.lfi_machine.specs.Owned.{memory, fault_number, writes_by, IsLocated};
 
 use crate::map::{CODE, ENTRIES, ENTRY, SLOT, TABLE};
 use a64_word::Size;
@@ -13,6 +13,28 @@ use lfi_image::CompleteImage;
 use sparse_memory::SparseMemory;
 use std::alloc::{AllocError, Global};
 use std::marker::Model;
+
+/// How bytes are accessed.
+#[derive(Clone, Copy, PartialEq, Eq, Debug)]
+pub enum Access {
+    /// They are read.
+    Load,
+    /// They are written.
+    Store,
+}
+
+impl Access {
+    /// Whether it reads.
+    #[inline(always)]
+    fn is_load(self) -> bool
+        ensures { result ≡ not (writes_by self) }
+    {
+        match self {
+            Access::Load => true,
+            Access::Store => false,
+        }
+    }
+}
 
 /// What may go wrong when the runtime writes a byte.
 #[derive(Clone, Copy, PartialEq, Eq, Debug)]
@@ -114,19 +136,19 @@ impl Data {
     }
 
     /// Whether the byte at an address may be accessed so.
-    pub fn is_permitted(&self, stores: bool, address: u64) -> bool
-        ensures { result ≡ is_permitted stores (permission_at self.now.image address) }
+    pub fn is_permitted(&self, access: Access, address: u64) -> bool
+        ensures { result ≡ is_permitted (writes_by access) (permission_at self.now.image address) }
     {
         if address < self.base {
             return false;
         }
         let offset = address - self.base;
         if offset < TABLE {
-            !stores
+            access.is_load()
         } else if offset < CODE {
             false
         } else if offset < self.first {
-            !stores
+            access.is_load()
         } else {
             offset < SLOT
         }
@@ -148,14 +170,14 @@ impl Data {
     /// The least address of so many from one on whose byte may not be accessed so, looked for one by one.
     #[inline(never)]
     #[cold]
-    fn first_denied(&self, stores: bool, bytes: u32, address: u64) -> Option<u64>
+    fn first_denied(&self, access: Access, bytes: u32, address: u64) -> Option<u64>
         requires { address + bytes < 2 ^ 64 }
-        ensures { result ≡ first_denied self.now.image stores bytes address }
+        ensures { result ≡ first_denied self.now.image (writes_by access) bytes address }
     {
         if bytes == 0 {
             None
-        } else if self.is_permitted(stores, address) {
-            self.first_denied(stores, bytes - 1, address + 1)
+        } else if self.is_permitted(access, address) {
+            self.first_denied(access, bytes - 1, address + 1)
         } else {
             Some(address)
         }
@@ -163,15 +185,15 @@ impl Data {
 
     /// The least address of so many from one on whose byte may not be accessed so, if there is one.
     #[inline(always)]
-    pub fn denied(&self, stores: bool, bytes: u32, address: u64) -> Option<u64>
+    pub fn denied(&self, access: Access, bytes: u32, address: u64) -> Option<u64>
         requires few { bytes ≤ 16 }
         requires within { address + bytes < 2 ^ 64 }
-        ensures { result ≡ first_denied self.now.image stores bytes address }
+        ensures { result ≡ first_denied self.now.image (writes_by access) bytes address }
     {
         if self.is_all_data(bytes, address) {
             None
         } else {
-            self.first_denied(stores, bytes, address)
+            self.first_denied(access, bytes, address)
         }
     }
 
@@ -181,14 +203,14 @@ impl Data {
     ///
     /// The least address of a byte that may not be accessed so.
     #[inline(always)]
-    pub fn locate(&self, stores: bool, bytes: u32, address: u64) -> Result<u32, u64>
+    pub fn locate(&self, access: Access, bytes: u32, address: u64) -> Result<u32, u64>
         requires some { 1 ≤ bytes }
         requires few { bytes ≤ 16 }
         requires within { address + bytes < 2 ^ 64 }
-        ensures ok { IfOk result (λ offset. IsLocated self.now stores bytes address offset) }
-        ensures denied { IfErr result (λ denied. first_denied self.now.image stores bytes address ≡ Some denied) }
+        ensures ok { IfOk result (λ offset. IsLocated self.now (writes_by access) bytes address offset) }
+        ensures denied { IfErr result (λ denied. first_denied self.now.image (writes_by access) bytes address ≡ Some denied) }
     {
-        match self.denied(stores, bytes, address) {
+        match self.denied(access, bytes, address) {
             Some(denied) => Err(denied),
             None => Ok((address - self.base) as u32),
         }
@@ -219,7 +241,7 @@ impl Data {
     pub fn read(&self, at: u64) -> Option<u8>
         ensures { SomeIff result (is_permitted false (permission_at self.now.image at) ≡ true) (memory self.now at) }
     {
-        if self.is_permitted(false, at) {
+        if self.is_permitted(Access::Load, at) {
             Some(self.byte((at - self.base) as u32))
         } else {
             None
@@ -240,7 +262,7 @@ impl Data {
         ensures unchanged { OnErr result (SameBytes self.old.kept self.new.kept) }
         ensures only { KeepsOnly self.old.kept self.new.kept (at - base self.old.image) 1 }
     {
-        if !self.is_permitted(true, at) {
+        if !self.is_permitted(Access::Store, at) {
             return Err(DataFault::NotWritable);
         }
         let offset = (at - self.base) as u32;

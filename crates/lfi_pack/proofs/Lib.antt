@@ -1,4 +1,3 @@
-pub mod Pieces
 pub mod Pages
 pub mod Messages
 pub mod Whole

@@ -4,6 +4,7 @@ use Rattle.std.specs.Io.KnownBytes.{Consumes, Appends, IsAtEnd}
 use Rattle.lfi_module.specs.Extents.{ExtentView}
 use Rattle.lfi_module.specs.Numbers.{page_words}
 use Rattle.lfi_module.specs.Pages.{page_count, bytes_in_page}
+use Rattle.in_full.specs.Beginnings.{AppendsBeginning}
 use Rattle.lfi_frame.specs.Streams.{Message, open_message, page_message, close_message, Cut}
 
 -- the bytes of pages, one after another
@@ -39,10 +40,6 @@ pub record Packs (m : ℕ) (extent : ExtentView) (left rest : Option (List ℕ))
   pub read : Consumes left rest code
   pub ended : IsAtEnd rest
   pub written : Appends old new text
-
--- What a writer holds grew by a beginning of the bytes, and not by all of them.
-abbrev pub AppendsBeginning : (old new : Option (List ℕ)) → List ℕ → Type 0
-AppendsBeginning old new bytes = (front rest : List ℕ) × (bytes ≡ front ++ rest) × (0 < length rest) × Appends old new front
 
 -- A beginning of a module of this extent was written, and not all of it.
 pub record PacksPart (m : ℕ) (extent : ExtentView) (old new : Option (List ℕ)) : Type 0 where

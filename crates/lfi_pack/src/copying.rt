@@ -1,32 +1,16 @@
 //! Bytes read in full, and written in full.
 
-ghost use Rattle.std.specs.Prelude.{◌≡◌, ◌<◌, ◌≤◌, [], length, take, IfOk, IfErr, OnOk, OnErr};
+ghost use Rattle.std.specs.Prelude.{◌≡◌, [], length, IfErr, OnOk, OnErr};
 ghost use Rattle.std.specs.Io.KnownBytes.{Consumes, Appends, IsAtEnd};
 ghost use Rattle.std.specs.declared.io.ErrorKind.{ErrorKind};
 ghost use Rattle.lfi_pack.specs.declared.fault.PackFault.TheVariants.{WriteFailed};
 ghost use Rattle.lfi_pack.specs.Faults.{IsPackFault};
-ghost use Rattle.lfi_pack.specs.Packs.{AppendsBeginning};
+ghost use Rattle.in_full.specs.Beginnings.{AppendsBeginning};
 ghost use Rattle.lfi_pack.specs.inner.Copies.{IsShort};
 
 use crate::fault::PackFault;
-use std::io::{self, Read, Write};
-
-/// Reads until the buffer is full or the input ends, and answers how many bytes it read.
-fn fill<R: Read>(reader: &mut R, bytes: &mut [u8]) -> io::Result<usize>
-    ensures within { IfOk result (λ n. n ≤ length bytes.new) }
-    ensures consumed { IfOk result (λ n. Consumes (R.remaining reader.old) (R.remaining reader.new) (take n bytes.new)) }
-    ensures end { IfOk result (λ n. n < length bytes.new → IsAtEnd (R.remaining reader.new)) }
-{
-    let mut at = 0;
-    while at < bytes.len() {
-        let count = reader.read(&mut bytes[at..])?;
-        if count == 0 {
-            return Ok(at);
-        }
-        at += count;
-    }
-    Ok(at)
-}
+use in_full::{fill, write_in_full};
+use std::io::{Read, Write};
 
 /// Fills the buffer.
 pub(crate) fn read_full<R: Read>(reader: &mut R, bytes: &mut [u8]) -> Result<(), PackFault>
@@ -60,13 +44,8 @@ pub(crate) fn write_full<W: Write>(writer: &mut W, bytes: &[u8]) -> Result<(), P
     ensures fault { IfErr result (λ fault. (kind : ErrorKind) × (fault ≡ WriteFailed kind)) }
     ensures part { OnErr result (AppendsBeginning (W.contents writer.old) (W.contents writer.new) bytes.now) }
 {
-    let mut at = 0;
-    while at < bytes.len() {
-        match writer.write(&bytes[at..]) {
-            Ok(0) => return Err(PackFault::WriteFailed(io::ErrorKind::WriteZero)),
-            Ok(count) => at += count,
-            Err(error) => return Err(PackFault::WriteFailed(error.kind())),
-        }
+    match write_in_full(writer, bytes) {
+        Ok(()) => Ok(()),
+        Err(error) => Err(PackFault::WriteFailed(error.kind())),
     }
-    Ok(())
 }

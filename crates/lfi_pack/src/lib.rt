@@ -4,7 +4,6 @@
 
 mod copying;
 pub mod fault;
-mod headers;
 pub mod laws;
 pub mod pack;
 

@@ -8,7 +8,7 @@ ghost use Rattle.lfi_pack.specs.inner.Copies.{IsPageFault, CopiesPage, CopiesPag
 
 use crate::copying::{expect_end, read_full, write_full};
 use crate::fault::PackFault;
-use crate::headers;
+use lfi_frame::messages;
 use lfi_module::{Extent, ModuleNumber, PageSize, WordCount};
 use std::io::{Read, Write};
 
@@ -31,7 +31,7 @@ fn pack_page<R: Read, W: Write>(
     let mut bytes = [0; PAGE_BYTES];
     let bytes = &mut bytes[..len as usize];
     read_full(reader, bytes)?;
-    write_full(writer, &headers::page_bytes(module, index, len))?;
+    write_full(writer, &messages::page_bytes(module, index, len))?;
     write_full(writer, bytes)
 }
 
@@ -71,8 +71,8 @@ pub fn pack_module<R: Read, W: Write>(
     ensures fault { IfErr result (IsPackFault (R.remaining reader.old) (4 * extent.words)) }
     ensures part { OnErr result (PacksPart «module» extent (W.contents writer.old) (W.contents writer.new)) }
 {
-    write_full(writer, &headers::open_bytes(module, extent))?;
+    write_full(writer, &messages::open_bytes(module, extent))?;
     pack_pages(module, extent.words(), reader, writer)?;
     expect_end(reader)?;
-    write_full(writer, &headers::close_bytes(module))
+    write_full(writer, &messages::close_bytes(module))
 }

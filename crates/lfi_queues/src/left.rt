@@ -8,7 +8,7 @@ ghost use Rattle.lfi_queues.specs.Passes.{QueueId, PassView, AreAllPasses, IsPas
 ghost use Rattle.lfi_queues.specs.inner.Ports.{EndsInFirst, HasTaken};
 ghost use Rattle.lfi_queues.specs.inner.Owners.{part_of};
 ghost use Rattle.lfi_queues.specs.inner.Parts.{IsWhole, take_pass, TakesFrom};
-ghost use Rattle.lfi_queues.specs.inner.Remains.{Looked, AreAtPart, LearnedAt, AreTakersOf, LeftAt, HasTakenBelow, LeftIn, Opens, AreOpened};
+ghost use Rattle.lfi_queues.specs.inner.Remains.{Looked, AreAtPart, LearnedAt, AreTakersOf, LeftAt, HasTakenBelow, LeftIn, Opens, AreOpened, wants};
 
 use crate::auxiliary::{Auxiliary, Reading};
 use crate::intake::{Intake, PutPass, TakePass};
@@ -21,26 +21,37 @@ use std::collections::LinkedList;
 /// The most takers of an intake of which the rest can be taken.
 pub const TAKERS: usize = 8;
 
-/// The first item of a part, where it is wanted.
-fn look<T: Drop>(owner: &mut Owner<T>, wanted: bool) -> Option<T>
+/// What is asked of a part.
+#[derive(Clone, Copy, PartialEq, Eq, Debug)]
+enum Asked {
+    /// Its first item.
+    FirstItem,
+    /// No item: it is only looked at.
+    Nothing,
+}
+
+/// The first item of a part, where it is asked for.
+fn look<T: Drop>(owner: &mut Owner<T>, asked: Asked) -> Option<T>
     requires { (worker_flavor owner.old ≡ 0) × EndsInFirst (worker_view owner.old).takes }
     ensures owner { SameWorker owner.old owner.new × (worker_index owner.new ≤ worker_index owner.old) }
     ensures taken { HasTaken (worker_view owner.old) result (worker_view owner.new) }
-    ensures looked { Looked wanted (worker_view owner.old) result }
+    ensures looked { Looked (wants asked) (worker_view owner.old) result }
 {
-    if wanted {
-        return owner.pop_as::<PartTakes>();
+    match asked {
+        Asked::FirstItem => owner.pop_as::<PartTakes>(),
+        Asked::Nothing => {
+            owner.len_as::<PartLook>();
+            None
+        }
     }
-    owner.len_as::<PartLook>();
-    None
 }
 
-/// The first item of a part, where it is wanted, once its owner has also taken in what these takers
+/// The first item of a part, where it is asked for, once its owner has also taken in what these takers
 /// took there, which they get back.
 fn rest_of_ends<T: Drop>(
     owner: &mut Owner<T>,
     place: usize,
-    wanted: bool,
+    asked: Asked,
     takers: &mut [Option<TakeEnds<T>>],
 ) -> Option<T>
     requires owner { (worker_flavor owner.old ≡ 0) × EndsInFirst (worker_view owner.old).takes }
@@ -48,20 +59,20 @@ fn rest_of_ends<T: Drop>(
     ensures owner { SameWorker owner.old owner.new × (worker_index owner.new ≤ worker_index owner.old) }
     ensures takers { takers.new ≡ takers.old }
     ensures taken { HasTaken (worker_view owner.old) result (worker_view owner.new) }
-    ensures learned { LearnedAt wanted place (worker_view owner.old) takers.old result }
+    ensures learned { LearnedAt (wants asked) place (worker_view owner.old) takers.old result }
 {
     let Some((slot, later)) = takers.split_first_mut() else {
-        return look(owner, wanted);
+        return look(owner, asked);
     };
     let Some(mut taker) = slot.take() else {
-        return rest_of_ends(owner, place, wanted, later);
+        return rest_of_ends(owner, place, asked, later);
     };
     let Some(end) = taker.ends[place].take() else {
         unreachable!()
     };
     let TakeEnd { stealer, seat } = end;
     owner.absorb::<All>(seat);
-    let item = rest_of_ends(owner, place, wanted, later);
+    let item = rest_of_ends(owner, place, asked, later);
     let seat = owner.another::<OneTaker>();
     taker.ends[place] = Some(TakeEnd { stealer, seat });
     *slot = Some(taker);
@@ -77,13 +88,13 @@ impl<'a, T> Reading<(&'a Auxiliary<LinkedList<T>>, &'a Option<T>), LinkedList<T>
     ghost reads = { λ p. with_found p.0.now.value p.1.now };
 }
 
-/// What is left in the part of this putter, with all takers at hand: where it is wanted the first
-/// of them takes an item.
+/// What is left in the part of this putter, with all takers at hand: where it is asked for
+/// the first of them takes an item.
 fn rest_at<T: Drop>(
     intake: &Intake<T>,
     slot: &mut Option<PutPass<T>>,
     place: usize,
-    wanted: bool,
+    asked: Asked,
     first: &mut TakeEnds<T>,
     others: &mut [Option<TakeEnds<T>>],
 ) -> Option<T>
@@ -92,9 +103,9 @@ fn rest_at<T: Drop>(
     ensures slot { slot.new ≡ slot.old }
     ensures others { others.new ≡ others.old }
     ensures first { MatchOption result (first.new ≡ first.old) (λ x. TakesFrom first.old first.new place x) }
-    ensures left { (pass : PassView T) → slot.old ≡ Some pass → LeftAt wanted place pass.items first.old others.old result }
+    ensures left { (pass : PassView T) → slot.old ≡ Some pass → LeftAt (wants asked) place pass.items first.old others.old result }
     ensures none { slot.old ≡ None → result ≡ None }
-    ensures unwanted { wanted ≡ false → result ≡ None }
+    ensures unwanted { wants asked ≡ false → result ≡ None }
 {
     let Some(pass) = slot.take() else {
         return None;
@@ -110,7 +121,7 @@ fn rest_at<T: Drop>(
     };
     let TakeEnd { stealer, seat } = end;
     owner.absorb::<All>(seat);
-    let item = rest_of_ends(&mut owner, place, wanted, others);
+    let item = rest_of_ends(&mut owner, place, asked, others);
     let seat = owner.another::<OneTaker>();
     first.ends[place] = Some(TakeEnd { stealer, seat });
     first.items = Auxiliary::of::<(&Auxiliary<LinkedList<T>>, &Option<T>), WithFound>(&(
@@ -146,10 +157,10 @@ fn rest_step<T: Drop>(
 {
     match found {
         Some(item) => {
-            rest_at(intake, slot, place, false, first, others);
+            rest_at(intake, slot, place, Asked::Nothing, first, others);
             Some(item)
         }
-        None => rest_at(intake, slot, place, true, first, others),
+        None => rest_at(intake, slot, place, Asked::FirstItem, first, others),
     }
 }
 

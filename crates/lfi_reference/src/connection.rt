@@ -42,6 +42,10 @@ pub fn fault_of(rest: PlainRest, cause: Cause, inside: bool) -> Option<FrameFaul
 }
 
 /// Whether any of the 16 modules is left open, and the strays of all.
+///
+/// # Errors
+///
+/// `AllocError` where there is no memory for a module's items.
 pub fn summary(
     alloc: Global,
     claimed: &[bool; ModuleNumber::COUNT],
@@ -64,6 +68,10 @@ pub fn summary(
 }
 
 /// The items of each of the 16 modules, where the connection has this fault.
+///
+/// # Errors
+///
+/// `AllocError` where there is no memory for them.
 pub fn all_items(
     alloc: Global,
     claimed: &[bool; ModuleNumber::COUNT],
@@ -84,6 +92,10 @@ pub fn all_items(
 
 /// What a connection's whole text makes, whose input ended so, and for which these modules are
 /// claimed.
+///
+/// # Errors
+///
+/// `AllocError` where there is no memory for its messages and items.
 pub fn connection_of(
     alloc: Global,
     bytes: &[u8],

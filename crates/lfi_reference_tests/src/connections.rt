@@ -8,7 +8,7 @@ use lfi_model::Cause;
 use lfi_place::OpenGate;
 use lfi_receive::Input;
 use lfi_reference::report_on;
-use lfi_threads::{NoNotices, load_all};
+use lfi_threads::{LoadError, NoNotices, load_all};
 use std::alloc::{AllocError, Global};
 use std::sync::Wait;
 use std::test::Fail;
@@ -21,7 +21,7 @@ fn loaded_all(
     texts: &[Text],
     most: usize,
     verifiers: usize,
-) -> Result<String, AllocError>
+) -> Result<String, LoadError>
     requires verifiers { (1 ≤ verifiers) × (verifiers ≤ 8) }
 {
     let mut inputs = Vec::new(rt.alloc());
@@ -34,7 +34,7 @@ fn loaded_all(
         return Ok(String::new(rt.alloc()));
     }
     let summary = load_all(rt, rt.alloc(), inputs, verifiers, &OpenGate, &NoNotices)?.summary();
-    format!(in rt.alloc(); "{summary}")
+    Ok(format!(in rt.alloc(); "{summary}")?)
 }
 
 /// Two modules of 2,049 NOPs each, from this one on, whose pages come in turns.

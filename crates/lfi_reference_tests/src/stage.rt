@@ -6,7 +6,7 @@ use crate::turned::{pair, receive_all};
 use lfi_model::Cause;
 use lfi_place::OpenGate;
 use lfi_receive::{Input, ReceiverTurn};
-use lfi_threads::{NoNotices, load_all};
+use lfi_threads::{LoadError, NoNotices, load_all};
 use std::alloc::{AllocError, Global};
 use std::io::{self, Read};
 use std::sync::Wait;
@@ -33,7 +33,7 @@ impl<'a> Read for Pieces<'a> {
 pub fn loaded(
     rt: &(impl Threads + Wait + Sync + AllocGlobal),
     bytes: &[u8],
-) -> Result<String, AllocError> {
+) -> Result<String, LoadError> {
     loaded_in_pieces(rt, bytes, usize::MAX)
 }
 
@@ -42,7 +42,7 @@ fn loaded_in_pieces(
     rt: &(impl Threads + Wait + Sync + AllocGlobal),
     bytes: &[u8],
     most: usize,
-) -> Result<String, AllocError> {
+) -> Result<String, LoadError> {
     loaded_from(rt, Pieces { left: bytes, most })
 }
 
@@ -50,11 +50,11 @@ fn loaded_in_pieces(
 fn loaded_from<R: Read + Send + Drop>(
     rt: &(impl Threads + Wait + Sync + AllocGlobal),
     reader: R,
-) -> Result<String, AllocError> {
+) -> Result<String, LoadError> {
     let mut inputs = Vec::new(rt.alloc());
     inputs.push(Input::new(rt.alloc(), reader)?)?;
     let summary = load_all(rt, rt.alloc(), inputs, 1, &OpenGate, &NoNotices)?.summary();
-    format!(in rt.alloc(); "{summary}")
+    Ok(format!(in rt.alloc(); "{summary}")?)
 }
 
 /// A text in memory, in the middle of which one read fails.
@@ -224,7 +224,7 @@ pub fn both_tell(
     text: &Text,
     modules: &[u16],
     want: &str,
-) -> Result<bool, AllocError> {
+) -> Result<bool, LoadError> {
     let plain = told(rt.alloc(), text.bytes.as_slice(), Cause::End, modules)?;
     let staged = loaded(rt, text.bytes.as_slice())?;
     Ok(plain.as_str() == want && staged.as_str() == want)

@@ -9,7 +9,7 @@ ghost use Rattle.lfi_stage.specs.Stages.{IsFresh};
 ghost use Rattle.lfi_threads.specs.declared.hearing.Leaving.TheVariants as leaving;
 ghost use Rattle.lfi_threads.specs.inner.Hearing.{IsHearing, IsAsBefore, IsHeardBy};
 
-use crate::ends::{Ends, Rest};
+use crate::ends::{Ends, Going, Rest, Stopped};
 use crate::notices::{Notices, Told};
 use crate::promises::{Heard, Place};
 use lfi_receive::{Input, Receiver, ReceiverTurn};
@@ -111,14 +111,14 @@ enum Leaving {
     /// Its receiver has finished.
     Finished,
     /// The threads are to stop.
-    Stopped,
+    Stopped(Stopped),
 }
 
 /// One turn of a receiver, and what follows it. The answer is why its thread is to end, where it is.
 fn hear_once<S: Wait, R: Read + Drop, N: Notices>(
     rt: &S,
     place: Place<'_>,
-    ends: &Ends,
+    going: Going<'_>,
     notices: &N,
     receiver: &mut Receiver,
     input: &mut Input<R>,
@@ -129,12 +129,12 @@ fn hear_once<S: Wait, R: Read + Drop, N: Notices>(
     ensures hearing { (whole : Option (List ℕ)) → IsHearing R.remaining whole receiver.old input.old → IsHearing R.remaining whole receiver.new input.new }
     ensures finished { result ≡ Some leaving.Finished → IsFinished receiver.new }
 {
-    if ends.are_stopped() {
-        return Some(Leaving::Stopped);
+    if let Some(stopped) = going.ends().stopped() {
+        return Some(Leaving::Stopped(stopped));
     }
     let did = pull_one(place, receiver, input);
     watch.look_after(place, notices, receiver, did);
-    watch.rest_after(rt, ends, did);
+    watch.rest_after(rt, going.ends(), did);
     if did == ReceiverTurn::Finished {
         return Some(Leaving::Finished);
     }
@@ -145,7 +145,7 @@ fn hear_once<S: Wait, R: Read + Drop, N: Notices>(
 fn hear_on<S: Wait, R: Read + Drop, N: Notices>(
     rt: &S,
     place: Place<'_>,
-    ends: &Ends,
+    going: Going<'_>,
     notices: &N,
     receiver: &mut Receiver,
     input: &mut Input<R>,
@@ -157,7 +157,7 @@ fn hear_on<S: Wait, R: Read + Drop, N: Notices>(
 {
     let mut watch = Watch::new();
     for _ in rt.forever() {
-        if let Some(leaving) = hear_once(rt, place, ends, notices, receiver, input, &mut watch) {
+        if let Some(leaving) = hear_once(rt, place, going, notices, receiver, input, &mut watch) {
             return leaving;
         }
     }
@@ -178,11 +178,11 @@ pub(crate) fn hear<S: Wait, R: Read + Drop, N: Notices>(
     requires fresh { IsFresh receiver }
     ensures { IsHeardBy place.entry.shared.now place.entry.number (left_of R.remaining input) result }
 {
-    ends.wait_for_go(rt);
-    let leaving = hear_on(rt, place, ends, notices, &mut receiver, &mut input);
+    let going = ends.wait_for_go(rt);
+    let leaving = hear_on(rt, place, going, notices, &mut receiver, &mut input);
     ends.tell_heard();
     match leaving {
         Leaving::Finished => Heard::Finished(receiver),
-        Leaving::Stopped => Heard::GaveUp,
+        Leaving::Stopped(stopped) => Heard::GaveUp(stopped),
     }
 }

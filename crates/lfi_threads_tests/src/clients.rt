@@ -4,7 +4,7 @@ use crate::build::{RET, close, one_word, open, page, text};
 use crate::workers::YIELDS;
 use lfi_model::{Item, Judged};
 use lfi_place::{Gate, OpenGate};
-use lfi_threads::{NoNotices, serve_on};
+use lfi_threads::{LoadError, NoNotices, serve_on};
 use std::alloc::{AllocError, Global};
 use std::fs;
 use std::fs::Files;
@@ -17,6 +17,14 @@ use std::sync::atomic::{AtomicU64, Ordering};
 use std::test::Fail;
 use std::thread::{Threads, join, yield_now};
 use std::time::Duration;
+
+/// The same error in the system's words.
+fn in_words(error: LoadError) -> io::Error {
+    io::Error::from(match error {
+        LoadError::NoMemory => io::ErrorKind::OutOfMemory,
+        LoadError::NoThread => io::ErrorKind::WouldBlock,
+    })
+}
 
 /// The text of the report on so many connections, 1 to 8, and whether all were accepted.
 pub(crate) fn served<S: Threads + Wait + Files + Clock + Sync + AllocGlobal, G: Gate + Sync>(
@@ -37,13 +45,14 @@ pub(crate) fn served<S: Threads + Wait + Files + Clock + Sync + AllocGlobal, G: 
         limit,
         gate,
         &NoNotices,
-    )?;
+    )
+    .map_err(in_words)?;
     let summary = served.report.summary();
     Ok((format!(in rt.alloc(); "{summary}")?, served.all_accepted))
 }
 
 /// So many clients, one after the other.
-fn connect_all<S: Net + AllocGlobal>(
+pub(crate) fn connect_all<S: Net + AllocGlobal>(
     rt: &S,
     path: &str,
     count: usize,
@@ -63,7 +72,7 @@ fn piece(text: &[u8], from: usize, size: usize) -> &[u8] {
 }
 
 /// Sends a piece of each text, each by its client.
-fn send_pieces(
+pub(crate) fn send_pieces(
     streams: &[UnixStream],
     texts: &[Vec<u8>],
     from: usize,
@@ -226,8 +235,8 @@ fn is_gone<S: Files>(rt: &S, path: &str) -> bool {
     false
 }
 
-/// A client for each of these texts connects, and they send nothing until the path is gone. The
-/// answer is whether it went.
+/// A client for each of these texts connects, and they send nothing until the path is gone and
+/// another file is there. The answer is whether it went.
 fn send_once_the_path_is_gone<S: Net + Files + AllocGlobal>(
     rt: &S,
     path: &str,
@@ -235,9 +244,13 @@ fn send_once_the_path_is_gone<S: Net + Files + AllocGlobal>(
 ) -> io::Result<bool> {
     let streams = connect_all(rt, path, texts.len())?;
     let gone = is_gone(rt, path);
+    fs::write(rt, path, HERE.as_slice())?;
     send_pieces(streams.as_slice(), texts, 0, 4096)?;
     Ok(gone)
 }
+
+/// What the file at a path has that is there after the path is gone.
+const HERE: [u8; 4] = *b"here";
 
 #[test]
 fn the_path_is_gone_once_all_are_taken(rt: HostRuntime) -> Result<(), Fail> {
@@ -253,6 +266,9 @@ fn the_path_is_gone_once_all_are_taken(rt: HostRuntime) -> Result<(), Fail> {
     let (report, all_accepted) = told?;
     assert_eq!(rt; report.as_str(), BOTH);
     assert!(rt; all_accepted);
+    // Who has the path next keeps it.
+    assert!(rt; fs::read(&rt, path)?.as_slice() == HERE.as_slice());
+    fs::remove_file(&rt, path)?;
     Ok(())
 }
 

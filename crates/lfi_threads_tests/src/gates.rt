@@ -6,7 +6,7 @@ use lfi_model::{Item, Judged};
 use lfi_module::ModuleNumber;
 use lfi_place::{Gate, OpenGate};
 use lfi_receive::Input;
-use lfi_threads::Notices;
+use lfi_threads::{LoadError, Notices};
 use std::alloc::{AllocError, Global};
 use std::io::{self, Read};
 use std::sync::Wait;
@@ -66,7 +66,7 @@ fn second_first<S: Threads + Wait + Sync + AllocGlobal>(
     fifth: u32,
     last: u32,
     gate: &SecondFirst,
-) -> Result<String, AllocError> {
+) -> Result<String, LoadError> {
     let texts = [two_pages(rt.alloc(), fifth, last)?];
     loaded(rt, &texts, 4096, 2, gate)
 }
@@ -139,7 +139,7 @@ fn loaded_until_noticed<S: Threads + Wait + Sync + AllocGlobal>(
     rt: &S,
     left: &[u8],
     notices: &Counted,
-) -> Result<String, AllocError> {
+) -> Result<String, LoadError> {
     let text = Pieces { left, most: 4096 };
     let reader = UntilNoticed {
         text,

@@ -5,7 +5,7 @@ ghost use Rattle.std.specs.Prelude.{◌≤◌};
 use crate::build::{NOP, RET, close, one_word, open, page, text};
 use lfi_place::{Gate, OpenGate};
 use lfi_receive::Input;
-use lfi_threads::{NoNotices, Notices, load_all};
+use lfi_threads::{LoadError, NoNotices, Notices, load_all};
 use std::alloc::{AllocError, Global};
 use std::io::{self, Read};
 use std::sync::Wait;
@@ -45,7 +45,7 @@ pub fn reported<
     verifiers: usize,
     gate: &G,
     notices: &N,
-) -> Result<String, AllocError>
+) -> Result<String, LoadError>
     requires verifiers { (1 ≤ verifiers) × (verifiers ≤ 8) }
 {
     inputs.truncate(8);
@@ -53,7 +53,7 @@ pub fn reported<
         return Ok(String::new(rt.alloc()));
     }
     let summary = load_all(rt, rt.alloc(), inputs, verifiers, gate, notices)?.summary();
-    format!(in rt.alloc(); "{summary}")
+    Ok(format!(in rt.alloc(); "{summary}")?)
 }
 
 /// These texts as inputs, each in pieces of so many bytes.
@@ -77,7 +77,7 @@ pub fn loaded<S: Threads + Wait + Sync + AllocGlobal, G: Gate + Sync>(
     most: usize,
     verifiers: usize,
     gate: &G,
-) -> Result<String, AllocError>
+) -> Result<String, LoadError>
     requires verifiers { (1 ≤ verifiers) × (verifiers ≤ 8) }
 {
     let inputs = in_pieces(rt.alloc(), texts, most)?;
@@ -128,7 +128,7 @@ strays 0
 fn first_otherwise<S: Threads + Wait + Sync + AllocGlobal>(
     rt: &S,
     lengths: &[usize],
-) -> Result<Option<usize>, AllocError> {
+) -> Result<Option<usize>, LoadError> {
     let mut texts = Vec::new(rt.alloc());
     for number in 0..8u16 {
         texts.push(two_modules(rt.alloc(), number)?)?;
@@ -151,7 +151,7 @@ fn eight_streams_of_two_modules(rt: HostRuntime) -> Result<(), Fail> {
 /// whole one and an empty one.
 fn first_verifiers_otherwise<S: Threads + Wait + Sync + AllocGlobal>(
     rt: &S,
-) -> Result<Option<usize>, AllocError> {
+) -> Result<Option<usize>, LoadError> {
     let mut cut = one_word(rt.alloc(), 0, RET)?;
     cut.truncate(30);
     let texts = [one_word(rt.alloc(), 5, RET)?, cut, Vec::new(rt.alloc())];
@@ -219,7 +219,7 @@ fn that_meet<'a>(
 
 /// The text of the report on two streams whose readers wait for each other, and how many of them
 /// met the other.
-fn met_report<S: Threads + Wait + Sync + AllocGlobal>(rt: &S) -> Result<(String, u64), AllocError> {
+fn met_report<S: Threads + Wait + Sync + AllocGlobal>(rt: &S) -> Result<(String, u64), LoadError> {
     let first = one_word(rt.alloc(), 0, RET)?;
     let second = one_word(rt.alloc(), 1, NOP)?;
     let begun = [AtomicU64::new(0), AtomicU64::new(0)];

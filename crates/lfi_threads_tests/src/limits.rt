@@ -1,7 +1,7 @@
 //! Clients that are waited for, and heard, for some time.
 
 use crate::build::{RET, one_word};
-use crate::clients::{BOTH, modules_0_and_3, send_all, served};
+use crate::clients::{BOTH, connect_all, modules_0_and_3, send_all, send_pieces, served};
 use lfi_place::OpenGate;
 use std::fs;
 use std::io::{Read, Write};
@@ -71,6 +71,23 @@ fn a_client_that_stays_ends_where_it_is(rt: HostRuntime) -> Result<(), Fail> {
         assert!(rt; all_accepted);
         assert!(rt; client.read(&mut [0])? == 0);
         assert!(rt; fs::metadata(&rt, path).is_err());
+    }
+    Ok(())
+}
+
+#[test]
+fn all_that_stay_end_where_they_are(rt: HostRuntime) -> Result<(), Fail> {
+    let path = "all_stay.socket";
+    let texts = modules_0_and_3(rt.alloc())?;
+    let listener = UnixListener::bind(&rt, path)?;
+    let mut clients = connect_all(&rt, path, texts.len())?;
+    send_pieces(clients.as_slice(), texts.as_slice(), 0, 4096)?;
+    let limit = Some(Duration::from_millis(SOON));
+    let (report, all_accepted) = served(&rt, listener, path, 2, limit, &OpenGate)?;
+    assert_eq!(rt; report.as_str(), BOTH);
+    assert!(rt; all_accepted);
+    for client in &mut clients {
+        assert!(rt; client.read(&mut [0])? == 0);
     }
     Ok(())
 }

@@ -4,8 +4,7 @@ use crate::build::{RET, one_word};
 use crate::inputs::{Pieces, reported};
 use lfi_place::OpenGate;
 use lfi_receive::Input;
-use lfi_threads::NoNotices;
-use std::alloc::AllocError;
+use lfi_threads::{LoadError, NoNotices};
 use std::io::{self, ErrorKind, Read};
 use std::sync::Wait;
 use std::sync::atomic::{AtomicU64, Ordering};
@@ -80,7 +79,7 @@ const ROWS: [(usize, u64, Answer, &str); 9] = [
 fn told<S: Threads + Wait + Sync + AllocGlobal, R: Read + Send + Drop>(
     rt: &S,
     reader: R,
-) -> Result<String, AllocError> {
+) -> Result<String, LoadError> {
     let mut inputs = Vec::new(rt.alloc());
     inputs.push(Input::new(rt.alloc(), reader)?)?;
     reported(rt, inputs, 2, &OpenGate, &NoNotices)
@@ -93,7 +92,7 @@ fn told_and_counted<S: Threads + Wait + Sync + AllocGlobal>(
     text: Pieces<'_>,
     read: u64,
     answer: Answer,
-) -> Result<(String, u64), AllocError> {
+) -> Result<(String, u64), LoadError> {
     let reads = AtomicU64::new(0);
     let reader = Counted {
         text,

@@ -6,7 +6,8 @@ use Rattle.lfi_module.specs.Pages.{page_count}
 use Rattle.lfi_frame.specs.Streams.{page_message, spelling}
 use Rattle.lfi_pack.specs.declared.fault.PackFault.{PackFault}
 use Rattle.lfi_pack.specs.declared.fault.PackFault.TheVariants.{Shorter, Longer, ReadFailed}
-use Rattle.lfi_pack.specs.Packs.{AreFirst, joined, numbered, AppendsBeginning}
+use Rattle.in_full.specs.Beginnings.{AppendsBeginning}
+use Rattle.lfi_pack.specs.Packs.{AreFirst, joined, numbered}
 
 -- fewer bytes are left than are asked for, or a read failed
 abbrev pub IsShort : Option (List ℕ) → ℕ → PackFault → Type 0

@@ -4,7 +4,7 @@ use Rattle.std.specs.Option.{option_map_or}
 use Rattle.crossbeam_deque.specs.Handles.{view as known, worker_view}
 use Rattle.lfi_queues.specs.inner.Ports.{number_of, items_of, EndsInFirst}
 use Rattle.lfi_queues.specs.inner.Parts.{EndView, owning, sharing}
-use Rattle.lfi_queues.specs.inner.Remains.{AreAtPart, LeftAt, with_found}
+use Rattle.lfi_queues.specs.inner.Remains.{AreAtPart, LeftAt, with_found, wants}
 use Rattle.lfi_queues.proofs.Delivered.{merges, gives_taker}
 use Rattle.lfi_queues.proofs.Gathered.{given_taker}
 use Rattle.lfi_queues.proofs.Filling.{some_same}
@@ -212,8 +212,8 @@ returns-clause-left g c = λ pass at_pass.
     let share = ap (λ e. e.items) c.end.view_is ∙ ap (λ e. e.items) met.1 ∙ sym (ap (λ o. option_map_or (λ e. e.items) o []) e0.1) in
     let owns = c.pass.invariant.0 ∙ ap (λ n. owning n put) (ap (λ z. z.takers) this) in
     let shares = c.end.invariant.1 ∙ (λ i. sharing (numbered i) (share i)) in
-    let left = left_at q c.args.wanted p put (worker_view c.pass.inside.owner) (worker_view c.absorb.new.self) w c.args.first.now c.args.others.now _ c.requires.takers owns shares c.absorb.ensures.rule c.rest_of_ends-item.ensures.learned in
-    subst (λ xs. LeftAt c.args.wanted p xs c.args.first.now c.args.others.now c.rest_of_ends-item.result) (ap (λ z. z.items) (c.pass.view_is ∙ some_same _ _ (c.in-Some.ensures.value ∙ at_pass))) left
+    let left = left_at q (wants c.args.asked) p put (worker_view c.pass.inside.owner) (worker_view c.absorb.new.self) w c.args.first.now c.args.others.now _ c.requires.takers owns shares c.absorb.ensures.rule c.rest_of_ends-item.ensures.learned in
+    subst (λ xs. LeftAt (wants c.args.asked) p xs c.args.first.now c.args.others.now c.rest_of_ends-item.result) (ap (λ z. z.items) (c.pass.view_is ∙ some_same _ _ (c.in-Some.ensures.value ∙ at_pass))) left
 
 pub returns-clause-unwanted : goal.returns-clause-unwanted
-returns-clause-unwanted g c = λ e. unwanted c.args.wanted _ _ c.rest_of_ends-item.ensures.learned.found e
+returns-clause-unwanted g c = λ e. unwanted (wants c.args.asked) _ _ c.rest_of_ends-item.ensures.learned.found e

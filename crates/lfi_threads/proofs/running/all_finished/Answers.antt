@@ -6,10 +6,6 @@ use Rattle.lfi_stage.proofs.Filling.{push_each, one_more, next_is, still_from}
 use Rattle.lfi_threads.specs.declared.promises.Heard.TheVariants.{Finished}
 use Rattle.lfi_threads.proofs.running.all_finished.Goals as goal
 
-pushed : {A T E : Type 0} (r : Result T E) (u : T) (new grown old : List A) → result_ok r ≡ Some u → new ≡ (if is_ok r then grown else old) → new ≡ grown
-pushed (Ok a) u new grown old some is = is
-pushed (Err e) u new grown old some is = absurd cc
-
 pub loop-heard-preserved : goal.loop-heard-preserved
 loop-heard-preserved c =
     let i = c.loop-heard.invariant in
@@ -20,7 +16,7 @@ loop-heard-preserved c =
     let old = into_iter_items c.loop-heard.heard-iterator in
     let new = into_iter_items c.next.new.self in
     let step = c.in-Some.ensures.steps in
-    let grown : c.push.new.self.items ≡ rs ++ r ∷ [] = pushed c.push.result c.in_ok-ok-in-Finished.field-0 _ _ rs (sym c.ok-in-Finished.ensures.value ∙ c.in_ok-ok-in-Finished.was) c.push.ensures.items in
+    let grown : c.push.new.self.items ≡ rs ++ r ∷ [] = c.in_ok-push-in-Finished.ensures.items in
     let more = one_more rs c.push.new.self.items r grown in
     record {
       count = (let count = i.count in let less = step.1 in omega arith);

@@ -1,7 +1,7 @@
 use Rattle.std.proofs.Common.{◌≡◌, ◌+◌, take, drop, rules, refl, sym, take-append-drop, arith, length-drop}
 use Rattle.std.proofs.KnownBytes.{Appends-kept}
-use Rattle.lfi_pack.proofs.Pieces.{grown}
-use Rattle.lfi_pack.proofs.copying.write_full.Goals as goal
+use Rattle.in_full.proofs.Pieces.{grown}
+use Rattle.in_full.proofs.writing.write_in_full.Goals as goal
 
 pub returns-in-Ok-eq0-clause-part : goal.returns-in-Ok-eq0-clause-part
 returns-in-Ok-eq0-clause-part g c = (

@@ -3,8 +3,8 @@ use Rattle.std.proofs.lemmas.Slice.{take-put_mid_below}
 use Rattle.std.specs.Io.KnownBytes.{Consumes}
 use Rattle.std.proofs.KnownBytes.{Consumes-trans}
 use borrow.Rule.Slice.PartMut.{put_mid}
-use Rattle.lfi_pack.proofs.Pieces.{take_split, slice_range-put_mid}
-use Rattle.lfi_pack.proofs.copying.fill.Goals as goal
+use Rattle.in_full.proofs.Pieces.{take_split, slice_range-put_mid}
+use Rattle.in_full.proofs.reading.fill.Goals as goal
 
 pub loop-at-preserved : goal.loop-at-preserved
 loop-at-preserved g c =

@@ -1,6 +1,6 @@
 use Rattle.std.proofs.Common.{arith}
-use Rattle.lfi_pack.proofs.Messages.{open_is_message}
-use Rattle.lfi_pack.proofs.headers.open_bytes.Goals as goal
+use Rattle.lfi_frame.proofs.Opens.{open_is_message}
+use Rattle.lfi_frame.proofs.messages.open_bytes.Goals as goal
 
 pub returns-clause-message : goal.returns-clause-message
 returns-clause-message c = open_is_message c.args.module c.args.extent.words c.args.extent.entry (omega arith) (omega arith) (omega arith) (omega arith)
