@@ -2,10 +2,9 @@
 
 use crate::build::{NOP, RET, Text, one_word, told};
 use crate::cuts::cut_short;
-use crate::turned::{pair, receive_all};
 use lfi_model::Cause;
 use lfi_place::OpenGate;
-use lfi_receive::{Input, ReceiverTurn};
+use lfi_receive::Input;
 use lfi_threads::{LoadError, NoNotices, load_all};
 use std::alloc::{AllocError, Global};
 use std::io::{self, Read};
