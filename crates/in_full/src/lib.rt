@@ -6,8 +6,8 @@
 //! What the bytes mean, whose they are, what is told of a device that fails.
 #![tactic(auto)]
 
-pub mod reading;
-pub mod writing;
+mod reading;
+mod writing;
 
 pub use reading::fill;
 pub use writing::write_in_full;

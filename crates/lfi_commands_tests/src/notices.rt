@@ -117,7 +117,8 @@ impl<'a> Disk for UntilToldDisk<'a> {
     }
 
     fn put_image(&mut self, path: &str, image: &CompleteImage) -> io::Result<()> {
-        let _ = (path, image);
+        let _ = path;
+        let _ = image;
         Err(io::Error::from(io::ErrorKind::Unsupported))
     }
 }

@@ -38,14 +38,14 @@
 //!   `moves`.
 #![tactic(auto)]
 
-pub mod answer;
-pub mod fault;
-pub mod feed;
-pub mod header;
+mod answer;
+mod fault;
+mod feed;
+mod header;
 pub mod laws;
 pub mod messages;
 
 pub use answer::{Got, Step};
 pub use fault::FrameFault;
-pub use feed::Feed;
+pub use feed::{Feed, Position};
 pub use header::{HEADER_BYTES, Header};

@@ -26,12 +26,12 @@
 //!   has exactly the words due, so no module has more words than its Open said.
 #![tactic(auto)]
 
-pub mod connection;
-pub mod item;
-pub mod judged;
+mod connection;
+mod item;
+mod judged;
 pub mod laws;
-pub mod outcome;
-pub mod summary;
+mod outcome;
+mod summary;
 
 pub use connection::{Cause, Progress};
 pub use item::{Item, ItemKind, NumberedItem, PageBody, Reason};

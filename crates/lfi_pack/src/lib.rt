@@ -3,9 +3,9 @@
 #![tactic(auto)]
 
 mod copying;
-pub mod fault;
+mod fault;
 pub mod laws;
-pub mod pack;
+mod pack;
 
 pub use fault::PackFault;
 pub use pack::pack_module;

@@ -32,12 +32,12 @@
 //!   pages it is computed anew.
 #![tactic(auto)]
 
-pub mod connection;
-pub mod load;
-pub mod message;
-pub mod report;
-pub mod rest;
-pub mod share;
+mod connection;
+mod load;
+mod message;
+mod report;
+mod rest;
+mod share;
 pub mod words;
 
 pub use connection::{Connection, connection_of};

@@ -5,7 +5,7 @@ ghost use Rattle.lfi_frame.specs.Streams.{Cut, rest_of, whole, header_of};
 ghost use Rattle.lfi_reference.specs.Messages.{message_of, Begins};
 
 use crate::rest::{PlainRest, rest_at};
-use lfi_frame::header::{HEADER_BYTES, Header};
+use lfi_frame::{HEADER_BYTES, Header};
 use std::alloc::{AllocError, Global};
 
 /// A whole message.

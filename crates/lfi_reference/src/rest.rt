@@ -4,8 +4,7 @@ ghost use Rattle.std.specs.Prelude.{◌≡◌};
 ghost use Rattle.lfi_frame.specs.Streams.{rest_of};
 ghost use Rattle.lfi_reference.specs.Messages.{rest_by};
 
-use lfi_frame::FrameFault;
-use lfi_frame::header::{HEADER_BYTES, Header};
+use lfi_frame::{FrameFault, HEADER_BYTES, Header};
 
 /// The number of a Page in the first byte of its header.
 const PAGE: u8 = 2;

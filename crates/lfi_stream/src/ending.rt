@@ -14,8 +14,7 @@ ghost use Rattle.lfi_stream.specs.Endings.{Loses, LosesOne, Ends};
 use crate::event::Event;
 use crate::numbers::{LfiStream, OpenModule, feed_at, position_of};
 use crate::stream::place;
-use lfi_frame::feed::Position;
-use lfi_frame::{Feed, FrameFault};
+use lfi_frame::{Feed, FrameFault, Position};
 use lfi_model::{Progress, Reason};
 use lfi_module::ModuleNumber;
 

@@ -4,8 +4,7 @@ ghost use Rattle.std.specs.Prelude.{◌≡◌, ◌<◌, ◌==◌, ℕ, if◌then
 ghost use Rattle.lfi_frame.specs.inner.Positions.{filled_at};
 ghost use Rattle.lfi_stream.specs.Numbers.{fault_at_number, position_at, going_by, progress_of, IsPossible, page_at};
 
-use lfi_frame::feed::Position;
-use lfi_frame::{FrameFault, HEADER_BYTES};
+use lfi_frame::{FrameFault, HEADER_BYTES, Position};
 use lfi_model::Progress;
 use lfi_module::{ModuleNumber, PageSize, WordCount};
 

@@ -16,8 +16,7 @@ use crate::event::Event;
 use crate::numbers::{
     Coming, LfiStream, LfiStreamFeed, LfiStreamModule, LfiStreamPage, feed_at, position_of,
 };
-use lfi_frame::feed::Position;
-use lfi_frame::{Feed, Got, Step};
+use lfi_frame::{Feed, Got, Position, Step};
 use lfi_model::{Progress, Reason};
 use lfi_module::{Extent, ModuleNumber, PageSize};
 

@@ -1,6 +1,4 @@
-use Rattle.std.proofs.Common.{◌≡◌, ◌++◌, ◌∷◌, [], ◌∙◌, ℕ, List, Some, Result, Ok, Err, length, slice_get, sym, ap, arith}
-use Rattle.std.specs.Prelude.{is_ok, if◌then◌else◌}
-use Rattle.std.specs.Result.{result_ok}
+use Rattle.std.proofs.Common.{◌≡◌, ◌++◌, ◌∷◌, [], ◌∙◌, ℕ, Some, length, slice_get, ap, arith}
 use Rattle.std.specs.Vec.Iter.{into_iter_items}
 use Rattle.lfi_stage.proofs.Filling.{push_each, one_more, next_is, still_from}
 use Rattle.lfi_threads.specs.declared.promises.Heard.TheVariants.{Finished}
