@@ -1,5 +1,6 @@
 //! What instructions compute, by class.
-ghost use Rattle.std.specs.Prelude.{◌<◌, ◌≤◌};
+ghost use Rattle.std.specs.Prelude.{◌≡◌, ◌<◌, ◌≤◌, false, IfSome, is_some};
+ghost use Rattle.a64_reference.specs.Results.{computes, sets_flags, is_ands, is_sum, is_logical, is_value, Keeps};
 
 use crate::bits::{
     Bits, bitmask, bits_of, extended, field_moved, flags_of, high_product, holds, inverted,
@@ -21,6 +22,7 @@ fn operand(registers: &Registers, width: Width, register: Register) -> Bits {
 fn logical(size: usize, operation: Logical, x: &Bits, y: &Bits, nzcv: u8) -> (u64, u8)
     requires some { 0 < size }
     requires most { size ≤ 64 }
+    ensures { is_ands operation ≡ false → result.1 ≡ nzcv }
 {
     let mut bits = [false; 64];
     for i in 0..size {
@@ -37,14 +39,9 @@ fn logical(size: usize, operation: Logical, x: &Bits, y: &Bits, nzcv: u8) -> (u6
 }
 
 /// A sum or difference, and its flags where they are set.
-fn sum_of(
-    width: Width,
-    subtract: bool,
-    set_flags: bool,
-    x: &Bits,
-    y: &Bits,
-    nzcv: u8,
-) -> (u64, u8) {
+fn sum_of(width: Width, subtract: bool, set_flags: bool, x: &Bits, y: &Bits, nzcv: u8) -> (u64, u8)
+    ensures { set_flags ≡ false → result.1 ≡ nzcv }
+{
     let (bits, flags) = sum_or_difference(size_of(width), subtract, x, y);
     (number_of(&bits), if set_flags { flags } else { nzcv })
 }
@@ -125,7 +122,10 @@ fn two_source(i: &TwoSource, registers: &Registers) -> u64 {
 }
 
 /// x0 and the flags after a sum or difference.
-fn sums(instruction: &Instruction, r: &Registers) -> Option<(u64, u8)> {
+fn sums(instruction: &Instruction, r: &Registers) -> Option<(u64, u8)>
+    ensures some { is_some result ≡ is_sum instruction.now }
+    ensures flags { IfSome result (λ after. sets_flags instruction.now ≡ false → after.1 ≡ r.now.nzcv) }
+{
     let (width, subtract, set_flags, rn, second) = match instruction {
         Instruction::AddSubImmediate(i) => {
             let second = u64::from(i.imm12) * if i.shifted { 4096 } else { 1 };
@@ -151,7 +151,10 @@ fn sums(instruction: &Instruction, r: &Registers) -> Option<(u64, u8)> {
 }
 
 /// x0 and the flags after a logical operation.
-fn logicals(instruction: &Instruction, r: &Registers) -> Option<(u64, u8)> {
+fn logicals(instruction: &Instruction, r: &Registers) -> Option<(u64, u8)>
+    ensures some { is_some result ≡ is_logical instruction.now }
+    ensures flags { IfSome result (λ after. sets_flags instruction.now ≡ false → after.1 ≡ r.now.nzcv) }
+{
     let (width, operation, rn, second) = match instruction {
         Instruction::LogicalShifted(i) => {
             let size = size_of(i.width);
@@ -176,7 +179,9 @@ fn logicals(instruction: &Instruction, r: &Registers) -> Option<(u64, u8)> {
 }
 
 /// x0 after a move, a choice, a count, a product or a quotient.
-fn value(instruction: &Instruction, r: &Registers) -> Option<u64> {
+fn value(instruction: &Instruction, r: &Registers) -> Option<u64>
+    ensures { is_some result ≡ is_value instruction.now }
+{
     match instruction {
         Instruction::MoveWide(i) => Some(move_wide(i, r)),
         Instruction::Bitfield(i) => Some(bitfield(i, r)),
@@ -206,8 +211,12 @@ fn value(instruction: &Instruction, r: &Registers) -> Option<u64> {
     }
 }
 
-/// What x0 and the flags are after an instruction that writes x0, or flags alone; None for others, and for ADR and ADRP.
-pub fn plain_result(instruction: &Instruction, r: &Registers) -> Option<(u64, u8)> {
+/// What x0 and the flags are after an instruction that computes of registers alone, and writes x0, flags, or both; `None`
+/// for others, as for ADR and ADRP, which read pc. What it doesn't write is as it was.
+pub fn plain_result(instruction: &Instruction, r: &Registers) -> Option<(u64, u8)>
+    ensures some { is_some result ≡ computes instruction.now }
+    ensures keeps { IfSome result (Keeps instruction.now r.now) }
+{
     match instruction {
         Instruction::AddSubImmediate(_)
         | Instruction::AddSubShifted(_)

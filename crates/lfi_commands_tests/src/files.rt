@@ -20,7 +20,7 @@ const RUNS: [Run; 7] = [
     Run {
         line: "lfiload disassemble files.tmp/ret.code",
         status: 0,
-        out: "      0  0x0000000100010000  d65f03c0  ret\n",
+        out: "      0  0x0000000100010000  d65f03c0  ret x30\n",
         err: "",
     },
     Run {

@@ -76,7 +76,7 @@ fn is_loaded_until_told<S: Threads + Wait + Sync>(
     };
     let mut inputs = Vec::new(alloc);
     inputs.push(Input::new(alloc, reader)?)?;
-    let notices = WrittenNotices { writer: told };
+    let notices = WrittenNotices::new(told);
     Ok(load(rt, alloc, inputs, 2, &notices, out).is_ok())
 }
 
@@ -154,7 +154,7 @@ fn run_told<S: Threads + Wait + Files + Net + Clock + Sync>(
         text: TWO.as_slice(),
         told,
     };
-    let notices = WrittenNotices { writer: told };
+    let notices = WrittenNotices::new(told);
     let mut out = Vec::new(alloc);
     let mut errors = Errors::new(Vec::new(alloc));
     let ending = run_noticed(rt, alloc, &mut disk, &notices, line, &mut out, &mut errors)?;

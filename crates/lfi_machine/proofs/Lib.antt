@@ -5,3 +5,4 @@ pub mod Decoding
 pub mod Stepping
 pub mod Starting
 pub mod Reached
+pub mod Keeping

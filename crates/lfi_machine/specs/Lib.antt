@@ -1,4 +1,5 @@
 pub mod Owned
+pub mod Keeping
 pub mod Halting
 pub mod Starts
 pub mod Runs

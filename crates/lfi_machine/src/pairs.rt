@@ -1,15 +1,18 @@
 //! Loads and stores of a pair.
 
-ghost use Rattle.std.specs.Prelude.{◌≡◌, ◌≢◌, ℕ, [], ◌++◌, ◌+◌, ◌*◌, ◌^◌, ◌<◌, ◌≤◌, pos, true, false, Some, None, IfOk, IfErr, if◌then◌else◌, not};
+ghost use Rattle.std.specs.Prelude.{◌≡◌, ◌≢◌, ℕ, [], ◌++◌, ◌+◌, ◌-◌, ◌*◌, ◌^◌, ◌<◌, ◌≤◌, pos, true, false, Some, None, IfOk, IfErr, if◌then◌else◌, not};
 ghost use Rattle.a64_word.specs.declared.instruction.Instruction.{Instruction};
 ghost use Rattle.a64_word.specs.Operands.{size_code};
 ghost use Rattle.a64_effects.specs.Effects.{data_width, is_store, pair_bytes, pair_offset};
 ghost use Rattle.sparse_memory.specs.Bytes.{number_at, low_bytes};
+ghost use Rattle.sparse_memory.specs.Kept.{KeepsOnly};
 ghost use Rattle.a64_semantics.specs.Registers.{x_at, x_or_sp_at, put_all, to_general};
-ghost use Rattle.a64_semantics.specs.Accesses.{extended_index, extended_load, first_byte, register_bytes, stored, stored_by};
+ghost use Rattle.a64_semantics.specs.Accesses.{extended_index, extended_load, first_byte, register_bytes, stored, stored_by, touches};
 ghost use Rattle.a64_semantics.specs.Writes.{to_base, to_loaded, with_loaded};
 ghost use Rattle.lfi_image.specs.Image.{IsImage};
 ghost use Rattle.lfi_confinement.specs.Moves.{escape};
+ghost use Rattle.lfi_confinement.specs.Slots.{base};
+ghost use Rattle.lfi_machine.specs.Keeping.{KeepsStored};
 ghost use Rattle.lfi_machine.specs.Owned.{memory, state_of, IsLocated};
 ghost use Rattle.lfi_machine.specs.Halting.{CarriesOut};
 ghost use Rattle.lfi_machine.specs.inner.Transfers.{Transfers, denied_in, access_move, Accesses, base_write, Finishes};
@@ -84,6 +87,7 @@ fn store_pair(slot: &mut Data, registers: &Registers, i: &Pair, address: u64) ->
     ensures transfers { Transfers slot.old slot.new registers.now registers.now
         (record { stores = true; bytes = pair_bytes i.now.width; address = address }) []
         (low_bytes (register_bytes i.now.width) (x_at registers.now i.now.rt) ++ low_bytes (register_bytes i.now.width) (x_at registers.now i.now.rt2)) result }
+    ensures keeps { KeepsOnly slot.old.kept slot.new.kept (address - base slot.old.image) (pair_bytes i.now.width) }
     ensures image { slot.new.image ≡ slot.old.image }
 {
     let size = pair_size(i.width);
@@ -112,6 +116,7 @@ fn transfer_pair(
     ensures transfers { Transfers slot.old slot.new registers.old registers.new
         (record { stores = not i.now.load; bytes = pair_bytes i.now.width; address = address })
         (with_loaded (Instruction.Pair i.now) (memory slot.old) address []) (stored (Instruction.Pair i.now) registers.old) result }
+    ensures keeps { KeepsOnly slot.old.kept slot.new.kept (address - base slot.old.image) (if not i.now.load then pair_bytes i.now.width else 0) }
     ensures image { slot.new.image ≡ slot.old.image }
 {
     if i.load {
@@ -171,6 +176,7 @@ fn pair_at(
         (record { stores = not i.now.load; bytes = pair_bytes i.now.width; address = address })
         (with_loaded (Instruction.Pair i.now) (memory slot.old) address []) (stored (Instruction.Pair i.now) registers.old)
         (base_write i.now.rn moved) result }
+    ensures keeps { KeepsOnly slot.old.kept slot.new.kept (address - base slot.old.image) (if not i.now.load then pair_bytes i.now.width else 0) }
     ensures image { slot.new.image ≡ slot.old.image }
 {
     transfer_pair(slot, registers, i, address)?;
@@ -192,6 +198,7 @@ pub fn pair(slot: &mut Data, registers: &mut Registers, i: &Pair) -> Result<(), 
     requires image { IsImage slot.old.image }
     requires confined { access_move (Instruction.Pair i.now) slot.old registers.old ≢ escape }
     ensures accesses { Accesses (Instruction.Pair i.now) slot.old slot.new registers.old registers.new result }
+    ensures keeps { KeepsStored (touches (Instruction.Pair i.now) registers.old) slot.old slot.new }
     ensures image { slot.new.image ≡ slot.old.image }
 {
     let address = pair_address(registers, i);

@@ -1,15 +1,18 @@
 //! Single loads and stores.
 
-ghost use Rattle.std.specs.Prelude.{◌≡◌, ◌≢◌, ℕ, [], ◌++◌, ◌+◌, ◌*◌, ◌^◌, ◌<◌, ◌≤◌, pos, true, false, Some, None, IfOk, IfErr, if◌then◌else◌, not};
+ghost use Rattle.std.specs.Prelude.{◌≡◌, ◌≢◌, ℕ, [], ◌++◌, ◌+◌, ◌-◌, ◌*◌, ◌^◌, ◌<◌, ◌≤◌, pos, true, false, Some, None, IfOk, IfErr, if◌then◌else◌, not};
 ghost use Rattle.a64_word.specs.declared.instruction.Instruction.{Instruction};
 ghost use Rattle.a64_word.specs.Operands.{size_code};
 ghost use Rattle.a64_effects.specs.Effects.{data_width, is_store, pair_bytes, pair_offset};
 ghost use Rattle.sparse_memory.specs.Bytes.{number_at, low_bytes};
+ghost use Rattle.sparse_memory.specs.Kept.{KeepsOnly};
 ghost use Rattle.a64_semantics.specs.Registers.{x_at, x_or_sp_at, put_all, to_general};
-ghost use Rattle.a64_semantics.specs.Accesses.{extended_index, extended_load, first_byte, register_bytes, stored, stored_by};
+ghost use Rattle.a64_semantics.specs.Accesses.{extended_index, extended_load, first_byte, register_bytes, stored, stored_by, touches};
 ghost use Rattle.a64_semantics.specs.Writes.{to_base, to_loaded, with_loaded};
 ghost use Rattle.lfi_image.specs.Image.{IsImage};
 ghost use Rattle.lfi_confinement.specs.Moves.{escape};
+ghost use Rattle.lfi_confinement.specs.Slots.{base};
+ghost use Rattle.lfi_machine.specs.Keeping.{KeepsStored};
 ghost use Rattle.lfi_machine.specs.Owned.{memory, state_of, writes_by, IsLocated};
 ghost use Rattle.lfi_machine.specs.Halting.{CarriesOut};
 ghost use Rattle.lfi_machine.specs.inner.Transfers.{Transfers, denied_in, access_move, Accesses, base_write, Finishes};
@@ -91,6 +94,7 @@ fn transfer(
     ensures transfers { Transfers slot.old slot.new registers.old registers.new
         (record { stores = is_store transfer; bytes = 2 ^ size_code size; address = address })
         (to_loaded size transfer rt (memory slot.old) address []) (stored_by size transfer (x_at registers.old rt)) result }
+    ensures keeps { KeepsOnly slot.old.kept slot.new.kept (address - base slot.old.image) (if is_store transfer then 2 ^ size_code size else 0) }
     ensures image { slot.new.image ≡ slot.old.image }
 {
     let bytes = bytes_of(size);
@@ -146,6 +150,7 @@ fn single(
         (record { stores = is_store operand.transfer; bytes = 2 ^ size_code operand.size; address = address })
         (to_loaded operand.size operand.transfer operand.rt (memory slot.old) address []) (stored_by operand.size operand.transfer (x_at registers.old operand.rt))
         (base_write rn moved) result }
+    ensures keeps { KeepsOnly slot.old.kept slot.new.kept (address - base slot.old.image) (if is_store operand.transfer then 2 ^ size_code operand.size else 0) }
     ensures image { slot.new.image ≡ slot.old.image }
 {
     transfer(
@@ -187,6 +192,7 @@ pub fn unsigned_offset(
     requires image { IsImage slot.old.image }
     requires confined { access_move (Instruction.UnsignedOffset i.now) slot.old registers.old ≢ escape }
     ensures accesses { Accesses (Instruction.UnsignedOffset i.now) slot.old slot.new registers.old registers.new result }
+    ensures keeps { KeepsStored (touches (Instruction.UnsignedOffset i.now) registers.old) slot.old slot.new }
     ensures image { slot.new.image ≡ slot.old.image }
 {
     let address = unsigned_address(registers, i);
@@ -241,6 +247,7 @@ pub fn signed_offset(
     requires image { IsImage slot.old.image }
     requires confined { access_move (Instruction.SignedOffset i.now) slot.old registers.old ≢ escape }
     ensures accesses { Accesses (Instruction.SignedOffset i.now) slot.old slot.new registers.old registers.new result }
+    ensures keeps { KeepsStored (touches (Instruction.SignedOffset i.now) registers.old) slot.old slot.new }
     ensures image { slot.new.image ≡ slot.old.image }
 {
     let address = signed_address(registers, i);
@@ -281,6 +288,7 @@ pub fn register_offset(
     requires image { IsImage slot.old.image }
     requires confined { access_move (Instruction.RegisterOffset i.now) slot.old registers.old ≢ escape }
     ensures accesses { Accesses (Instruction.RegisterOffset i.now) slot.old slot.new registers.old registers.new result }
+    ensures keeps { KeepsStored (touches (Instruction.RegisterOffset i.now) registers.old) slot.old slot.new }
     ensures image { slot.new.image ≡ slot.old.image }
 {
     let address = index_address(registers, i);

@@ -8,17 +8,17 @@ ghost use Rattle.lfi_queues.specs.Passes.{IsSamePass, PassView, QueueId};
 ghost use Rattle.lfi_place.specs.declared.verifier.VerifierTurn.TheVariants as turn;
 
 use lfi_model::{Item, Judged};
-use lfi_module::ModuleNumber;
 use lfi_queues::{Intake, Lane, LanePut, TakePass, Taken};
 use std::sync::Wait;
 
-/// What a verifier tells of before and after it judges an item.
+/// What a verifier tells of before and after it judges an item. Judging takes the item, and nothing
+/// else makes a judged one: so `before` can't come later, nor `after` earlier.
 pub trait Gate {
-    /// The item of this module with this ordinal is about to be judged.
-    fn before(&self, module: ModuleNumber, ordinal: u32);
+    /// This item is about to be judged.
+    fn before(&self, item: &Item);
 
     /// It was judged.
-    fn after(&self, module: ModuleNumber, ordinal: u32);
+    fn after(&self, item: &Judged);
 }
 
 /// A gate that does nothing.
@@ -26,9 +26,9 @@ pub trait Gate {
 pub struct OpenGate;
 
 impl Gate for OpenGate {
-    fn before(&self, _module: ModuleNumber, _ordinal: u32) {}
+    fn before(&self, _item: &Item) {}
 
-    fn after(&self, _module: ModuleNumber, _ordinal: u32) {}
+    fn after(&self, _item: &Judged) {}
 }
 
 /// What a turn did.
@@ -58,10 +58,9 @@ pub struct Verifier {
 fn judged<G: Gate>(gate: &G, item: Item) -> Judged
     ensures { result ≡ item }
 {
-    let (module, ordinal) = (item.module, item.ordinal);
-    gate.before(module, ordinal);
+    gate.before(&item);
     let judged = item.judge();
-    gate.after(module, ordinal);
+    gate.after(&judged);
     judged
 }
 

@@ -1,5 +1,5 @@
 -- What contracts see of a queue, and of the passes that put to it or take from it.
-use Rattle.std.specs.Prelude.{◌≡◌, ℕ, zero, suc, ◌<◌, ◌≤◌, List, [], ◌∷◌, ◌++◌, Option, Some, None, MatchOption, get_or, slice_get}
+use Rattle.std.specs.Prelude.{◌≡◌, ℕ, zero, suc, ◌+◌, ◌<◌, ◌≤◌, List, [], ◌∷◌, ◌++◌, Option, Some, None, MatchOption, get_or, slice_get}
 use Rattle.std.specs.Option.{option_map, option_map_or}
 use Rattle.atomic_table.specs.Seated.{TableId}
 use Rattle.atomic_blocks.specs.Lent.{RowsId}
@@ -28,6 +28,14 @@ module _ {X : Type 0} where
   pub record IsSamePass (old new : PassView X) : Type 0 where
     pub queue : new.queue ≡ old.queue
     pub number : new.number ≡ old.number
+
+  -- one call that added an item to the pass's list
+  abbrev pub AddsItem : (old new : PassView X) → Type 0
+  AddsItem old new = (item : X) × (new ≡ record old { calls = old.calls + 1; items = old.items ++ item ∷ [] })
+
+  -- one call that added none
+  abbrev pub AddsNone : (old new : PassView X) → Type 0
+  AddsNone old new = new ≡ record old { calls = old.calls + 1 }
 
   abbrev pub new_pass : QueueId → ℕ → PassView X
   new_pass queue k = record { queue = queue; number = k; calls = 0; items = [] }

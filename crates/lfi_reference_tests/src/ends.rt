@@ -3,7 +3,7 @@
 use crate::build::{RET, Text};
 use crate::settled::input;
 use crate::turned::{pair, receive_all, verify_told};
-use lfi_module::ModuleNumber;
+use lfi_model::{Item, Judged};
 use lfi_place::{Gate, VerifierTurn};
 use lfi_receive::ReceiverTurn;
 use std::alloc::{AllocError, Global};
@@ -17,13 +17,15 @@ struct Digits {
 }
 
 impl Gate for Digits {
-    fn before(&self, module: ModuleNumber, _ordinal: u32) {
+    fn before(&self, item: &Item) {
         let seen = self.seen.load(Ordering::SeqCst) % (1 << 60);
-        self.seen
-            .store(seen * 16 + u64::from(module.number()), Ordering::SeqCst);
+        self.seen.store(
+            seen * 16 + u64::from(item.module.number()),
+            Ordering::SeqCst,
+        );
     }
 
-    fn after(&self, _module: ModuleNumber, _ordinal: u32) {}
+    fn after(&self, _item: &Judged) {}
 }
 
 /// Modules 9, 3 and 12 are opened, and none is closed; of module 3 a page comes.

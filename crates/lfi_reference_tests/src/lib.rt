@@ -12,6 +12,8 @@ mod ends;
 #[cfg(test)]
 mod modules;
 #[cfg(test)]
+mod rows;
+#[cfg(test)]
 mod settled;
 #[cfg(test)]
 mod stage;

@@ -1,7 +1,6 @@
-//! Modules of one page and of two, lawful and not.
+//! What is placed of modules of one page and of two.
 
 use crate::build::{NOP, RET, Text, one_word, stream};
-use crate::stage::both_tell;
 use lfi_model::Cause;
 use lfi_reference::report_on;
 use std::alloc::{AllocError, Global};
@@ -12,9 +11,6 @@ const LOAD_LINK: u32 = 0xA8C17BFD;
 
 /// ADD X30, X21, W30, UXTW: the guard of x30.
 const GUARD_LINK: u32 = 0x8B3E42BE;
-
-/// SUB SP, SP, #16: asks for an access through sp next.
-const MOVE_STACK: u32 = 0xD10043FF;
 
 /// SVC #0, which the profile hasn't.
 const SVC: u32 = 0xD4000001;
@@ -34,64 +30,6 @@ fn two_pages(alloc: Global, at: usize, word: u32, last: u32) -> Result<Text, All
     text.page(0, 1, &[last])?;
     text.close(0)?;
     Ok(text)
-}
-
-#[test]
-fn one_word_modules(rt: HostRuntime) -> Result<(), Fail> {
-    for (word, want) in [
-        (RET, "module 0: complete, 1 words\nstrays 0\n"),
-        (NOP, "module 0: complete, 1 words\nstrays 0\n"),
-        (0xD4000000, "module 0: refused, word 0 rule 1\nstrays 0\n"),
-        (MOVE_STACK, "module 0: refused, word 0 rule 10\nstrays 0\n"),
-    ] {
-        let text = one_word(rt.alloc(), 0, word)?;
-        assert!(rt; both_tell(&rt, &text, &[0], want)?, "word {word:#x}");
-    }
-    Ok(())
-}
-
-#[test]
-fn two_page_modules(rt: HostRuntime) -> Result<(), Fail> {
-    for (at, word, last, want) in [
-        (
-            1023,
-            LOAD_LINK,
-            GUARD_LINK,
-            "module 0: complete, 1025 words\nstrays 0\n",
-        ),
-        (
-            1023,
-            LOAD_LINK,
-            NOP,
-            "module 0: refused, word 1024 rule 10\nstrays 0\n",
-        ),
-        (
-            5,
-            SVC,
-            WRITE_BASE,
-            "module 0: refused, word 5 rule 1\nstrays 0\n",
-        ),
-    ] {
-        let text = two_pages(rt.alloc(), at, word, last)?;
-        assert!(rt;
-            both_tell(&rt, &text, &[0], want)?,
-            "word {at} is {word:#x}"
-        );
-    }
-    Ok(())
-}
-
-#[test]
-fn closed_early(rt: HostRuntime) -> Result<(), Fail> {
-    let mut words = [NOP; 1024];
-    words[1023] = MOVE_STACK;
-    let mut text = Text::new(rt.alloc());
-    text.open(0, 1025)?;
-    text.page(0, 0, &words)?;
-    text.close(0)?;
-    let want = "module 0: incomplete, 1 of 2 pages\nstrays 0\n";
-    assert!(rt; both_tell(&rt, &text, &[0], want)?);
-    Ok(())
 }
 
 /// How many pages of module 0 are placed, and how many words the first of them has.

@@ -91,36 +91,16 @@ fn plainly(alloc: Global, bytes: &[u8]) -> Result<String, AllocError> {
 fn cut_at_every_byte(rt: HostRuntime) -> Result<(), Fail> {
     let text = one_word(rt.alloc(), 0, RET)?;
     assert_eq!(rt; text.bytes.len(), 40);
-    for len in 0..=40usize {
-        let report = loaded(&rt, &text.bytes[..len])?;
-        assert_eq!(rt;
-            report.as_str(),
-            cut_short(len, Cause::End),
-            "after {len} bytes"
-        );
+    for most in [usize::MAX, 1] {
+        for len in 0..=40usize {
+            let report = loaded_in_pieces(&rt, &text.bytes[..len], most)?;
+            assert_eq!(rt;
+                report.as_str(),
+                cut_short(len, Cause::End),
+                "after {len} bytes, in pieces of {most}"
+            );
+        }
     }
-    Ok(())
-}
-
-#[test]
-fn an_input_tells_that_its_reader_failed(rt: HostRuntime) -> Result<(), Fail> {
-    let text = one_word(rt.alloc(), 0, RET)?;
-    let mut stage = pair(rt.alloc())?;
-    let mut input = Input::new(
-        rt.alloc(),
-        FailsOnce {
-            before: Pieces { left: &[], most: 0 },
-            failed: false,
-            after: Pieces {
-                left: text.bytes.as_slice(),
-                most: 40,
-            },
-        },
-    )?;
-    assert!(rt; !input.has_failed());
-    let did = receive_all(&mut stage, 0, &mut input);
-    assert!(rt; did == ReceiverTurn::Finished);
-    assert!(rt; input.has_failed());
     Ok(())
 }
 
@@ -133,21 +113,6 @@ fn in_pieces_of_every_length(rt: HostRuntime) -> Result<(), Fail> {
             report.as_str(),
             "module 0: complete, 1 words\nstrays 0\n",
             "pieces of {most}"
-        );
-    }
-    Ok(())
-}
-
-#[test]
-fn cut_at_every_byte_in_pieces_of_one(rt: HostRuntime) -> Result<(), Fail> {
-    let text = one_word(rt.alloc(), 0, RET)?;
-    assert_eq!(rt; text.bytes.len(), 40);
-    for len in 0..=40usize {
-        let report = loaded_in_pieces(&rt, &text.bytes[..len], 1)?;
-        assert_eq!(rt;
-            report.as_str(),
-            cut_short(len, Cause::End),
-            "after {len} bytes"
         );
     }
     Ok(())
@@ -223,22 +188,6 @@ fn of_words(alloc: Global, module: u16, words: u32) -> Result<Text, AllocError> 
     Ok(text)
 }
 
-#[test]
-fn modules_of_one_page(rt: HostRuntime) -> Result<(), Fail> {
-    let rows: [(u16, u32, &str); 4] = [
-        (0, 2, "module 0: complete, 2 words\nstrays 0\n"),
-        (15, 1023, "module 15: complete, 1023 words\nstrays 0\n"),
-        (7, 1024, "module 7: complete, 1024 words\nstrays 0\n"),
-        (0, 1, "module 0: complete, 1 words\nstrays 0\n"),
-    ];
-    for (module, words, expected) in rows {
-        let text = of_words(rt.alloc(), module, words)?;
-        let report = loaded(&rt, text.bytes.as_slice())?;
-        assert_eq!(rt; report.as_str(), expected, "{words} words");
-    }
-    Ok(())
-}
-
 /// Whether the stage and the plain program, for which these modules are claimed, both tell this of
 /// a text.
 pub fn both_tell(
@@ -253,35 +202,6 @@ pub fn both_tell(
 }
 
 #[test]
-fn opened_and_closed(rt: HostRuntime) -> Result<(), Fail> {
-    for (words, want) in [
-        (1, "module 3: incomplete, 0 of 1 pages\nstrays 0\n"),
-        (1025, "module 3: incomplete, 0 of 2 pages\nstrays 0\n"),
-        (4194304, "module 3: incomplete, 0 of 4096 pages\nstrays 0\n"),
-    ] {
-        let mut text = Text::new(rt.alloc());
-        text.open(3, words)?;
-        text.close(3)?;
-        assert!(rt; both_tell(&rt, &text, &[3], want)?, "{words} words");
-    }
-    Ok(())
-}
-
-#[test]
-fn two_modules_in_turns(rt: HostRuntime) -> Result<(), Fail> {
-    let mut text = Text::new(rt.alloc());
-    text.open(3, 1)?;
-    text.open(4, 1)?;
-    text.page(4, 0, &[RET])?;
-    text.page(3, 0, &[RET])?;
-    text.close(4)?;
-    text.close(3)?;
-    let want = "module 3: complete, 1 words\nmodule 4: complete, 1 words\nstrays 0\n";
-    assert!(rt; both_tell(&rt, &text, &[3, 4], want)?);
-    Ok(())
-}
-
-#[test]
 fn all_modules_open_at_the_end(rt: HostRuntime) -> Result<(), Fail> {
     let mut text = Text::new(rt.alloc());
     let mut want = String::new(rt.alloc());
@@ -293,34 +213,5 @@ fn all_modules_open_at_the_end(rt: HostRuntime) -> Result<(), Fail> {
     want.push_str("connection 0: fault 9\nstrays 0\n")?;
     let all = [0, 1, 2, 3, 4, 5, 6, 7, 8, 9, 10, 11, 12, 13, 14, 15];
     assert!(rt; both_tell(&rt, &text, &all, want.as_str())?);
-    Ok(())
-}
-
-#[test]
-fn sixty_six_full_pages(rt: HostRuntime) -> Result<(), Fail> {
-    let words = [NOP; 1024];
-    let mut text = Text::new(rt.alloc());
-    text.open(9, 67584)?;
-    for index in 0..66 {
-        text.page(9, index, &words)?;
-    }
-    text.close(9)?;
-    let report = loaded(&rt, text.bytes.as_slice())?;
-    assert_eq!(rt;
-        report.as_str(),
-        "module 9: complete, 67584 words\nstrays 0\n"
-    );
-    Ok(())
-}
-
-#[test]
-fn another_module_opened_before(rt: HostRuntime) -> Result<(), Fail> {
-    let mut text = Text::new(rt.alloc());
-    text.open(1, 1)?;
-    text.bytes
-        .extend_from_slice(one_word(rt.alloc(), 0, RET)?.bytes.as_slice())?;
-    let want =
-        "module 0: complete, 1 words\nmodule 1: lost, fault 9\nconnection 0: fault 9\nstrays 0\n";
-    assert!(rt; both_tell(&rt, &text, &[0, 1], want)?);
     Ok(())
 }

@@ -2,7 +2,7 @@
 
 use crate::build::{RET, close, one_word, open, page, text};
 use crate::workers::YIELDS;
-use lfi_module::ModuleNumber;
+use lfi_model::{Item, Judged};
 use lfi_place::{Gate, OpenGate};
 use lfi_threads::{LoadError, NoNotices, serve_on};
 use std::alloc::{AllocError, Global};
@@ -279,10 +279,10 @@ struct FirstJudged {
 }
 
 impl Gate for FirstJudged {
-    fn before(&self, _module: ModuleNumber, _ordinal: u32) {}
+    fn before(&self, _item: &Item) {}
 
-    fn after(&self, module: ModuleNumber, _ordinal: u32) {
-        if module.number() == 0 {
+    fn after(&self, item: &Judged) {
+        if item.module.number() == 0 {
             self.judged.store(1, Ordering::SeqCst);
         }
     }

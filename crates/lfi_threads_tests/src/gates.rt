@@ -2,6 +2,7 @@
 
 use crate::build::{NOP, RET, close, one_word, open, page, text};
 use crate::inputs::{Pieces, TURNS, loaded, reported};
+use lfi_model::{Item, Judged};
 use lfi_module::ModuleNumber;
 use lfi_place::{Gate, OpenGate};
 use lfi_receive::Input;
@@ -32,8 +33,8 @@ impl SecondFirst {
 }
 
 impl Gate for SecondFirst {
-    fn before(&self, _module: ModuleNumber, ordinal: u32) {
-        if ordinal != 1 {
+    fn before(&self, item: &Item) {
+        if item.ordinal != 1 {
             return;
         }
         for _ in 0..TURNS {
@@ -44,9 +45,9 @@ impl Gate for SecondFirst {
         }
     }
 
-    fn after(&self, _module: ModuleNumber, ordinal: u32) {
+    fn after(&self, item: &Judged) {
         self.after.fetch_add(1, Ordering::SeqCst);
-        if ordinal == 2 {
+        if item.ordinal == 2 {
             self.judged.store(1, Ordering::SeqCst);
         }
     }

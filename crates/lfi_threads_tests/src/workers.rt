@@ -2,7 +2,7 @@
 
 use crate::build::{NOP, RET, close, one_word, open, page, text};
 use crate::inputs::loaded;
-use lfi_module::ModuleNumber;
+use lfi_model::{Item, Judged};
 use lfi_place::Gate;
 use std::alloc::{AllocError, Global};
 use std::sync::atomic::{AtomicU64, Ordering};
@@ -22,14 +22,14 @@ struct InTurns {
 }
 
 impl Gate for InTurns {
-    fn before(&self, _module: ModuleNumber, _ordinal: u32) {
+    fn before(&self, _item: &Item) {
         let before = self.before.fetch_add(1, Ordering::SeqCst);
         if self.after.load(Ordering::SeqCst) != before {
             self.otherwise.store(1, Ordering::SeqCst);
         }
     }
 
-    fn after(&self, _module: ModuleNumber, _ordinal: u32) {
+    fn after(&self, _item: &Judged) {
         let after = self.after.fetch_add(1, Ordering::SeqCst);
         if self.before.load(Ordering::SeqCst) != after.saturating_add(1) {
             self.otherwise.store(1, Ordering::SeqCst);
@@ -70,8 +70,8 @@ struct EightMeet {
 }
 
 impl Gate for EightMeet {
-    fn before(&self, _module: ModuleNumber, ordinal: u32) {
-        if ordinal != 1 {
+    fn before(&self, item: &Item) {
+        if item.ordinal != 1 {
             return;
         }
         self.there.fetch_add(1, Ordering::SeqCst);
@@ -84,7 +84,7 @@ impl Gate for EightMeet {
         }
     }
 
-    fn after(&self, _module: ModuleNumber, _ordinal: u32) {}
+    fn after(&self, _item: &Judged) {}
 }
 
 const EIGHT: &str = "\

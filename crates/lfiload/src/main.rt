@@ -19,9 +19,7 @@ fn main(rt: HostRuntime) -> ExitCode {
                 &rt,
                 rt.alloc(),
                 &mut disk,
-                &WrittenNotices {
-                    writer: rt.stderr(),
-                },
+                &WrittenNotices::new(rt.stderr()),
                 &words,
                 &mut io::writer(&rt),
                 &mut errors,

@@ -5,6 +5,7 @@ use Rattle.a64_effects.specs.Effects.{pair_bytes}
 use Rattle.a64_semantics.specs.Registers.{x_at}
 use Rattle.a64_semantics.specs.Accesses.{register_bytes}
 use Rattle.lfi_machine.specs.inner.Transfers.{Span, Transferred}
+use Rattle.lfi_machine.proofs.Keeping.{keeps_at, keeps_then}
 use Rattle.lfi_machine.proofs.Moved.{pair_kept, second_kept}
 use Rattle.lfi_machine.proofs.pairs.store_pair.Goals as goal
 
@@ -27,3 +28,16 @@ returns-in-Ok-clause-transfers c =
     c.pair_bytes-bytes.result c.register_bytes-half.result c.args.address c.in_ok-offset.offset c.x.result c.x-in-Ok.result
     c.pair_size-size.ensures c.register_bytes-half.ensures.value c.pair_bytes-bytes.ensures.value c.in_ok-offset.ensures.ok
     c.keep.ensures.bytes c.put.ensures.bytes c.put-in-Ok.ensures.bytes))
+
+pub returns-in-Ok-clause-keeps : goal.returns-in-Ok-clause-keeps
+returns-in-Ok-clause-keeps c =
+    let owned = c.args.slot.now in
+    let n = c.pair_bytes-bytes.result in
+    let offset = c.in_ok-offset.offset in
+    keeps_at owned c.put-in-Ok.new.self.kept true (pair_bytes c.args.i.now.width) n c.args.address offset c.in_ok-offset.ensures.ok c.pair_bytes-bytes.ensures.value
+    (keeps_then owned.kept c.put.new.self.kept c.put-in-Ok.new.self.kept offset n
+    (keeps_then owned.kept c.keep.new.self.kept c.put.new.self.kept offset n c.keep.ensures.only c.put.ensures.pages) c.put-in-Ok.ensures.pages)
+
+pub returns-in-Err-clause-keeps : goal.returns-in-Err-clause-keeps
+returns-in-Err-clause-keeps c =
+    keeps_at c.args.slot.now c.keep.new.self.kept true (pair_bytes c.args.i.now.width) c.pair_bytes-bytes.result c.args.address c.in_ok-offset.offset c.in_ok-offset.ensures.ok c.pair_bytes-bytes.ensures.value c.keep.ensures.only
