@@ -2,6 +2,7 @@
 
 use lfi_module::ModuleNumber;
 use lfi_threads::Notices;
+use std::array;
 use std::io::Write;
 use std::sync::atomic::{AtomicBool, Ordering};
 
@@ -22,7 +23,7 @@ impl<W> WrittenNotices<W> {
     pub fn new(writer: W) -> WrittenNotices<W> {
         WrittenNotices {
             writer,
-            told: [const { AtomicBool::new(false) }; ModuleNumber::COUNT],
+            told: array::from_fn(|_| AtomicBool::new(false)),
         }
     }
 }
