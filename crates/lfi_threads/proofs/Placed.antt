@@ -1,8 +1,7 @@
 -- Of sequencers that take a turn one after another, whether one of them took an item.
-use Rattle.std.proofs.Common.{◌≡◌, ◌∙◌, ◌<◌, ◌+◌, ℕ, List, Some, length, slice_get, sym, ap, subst, arith}
+use Rattle.std.proofs.Common.{◌≡◌, ◌∙◌, ◌<◌, ◌+◌, ℕ, List, Some, length, slice_get, arith}
 use Rattle.std.proofs.Math.ListN.{set}
 use Rattle.lfi_place.specs.declared.sequencer.Sequencer.{Sequencer}
-use Rattle.lfi_place.specs.declared.sequencer.SequencerTurn.{SequencerTurn}
 use Rattle.lfi_place.specs.declared.sequencer.SequencerTurn.TheVariants.{Worked, Idle}
 use Rattle.lfi_place.specs.Turns.{lane_pass_of, LaneTaken}
 use Rattle.lfi_stage.proofs.Each.{set_same, set_other}
