@@ -59,9 +59,11 @@ impl Sent {
                 Ok(())
             }
             Short(module, count) => {
-                let last = count.clamp(1, 1024) - 1;
-                words[last] = RET;
-                text.page(module, 0, &words[..last + 1])
+                let count = count.min(1024);
+                if count > 0 {
+                    words[count - 1] = RET;
+                }
+                text.page(module, 0, &words[..count])
             }
             Close(module) => text.close(module),
             Nothing => Ok(()),
