@@ -23,9 +23,10 @@ extern "C" {
 /* The number of this interface; lfi_version() answers that of the library that is linked. */
 #define LFI_VERSION 2u
 
-/* The one profile: the rules, registers and map of slots of docs/DEFINITIONS.md. Calls with another number answer
- * LFI_UNKNOWN_PROFILE. */
+/* The profiles: the rules, registers and map of slots of docs/DEFINITIONS.md. The second has the instructions of the first,
+ * and LDAR and STLR. Calls with another number answer LFI_UNKNOWN_PROFILE. */
 #define LFI_PROFILE_1 1u
+#define LFI_PROFILE_2 2u
 
 /* The most words of a module, the most bytes of its code, and how many slots there are for modules. */
 #define LFI_MAX_WORDS 4194304u

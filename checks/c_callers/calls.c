@@ -23,6 +23,13 @@ static lfi_status one(uint32_t word, lfi_fault *fault) {
     return lfi_verify(bytes, 4, LFI_PROFILE_1, fault);
 }
 
+/* The same by a profile. */
+static lfi_status one_by(uint32_t profile, uint32_t word, lfi_fault *fault) {
+    uint8_t bytes[4];
+    put(bytes, word);
+    return lfi_verify(bytes, 4, profile, fault);
+}
+
 static lfi_status two(uint32_t first, uint32_t second, lfi_fault *fault) {
     uint8_t bytes[8];
     put(bytes, first);
@@ -46,11 +53,17 @@ static int whole_code(void) {
     CHECK(9, lfi_verify(bytes, 0, LFI_PROFILE_1, &f) == LFI_BAD_LENGTH && is(f, 0, 0));
     f.word = 9;
     CHECK(10, lfi_verify(bytes, 1, LFI_PROFILE_1, &f) == LFI_BAD_LENGTH && is(f, 0, 0));
-    uint32_t unknown[] = {0, 2, 3, 0x100, 0xFFFFFFFF};
+    uint32_t unknown[] = {0, 3, 4, 0x102, 0xFFFFFFFF};
     for (int i = 0; i < 5; i++) {
         f.word = 9;
         CHECK(11, lfi_verify(bytes, 1, unknown[i], &f) == LFI_UNKNOWN_PROFILE && is(f, 0, 0));
     }
+    CHECK(12, one_by(LFI_PROFILE_1, 0xC8DFFE40, &f) == LFI_REFUSED && is(f, 0, 1));   /* LDAR X0, [X18] */
+    CHECK(13, one_by(LFI_PROFILE_2, 0xC8DFFE40, &f) == LFI_LAWFUL && is(f, 0, 0));
+    CHECK(14, one_by(LFI_PROFILE_2, 0xC8DFFC20, &f) == LFI_REFUSED && is(f, 0, 2));   /* LDAR X0, [X1] */
+    CHECK(15, one_by(LFI_PROFILE_2, 0xC8DFFE56, &f) == LFI_REFUSED && is(f, 0, 6));   /* LDAR X22, [X18] */
+    CHECK(16, one_by(LFI_PROFILE_2, 0xC8DFFEBE, &f) == LFI_REFUSED && is(f, 0, 10));  /* LDAR X30, [X21], left open */
+    CHECK(17, one_by(LFI_PROFILE_2, 0x089FFE40, &f) == LFI_LAWFUL && is(f, 0, 0));    /* STLRB W0, [X18] */
     return 0;
 }
 
@@ -104,7 +117,7 @@ static int refused_pieces(void) {
     t = s;
     CHECK(40, lfi_verify_init(&s, 0, LFI_PROFILE_1) == LFI_BAD_LENGTH && !memcmp(&s, &t, sizeof s));
     CHECK(41, lfi_verify_init(&s, LFI_MAX_WORDS + 1, LFI_PROFILE_1) == LFI_BAD_LENGTH && !memcmp(&s, &t, sizeof s));
-    CHECK(42, lfi_verify_init(&s, 2, 2) == LFI_UNKNOWN_PROFILE && !memcmp(&s, &t, sizeof s));
+    CHECK(42, lfi_verify_init(&s, 2, 3) == LFI_UNKNOWN_PROFILE && !memcmp(&s, &t, sizeof s));
     CHECK(43, lfi_verify_init(&s, LFI_MAX_WORDS, LFI_PROFILE_1) == LFI_LAWFUL && s.words == LFI_MAX_WORDS && s.judged == 0);
     CHECK(44, lfi_verify_init(&s, 2, LFI_PROFILE_1) == LFI_LAWFUL);
     t = s;
@@ -120,6 +133,10 @@ static int refused_pieces(void) {
     CHECK(52, lfi_verify_update(&s, bytes, 4) == LFI_REFUSED && s.judged == 2);
     CHECK(53, lfi_verify_final(&s, &f) == LFI_REFUSED && is(f, 0, 1));
     CHECK(54, lfi_verify_update(&s, bytes, 0) == LFI_REFUSED && lfi_verify_update(&s, bytes, 4) == LFI_BAD_LENGTH);
+    put(bytes, 0xC8DFFEBE); /* LDAR X30, [X21], and its guard in the next piece */
+    put(bytes + 4, 0x8B3E42BE);
+    CHECK(55, lfi_verify_init(&s, 2, LFI_PROFILE_2) == LFI_LAWFUL && lfi_verify_update(&s, bytes, 4) == LFI_LAWFUL);
+    CHECK(56, lfi_verify_update(&s, bytes + 4, 4) == LFI_LAWFUL && lfi_verify_final(&s, &f) == LFI_LAWFUL && is(f, 0, 0));
     return 0;
 }
 
@@ -128,9 +145,9 @@ static int other_states(void) {
     uint8_t bytes[64] = {0};
     lfi_fault f = {9, 9};
     const lfi_state wrong[] = {
-        {0, 1, 0, {0, 0}, 0}, {2, 1, 0, {0, 0}, 0},           {1, 0, 0, {0, 0}, 0},  {1, LFI_MAX_WORDS + 1, 0, {0, 0}, 0},
+        {0, 1, 0, {0, 0}, 0}, {3, 1, 0, {0, 0}, 0},           {1, 0, 0, {0, 0}, 0},  {1, LFI_MAX_WORDS + 1, 0, {0, 0}, 0},
         {1, 1, 2, {0, 0}, 0}, {1, 1, 0xFFFFFFFF, {0, 0}, 0},  {1, 1, 0, {1, 0}, 0},  {1, 1, 0, {0, 11}, 0},
-        {1, 1, 0, {0, 0}, 4}, {1, 1, 0, {0, 0xFFFFFFFF}, 0},
+        {1, 1, 0, {0, 0}, 259}, {1, 1, 0, {0, 0xFFFFFFFF}, 0},
     };
     for (size_t i = 0; i < sizeof wrong / sizeof *wrong; i++) {
         lfi_state s = wrong[i];
@@ -160,12 +177,14 @@ static int profile(void) {
     before = map;
     CHECK(75, lfi_profile_map(LFI_PROFILE_1, 16, &map) == LFI_UNKNOWN_MODULE && !memcmp(&map, &before, sizeof map));
     CHECK(76, lfi_profile_map(LFI_PROFILE_1, 0xFFFFFFFF, &map) == LFI_UNKNOWN_MODULE);
-    CHECK(77, lfi_profile_map(2, 0, &map) == LFI_UNKNOWN_PROFILE && !memcmp(&map, &before, sizeof map));
+    CHECK(77, lfi_profile_map(3, 0, &map) == LFI_UNKNOWN_PROFILE && !memcmp(&map, &before, sizeof map));
     CHECK(78, lfi_profile_registers(LFI_PROFILE_1, &registers) == LFI_LAWFUL);
     CHECK(79, registers.base == 21 && registers.offset == 22 && registers.first_address == 18);
     CHECK(80, registers.second_address == 23 && registers.third_address == 24 && registers.link == 30);
     CHECK(81, registers.stack_reach == 512);
     old = registers;
+    CHECK(83, lfi_profile_registers(LFI_PROFILE_2, &registers) == LFI_LAWFUL && !memcmp(&registers, &old, sizeof old));
+    CHECK(84, lfi_profile_map(LFI_PROFILE_2, 15, &map) == LFI_LAWFUL && !memcmp(&map, &before, sizeof map));
     CHECK(82, lfi_profile_registers(0, &registers) == LFI_UNKNOWN_PROFILE && !memcmp(&registers, &old, sizeof old));
     return 0;
 }
@@ -198,7 +217,7 @@ static int explanations(void) {
     CHECK(95, size == sizeof SECOND - 1 && !memcmp(text, SECOND, size));
     memset(text, '#', sizeof text);
     size = 7;
-    CHECK(96, lfi_explain(2, 0, 124, &f, 0, 0, text, sizeof text, &size) == LFI_UNKNOWN_PROFILE);
+    CHECK(96, lfi_explain(3, 0, 124, &f, 0, 0, text, sizeof text, &size) == LFI_UNKNOWN_PROFILE);
     CHECK(97, lfi_explain(LFI_PROFILE_1, 16, 124, &f, 0, 0, text, sizeof text, &size) == LFI_UNKNOWN_MODULE);
     CHECK(98, lfi_explain(LFI_PROFILE_1, 0, 0, &f, 0, 0, text, sizeof text, &size) == LFI_BAD_LENGTH);
     CHECK(99, lfi_explain(LFI_PROFILE_1, 0, LFI_MAX_WORDS + 1, &f, 0, 0, text, sizeof text, &size) == LFI_BAD_LENGTH);
@@ -216,7 +235,7 @@ static int all_explained(void) {
     for (uint32_t i = 0; i < 20000; i++) {
         uint32_t word = i * 2654435761u, before = word * 40503u + i;
         lfi_fault f = {(word >> 5) % LFI_MAX_WORDS, 1 + i % 10};
-        CHECK(110, lfi_explain(LFI_PROFILE_1, i % 16, LFI_MAX_WORDS, &f, word, before, text, sizeof text, &size) == LFI_LAWFUL);
+        CHECK(110, lfi_explain(1 + i / 16 % 2, i % 16, LFI_MAX_WORDS, &f, word, before, text, sizeof text, &size) == LFI_LAWFUL);
         if (size > longest) longest = size;
     }
     CHECK(111, longest < 1024);

@@ -180,7 +180,7 @@ static int bad_states(void) {
     lfi_event event;
     uint8_t bytes[12] = {0};
     memset(&stream, 0, sizeof stream);
-    if (lfi_stream_init(&stream, 2) != LFI_UNKNOWN_PROFILE || lfi_stream_init(&stream, LFI_PROFILE_1)) return 1;
+    if (lfi_stream_init(&stream, 3) != LFI_UNKNOWN_PROFILE || lfi_stream_init(&stream, LFI_PROFILE_1)) return 1;
     stream.feed.place = 3;
     before = stream;
     if (lfi_stream_next(&stream, bytes, 12, &event) != 0 || event.kind != LFI_NO_STREAM || memcmp(&stream, &before, sizeof stream)) return 2;

@@ -9,7 +9,7 @@ use Rattle.a64_word.specs.declared.operands.Transfer.{Transfer}
 use Rattle.a64_word.specs.Operands.{size_code}
 use Rattle.a64_effects.specs.declared.access.Address.{Address}
 use Rattle.a64_effects.specs.Uses.{Use, general, or_sp}
-use Rattle.a64_effects.specs.Effects.{writes_of, is_store, data_width, changes_base, form_of_mode, form_of_pair_mode, pair_offset, pair_bytes}
+use Rattle.a64_effects.specs.Effects.{ordered_transfer, writes_of, is_store, data_width, changes_base, form_of_mode, form_of_pair_mode, pair_offset, pair_bytes}
 use Rattle.a64_semantics.specs.declared.registers.Registers.{Registers}
 use Rattle.a64_semantics.specs.Registers.{Write, to_general, to_or_sp, x_or_sp_at}
 use Rattle.a64_semantics.specs.Accesses.{displaced, loaded}
@@ -87,3 +87,4 @@ places_told (instruction.RegisterOffset i) r memory = loaded_told i.size i.trans
 places_told (instruction.Pair i) r memory =
     let a : Address = record { base = i.rn; form = form_of_pair_mode i.mode; offset = pair_offset i.width i.imm7; bytes = pair_bytes i.width } in
     pair_told i.load i.rt i.rt2 i.width _ _ _ _ (base_told a r)
+places_told (instruction.Ordered i) r memory = loaded_told i.size (ordered_transfer i.load) i.rt memory _ _ _ refl

@@ -46,6 +46,7 @@ pub fn perform(registers: &mut Registers, i: &Instruction)
         Instruction::UnsignedOffset(_)
         | Instruction::SignedOffset(_)
         | Instruction::RegisterOffset(_)
-        | Instruction::Pair(_) => unreachable!(),
+        | Instruction::Pair(_)
+        | Instruction::Ordered(_) => unreachable!(),
     }
 }

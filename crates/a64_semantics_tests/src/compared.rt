@@ -3,9 +3,10 @@ use crate::rows::{after, registers_of};
 use a64_reference::plain_result;
 use a64_semantics::Registers;
 use a64_word::decode;
+use lfi_module::Profile;
 
 fn agrees(word: u32, before: &Registers) -> bool {
-    let Some(instruction) = decode(word) else {
+    let Some(instruction) = decode(word, Profile::Two) else {
         return false;
     };
     let Some((value, flags)) = plain_result(&instruction, before) else {

@@ -2,6 +2,7 @@
 use a64_effects::address_of;
 use a64_semantics::{Registers, perform};
 use a64_word::decode;
+use lfi_module::Profile;
 
 /// A word; what x1, x2, and x0 and x3 hold before; the flags before; what x0 holds after, and the flags after. The values
 /// were computed outside of this repository, by the Arm manual's pseudocode over lists of bits.
@@ -24,7 +25,7 @@ pub fn registers_of(x0: u64, x1: u64, x2: u64, x3: u64, nzcv: u8) -> Registers {
 
 /// The registers after a word that accesses no memory.
 pub fn after(word: u32, before: &Registers) -> Option<Registers> {
-    let instruction = decode(word)?;
+    let instruction = decode(word, Profile::Two)?;
     if address_of(&instruction).is_some() {
         return None;
     }

@@ -1,9 +1,10 @@
 //! What instructions read and write, and where they access memory and branch: by the operations of the Arm manual's C6.2.
 use a64_effects::{Address, Form, RegisterSet, address_of, reads, target, writes};
 use a64_word::{IndexExtend, Register, Width, decode};
+use lfi_module::Profile;
 use std::test::Fail;
 
-const WORDS: [u32; 73] = [
+const WORDS: [u32; 78] = [
     0x91000420, // ADD X0, X1, #1
     0x910003FF, // ADD SP, SP, #0
     0x110003FF, // ADD WSP, WSP, #0
@@ -77,10 +78,15 @@ const WORDS: [u32; 73] = [
     0x290007E0, // STP W0, W1, [SP]
     0xA9407C40, // LDP X0, XZR, [X2]
     0xA90003E0, // STP X0, X0, [SP]
+    0xC8DFFE40, // LDAR X0, [X18]
+    0x88DFFE56, // LDAR W22, [X18]
+    0x08DFFFFF, // LDARB WZR, [SP]
+    0xC89FFFE0, // STLR X0, [SP]
+    0x489FFC83, // STLRH W3, [X4]
 ];
 
 /// What they write; number 31 is sp.
-const WRITES: [(u32, u8, Width); 51] = [
+const WRITES: [(u32, u8, Width); 53] = [
     (0x91000420, 0, Width::X),
     (0x910003FF, 31, Width::X),
     (0x110003FF, 31, Width::W),
@@ -132,10 +138,12 @@ const WRITES: [(u32, u8, Width); 51] = [
     (0x29400440, 0, Width::W),
     (0x29400440, 1, Width::W),
     (0xA9407C40, 0, Width::X),
+    (0xC8DFFE40, 0, Width::X),
+    (0x88DFFE56, 22, Width::W),
 ];
 
 /// What they read; number 31 is sp.
-const READS: [(u32, u8, Width); 88] = [
+const READS: [(u32, u8, Width); 95] = [
     (0x91000420, 1, Width::X),
     (0x910003FF, 31, Width::X),
     (0x110003FF, 31, Width::W),
@@ -224,6 +232,13 @@ const READS: [(u32, u8, Width); 88] = [
     (0xA9407C40, 2, Width::X),
     (0xA90003E0, 0, Width::X),
     (0xA90003E0, 31, Width::X),
+    (0xC8DFFE40, 18, Width::X),
+    (0x88DFFE56, 18, Width::X),
+    (0x08DFFFFF, 31, Width::X),
+    (0xC89FFFE0, 0, Width::X),
+    (0xC89FFFE0, 31, Width::X),
+    (0x489FFC83, 3, Width::W),
+    (0x489FFC83, 4, Width::X),
 ];
 
 fn expected(uses: &[(u32, u8, Width)], word: u32, number: u8) -> Option<Width> {
@@ -256,7 +271,7 @@ fn first_other(set: &RegisterSet, uses: &[(u32, u8, Width)], word: u32) -> Optio
 #[test]
 fn writes_registers(rt: HostRuntime) {
     for word in &WORDS {
-        let found = match decode(*word) {
+        let found = match decode(*word, Profile::Two) {
             Some(instruction) => first_other(&writes(&instruction), &WRITES, *word),
             None => Some(32),
         };
@@ -267,7 +282,7 @@ fn writes_registers(rt: HostRuntime) {
 #[test]
 fn reads_registers(rt: HostRuntime) {
     for word in &WORDS {
-        let found = match decode(*word) {
+        let found = match decode(*word, Profile::Two) {
             Some(instruction) => first_other(&reads(&instruction), &READS, *word),
             None => Some(32),
         };
@@ -284,7 +299,7 @@ struct Access {
     bytes: u32,
 }
 
-const ACCESSES: [Access; 16] = [
+const ACCESSES: [Access; 20] = [
     Access {
         word: 0xF9400240,
         base: 18,
@@ -397,11 +412,39 @@ const ACCESSES: [Access; 16] = [
         offset: -16,
         bytes: 16,
     },
+    Access {
+        word: 0xC8DFFE40,
+        base: 18,
+        form: Form::Offset,
+        offset: 0,
+        bytes: 8,
+    },
+    Access {
+        word: 0x88DFFE56,
+        base: 18,
+        form: Form::Offset,
+        offset: 0,
+        bytes: 4,
+    },
+    Access {
+        word: 0x489FFC83,
+        base: 4,
+        form: Form::Offset,
+        offset: 0,
+        bytes: 2,
+    },
+    Access {
+        word: 0x08DFFFFF,
+        base: 31,
+        form: Form::Offset,
+        offset: 0,
+        bytes: 1,
+    },
 ];
 
 /// The address that the instruction of a word accesses.
 fn address_by(word: u32) -> Option<Address> {
-    address_of(&decode(word)?)
+    address_of(&decode(word, Profile::Two)?)
 }
 
 fn is_accessed(access: &Access) -> bool {
@@ -457,7 +500,7 @@ const TARGETS: [(u32, u32, Option<i64>); 11] = [
 #[test]
 fn targets(rt: HostRuntime) {
     for (word, place, to) in &TARGETS {
-        let found = match decode(*word) {
+        let found = match decode(*word, Profile::Two) {
             Some(instruction) => target(&instruction, *place) == *to,
             None => false,
         };

@@ -2,10 +2,11 @@
 //! in the Arm manual, C4.1 "A64 instruction set encoding".
 use crate::names::class_of;
 use a64_word::decode;
+use lfi_module::Profile;
 use std::test::Fail;
 
 /// A word of each class, and the bits that are the same in all words of the class.
-const CLASSES: [(u32, u32, &str); 25] = [
+const CLASSES: [(u32, u32, &str); 26] = [
     (0x91000420, 0x1F800000, "AddSubImmediate"),
     (0x92401C20, 0x1F800000, "LogicalImmediate"),
     (0xD28000E0, 0x1F800000, "MoveWide"),
@@ -31,10 +32,11 @@ const CLASSES: [(u32, u32, &str); 25] = [
     (0xF8400240, 0x3F200C00, "SignedOffset"),
     (0xF8614AA0, 0x3F200C00, "RegisterOffset"),
     (0xA9400440, 0x7E000000, "Pair"),
+    (0xC8DFFE40, 0x3FBFFC00, "Ordered"),
 ];
 
 /// The flipped words that are instructions nevertheless.
-const OTHERS: [(u32, &str); 64] = [
+const OTHERS: [(u32, &str); 65] = [
     (0x90000420, "PcRelative"),
     (0x95000420, "Branch"),
     (0x92C01C20, "MoveWide"),
@@ -99,6 +101,7 @@ const OTHERS: [(u32, &str); 64] = [
     (0xF0614AA0, "PcRelative"),
     (0xAB400440, "AddSubShifted"),
     (0xB9400440, "UnsignedOffset"),
+    (0xCADFFE40, "LogicalShifted"),
 ];
 
 fn expected(word: u32) -> &'static str {
@@ -114,7 +117,7 @@ fn expected(word: u32) -> &'static str {
 fn first_other(word: u32, fixed: u32) -> Option<u32> {
     for bit in 0u32..32 {
         let flipped = word ^ (1 << bit);
-        if fixed >> bit & 1 == 1 && class_of(decode(flipped)) != expected(flipped) {
+        if fixed >> bit & 1 == 1 && class_of(decode(flipped, Profile::Two)) != expected(flipped) {
             return Some(flipped);
         }
     }
@@ -124,7 +127,10 @@ fn first_other(word: u32, fixed: u32) -> Option<u32> {
 #[test]
 fn flips_each_fixed_bit(rt: HostRuntime) {
     for (word, fixed, class) in &CLASSES {
-        assert!(rt; class_of(decode(*word)) == *class, "{word:#x}");
+        assert!(rt;
+            class_of(decode(*word, Profile::Two)) == *class,
+            "{word:#x}"
+        );
         assert!(rt; first_other(*word, *fixed) == None, "{word:#x}");
     }
 }

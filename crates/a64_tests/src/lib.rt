@@ -8,6 +8,8 @@ mod flips;
 #[cfg(test)]
 mod names;
 #[cfg(test)]
+mod ordered;
+#[cfg(test)]
 mod ranges;
 #[cfg(test)]
 mod spelling;

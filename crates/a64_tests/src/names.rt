@@ -30,5 +30,6 @@ pub fn class_of(found: Option<Instruction>) -> &'static str {
         Some(Instruction::SignedOffset(_)) => "SignedOffset",
         Some(Instruction::RegisterOffset(_)) => "RegisterOffset",
         Some(Instruction::Pair(_)) => "Pair",
+        Some(Instruction::Ordered(_)) => "Ordered",
     }
 }

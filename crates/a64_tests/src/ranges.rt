@@ -1,6 +1,7 @@
 //! Each range of an operand at its ends, and the words just outside it: C6.2 of the Arm manual, one section an
 //! instruction, and the words that this project's profile leaves out.
 use crate::spelling::{first_not_spelled, first_spelled};
+use lfi_module::Profile;
 use std::test::Fail;
 
 /// Words that are instructions.
@@ -260,7 +261,7 @@ const INSTRUCTIONS: [u32; 252] = [
 ];
 
 /// Words that are none.
-const OTHERS: [u32; 261] = [
+const OTHERS: [u32; 259] = [
     0x9240FC20, // AND X, N 1, imms 63
     0x12400020, // AND W, N 1, imms 0
     0x12007C20, // AND W, N 0, imms 31
@@ -516,8 +517,6 @@ const OTHERS: [u32; 261] = [
     0x9B220C20, // SMADDL
     0x9BA20C20, // UMADDL
     0xC85F7C20, // LDXR
-    0xC8DFFC20, // LDAR
-    0xC89FFC20, // STLR
     0xF8200020, // LDADD
     0x1E222820, // FADD
     0x3DC00020, // LDR Q
@@ -526,6 +525,8 @@ const OTHERS: [u32; 261] = [
 
 #[test]
 fn decodes_what_is_in_range(rt: HostRuntime) {
-    assert!(rt; first_not_spelled(&INSTRUCTIONS) == None);
-    assert!(rt; first_spelled(&OTHERS) == None);
+    for profile in [Profile::One, Profile::Two] {
+        assert!(rt; first_not_spelled(&INSTRUCTIONS, profile) == None);
+        assert!(rt; first_spelled(&OTHERS, profile) == None);
+    }
 }

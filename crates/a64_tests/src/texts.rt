@@ -1,11 +1,12 @@
 //! The text of instructions, class by class at its edges. The words are those to which an assembler of others (LLVM's) takes
 //! these texts; ADRP's are by the fields of the manual.
 use a64_word::decode;
+use lfi_module::Profile;
 use std::alloc::{AllocError, Global};
 use std::test::Fail;
 
 /// A word, and its text.
-const TEXTS: [(u32, &str); 99] = [
+const TEXTS: [(u32, &str); 107] = [
     (0x910043FF, "add sp, sp, #16"),
     (0x517FFFFF, "sub wsp, wsp, #4095, lsl #12"),
     (0xB10007FF, "adds xzr, sp, #1"),
@@ -105,11 +106,19 @@ const TEXTS: [(u32, &str); 99] = [
     (0xA94018E5, "ldp x5, x6, [x7]"),
     (0xB0000000, "adrp x0, .+4096"),
     (0xF0FFFFE1, "adrp x1, .-4096"),
+    (0xC8DFFE40, "ldar x0, [x18]"),
+    (0x88DFFE56, "ldar w22, [x18]"),
+    (0x48DFFC20, "ldarh w0, [x1]"),
+    (0x08DFFFFF, "ldarb wzr, [sp]"),
+    (0xC89FFFE0, "stlr x0, [sp]"),
+    (0x889FFC41, "stlr w1, [x2]"),
+    (0x489FFC83, "stlrh w3, [x4]"),
+    (0x089FFCC5, "stlrb w5, [x6]"),
 ];
 
 /// Whether a word's instruction prints as this text.
 fn prints_as(alloc: Global, word: u32, text: &str) -> Result<bool, AllocError> {
-    match decode(word) {
+    match decode(word, Profile::Two) {
         Some(instruction) => Ok(instruction.to_string(alloc)?.as_str() == text),
         None => Ok(false),
     }

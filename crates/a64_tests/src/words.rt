@@ -3,6 +3,7 @@ use a64_word::{
     AddSubImmediate, Branch, Instruction, Register, Width, Words, decode, encode, word_at,
     word_count,
 };
+use lfi_module::Profile;
 use std::alloc::Global;
 use std::test::Fail;
 
@@ -23,8 +24,10 @@ const NOT_SPELLED: [u32; 7] = [
 
 #[test]
 fn decodes_rows(rt: HostRuntime) {
-    assert!(rt; first_not_spelled(&SPELLED) == None);
-    assert!(rt; first_spelled(&NOT_SPELLED) == None);
+    assert!(rt; first_not_spelled(&SPELLED, Profile::One) == None);
+    assert!(rt; first_not_spelled(&SPELLED, Profile::Two) == None);
+    assert!(rt; first_spelled(&NOT_SPELLED, Profile::One) == None);
+    assert!(rt; first_spelled(&NOT_SPELLED, Profile::Two) == None);
 }
 
 #[test]
@@ -32,8 +35,8 @@ fn encodes_what_it_decodes(rt: HostRuntime) {
     let mut count = 0u32;
     for i in 0u32..1_000_000 {
         let word = i.wrapping_mul(2_654_435_761);
-        if decode(word).is_some() {
-            assert!(rt; is_spelled_back(word), "{word:#x}");
+        if decode(word, Profile::Two).is_some() {
+            assert!(rt; is_spelled_back(word, Profile::Two), "{word:#x}");
             count = count.wrapping_add(1);
         }
     }
@@ -42,10 +45,11 @@ fn encodes_what_it_decodes(rt: HostRuntime) {
 
 /// The word of a branch by so many words.
 fn branch_by(offset: i32) -> Option<u32> {
-    encode(&Instruction::Branch(Branch {
+    let branch = Instruction::Branch(Branch {
         link: false,
         offset,
-    }))
+    });
+    encode(&branch, Profile::One)
 }
 
 #[test]
@@ -60,7 +64,7 @@ fn refuses_what_is_out_of_range(rt: HostRuntime) {
         rn: x0,
         rd: x0,
     };
-    assert!(rt; encode(&Instruction::AddSubImmediate(too_large)) == None);
+    assert!(rt; encode(&Instruction::AddSubImmediate(too_large), Profile::Two) == None);
     assert!(rt; branch_by(33_554_432) == None);
     assert!(rt; branch_by(-33_554_432) == Some(0x16000000));
 }
@@ -76,7 +80,7 @@ const MASKS: [(u32, u64); 4] = [
 #[test]
 fn gives_masks(rt: HostRuntime) {
     for (word, mask) in MASKS {
-        let found = match decode(word) {
+        let found = match decode(word, Profile::One) {
             Some(Instruction::LogicalImmediate(i)) => Some(i.mask()),
             _ => None,
         };

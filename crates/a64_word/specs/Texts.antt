@@ -2,7 +2,7 @@
 use Rattle.std.specs.Prelude.{ℕ, zero, suc, ℤ, pos, negsuc, ◌*ℤ◌, ◌*◌, ◌^◌, ◌==◌, ◌&&◌, nat_lt, if◌then◌else◌, List, [], ◌∷◌, ◌++◌, Bool, true, false, codes, decimal, Option, Some, None}
 use Rattle.std.specs.Fmt.{digits, signed_decimal}
 use Rattle.a64_word.specs.declared.instruction.Instruction.{Instruction}
-use Rattle.a64_word.specs.declared.instruction.Instruction.TheVariants.{AddSubImmediate, LogicalImmediate, MoveWide, PcRelative, Bitfield, LogicalShifted, AddSubShifted, AddSubExtended, ConditionalCompare, ConditionalSelect, TwoSource, CountLeadingZeros, MultiplyAdd, MultiplyHigh, Nop, Breakpoint, Branch, ConditionalBranch, CompareBranch, TestBranch, BranchRegister, UnsignedOffset, SignedOffset, RegisterOffset, Pair}
+use Rattle.a64_word.specs.declared.instruction.Instruction.TheVariants.{AddSubImmediate, LogicalImmediate, MoveWide, PcRelative, Bitfield, LogicalShifted, AddSubShifted, AddSubExtended, ConditionalCompare, ConditionalSelect, TwoSource, CountLeadingZeros, MultiplyAdd, MultiplyHigh, Nop, Breakpoint, Branch, ConditionalBranch, CompareBranch, TestBranch, BranchRegister, UnsignedOffset, SignedOffset, RegisterOffset, Pair, Ordered}
 use Rattle.a64_word.specs.declared.operands.Width.{Width}
 use Rattle.a64_word.specs.declared.operands.Width.TheVariants.{W, X}
 use Rattle.a64_word.specs.declared.operands.Shift.{Shift}
@@ -18,7 +18,8 @@ use Rattle.a64_word.specs.declared.operands.IndexMode.TheVariants as index_mode
 use Rattle.a64_word.specs.declared.operands.PairMode.{PairMode}
 use Rattle.a64_word.specs.declared.operands.PairMode.TheVariants as pair_mode
 use Rattle.a64_word.specs.Operands.{size_code}
-use Rattle.a64_word.specs.Names.{condition_name, shift_name, extend_name, index_extend_name, add_sub_name, logical_name, move_wide_name, bitfield_name, two_source_name, branch_name, select_name, access_name, access_width}
+use Rattle.a64_word.specs.Names.{condition_name, shift_name, extend_name, index_extend_name, add_sub_name, logical_name, move_wide_name, bitfield_name, two_source_name, branch_name, select_name, access_name, access_width, size_name}
+use Rattle.a64_word.specs.declared.operands.Transfer.TheVariants as transfer
 use Rattle.a64_word.specs.Bitmask.{mask_if_any}
 
 -- the operands, with commas between them
@@ -232,6 +233,10 @@ text (SignedOffset i) =
 text (RegisterOffset i) =
     line (access_name false i.transfer i.size)
     (general (access_width i.transfer i.size) i.rt ∷ indexed i.rn i.rm i.extend i.scaled (size_code i.size) ∷ [])
+-- STLR, LDAR and those like them <Rt>, [<Xn|SP>]
+text (Ordered i) =
+    line ((if i.load then codes "ldar" else codes "stlr") ++ size_name transfer.Load i.size)
+    (general (access_width transfer.Load i.size) i.rt ∷ offset_by i.rn (pos 0) ∷ [])
 -- STP, LDP <Rt>, <Rt2>, [<Xn|SP>{, #<imm>}], and with [..], #<imm> or [..]!
 text (Pair i) =
     line (if i.load then codes "ldp" else codes "stp")

@@ -9,7 +9,8 @@ use crate::data_register::{
     LogicalShifted, MultiplyAdd, MultiplyHigh, TwoSource,
 };
 use crate::fields::{bits, flag};
-use crate::load_store::{Pair, RegisterOffset, SignedOffset, UnsignedOffset};
+use crate::load_store::{Ordered, Pair, RegisterOffset, SignedOffset, UnsignedOffset};
+use lfi_module::Profile;
 
 /// An instruction, by its class.
 #[derive(Clone, Copy)]
@@ -39,9 +40,11 @@ pub enum Instruction {
     SignedOffset(SignedOffset),
     RegisterOffset(RegisterOffset),
     Pair(Pair),
+    Ordered(Ordered),
 }
 
 ghost use Rattle.a64_word.specs.Encoding.{Spells, Encodes};
+ghost use Rattle.a64_word.specs.Profiles.{is_of, SpellsIn, EncodesIn};
 ghost use Rattle.a64_word.specs.inner.Groups.{IsDataImmediate, IsDataRegister, IsBranch, IsLoadStore, DecodesGroup};
 
 /// The instruction of "Data Processing -- Immediate" that a word spells, by bits 23 to 25.
@@ -103,12 +106,16 @@ fn branch(word: u32) -> Option<Instruction>
     }
 }
 
-/// The instruction of "Loads and Stores" that a word spells, by bits 29, 24 and 21.
+/// The instruction of "Loads and Stores" that a word spells, by bits 28, 29, 24 and 21.
 fn load_store(word: u32) -> Option<Instruction>
     ensures { DecodesGroup IsLoadStore word result }
 {
     if !flag(word, 28) {
-        Some(Instruction::Pair(Pair::decode(word)?))
+        if flag(word, 29) {
+            Some(Instruction::Pair(Pair::decode(word)?))
+        } else {
+            Some(Instruction::Ordered(Ordered::decode(word)?))
+        }
     } else if flag(word, 24) {
         Some(Instruction::UnsignedOffset(UnsignedOffset::decode(word)?))
     } else if flag(word, 21) {
@@ -118,10 +125,10 @@ fn load_store(word: u32) -> Option<Instruction>
     }
 }
 
-/// The instruction that a word spells, where there is one.
+/// The instruction that a word spells, where there is one, of whatever profile.
 ///
 /// The groups are those of the Arm manual's C4.1 "A64 instruction set encoding", by bits 25 to 28.
-pub fn decode(word: u32) -> Option<Instruction>
+fn spelled(word: u32) -> Option<Instruction>
     ensures found { IfSome result (λ instruction. Spells instruction word) }
     ensures only { (instruction : Instruction) → Spells instruction word → result ≡ Some instruction }
 {
@@ -134,8 +141,41 @@ pub fn decode(word: u32) -> Option<Instruction>
     }
 }
 
+/// Whether a profile has an instruction.
+pub fn is_of(profile: Profile, instruction: &Instruction) -> bool
+    ensures { result ≡ is_of profile instruction.now }
+{
+    match instruction {
+        Instruction::Ordered(_) => profile == Profile::Two,
+        _ => true,
+    }
+}
+
+/// The instruction of a profile that a word spells, where there is one.
+pub fn decode(word: u32, profile: Profile) -> Option<Instruction>
+    ensures found { IfSome result (λ instruction. SpellsIn profile instruction word) }
+    ensures only { (instruction : Instruction) → SpellsIn profile instruction word → result ≡ Some instruction }
+{
+    let found = spelled(word)?;
+    if is_of(profile, &found) {
+        Some(found)
+    } else {
+        None
+    }
+}
+
+/// The word of an instruction of a profile, where each of its fields is in its range.
+pub fn encode(instruction: &Instruction, profile: Profile) -> Option<u32>
+    ensures { EncodesIn profile instruction.now result }
+{
+    if !is_of(profile, instruction) {
+        return None;
+    }
+    word_in_any(instruction)
+}
+
 /// The word of an instruction, where each of its fields is in its range.
-pub fn encode(instruction: &Instruction) -> Option<u32>
+fn word_in_any(instruction: &Instruction) -> Option<u32>
     ensures { Encodes instruction.now result }
 {
     match instruction {
@@ -163,6 +203,7 @@ pub fn encode(instruction: &Instruction) -> Option<u32>
         Instruction::SignedOffset(i) => i.encode(),
         Instruction::RegisterOffset(i) => i.encode(),
         Instruction::Pair(i) => i.encode(),
+        Instruction::Ordered(i) => i.encode(),
         Instruction::Nop => Some(0xD503201F),
     }
 }

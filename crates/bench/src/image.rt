@@ -3,7 +3,7 @@
 
 use anyhow::{Result, bail};
 use lfi_image::{Builder, CompleteImage, JudgedPage, read_image, write_image};
-use lfi_module::{Extent, ModuleNumber, PageSize, WordCount};
+use lfi_module::{Extent, ModuleNumber, PageSize, Profile, WordCount};
 use lfi_rules::judge;
 use page_buf::{OpenPage, PAGE_BYTES, SealedPage};
 use std::alloc::Global;
@@ -37,7 +37,12 @@ fn append_page(alloc: Global, builder: &mut Builder) -> Result<()> {
     if page.len_words() != due {
         bail!("a page has not the words due")
     }
-    let page = JudgedPage::judge(page, builder.placed(), builder.words());
+    let page = JudgedPage::judge(
+        page,
+        builder.placed(),
+        builder.words(),
+        builder.profile(),
+    );
     match builder.append(page) {
         Ok(()) => Ok(()),
         Err(_) => bail!("the code breaks a rule"),
@@ -49,7 +54,7 @@ fn image(alloc: Global, words: u32) -> Result<CompleteImage> {
     let Some(words) = WordCount::new(words) else {
         bail!("no module has so many words")
     };
-    let Some(extent) = Extent::new(words, 0) else {
+    let Some(extent) = Extent::new(words, 0, Profile::One) else {
         bail!("a module has no first word")
     };
     let mut builder = Builder::new(alloc, extent, ModuleNumber::at(0))?;
@@ -72,7 +77,7 @@ fn faulty_pages(page: &SealedPage, words: u32) -> u32 {
     for i in 0..words / size {
         let first = size * i;
         let last = page.len_words() as u32 + first;
-        if last <= words && judge(page, first, words).inner.is_some() {
+        if last <= words && judge(page, first, words, Profile::One).inner.is_some() {
             faulty = faulty.saturating_add(1);
         }
     }

@@ -2,521 +2,521 @@
 //!
 //! Written by checks/class_tables, which gives each set that there is a short name.
 
-const M0: u64 = 0x8190210d80650b;
+const M0: u64 = 0x40c81086c00650b;
 
-const M1: u64 = 0x8190210d80650e;
+const M1: u64 = 0x40c81086c00650e;
 
-const M2: u64 = 0x8190210da0650e;
+const M2: u64 = 0x40c81086d00650e;
 
-const M3: u64 = 0x8190210daa650b;
+const M3: u64 = 0x40c81086d50650b;
 
-const M4: u64 = 0x8190210dc0650b;
+const M4: u64 = 0x40c81086e00650b;
 
-const M5: u64 = 0x8190210dc0650e;
+const M5: u64 = 0x40c81086e00650e;
 
-const M6: u64 = 0x8190210dd5650e;
+const M6: u64 = 0x40c81086ea8650e;
 
-const M7: u64 = 0x8190a13d80600b;
+const M7: u64 = 0x40c8509ec00600b;
 
-const M8: u64 = 0x8190a13d80600e;
+const M8: u64 = 0x40c8509ec00600e;
 
-const M9: u64 = 0x8190a13da0600e;
+const M9: u64 = 0x40c8509ed00600e;
 
-const M10: u64 = 0x8190a13daa600b;
+const M10: u64 = 0x40c8509ed50600b;
 
-const M11: u64 = 0x8190a13dc0600b;
+const M11: u64 = 0x40c8509ee00600b;
 
-const M12: u64 = 0x8190a13dc0600e;
+const M12: u64 = 0x40c8509ee00600e;
 
-const M13: u64 = 0x8190a13dd4600e;
+const M13: u64 = 0x40c8509eea0600e;
 
-const M14: u64 = 0x8190e13f80600b;
+const M14: u64 = 0x40c8709fc00600b;
 
-const M15: u64 = 0x8190e13f80600e;
+const M15: u64 = 0x40c8709fc00600e;
 
-const M16: u64 = 0x8190e13f80650b;
+const M16: u64 = 0x40c8709fc00650b;
 
-const M17: u64 = 0x8190e13f80650e;
+const M17: u64 = 0x40c8709fc00650e;
 
-const M18: u64 = 0x8190e13fa0600e;
+const M18: u64 = 0x40c8709fd00600e;
 
-const M19: u64 = 0x8190e13fa0650e;
+const M19: u64 = 0x40c8709fd00650e;
 
-const M20: u64 = 0x8190e13faa600b;
+const M20: u64 = 0x40c8709fd50600b;
 
-const M21: u64 = 0x8190e13faa650b;
+const M21: u64 = 0x40c8709fd50650b;
 
-const M22: u64 = 0x8190e13fc0600b;
+const M22: u64 = 0x40c8709fe00600b;
 
-const M23: u64 = 0x8190e13fc0600e;
+const M23: u64 = 0x40c8709fe00600e;
 
-const M24: u64 = 0x8190e13fc0650b;
+const M24: u64 = 0x40c8709fe00650b;
 
-const M25: u64 = 0x8190e13fc0650e;
+const M25: u64 = 0x40c8709fe00650e;
 
-const M26: u64 = 0x8190e13fd4600e;
+const M26: u64 = 0x40c8709fea0600e;
 
-const M27: u64 = 0x8190e13fd4650e;
+const M27: u64 = 0x40c8709fea0650e;
 
-const M28: u64 = 0x8191a1fd80600b;
+const M28: u64 = 0x40c8d0fec00600b;
 
-const M29: u64 = 0x8191a1fd80600e;
+const M29: u64 = 0x40c8d0fec00600e;
 
-const M30: u64 = 0x8191a1fda0600e;
+const M30: u64 = 0x40c8d0fed00600e;
 
-const M31: u64 = 0x8191a1fdaa600b;
+const M31: u64 = 0x40c8d0fed50600b;
 
-const M32: u64 = 0x8191a1fdc0600b;
+const M32: u64 = 0x40c8d0fee00600b;
 
-const M33: u64 = 0x8191a1fdc0600e;
+const M33: u64 = 0x40c8d0fee00600e;
 
-const M34: u64 = 0x8191a1fdd4600e;
+const M34: u64 = 0x40c8d0feea0600e;
 
-const M35: u64 = 0x8791a3fd80601b;
+const M35: u64 = 0x43c8d1fec00601b;
 
-const M36: u64 = 0x8791a3fd80601e;
+const M36: u64 = 0x43c8d1fec00601e;
 
-const M37: u64 = 0x8791a3fda0601e;
+const M37: u64 = 0x43c8d1fed00601e;
 
-const M38: u64 = 0x8791a3fdaa601b;
+const M38: u64 = 0x43c8d1fed50601b;
 
-const M39: u64 = 0x8791a3fdc0601b;
+const M39: u64 = 0x43c8d1fee00601b;
 
-const M40: u64 = 0x8791a3fdc0601e;
+const M40: u64 = 0x43c8d1fee00601e;
 
-const M41: u64 = 0x8791a3fdd4601e;
+const M41: u64 = 0x43c8d1feea0601e;
 
-const M42: u64 = 0x8791e3ff80601b;
+const M42: u64 = 0x43c8f1ffc00601b;
 
-const M43: u64 = 0x8791e3ff80601e;
+const M43: u64 = 0x43c8f1ffc00601e;
 
-const M44: u64 = 0x8791e3ffa0601e;
+const M44: u64 = 0x43c8f1ffd00601e;
 
-const M45: u64 = 0x8791e3ffaa601b;
+const M45: u64 = 0x43c8f1ffd50601b;
 
-const M46: u64 = 0x8791e3ffc0601b;
+const M46: u64 = 0x43c8f1ffe00601b;
 
-const M47: u64 = 0x8791e3ffc0601e;
+const M47: u64 = 0x43c8f1ffe00601e;
 
-const M48: u64 = 0x8791e3ffd4601e;
+const M48: u64 = 0x43c8f1ffea0601e;
 
-const M49: u64 = 0x8795e3ff80601e;
+const M49: u64 = 0x43caf1ffc00601e;
 
-const M50: u64 = 0x9990200d80602b;
+const M50: u64 = 0x4cc81006c00602b;
 
-const M51: u64 = 0x9990200d80602e;
+const M51: u64 = 0x4cc81006c00602e;
 
-const M52: u64 = 0x9990200da0602e;
+const M52: u64 = 0x4cc81006d00602e;
 
-const M53: u64 = 0x9990200daa602b;
+const M53: u64 = 0x4cc81006d50602b;
 
-const M54: u64 = 0x9990200dc0602b;
+const M54: u64 = 0x4cc81006e00602b;
 
-const M55: u64 = 0x9990200dc0602e;
+const M55: u64 = 0x4cc81006e00602e;
 
-const M56: u64 = 0x9990200dd4602e;
+const M56: u64 = 0x4cc81006ea0602e;
 
-const M57: u64 = 0x9990a23d80602b;
+const M57: u64 = 0x4cc8511ec00602b;
 
-const M58: u64 = 0x9990a23d80602e;
+const M58: u64 = 0x4cc8511ec00602e;
 
-const M59: u64 = 0x9990a23da0602e;
+const M59: u64 = 0x4cc8511ed00602e;
 
-const M60: u64 = 0x9990a23daa602b;
+const M60: u64 = 0x4cc8511ed50602b;
 
-const M61: u64 = 0x9990a23dc0602b;
+const M61: u64 = 0x4cc8511ee00602b;
 
-const M62: u64 = 0x9990a23dc0602e;
+const M62: u64 = 0x4cc8511ee00602e;
 
-const M63: u64 = 0x9990a23dd4602e;
+const M63: u64 = 0x4cc8511eea0602e;
 
-const M64: u64 = 0x9990e03f80602b;
+const M64: u64 = 0x4cc8701fc00602b;
 
-const M65: u64 = 0x9990e03f80602e;
+const M65: u64 = 0x4cc8701fc00602e;
 
-const M66: u64 = 0x9990e03fa0602e;
+const M66: u64 = 0x4cc8701fd00602e;
 
-const M67: u64 = 0x9990e03faa602b;
+const M67: u64 = 0x4cc8701fd50602b;
 
-const M68: u64 = 0x9990e03fc0602b;
+const M68: u64 = 0x4cc8701fe00602b;
 
-const M69: u64 = 0x9990e03fc0602e;
+const M69: u64 = 0x4cc8701fe00602e;
 
-const M70: u64 = 0x9990e03fd4602e;
+const M70: u64 = 0x4cc8701fea0602e;
 
-const M71: u64 = 0x9990e23f80602b;
+const M71: u64 = 0x4cc8711fc00602b;
 
-const M72: u64 = 0x9990e23f80602e;
+const M72: u64 = 0x4cc8711fc00602e;
 
-const M73: u64 = 0x9990e23fa0602e;
+const M73: u64 = 0x4cc8711fd00602e;
 
-const M74: u64 = 0x9990e23faa602b;
+const M74: u64 = 0x4cc8711fd50602b;
 
-const M75: u64 = 0x9990e23fc0602b;
+const M75: u64 = 0x4cc8711fe00602b;
 
-const M76: u64 = 0x9990e23fc0602e;
+const M76: u64 = 0x4cc8711fe00602e;
 
-const M77: u64 = 0x9990e23fd4602e;
+const M77: u64 = 0x4cc8711fea0602e;
 
-const M78: u64 = 0xe191e1ff80604b;
+const M78: u64 = 0x70c8f0ffc00604b;
 
-const M79: u64 = 0xe191e1ff80604e;
+const M79: u64 = 0x70c8f0ffc00604e;
 
-const M80: u64 = 0xe191e1ffa0604e;
+const M80: u64 = 0x70c8f0ffd00604e;
 
-const M81: u64 = 0xe191e1ffaa604b;
+const M81: u64 = 0x70c8f0ffd50604b;
 
-const M82: u64 = 0xe191e1ffc0604b;
+const M82: u64 = 0x70c8f0ffe00604b;
 
-const M83: u64 = 0xe191e1ffc0604e;
+const M83: u64 = 0x70c8f0ffe00604e;
 
-const M84: u64 = 0xe191e1ffd4604e;
+const M84: u64 = 0x70c8f0ffea0604e;
 
-const M85: u64 = 0x599902001807aab;
+const M85: u64 = 0x2ccc81000c007aab;
 
-const M86: u64 = 0x599902001807aae;
+const M86: u64 = 0x2ccc81000c007aae;
 
-const M87: u64 = 0x599902001a07aae;
+const M87: u64 = 0x2ccc81000d007aae;
 
-const M88: u64 = 0x599902001aa7aab;
+const M88: u64 = 0x2ccc81000d507aab;
 
-const M89: u64 = 0x599902001c07aab;
+const M89: u64 = 0x2ccc81000e007aab;
 
-const M90: u64 = 0x599902001c07aae;
+const M90: u64 = 0x2ccc81000e007aae;
 
-const M91: u64 = 0x599902001d57aae;
+const M91: u64 = 0x2ccc81000eabfaae;
 
-const M92: u64 = 0x59990200d807aab;
+const M92: u64 = 0x2ccc81006c007aab;
 
-const M93: u64 = 0x59990200d807aae;
+const M93: u64 = 0x2ccc81006c007aae;
 
-const M94: u64 = 0x59990200da07aae;
+const M94: u64 = 0x2ccc81006d007aae;
 
-const M95: u64 = 0x59990200daa7aab;
+const M95: u64 = 0x2ccc81006d507aab;
 
-const M96: u64 = 0x59990200dc07aab;
+const M96: u64 = 0x2ccc81006e007aab;
 
-const M97: u64 = 0x59990200dc07aae;
+const M97: u64 = 0x2ccc81006e007aae;
 
-const M98: u64 = 0x59990200dd47aae;
+const M98: u64 = 0x2ccc81006ea07aae;
 
-const M99: u64 = 0x59990220d807aab;
+const M99: u64 = 0x2ccc81106c007aab;
 
-const M100: u64 = 0x59990220d807aae;
+const M100: u64 = 0x2ccc81106c007aae;
 
-const M101: u64 = 0x59990220da07aae;
+const M101: u64 = 0x2ccc81106d007aae;
 
-const M102: u64 = 0x59990220daa7aab;
+const M102: u64 = 0x2ccc81106d507aab;
 
-const M103: u64 = 0x59990220dc07aab;
+const M103: u64 = 0x2ccc81106e007aab;
 
-const M104: u64 = 0x59990220dc07aae;
+const M104: u64 = 0x2ccc81106e007aae;
 
-const M105: u64 = 0x59990220dd47aae;
+const M105: u64 = 0x2ccc81106ea07aae;
 
-const M106: u64 = 0x59990700f807aab;
+const M106: u64 = 0x2ccc83807c007aab;
 
-const M107: u64 = 0x59990700f807aae;
+const M107: u64 = 0x2ccc83807c007aae;
 
-const M108: u64 = 0x59990700fa07aae;
+const M108: u64 = 0x2ccc83807d007aae;
 
-const M109: u64 = 0x59990700faa7aab;
+const M109: u64 = 0x2ccc83807d507aab;
 
-const M110: u64 = 0x59990700fc07aab;
+const M110: u64 = 0x2ccc83807e007aab;
 
-const M111: u64 = 0x59990700fc07aae;
+const M111: u64 = 0x2ccc83807e007aae;
 
-const M112: u64 = 0x59990700fd47aae;
+const M112: u64 = 0x2ccc83807ea07aae;
 
-const M113: u64 = 0x59990a03d807aab;
+const M113: u64 = 0x2ccc8501ec007aab;
 
-const M114: u64 = 0x59990a03d807aae;
+const M114: u64 = 0x2ccc8501ec007aae;
 
-const M115: u64 = 0x59990a03da07aae;
+const M115: u64 = 0x2ccc8501ed007aae;
 
-const M116: u64 = 0x59990a03daa7aab;
+const M116: u64 = 0x2ccc8501ed507aab;
 
-const M117: u64 = 0x59990a03dc07aab;
+const M117: u64 = 0x2ccc8501ee007aab;
 
-const M118: u64 = 0x59990a03dc07aae;
+const M118: u64 = 0x2ccc8501ee007aae;
 
-const M119: u64 = 0x59990a03dd47aae;
+const M119: u64 = 0x2ccc8501eea07aae;
 
-const M120: u64 = 0x59990a23d807aab;
+const M120: u64 = 0x2ccc8511ec007aab;
 
-const M121: u64 = 0x59990a23d807aae;
+const M121: u64 = 0x2ccc8511ec007aae;
 
-const M122: u64 = 0x59990a23da07aae;
+const M122: u64 = 0x2ccc8511ed007aae;
 
-const M123: u64 = 0x59990a23daa7aab;
+const M123: u64 = 0x2ccc8511ed507aab;
 
-const M124: u64 = 0x59990a23dc07aab;
+const M124: u64 = 0x2ccc8511ee007aab;
 
-const M125: u64 = 0x59990a23dc07aae;
+const M125: u64 = 0x2ccc8511ee007aae;
 
-const M126: u64 = 0x59990a23dd47aae;
+const M126: u64 = 0x2ccc8511eea07aae;
 
-const M127: u64 = 0x59990e03f807aab;
+const M127: u64 = 0x2ccc8701fc007aab;
 
-const M128: u64 = 0x59990e03f807aae;
+const M128: u64 = 0x2ccc8701fc007aae;
 
-const M129: u64 = 0x59990e03fa07aae;
+const M129: u64 = 0x2ccc8701fd007aae;
 
-const M130: u64 = 0x59990e03faa7aab;
+const M130: u64 = 0x2ccc8701fd507aab;
 
-const M131: u64 = 0x59990e03fc07aab;
+const M131: u64 = 0x2ccc8701fe007aab;
 
-const M132: u64 = 0x59990e03fc07aae;
+const M132: u64 = 0x2ccc8701fe007aae;
 
-const M133: u64 = 0x59990e03fd47aae;
+const M133: u64 = 0x2ccc8701fea07aae;
 
-const M134: u64 = 0x59990e23f807aab;
+const M134: u64 = 0x2ccc8711fc007aab;
 
-const M135: u64 = 0x59990e23f807aae;
+const M135: u64 = 0x2ccc8711fc007aae;
 
-const M136: u64 = 0x59990e23fa07aae;
+const M136: u64 = 0x2ccc8711fd007aae;
 
-const M137: u64 = 0x59990e23faa7aab;
+const M137: u64 = 0x2ccc8711fd507aab;
 
-const M138: u64 = 0x59990e23fc07aab;
+const M138: u64 = 0x2ccc8711fe007aab;
 
-const M139: u64 = 0x59990e23fc07aae;
+const M139: u64 = 0x2ccc8711fe007aae;
 
-const M140: u64 = 0x59990e23fd47aae;
+const M140: u64 = 0x2ccc8711fea07aae;
 
-const M141: u64 = 0x5999120cd807aab;
+const M141: u64 = 0x2ccc89066c007aab;
 
-const M142: u64 = 0x5999120cd807aae;
+const M142: u64 = 0x2ccc89066c007aae;
 
-const M143: u64 = 0x5999120cda07aae;
+const M143: u64 = 0x2ccc89066d007aae;
 
-const M144: u64 = 0x5999120cdaa7aab;
+const M144: u64 = 0x2ccc89066d507aab;
 
-const M145: u64 = 0x5999120cdc07aab;
+const M145: u64 = 0x2ccc89066e007aab;
 
-const M146: u64 = 0x5999120cdc07aae;
+const M146: u64 = 0x2ccc89066e007aae;
 
-const M147: u64 = 0x5999120cdd47aae;
+const M147: u64 = 0x2ccc89066ea07aae;
 
-const M148: u64 = 0x59991a0fd807aab;
+const M148: u64 = 0x2ccc8d07ec007aab;
 
-const M149: u64 = 0x59991a0fd807aae;
+const M149: u64 = 0x2ccc8d07ec007aae;
 
-const M150: u64 = 0x59991a0fda07aae;
+const M150: u64 = 0x2ccc8d07ed007aae;
 
-const M151: u64 = 0x59991a0fdaa7aab;
+const M151: u64 = 0x2ccc8d07ed507aab;
 
-const M152: u64 = 0x59991a0fdc07aab;
+const M152: u64 = 0x2ccc8d07ee007aab;
 
-const M153: u64 = 0x59991a0fdc07aae;
+const M153: u64 = 0x2ccc8d07ee007aae;
 
-const M154: u64 = 0x59991a0fdd47aae;
+const M154: u64 = 0x2ccc8d07eea07aae;
 
-const M155: u64 = 0x59991a2fd807aab;
+const M155: u64 = 0x2ccc8d17ec007aab;
 
-const M156: u64 = 0x59991a2fd807aae;
+const M156: u64 = 0x2ccc8d17ec007aae;
 
-const M157: u64 = 0x59991a2fda07aae;
+const M157: u64 = 0x2ccc8d17ed007aae;
 
-const M158: u64 = 0x59991a2fdaa7aab;
+const M158: u64 = 0x2ccc8d17ed507aab;
 
-const M159: u64 = 0x59991a2fdc07aab;
+const M159: u64 = 0x2ccc8d17ee007aab;
 
-const M160: u64 = 0x59991a2fdc07aae;
+const M160: u64 = 0x2ccc8d17ee007aae;
 
-const M161: u64 = 0x59991a2fdd47aae;
+const M161: u64 = 0x2ccc8d17eea07aae;
 
-const M162: u64 = 0x59991e0ff807aab;
+const M162: u64 = 0x2ccc8f07fc007aab;
 
-const M163: u64 = 0x59991e0ff807aae;
+const M163: u64 = 0x2ccc8f07fc007aae;
 
-const M164: u64 = 0x59991e0ffa07aae;
+const M164: u64 = 0x2ccc8f07fd007aae;
 
-const M165: u64 = 0x59991e0ffaa7aab;
+const M165: u64 = 0x2ccc8f07fd507aab;
 
-const M166: u64 = 0x59991e0ffc07aab;
+const M166: u64 = 0x2ccc8f07fe007aab;
 
-const M167: u64 = 0x59991e0ffc07aae;
+const M167: u64 = 0x2ccc8f07fe007aae;
 
-const M168: u64 = 0x59991e0ffd47aae;
+const M168: u64 = 0x2ccc8f07fea07aae;
 
-const M169: u64 = 0x59991e2ff807aab;
+const M169: u64 = 0x2ccc8f17fc007aab;
 
-const M170: u64 = 0x59991e2ff807aae;
+const M170: u64 = 0x2ccc8f17fc007aae;
 
-const M171: u64 = 0x59991e2ffa07aae;
+const M171: u64 = 0x2ccc8f17fd007aae;
 
-const M172: u64 = 0x59991e2ffaa7aab;
+const M172: u64 = 0x2ccc8f17fd507aab;
 
-const M173: u64 = 0x59991e2ffaafaab;
+const M173: u64 = 0x2ccc8f17fd547aab;
 
-const M174: u64 = 0x59991e2ffc07aab;
+const M174: u64 = 0x2ccc8f17fe007aab;
 
-const M175: u64 = 0x59991e2ffc07aae;
+const M175: u64 = 0x2ccc8f17fe007aae;
 
-const M176: u64 = 0x59991e2ffd47aae;
+const M176: u64 = 0x2ccc8f17fea07aae;
 
-const M177: u64 = 0x59991e4ff807aab;
+const M177: u64 = 0x2ccc8f27fc007aab;
 
-const M178: u64 = 0x59991e4ff807aae;
+const M178: u64 = 0x2ccc8f27fc007aae;
 
-const M179: u64 = 0x59991e4ffa07aae;
+const M179: u64 = 0x2ccc8f27fd007aae;
 
-const M180: u64 = 0x59991e4ffaa7aab;
+const M180: u64 = 0x2ccc8f27fd507aab;
 
-const M181: u64 = 0x59991e4ffc07aab;
+const M181: u64 = 0x2ccc8f27fe007aab;
 
-const M182: u64 = 0x59991e4ffc07aae;
+const M182: u64 = 0x2ccc8f27fe007aae;
 
-const M183: u64 = 0x59991e4ffd47aae;
+const M183: u64 = 0x2ccc8f27fea07aae;
 
-const M184: u64 = 0x59991e6ff807aab;
+const M184: u64 = 0x2ccc8f37fc007aab;
 
-const M185: u64 = 0x59991e6ff807aae;
+const M185: u64 = 0x2ccc8f37fc007aae;
 
-const M186: u64 = 0x59991e6ffa07aae;
+const M186: u64 = 0x2ccc8f37fd007aae;
 
-const M187: u64 = 0x59991e6ffaa7aab;
+const M187: u64 = 0x2ccc8f37fd507aab;
 
-const M188: u64 = 0x59991e6ffc07aab;
+const M188: u64 = 0x2ccc8f37fe007aab;
 
-const M189: u64 = 0x59991e6ffc07aae;
+const M189: u64 = 0x2ccc8f37fe007aae;
 
-const M190: u64 = 0x59991e6ffd47aae;
+const M190: u64 = 0x2ccc8f37fea07aae;
 
-const M191: u64 = 0xa8190a13d807a8b;
+const M191: u64 = 0x540c8509ec007a8b;
 
-const M192: u64 = 0xa8190a13d807a8e;
+const M192: u64 = 0x540c8509ec007a8e;
 
-const M193: u64 = 0xa8190a13da07a8e;
+const M193: u64 = 0x540c8509ed007a8e;
 
-const M194: u64 = 0xa8190a13daa7a8b;
+const M194: u64 = 0x540c8509ed507a8b;
 
-const M195: u64 = 0xa8190a13dc07a8b;
+const M195: u64 = 0x540c8509ee007a8b;
 
-const M196: u64 = 0xa8190a13dc07a8e;
+const M196: u64 = 0x540c8509ee007a8e;
 
-const M197: u64 = 0xa8190a13dd47a8e;
+const M197: u64 = 0x540c8509eea07a8e;
 
-const M198: u64 = 0xa8190e13f807a8b;
+const M198: u64 = 0x540c8709fc007a8b;
 
-const M199: u64 = 0xa8190e13f807a8e;
+const M199: u64 = 0x540c8709fc007a8e;
 
-const M200: u64 = 0xa8190e13fa07a8e;
+const M200: u64 = 0x540c8709fd007a8e;
 
-const M201: u64 = 0xa8190e13faa7a8b;
+const M201: u64 = 0x540c8709fd507a8b;
 
-const M202: u64 = 0xa8190e13fc07a8b;
+const M202: u64 = 0x540c8709fe007a8b;
 
-const M203: u64 = 0xa8190e13fc07a8e;
+const M203: u64 = 0x540c8709fe007a8e;
 
-const M204: u64 = 0xa8190e13fd47a8e;
+const M204: u64 = 0x540c8709fea07a8e;
 
-const M205: u64 = 0xa8191a1fd807a8b;
+const M205: u64 = 0x540c8d0fec007a8b;
 
-const M206: u64 = 0xa8191a1fd807a8e;
+const M206: u64 = 0x540c8d0fec007a8e;
 
-const M207: u64 = 0xa8191a1fda07a8e;
+const M207: u64 = 0x540c8d0fed007a8e;
 
-const M208: u64 = 0xa8191a1fdaa7a8b;
+const M208: u64 = 0x540c8d0fed507a8b;
 
-const M209: u64 = 0xa8191a1fdc07a8b;
+const M209: u64 = 0x540c8d0fee007a8b;
 
-const M210: u64 = 0xa8191a1fdc07a8e;
+const M210: u64 = 0x540c8d0fee007a8e;
 
-const M211: u64 = 0xa8191a1fdd47a8e;
+const M211: u64 = 0x540c8d0feea07a8e;
 
-const M212: u64 = 0xa8191e1ff807a8b;
+const M212: u64 = 0x540c8f0ffc007a8b;
 
-const M213: u64 = 0xa8191e1ff807a8e;
+const M213: u64 = 0x540c8f0ffc007a8e;
 
-const M214: u64 = 0xa8191e1ffa07a8e;
+const M214: u64 = 0x540c8f0ffd007a8e;
 
-const M215: u64 = 0xa8191e1ffaa7a8b;
+const M215: u64 = 0x540c8f0ffd507a8b;
 
-const M216: u64 = 0xa8191e1ffc07a8b;
+const M216: u64 = 0x540c8f0ffe007a8b;
 
-const M217: u64 = 0xa8191e1ffc07a8e;
+const M217: u64 = 0x540c8f0ffe007a8e;
 
-const M218: u64 = 0xa8191e1ffd47a8e;
+const M218: u64 = 0x540c8f0ffea07a8e;
 
-const M219: u64 = 0xa8191e5ff807a8b;
+const M219: u64 = 0x540c8f2ffc007a8b;
 
-const M220: u64 = 0xa8191e5ff807a8e;
+const M220: u64 = 0x540c8f2ffc007a8e;
 
-const M221: u64 = 0xa8191e5ffa07a8e;
+const M221: u64 = 0x540c8f2ffd007a8e;
 
-const M222: u64 = 0xa8191e5ffaa7a8b;
+const M222: u64 = 0x540c8f2ffd507a8b;
 
-const M223: u64 = 0xa8191e5ffc07a8b;
+const M223: u64 = 0x540c8f2ffe007a8b;
 
-const M224: u64 = 0xa8191e5ffc07a8e;
+const M224: u64 = 0x540c8f2ffe007a8e;
 
-const M225: u64 = 0xa8191e5ffd47a8e;
+const M225: u64 = 0x540c8f2ffea07a8e;
 
-const M226: u64 = 0xa8791a3fd807a9b;
+const M226: u64 = 0x543c8d1fec007a9b;
 
-const M227: u64 = 0xa8791a3fd807a9e;
+const M227: u64 = 0x543c8d1fec007a9e;
 
-const M228: u64 = 0xa8791a3fda07a9e;
+const M228: u64 = 0x543c8d1fed007a9e;
 
-const M229: u64 = 0xa8791a3fdaa7a9b;
+const M229: u64 = 0x543c8d1fed507a9b;
 
-const M230: u64 = 0xa8791a3fdc07a9b;
+const M230: u64 = 0x543c8d1fee007a9b;
 
-const M231: u64 = 0xa8791a3fdc07a9e;
+const M231: u64 = 0x543c8d1fee007a9e;
 
-const M232: u64 = 0xa8791a3fdd47a9e;
+const M232: u64 = 0x543c8d1feea07a9e;
 
-const M233: u64 = 0xa8791e3ff807a9b;
+const M233: u64 = 0x543c8f1ffc007a9b;
 
-const M234: u64 = 0xa8791e3ff807a9e;
+const M234: u64 = 0x543c8f1ffc007a9e;
 
-const M235: u64 = 0xa8791e3ffa07a9e;
+const M235: u64 = 0x543c8f1ffd007a9e;
 
-const M236: u64 = 0xa8791e3ffaa7a9b;
+const M236: u64 = 0x543c8f1ffd507a9b;
 
-const M237: u64 = 0xa8791e3ffaafa9b;
+const M237: u64 = 0x543c8f1ffd547a9b;
 
-const M238: u64 = 0xa8791e3ffc07a9b;
+const M238: u64 = 0x543c8f1ffe007a9b;
 
-const M239: u64 = 0xa8791e3ffc07a9e;
+const M239: u64 = 0x543c8f1ffe007a9e;
 
-const M240: u64 = 0xa8791e3ffd47a9e;
+const M240: u64 = 0x543c8f1ffea07a9e;
 
-const M241: u64 = 0xa8791e7ff807a9b;
+const M241: u64 = 0x543c8f3ffc007a9b;
 
-const M242: u64 = 0xa8791e7ff807a9e;
+const M242: u64 = 0x543c8f3ffc007a9e;
 
-const M243: u64 = 0xa8791e7ffa07a9e;
+const M243: u64 = 0x543c8f3ffd007a9e;
 
-const M244: u64 = 0xa8791e7ffaa7a9b;
+const M244: u64 = 0x543c8f3ffd507a9b;
 
-const M245: u64 = 0xa8791e7ffc07a9b;
+const M245: u64 = 0x543c8f3ffe007a9b;
 
-const M246: u64 = 0xa8791e7ffc07a9e;
+const M246: u64 = 0x543c8f3ffe007a9e;
 
-const M247: u64 = 0xa8791e7ffd47a9e;
+const M247: u64 = 0x543c8f3ffea07a9e;
 
-const M248: u64 = 0xa8791ebffaa7a9b;
+const M248: u64 = 0x543c8f5ffd507a9b;
 
-const M249: u64 = 0xa8793e3ff807a9b;
+const M249: u64 = 0x543c9f1ffc007a9b;
 
-const M250: u64 = 0xa8793e3ff807a9e;
+const M250: u64 = 0x543c9f1ffc007a9e;
 
-const M251: u64 = 0xa8793e3ffa07a9e;
+const M251: u64 = 0x543c9f1ffd007a9e;
 
-const M252: u64 = 0xa8793e3ffaa7a9b;
+const M252: u64 = 0x543c9f1ffd507a9b;
 
-const M253: u64 = 0xa8793e3ffc07a9b;
+const M253: u64 = 0x543c9f1ffe007a9b;
 
-const M254: u64 = 0xa8793e3ffc07a9e;
+const M254: u64 = 0x543c9f1ffe007a9e;
 
-const M255: u64 = 0xa8793e3ffd47a9e;
+const M255: u64 = 0x543c9f1ffea07a9e;
 
-const M256: u64 = 0xa8799e7ff807a9b;
+const M256: u64 = 0x543ccf3ffc007a9b;
 
-const M257: u64 = 0xa87f1e3ffd47a9e;
+const M257: u64 = 0x543f8f1ffea07a9e;
 
 /// By bits 20 to 10 of a word.
 pub(crate) static MIDDLES: [u64; 2048] = [

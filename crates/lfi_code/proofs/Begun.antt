@@ -6,10 +6,11 @@ use Rattle.std.specs.Int.{from_le_bytes, w32}
 use Rattle.a64_word.specs.Words.{words_of}
 use Rattle.a64_word.proofs.WordLaws.{words_count}
 use Rattle.lfi_rules.specs.declared.fault.Fault.{Fault}
+use Rattle.lfi_rules.specs.declared.needs.Need.{Need}
 use Rattle.lfi_rules.specs.Faults.{FirstFault}
 use Rattle.lfi_rules.specs.Verdicts.{LeavesOpen, Judges}
 use Rattle.lfi_rules.specs.declared.verdict.PageVerdict.{PageVerdict}
-use Rattle.lfi_rules.proofs.Pages.{fault_grows}
+use Rattle.lfi_rules.proofs.Following.{fault_stays}
 use Rattle.lfi_code.specs.declared.beginning.Beginning.{Beginning}
 use Rattle.lfi_code.specs.declared.verdict.Verdict.TheVariants.{Lawful, Refused}
 use Rattle.lfi_code.specs.Checking.{IsCode, Checks}
@@ -32,7 +33,7 @@ words_room piece judged words room = let count = words_count piece in omega (ari
 
 -- a piece after a fault
 pub begins_faulty : (b : Beginning) (bytes piece : List ℕ) → is_some b.fault ≡ true → length piece % 4 ≡ 0 → 4 * b.judged + length piece ≤ 4 * b.words → Begins b bytes
-    → Begins (record { words = b.words; judged = b.judged + length piece / 4; fault = b.fault; tail = b.tail }) (bytes ++ piece)
+    → Begins (record { profile = b.profile; words = b.words; judged = b.judged + length piece / 4; fault = b.fault; tail = b.tail }) (bytes ++ piece)
 begins_faulty b bytes piece some whole room h = by_fault b.fault refl some
   where
     l : length (bytes ++ piece) ≡ length bytes + length piece
@@ -51,38 +52,37 @@ begins_faulty b bytes piece some whole room h = by_fault b.fault refl some
     size = words_so_far (bytes ++ piece) (b.judged + length piece / 4) all
 
     by_fault : (found : Option Fault) → b.fault ≡ found → is_some found ≡ true
-        → Begins (record { words = b.words; judged = b.judged + length piece / 4; fault = b.fault; tail = b.tail }) (bytes ++ piece)
+        → Begins (record { profile = b.profile; words = b.words; judged = b.judged + length piece / 4; fault = b.fault; tail = b.tail }) (bytes ++ piece)
     by_fault None e some = cc
     by_fault (Some fault) e some =
-        let same : length (words_of bytes ++ words_of piece) ≡ length (words_of (bytes ++ piece)) = ap length (sym joined) in
         record {
           whole = all;
           room = omega (arith, room, whole);
           most = h.most;
-          first = subst (λ x. FirstFault (words_of (bytes ++ piece)) b.words x) (sym e) (subst (λ ws. FirstFault ws b.words (Some fault)) (sym joined)
-              (fault_grows (words_of bytes) (words_of piece) b.words fault (omega (arith, same, size, room, whole)) (subst (λ x. FirstFault (words_of bytes) b.words x) e h.first)));
+          first = subst (λ x. FirstFault b.profile (words_of (bytes ++ piece)) b.words x) (sym e) (subst (λ ws. FirstFault b.profile ws b.words (Some fault)) (sym joined)
+              (fault_stays b.profile (words_of bytes) (words_of piece) b.words fault (subst (λ x. FirstFault b.profile (words_of bytes) b.words x) e h.first)));
           left = λ none. absurd (none-some fault (sym none ∙ e));
         }
 
 -- a piece after words without a fault
-pub begins_more : (b : Beginning) (bytes piece : List ℕ) (verdict : PageVerdict) (fault : Option Fault) → b.fault ≡ None → length piece % 4 ≡ 0 → 4 * b.judged + length piece ≤ 4 * b.words
-    → Judges (words_of piece) b.judged b.words verdict
-    → ((placed page : List ℕ) → FirstFault placed b.words None → LeavesOpen placed b.tail → Judges page (length placed) b.words verdict → length (words_of piece) ≡ length page → FirstFault (placed ++ page) b.words fault)
-    → ((placed page : List ℕ) → Judges page (length placed) b.words verdict → LeavesOpen (placed ++ page) verdict.tail)
-    → Begins b bytes → Begins (record { words = b.words; judged = b.judged + length piece / 4; fault = fault; tail = verdict.tail }) (bytes ++ piece)
-begins_more b bytes piece verdict fault none whole room judges first left h =
+pub begins_more : (b : Beginning) (bytes piece : List ℕ) (verdict : PageVerdict) (fault : Option Fault) (left_open : Need) → b.fault ≡ None → length piece % 4 ≡ 0 → 4 * b.judged + length piece ≤ 4 * b.words
+    → Judges b.profile (words_of piece) b.judged b.words verdict
+    → ((placed page : List ℕ) → FirstFault b.profile placed b.words None → LeavesOpen b.profile placed b.tail → Judges b.profile page (length placed) b.words verdict → length (words_of piece) ≡ length page → FirstFault b.profile (placed ++ page) b.words fault)
+    → ((placed page : List ℕ) → LeavesOpen b.profile placed b.tail → Judges b.profile page (length placed) b.words verdict → LeavesOpen b.profile (placed ++ page) left_open)
+    → Begins b bytes → Begins (record { profile = b.profile; words = b.words; judged = b.judged + length piece / 4; fault = fault; tail = left_open }) (bytes ++ piece)
+begins_more b bytes piece verdict fault left_open none whole room judges first left h =
     let l : length (bytes ++ piece) ≡ length bytes + length piece = length-append bytes piece in
     let old : length bytes ≡ 4 * b.judged = h.whole in
     let joined : words_of (bytes ++ piece) ≡ words_of bytes ++ words_of piece = words_append bytes piece b.judged old in
     let size : length (words_of bytes) ≡ b.judged = words_so_far bytes b.judged old in
-    let here : Judges (words_of piece) (length (words_of bytes)) b.words verdict = subst (λ k. Judges (words_of piece) k b.words verdict) (sym size) judges in
+    let here : Judges b.profile (words_of piece) (length (words_of bytes)) b.words verdict = subst (λ k. Judges b.profile (words_of piece) k b.words verdict) (sym size) judges in
     record {
       whole = omega arith;
       room = omega arith;
       most = h.most;
-      first = subst (λ ws. FirstFault ws b.words fault) (sym joined)
-          (first (words_of bytes) (words_of piece) (subst (λ x. FirstFault (words_of bytes) b.words x) none h.first) (h.left none) here refl);
-      left = λ _. subst (λ ws. LeavesOpen ws verdict.tail) (sym joined) (left (words_of bytes) (words_of piece) here);
+      first = subst (λ ws. FirstFault b.profile ws b.words fault) (sym joined)
+          (first (words_of bytes) (words_of piece) (subst (λ x. FirstFault b.profile (words_of bytes) b.words x) none h.first) (h.left none) here refl);
+      left = λ _. subst (λ ws. LeavesOpen b.profile ws left_open) (sym joined) (left (words_of bytes) (words_of piece) (h.left none) here);
     }
 
 pub nothing : (found : Option Fault) → is_some found ≡ false → found ≡ None
@@ -98,14 +98,14 @@ is_code bytes all h judged some =
     let most = h.most in
     (omega (arith, old, judged, some), omega (arith, old), omega (arith, old, judged, most))
 
-first_of_all : (bytes : List ℕ) (all : Beginning) → Begins all bytes → all.judged ≡ all.words → FirstFault (words_of bytes) (length (words_of bytes)) all.fault
-first_of_all bytes all h judged = subst (λ n. FirstFault (words_of bytes) n all.fault) (sym judged ∙ sym (size_of bytes all h)) h.first
+first_of_all : (bytes : List ℕ) (all : Beginning) → Begins all bytes → all.judged ≡ all.words → FirstFault all.profile (words_of bytes) (length (words_of bytes)) all.fault
+first_of_all bytes all h judged = subst (λ n. FirstFault all.profile (words_of bytes) n all.fault) (sym judged ∙ sym (size_of bytes all h)) h.first
 
 -- What a whole module that was judged says of its bytes, by its first fault.
-pub checks_lawful : (bytes : List ℕ) (all : Beginning) → Begins all bytes → all.judged ≡ all.words → 1 ≤ all.words → all.fault ≡ None → Checks bytes (Lawful all.words)
+pub checks_lawful : (bytes : List ℕ) (all : Beginning) → Begins all bytes → all.judged ≡ all.words → 1 ≤ all.words → all.fault ≡ None → Checks all.profile bytes (Lawful all.words)
 checks_lawful bytes all h judged some e =
-    (is_code bytes all h judged some, sym (size_of bytes all h ∙ judged), subst (λ x. FirstFault (words_of bytes) (length (words_of bytes)) x) e (first_of_all bytes all h judged))
+    (is_code bytes all h judged some, sym (size_of bytes all h ∙ judged), subst (λ x. FirstFault all.profile (words_of bytes) (length (words_of bytes)) x) e (first_of_all bytes all h judged))
 
-pub checks_refused : (bytes : List ℕ) (all : Beginning) (fault : Fault) → Begins all bytes → all.judged ≡ all.words → 1 ≤ all.words → all.fault ≡ Some fault → Checks bytes (Refused fault)
+pub checks_refused : (bytes : List ℕ) (all : Beginning) (fault : Fault) → Begins all bytes → all.judged ≡ all.words → 1 ≤ all.words → all.fault ≡ Some fault → Checks all.profile bytes (Refused fault)
 checks_refused bytes all fault h judged some e =
-    (is_code bytes all h judged some, subst (λ x. FirstFault (words_of bytes) (length (words_of bytes)) x) e (first_of_all bytes all h judged))
+    (is_code bytes all h judged some, subst (λ x. FirstFault all.profile (words_of bytes) (length (words_of bytes)) x) e (first_of_all bytes all h judged))

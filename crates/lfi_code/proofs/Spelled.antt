@@ -2,12 +2,13 @@
 use Rattle.std.proofs.Common.{◌≡◌, ℕ, ◌≤◌, List, length, None, arith}
 use Rattle.a64_word.specs.Words.{words_of}
 use Rattle.a64_word.proofs.WordLaws.{words_count}
+use Rattle.lfi_module.specs.declared.profile.Profile.{Profile}
 use Rattle.lfi_module.specs.Numbers.{most_words}
 use Rattle.lfi_rules.specs.Faults.{FirstFault}
 use Rattle.lfi_code.specs.Checking.{IsCode}
 
-pub lawful : (xs ys : List ℕ) → xs ≡ ys → FirstFault (words_of xs) (length (words_of xs)) None → FirstFault (words_of ys) (length (words_of ys)) None
-lawful xs ys e found = rw (← e) found
+pub lawful : (profile : Profile) (xs ys : List ℕ) → xs ≡ ys → FirstFault profile (words_of xs) (length (words_of xs)) None → FirstFault profile (words_of ys) (length (words_of ys)) None
+lawful profile xs ys e found = rw (← e) found
 
 -- code has no more words than a module, and one at least
 pub few : (bytes : List ℕ) → IsCode bytes → length (words_of bytes) ≤ most_words

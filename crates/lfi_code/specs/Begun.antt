@@ -11,5 +11,5 @@ pub record Begins (beginning : Beginning) (bytes : List ℕ) : Type 0 where
   pub whole : length bytes ≡ 4 * beginning.judged
   pub room : beginning.judged ≤ beginning.words
   pub most : beginning.words ≤ most_words
-  pub first : FirstFault (words_of bytes) beginning.words beginning.fault
-  pub left : beginning.fault ≡ None → LeavesOpen (words_of bytes) beginning.tail
+  pub first : FirstFault beginning.profile (words_of bytes) beginning.words beginning.fault
+  pub left : beginning.fault ≡ None → LeavesOpen beginning.profile (words_of bytes) beginning.tail

@@ -7,18 +7,21 @@ ghost use Rattle.lfi_code.specs.Checking.{Checks};
 use crate::code::Code;
 use crate::verdict::Verdict;
 use a64_word::WORD_BYTES;
-use lfi_rules::{Fault, Need, fault_after, judge};
+use lfi_module::Profile;
+use lfi_rules::{Fault, Need, fault_after, judge, leave};
 
 /// A module of which a beginning has been judged. It keeps no byte of it.
 #[derive(Clone, Copy)]
 pub struct Beginning {
+    /// By which profile it is judged.
+    pub profile: Profile,
     /// How many words the whole module has: 1 to 4,194,304.
     pub words: u32,
     /// How many of them have been judged.
     pub judged: u32,
     /// The first fault so far.
     pub fault: Option<Fault>,
-    /// What the last word judged leaves open, where there is no fault.
+    /// What the words judged leave open, where there is no fault.
     pub tail: Need,
 }
 
@@ -26,13 +29,15 @@ ghost use Rattle.lfi_code.specs.Begun.{Begins};
 
 impl Beginning {
     /// That of a module of so many words, none of which has been judged.
-    pub fn none(words: u32) -> Beginning
+    pub fn none(words: u32, profile: Profile) -> Beginning
         requires some { 1 ≤ words }
         requires most { words ≤ most_words }
         ensures begins { Begins result [] }
         ensures words { result.words ≡ words }
+        ensures profile { result.profile ≡ profile }
     {
         Beginning {
+            profile,
             words,
             judged: 0,
             fault: None,
@@ -49,6 +54,7 @@ impl Beginning {
         ensures begins { (bytes : List ℕ) → Begins self bytes → Begins result (bytes ++ piece.now) }
         ensures judged { 4 * result.judged ≡ 4 * self.judged + length piece.now }
         ensures words { result.words ≡ self.words }
+        ensures profile { result.profile ≡ self.profile }
     {
         let judged = self.judged + (piece.len() / WORD_BYTES) as u32;
         if self.fault.is_some() {
@@ -57,20 +63,22 @@ impl Beginning {
         let Some(code) = Code::new(piece) else {
             unreachable!();
         };
-        let verdict = judge(&code, self.judged, self.words);
+        let verdict = judge(&code, self.judged, self.words, self.profile);
         Beginning {
+            profile: self.profile,
             words: self.words,
             judged,
             fault: fault_after(self.words, self.tail, &verdict, code.len_words()),
-            tail: verdict.tail,
+            tail: leave(self.tail, &verdict),
         }
     }
 
-    /// The verdict on a module of which all words have been judged: that of `judge_code` on all its bytes.
+    /// The verdict on a module of which all words have been judged: that of `judge_code` on all its
+    /// bytes.
     pub fn verdict(self) -> Verdict
         requires some { 1 ≤ self.words }
         requires all { self.judged ≡ self.words }
-        ensures { (bytes : List ℕ) → Begins self bytes → Checks bytes result }
+        ensures { (bytes : List ℕ) → Begins self bytes → Checks self.profile bytes result }
     {
         match self.fault {
             Some(fault) => Verdict::Refused(fault),

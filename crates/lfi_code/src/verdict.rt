@@ -4,6 +4,7 @@ ghost use Rattle.std.specs.Prelude.{Some};
 ghost use Rattle.lfi_code.specs.Checking.{Checks, verdict_text};
 
 use crate::code::Code;
+use lfi_module::Profile;
 use lfi_rules::{Fault, check_all};
 use std::fmt;
 
@@ -30,15 +31,15 @@ impl fmt::Display for Verdict {
     }
 }
 
-/// Judges code by all rules.
-pub fn judge_code(bytes: &[u8]) -> Verdict
-    ensures { Checks bytes.now result }
+/// Judges code by all rules of a profile.
+pub fn judge_code(bytes: &[u8], profile: Profile) -> Verdict
+    ensures { Checks profile bytes.now result }
 {
     let Some(code) = Code::new(bytes) else {
         return Verdict::BadLength;
     };
     let words = code.len_words() as u32;
-    match check_all(&code) {
+    match check_all(&code, profile) {
         Some(fault) => Verdict::Refused(fault),
         None => Verdict::Lawful { words },
     }

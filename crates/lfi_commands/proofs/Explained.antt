@@ -1,5 +1,6 @@
 -- What is said of bytes that are known, carried to what is left of a file.
 use Rattle.std.proofs.Common.{◌≡◌, ℕ, List, Option, Some, None, IfSome, ap, refl, subst, sym}
+use Rattle.lfi_module.specs.declared.profile.Profile.TheVariants.{One}
 use Rattle.lfi_rules.specs.declared.fault.Fault.{Fault}
 use Rattle.lfi_command_line.specs.declared.line.Explain.{Explain}
 use Rattle.lfi_command_line.specs.declared.line.Explain.TheVariants.{Nothing, First, All}
@@ -42,7 +43,7 @@ listing_known more known old new WrongWords same finds = finds
 listing_known more known old new Failed same finds = finds
 
 -- what is written of a fault is what is written of the verdict
-pub refused_now : (how : Explain) (code : List ℕ) (fault : Fault) (old new : Option (List ℕ)) → Checks code (Refused fault) → WritesFault how code fault old new
+pub refused_now : (how : Explain) (code : List ℕ) (fault : Fault) (old new : Option (List ℕ)) → Checks One code (Refused fault) → WritesFault how code fault old new
     → WritesVerdict how (Some code) (Refused fault) old new
 refused_now Nothing code fault old new checks writes = writes
 refused_now First code fault old new checks writes = (code, refl, checks, writes)

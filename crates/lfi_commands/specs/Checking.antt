@@ -1,6 +1,7 @@
 -- What `lfiload check` does. Source: this project's profile, docs/COMMANDS.md.
 use Rattle.std.specs.Prelude.{◌≡◌, ℕ, List, ◌++◌, codes, Option, IfSome}
 use Rattle.std.specs.Io.KnownBytes.{Appends}
+use Rattle.lfi_module.specs.declared.profile.Profile.TheVariants.{One}
 use Rattle.lfi_code.specs.declared.verdict.Verdict.{Verdict}
 use Rattle.lfi_code.specs.declared.verdict.Verdict.TheVariants.{Lawful, Refused, BadLength}
 use Rattle.lfi_code.specs.Checking.{Checks, verdict_text}
@@ -18,7 +19,7 @@ ending_of BadLength = NotWell
 -- one verdict, wrote its line, and nothing else, and ended by it.
 pub record HasChecked (bytes : Option (List ℕ)) (old new : Left) (ending : Ending) : Type 0 where
   pub verdict : Verdict
-  pub checks : IfSome bytes (λ xs. Checks xs verdict)
+  pub checks : IfSome bytes (λ xs. Checks One xs verdict)
   pub written : Appends old.out new.out (verdict_text verdict ++ codes "\n")
   pub put : new.put ≡ old.put
   pub told : TellsNothing old new

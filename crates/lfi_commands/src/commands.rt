@@ -1,6 +1,7 @@
 //! The commands, over any reader and writer.
 
 ghost use Rattle.std.specs.Prelude.{◌≡◌, ℕ, List, Some, true, false, ◌≤◌, ◌++◌, IfOk, IfErr, IfSome, OnOk, codes, length, slice_get};
+ghost use Rattle.lfi_module.specs.declared.profile.Profile.TheVariants.{One};
 ghost use Rattle.lfi_module.specs.Numbers.{most_words};
 ghost use Rattle.std.specs.Io.KnownBytes.{Appends};
 ghost use Rattle.std.specs.IoError.{error_kind};
@@ -17,6 +18,7 @@ use crate::device_cause::DeviceCause;
 use crate::pieces::judge_pieces;
 use a64_word::WORD_BYTES;
 use lfi_code::{MOST_BYTES, Verdict, judge_code};
+use lfi_module::Profile;
 use lfi_place::OpenGate;
 use lfi_receive::Input;
 use lfi_stage::settle::Report;
@@ -101,12 +103,12 @@ pub fn check<R: Read + Drop, W: Write>(
     reader: R,
     writer: &mut W,
 ) -> Result<Verdict, CommandFault>
-    ensures verdict { IfOk result (λ verdict. IfSome (R.remaining reader) (λ bytes. Checks bytes verdict)) }
+    ensures verdict { IfOk result (λ verdict. IfSome (R.remaining reader) (λ bytes. Checks One bytes verdict)) }
     ensures written { IfOk result (λ verdict. Appends (W.contents writer.old) (W.contents writer.new) (verdict_text verdict ++ codes "\n")) }
     ensures unwritten { IfErr result (λ fault. is_of_a_write fault ≡ false → writer.new ≡ writer.old) }
 {
     let bytes = read_all(alloc, reader.take(MOST_BYTES as u64 + 1))?;
-    write_verdict(judge_code(&bytes), writer)
+    write_verdict(judge_code(&bytes, Profile::One), writer)
 }
 
 /// Writes the line of a verdict.
@@ -147,7 +149,7 @@ pub fn check_file<R: Read + Drop, W: Write>(
     length: Option<u64>,
     writer: &mut W,
 ) -> Result<Verdict, CommandFault>
-    ensures verdict { IfOk result (λ verdict. IfSome (R.remaining reader) (λ bytes. Checks bytes verdict)) }
+    ensures verdict { IfOk result (λ verdict. IfSome (R.remaining reader) (λ bytes. Checks One bytes verdict)) }
     ensures written { IfOk result (λ verdict. Appends (W.contents writer.old) (W.contents writer.new) (verdict_text verdict ++ codes "\n")) }
     ensures unwritten { IfErr result (λ fault. is_of_a_write fault ≡ false → writer.new ≡ writer.old) }
 {

@@ -3,6 +3,7 @@
 ghost use Rattle.std.specs.Prelude.{◌≡◌, ◌≤◌, Some, false, true, codes, length, IfOk, IfErr, IfSome, OnOk};
 ghost use Rattle.std.specs.Io.KnownBytes.{Appends};
 ghost use Rattle.a64_word.specs.Words.{words_of};
+ghost use Rattle.lfi_module.specs.declared.profile.Profile.TheVariants.{One};
 ghost use Rattle.lfi_module.specs.Numbers.{most_words};
 ghost use Rattle.lfi_rules.specs.Faults.{FirstFault};
 ghost use Rattle.lfi_code.specs.Checking.{Checks, IsCode};
@@ -17,7 +18,7 @@ use crate::whole::read_code;
 use lfi_code::{Code, Verdict, judge_code};
 use lfi_command_line::Explain;
 use lfi_explain::{explain, write_listing, write_refusals};
-use lfi_module::ModuleNumber;
+use lfi_module::{ModuleNumber, Profile};
 use lfi_rules::Fault;
 use std::alloc::Global;
 use std::io::{self, Read, Write};
@@ -37,18 +38,18 @@ fn write_fault<W: Write>(
     how: Explain,
     writer: &mut W,
 ) -> io::Result<()>
-    requires fault { FirstFault (words_of code.now) (length (words_of code.now)) (Some fault) }
+    requires fault { FirstFault One (words_of code.now) (length (words_of code.now)) (Some fault) }
     requires most { length (words_of code.now) ≤ most_words }
     ensures { OnOk result (WritesFault how code.now fault (W.contents writer.old) (W.contents writer.new)) }
 {
     match how {
         Explain::Nothing => writeln!(writer, "{fault}"),
         Explain::First => {
-            let explanation = explain(code, slot(), fault);
+            let explanation = explain(code, slot(), fault, Profile::One);
             writeln!(writer, "{explanation}")
         }
         Explain::All => {
-            write_refusals(alloc, code, slot(), writer)?;
+            write_refusals(alloc, code, slot(), Profile::One, writer)?;
             Ok(())
         }
     }
@@ -62,11 +63,11 @@ fn write_judged<W: Write>(
     writer: &mut W,
 ) -> Result<Verdict, CommandFault>
     requires { IsCode bytes.now }
-    ensures verdict { IfOk result (Checks bytes.now) }
+    ensures verdict { IfOk result (Checks One bytes.now) }
     ensures written { IfOk result (λ verdict. WritesVerdict how (Some bytes.now) verdict (W.contents writer.old) (W.contents writer.new)) }
     ensures fault { IfErr result (λ fault. is_of_a_write fault ≡ true) }
 {
-    let verdict = judge_code(bytes);
+    let verdict = judge_code(bytes, Profile::One);
     let Verdict::Refused(fault) = verdict else {
         return write_verdict(verdict, writer);
     };
@@ -88,7 +89,7 @@ pub fn check_explained<R: Read + Drop, W: Write>(
     how: Explain,
     writer: &mut W,
 ) -> Result<Verdict, CommandFault>
-    ensures verdict { IfOk result (λ verdict. IfSome (R.remaining reader) (λ bytes. Checks bytes verdict)) }
+    ensures verdict { IfOk result (λ verdict. IfSome (R.remaining reader) (λ bytes. Checks One bytes verdict)) }
     ensures written { IfOk result (λ verdict. WritesVerdict how (R.remaining reader) verdict (W.contents writer.old) (W.contents writer.new)) }
     ensures unwritten { IfErr result (λ fault. is_of_a_write fault ≡ false → writer.new ≡ writer.old) }
 {
@@ -108,7 +109,7 @@ fn write_words<W: Write>(
     ensures listed { IfOk result (FindsListing (Some bytes.now) (W.contents writer.old) (W.contents writer.new)) }
     ensures fault { IfErr result (λ fault. is_of_a_write fault ≡ true) }
 {
-    match write_listing(alloc, &Code::of(bytes), slot(), writer) {
+    match write_listing(alloc, &Code::of(bytes), slot(), Profile::One, writer) {
         Ok(()) => Ok(Ending::Well),
         Err(error) => Err(CommandFault::NotWritten(DeviceCause::of(&error))),
     }

@@ -12,7 +12,7 @@ use crate::failure::Failure;
 use crate::opening::{open, path_at};
 use crate::whole::read_code;
 use lfi_code::Code;
-use lfi_module::{Extent, ModuleNumber, WordCount};
+use lfi_module::{Extent, ModuleNumber, Profile, WordCount};
 use lfi_pack::{PackFault, pack_module};
 use std::alloc::Global;
 use std::fmt;
@@ -117,7 +117,7 @@ fn write_module<W: Write>(
     ensures { OnOk result (WritesModule number entry code.now (W.contents writer.old) (W.contents writer.new)) }
 {
     let words = Code::of(code).len_words() as u32;
-    let extent = Extent::of(WordCount::of(words), entry);
+    let extent = Extent::of(WordCount::of(words), entry, Profile::One);
     let mut reader = code;
     match pack_module(ModuleNumber::at(number), extent, &mut reader, writer) {
         Ok(()) => Ok(()),

@@ -2,6 +2,7 @@
 
 ghost use Rattle.std.specs.Prelude.{◌≡◌, ◌+◌, ◌*◌, ◌%◌, ◌<◌, ◌≤◌, ℕ, List, ◌++◌, length, IfOk, IfErr, IfSome, OnOk, IsTrue, false};
 ghost use Rattle.std.specs.Io.KnownBytes.{Consumes, IsAtEnd};
+ghost use Rattle.lfi_module.specs.declared.profile.Profile.TheVariants.{One};
 ghost use Rattle.lfi_module.specs.Numbers.{most_words};
 ghost use Rattle.lfi_code.specs.Begun.{Begins};
 ghost use Rattle.lfi_code.specs.Checking.{Checks};
@@ -12,6 +13,7 @@ use crate::commands::CommandFault;
 use crate::device_cause::DeviceCause;
 use a64_word::WORD_BYTES;
 use lfi_code::{Beginning, Verdict};
+use lfi_module::Profile;
 use std::alloc::{AllocError, Global};
 use std::io::Read;
 
@@ -43,6 +45,7 @@ fn next_piece<R: Read>(
     ensures begins { IfOk result (λ next. (bytes : List ℕ) → Begins beginning bytes → Begins next (bytes ++ piece.new)) }
     ensures judged { IfOk result (λ next. 4 * next.judged ≡ 4 * beginning.judged + length piece.old) }
     ensures words { IfOk result (λ next. next.words ≡ beginning.words) }
+    ensures profile { IfOk result (λ next. next.profile ≡ beginning.profile) }
     ensures fault { IfErr result (λ fault. is_of_a_write fault ≡ false) }
 {
     match reader.read_exact(piece) {
@@ -64,7 +67,7 @@ fn judge_words<R: Read>(
     ensures begins { IfOk result (λ all. IsWholeModule (R.remaining reader.old) (R.remaining reader.new) all words) }
     ensures fault { IfErr result (λ fault. is_of_a_write fault ≡ false) }
 {
-    let mut beginning = Beginning::none(words);
+    let mut beginning = Beginning::none(words, Profile::One);
     while beginning.judged < words {
         let left = (words - beginning.judged) as usize * WORD_BYTES;
         let count = left.min(buffer.len());
@@ -97,7 +100,7 @@ pub fn judge_pieces<R: Read + Drop>(
 ) -> Result<Verdict, CommandFault>
     requires some { 1 ≤ words }
     requires most { words ≤ most_words }
-    ensures verdict { IfOk result (λ verdict. IfSome (R.remaining reader) (λ bytes. Checks bytes verdict)) }
+    ensures verdict { IfOk result (λ verdict. IfSome (R.remaining reader) (λ bytes. Checks One bytes verdict)) }
     ensures fault { IfErr result (λ fault. is_of_a_write fault ≡ false) }
 {
     let mut buffer = buffer(alloc, PIECE_BYTES)?;

@@ -1,6 +1,7 @@
 //! The program, from its words to its ending.
 
 ghost use Rattle.std.specs.Prelude.{◌≡◌, ◌≤◌, ℕ, List, [], ◌∷◌, Option, IfOk, IfErr, IfSome, OnErr, ◌+◌, false, length, map, option_map, string_bytes};
+ghost use Rattle.lfi_module.specs.declared.profile.Profile.TheVariants.{One};
 ghost use Rattle.lfi_command_line.specs.CommandLine.{IsLineFault};
 ghost use Rattle.lfi_commands.specs.Errors.{is_lost_of, writer_of};
 ghost use Rattle.lfi_code.specs.Checking.{Checks};
@@ -51,7 +52,7 @@ fn judge_file<D: Disk, O: Write>(
     how: Explain,
     out: &mut O,
 ) -> Result<Verdict, CommandFault>
-    ensures verdict { IfOk result (λ verdict. IfSome (D.Reader.remaining reader) (λ bytes. Checks bytes verdict)) }
+    ensures verdict { IfOk result (λ verdict. IfSome (D.Reader.remaining reader) (λ bytes. Checks One bytes verdict)) }
     ensures written { IfOk result (λ verdict. WritesVerdict how (D.Reader.remaining reader) verdict (O.contents out.old) (O.contents out.new)) }
     ensures unwritten { IfErr result (λ fault. is_of_a_write fault ≡ false → out.new ≡ out.old) }
 {

@@ -26,6 +26,7 @@ fn refusal_of(report: &ModuleReport) -> Option<Explanation>
         fault,
         refused.word,
         refused.before,
+        builder.profile(),
     ))
 }
 

@@ -34,7 +34,7 @@ use Rattle.lfi_rules.specs.declared.needs.Need.{Need}
 use Rattle.lfi_rules.specs.declared.needs.Need.TheVariants.{Nothing, Call, Guard, Probe}
 use Rattle.lfi_rules.specs.Registers.{holds_address}
 use Rattle.lfi_rules.specs.Guard.{is_guard, sets_stack, is_guard_sum, sets_stack_sum, guards_link_sum}
-use Rattle.lfi_rules.specs.Needs.{is_load_64, loads_link, loads_entry, calls_link, is_offset, is_zero, moves_stack, opens_of, meets_of}
+use Rattle.lfi_rules.specs.Needs.{is_load_64, loads_link, loads_entry, calls_link, is_offset, is_zero, moves_stack, window, opens_of, meets_of}
 use Rattle.lfi_rules.specs.Rules.{links, is_indexed, is_confined, is_inside, is_ret}
 use Rattle.lfi_rules.proofs.Lawful.{next_meets}
 use Rattle.lfi_confinement.specs.Slots.{base, InSlot, word_address, entry_address, entry_at, memory_of}
@@ -85,7 +85,7 @@ record Rules (c : Image) (r : Registers) (i : Instruction) : Type 0 where
   keep : IsKept i k (length c.words)
   -- the next word lies in the slot, and meets what this one opens
   within : InSlot (base c) (following r)
-  met : (j : Instruction) → Fetches c (following r) j → IsFollowed i j
+  met : (j : Instruction) → Fetches c (following r) j → IsFollowed c.profile i j
 
 rules_at : (c : Image) (r : Registers) (i : Instruction) → IsImage c → Stands c r.pc i → Rules c r i
 rules_at c r i l st =
@@ -97,7 +97,7 @@ rules_at c r i l st =
       met = λ j f.
           let n = stands c (following r) j f in
           let e : n.k ≡ st.k + 1 = omega (arith, st.at, st.within, b.low, b.high, b.words, n.at, n.within) in
-          followed_by i j (next_meets c.words (length c.words) st.k st.word n.word i j l.lawful.faultless st.is (subst (λ k. slice_get c.words k ≡ Some n.word) e n.is) st.spelled n.spelled);
+          followed_by c.profile i j (next_meets c.profile c.words (length c.words) st.k st.word n.word i j l.lawful.faultless st.is (subst (λ k. slice_get c.words k ≡ Some n.word) e n.is) st.spelled n.spelled);
     }
 
 -- ---- results that go to no reserved register
@@ -223,13 +223,13 @@ access_carried : (c : Image) (i : Instruction) (s : State) (a : Address) (offset
     → (loads_entry i ≡ true → HeldFor (base c) Call (left c i s)) → SafeMove c (carried_out c i s offset)
 access_carried c i s a offset l h r x e short at within entry = elim (both (loads_entry i)) [
   | inl t ↦ (
-      let opens : opens_of i ≡ Call = cond-true (loads_entry i) Call (cond (loads_link i) Guard (cond (moves_stack i) Probe Nothing)) t in
+      let opens : opens_of c.profile i ≡ Call = cond-true (loads_entry i) Call (cond (loads_link i) Guard (cond (moves_stack i) (Probe (window c.profile)) Nothing)) t in
       falls c i s offset Call h.flags (entry t) r (x.next s.registers) (λ j f. (let m = r.met j f in m.call opens)))
   | inr t ↦ (elim (both (loads_link i)) [
     | inl d ↦ (
-        let opens : opens_of i ≡ Guard =
-        cond-false (loads_entry i) Call (cond (loads_link i) Guard (cond (moves_stack i) Probe Nothing)) t
-        ∙ cond-true (loads_link i) Guard (cond (moves_stack i) Probe Nothing) d in
+        let opens : opens_of c.profile i ≡ Guard =
+        cond-false (loads_entry i) Call (cond (loads_link i) Guard (cond (moves_stack i) (Probe (window c.profile)) Nothing)) t
+        ∙ cond-true (loads_link i) Guard (cond (moves_stack i) (Probe (window c.profile)) Nothing) d in
         falls c i s offset Guard h.flags (access_left c i s a Guard l h r x e short at within tt (any_link (base c) (writes_of i))) r (x.next s.registers)
         (λ j f. (let m = r.met j f in m.guard opens)))
     | inr d ↦
@@ -323,12 +323,12 @@ from_free : (c : Image) (s : State) (i : Instruction) → IsImage c → Stands c
 from_free c s (instruction.AddSubImmediate i) l st h =
     let r = rules_at c s.registers (instruction.AddSubImmediate i) l st in
     let b = bounds c l in
-    let imm : i.imm12 < 4096 = st.spelled.word_of.in_range.1.1.1.1.1.0 in
+    let imm : i.imm12 < 4096 = st.spelled.spells.word_of.in_range.1.1.1.1.1.0 in
     elim (both (moves_stack (instruction.AddSubImmediate i))) [
-      | inl t ↦ (let m = moves i t in falls c (instruction.AddSubImmediate i) s 0 Probe h.flags
-          (sp_moved (base c) Probe i.set_flags i.rd i.width (immediate_sum i s.registers) s.registers m.flags m.place h h.link
-          (moved_in (base c) i s.registers b.low b.high imm h.stack m))
-          r refl (λ j f. (let m = r.met j f in m.probe (cond-true (moves_stack (instruction.AddSubImmediate i)) Probe Nothing t))))
+      | inl t ↦ (let m = moves i t in falls c (instruction.AddSubImmediate i) s 0 (Probe (window c.profile)) h.flags
+          (sp_moved (base c) (Probe (window c.profile)) i.set_flags i.rd i.width (immediate_sum i s.registers) s.registers m.flags m.place h h.link
+          (moved_in (base c) (window c.profile) i s.registers b.low b.high imm h.stack m))
+          r refl (λ j f. (let m = r.met j f in m.probe (cond-true (moves_stack (instruction.AddSubImmediate i)) (Probe (window c.profile)) Nothing t))))
       | inr t ↦ plain c (instruction.AddSubImmediate i) s h r (record { guard = refl; links = refl; loads = refl; sets = refl; moves = t; indexed = refl }) r.within
     ]
 from_free c s (instruction.LogicalImmediate i) l st h =
@@ -415,19 +415,23 @@ from_free c s (instruction.Breakpoint i) l st h = tt
 from_free c s (instruction.UnsignedOffset i) l st h =
     let r = rules_at c s.registers (instruction.UnsignedOffset i) l st in
     from_access c s (instruction.UnsignedOffset i) _ l h r (record { guard = refl; links = refl; moves = refl; next = λ r. refl }) refl
-    (short (instruction.UnsignedOffset i) st.word st.spelled) (r.keep.access) (λ e. entry_held c s i l h e)
+    (short (instruction.UnsignedOffset i) st.word st.spelled.spells) (r.keep.access) (λ e. entry_held c s i l h e)
 from_free c s (instruction.SignedOffset i) l st h =
     let r = rules_at c s.registers (instruction.SignedOffset i) l st in
     from_access c s (instruction.SignedOffset i) _ l h r (record { guard = refl; links = refl; moves = refl; next = λ r. refl }) refl
-    (short (instruction.SignedOffset i) st.word st.spelled) (r.keep.access) (λ e. cc)
+    (short (instruction.SignedOffset i) st.word st.spelled.spells) (r.keep.access) (λ e. cc)
 from_free c s (instruction.RegisterOffset i) l st h =
     let r = rules_at c s.registers (instruction.RegisterOffset i) l st in
     from_access c s (instruction.RegisterOffset i) _ l h r (record { guard = refl; links = refl; moves = refl; next = λ r. refl }) refl
-    (short (instruction.RegisterOffset i) st.word st.spelled) (r.keep.access) (λ e. cc)
+    (short (instruction.RegisterOffset i) st.word st.spelled.spells) (r.keep.access) (λ e. cc)
+from_free c s (instruction.Ordered i) l st h =
+    let r = rules_at c s.registers (instruction.Ordered i) l st in
+    from_access c s (instruction.Ordered i) _ l h r (record { guard = refl; links = refl; moves = refl; next = λ r. refl }) refl
+    (short (instruction.Ordered i) st.word st.spelled.spells) (r.keep.access) (λ e. cc)
 from_free c s (instruction.Pair i) l st h =
     let r = rules_at c s.registers (instruction.Pair i) l st in
     from_access c s (instruction.Pair i) _ l h r (record { guard = refl; links = refl; moves = refl; next = λ r. refl }) refl
-    (short (instruction.Pair i) st.word st.spelled) (r.keep.access) (λ e. cc)
+    (short (instruction.Pair i) st.word st.spelled.spells) (r.keep.access) (λ e. cc)
 
 -- ---- each instruction that meets a need
 
@@ -460,8 +464,8 @@ from_call c s i h t =
     subst (λ o. SafeMove c (unless_called c (instruction.BranchRegister i) s o)) (sym is) tt
 
 -- a probe is carried out only where sp lies in the slot
-from_sp : (from : ℕ) (r : Registers) → HeldFor from Probe r → InSlot from r.sp → HeldFor from Nothing r
-from_sp from r h i = record {
+from_sp : (from count : ℕ) (r : Registers) → HeldFor from (Probe count) r → InSlot from r.sp → HeldFor from Nothing r
+from_sp from count r h i = record {
   count = h.count;
   base = h.base;
   first_address = h.first_address;
@@ -474,20 +478,20 @@ from_sp from r h i = record {
   flags = h.flags;
 }
 
-from_probe : (c : Image) (s : State) (i : Instruction) (a : Address) → IsImage c → HeldFor (base c) Probe s.registers → Rules c s.registers i → IsAccess i
+from_probe : (c : Image) (s : State) (count : ℕ) (i : Instruction) (a : Address) → IsImage c → HeldFor (base c) (Probe count) s.registers → Rules c s.registers i → IsAccess i
     → address_of i ≡ Some a → IsShort a → is_confined (Some a) ≡ true → first_byte a s.registers ≡ s.registers.sp
     → (HeldFor (base c) Nothing s.registers → loads_entry i ≡ true → HeldFor (base c) Call (left c i s))
     → SafeMove c (accessed c i s (Some (touch_at i s.registers a)))
-from_probe c s i a l h r x e short at is entry =
+from_probe c s count i a l h r x e short at is entry =
     let few = short.few in
     access_tried c s i (touch_at i s.registers a) l short.some
     (record { low = omega (arith, is, h.stack.low); high = omega (arith, is, h.stack.high, few) })
     (λ offset within.
-    let free = from_sp (base c) s.registers h (subst (InSlot (base c)) is within) in
+    let free = from_sp (base c) count s.registers h (subst (InSlot (base c)) is within) in
     access_carried c i s a offset l free r x e short at within (entry free))
 
-zero_offset : (from n : ℕ) (offset : ℤ) (r : Registers) → from < 2 ^ 40 → n ≡ 31 → offset ≡ pos 0 → HeldFor from Probe r → displaced (x_or_sp_at r n) offset ≡ r.sp
-zero_offset from n offset r c e z h = rw (e, z) (omega (arith, h.stack.low, h.stack.high))
+zero_offset : (from count n : ℕ) (offset : ℤ) (r : Registers) → from < 2 ^ 40 → n ≡ 31 → offset ≡ pos 0 → HeldFor from (Probe count) r → displaced (x_or_sp_at r n) offset ≡ r.sp
+zero_offset from count n offset r c e z h = rw (e, z) (omega (arith, h.stack.low, h.stack.high))
 
 zero_scaled : (imm : ℕ) (size : Size) → imm ≡ 0 → imm * 2 ^ size_code size ≡ 0
 zero_scaled imm sizes.Byte e = omega arith
@@ -510,25 +514,25 @@ met_safe : (c : Image) (s : State) (i : Instruction) (need : Need) → IsImage c
 met_safe c s i Nothing l st h t = from_free c s i l st h
 met_safe c s (instruction.BranchRegister i) Call l st h t = from_call c s i h t
 met_safe c s (instruction.AddSubExtended i) Guard l st h t = from_guard c s i l st h t
-met_safe c s (instruction.UnsignedOffset i) Probe l st h t =
+met_safe c s (instruction.UnsignedOffset i) (Probe count) l st h t =
     let r = rules_at c s.registers (instruction.UnsignedOffset i) l st in
     let b = bounds c l in
     let p = and_parts (eqb i.rn 31) (eqb i.imm12 0) t in
     let zero : pos (i.imm12 * 2 ^ size_code i.size) ≡ pos 0 = ap pos (zero_scaled i.imm12 i.size (eqb-true i.imm12 0 p.1)) in
-    from_probe c s (instruction.UnsignedOffset i) _ l h r (record { guard = refl; links = refl; moves = refl; next = λ r. refl }) refl
-    (short (instruction.UnsignedOffset i) st.word st.spelled) (r.keep.access)
-    (zero_offset (base c) i.rn (pos (i.imm12 * 2 ^ size_code i.size)) s.registers b.high (eqb-true i.rn 31 p.0) zero h)
+    from_probe c s count (instruction.UnsignedOffset i) _ l h r (record { guard = refl; links = refl; moves = refl; next = λ r. refl }) refl
+    (short (instruction.UnsignedOffset i) st.word st.spelled.spells) (r.keep.access)
+    (zero_offset (base c) count i.rn (pos (i.imm12 * 2 ^ size_code i.size)) s.registers b.high (eqb-true i.rn 31 p.0) zero h)
     (λ free e. entry_held c s i l free e)
-met_safe c s (instruction.Pair i) Probe l st h t =
+met_safe c s (instruction.Pair i) (Probe count) l st h t =
     let r = rules_at c s.registers (instruction.Pair i) l st in
     let b = bounds c l in
     let p = and_parts (is_offset i.mode && eqb i.rn 31) (is_zero i.imm7) t in
     let q = and_parts (is_offset i.mode) (eqb i.rn 31) p.0 in
     let mode = offset_mode i.mode q.0 in
     let a : Form → Address = λ form. record { base = i.rn; form = form; offset = pair_offset i.width i.imm7; bytes = pair_bytes i.width } in
-    from_probe c s (instruction.Pair i) _ l h r (record { guard = refl; links = refl; moves = refl; next = λ r. refl }) refl
-    (short (instruction.Pair i) st.word st.spelled) (r.keep.access)
-    (ap (λ form. first_byte (a form) s.registers) mode ∙ zero_offset (base c) i.rn (pair_offset i.width i.imm7) s.registers b.high (eqb-true i.rn 31 q.1) (zero_pair i.width i.imm7 p.1) h)
+    from_probe c s count (instruction.Pair i) _ l h r (record { guard = refl; links = refl; moves = refl; next = λ r. refl }) refl
+    (short (instruction.Pair i) st.word st.spelled.spells) (r.keep.access)
+    (ap (λ form. first_byte (a form) s.registers) mode ∙ zero_offset (base c) count i.rn (pair_offset i.width i.imm7) s.registers b.high (eqb-true i.rn 31 q.1) (zero_pair i.width i.imm7 p.1) h)
     (λ free e. cc)
 met_safe c s i need l st h t = cc
 

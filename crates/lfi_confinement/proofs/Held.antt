@@ -91,7 +91,7 @@ pub stack_weaker : (from : ℕ) (need : Need) (sp : ℕ) → IsStackFor from Not
 stack_weaker from Nothing sp h = h
 stack_weaker from Call sp h = record { low = h.low; high = h.high }
 stack_weaker from Guard sp h = record { low = h.low; high = h.high }
-stack_weaker from Probe sp h = record { low = omega (arith, h.low); high = omega (arith, h.high) }
+stack_weaker from (Probe count) sp h = record { low = omega (arith, h.low); high = omega (arith, h.high) }
 
 pub stack_in_slot : (from : ℕ) (need : Need) (sp : ℕ) → InSlot from sp → IsStackFor from need sp
 stack_in_slot from need sp h = stack_weaker from need sp (record { low = omega (arith, h.low); high = omega (arith, h.high) })

@@ -7,7 +7,8 @@ use Rattle.a64_word.specs.declared.operands.Width.TheVariants as widths
 use Rattle.a64_word.specs.declared.operands.Size.TheVariants as sizes
 use Rattle.a64_word.specs.declared.operands.Transfer.TheVariants as transfers
 use Rattle.a64_word.specs.declared.operands.BranchKind.TheVariants as branches
-use Rattle.a64_word.specs.Encoding.{Spells}
+use Rattle.a64_word.specs.Profiles.{SpellsIn}
+use Rattle.lfi_module.specs.declared.profile.Profile.TheVariants.{One}
 use Rattle.a64_effects.specs.declared.access.Form.TheVariants as forms
 use Rattle.a64_effects.specs.declared.access.Address.{Address}
 use Rattle.a64_semantics.specs.declared.registers.Registers.{Registers}
@@ -57,26 +58,26 @@ return = instruction.BranchRegister (record { kind = branches.Ret; rn = 30 })
 abbrev instructions : List Instruction
 instructions = store ∷ load ∷ load_entry ∷ call_entry ∷ call ∷ back ∷ return ∷ []
 
-store_spelled : Spells store 0xF90003E0
-store_spelled = spelled store 0xF90003E0 tt refl refl
+store_spelled : SpellsIn One store 0xF90003E0
+store_spelled = spelled store 0xF90003E0 tt refl refl refl
 
-load_spelled : Spells load 0xF94003E1
-load_spelled = spelled load 0xF94003E1 tt refl refl
+load_spelled : SpellsIn One load 0xF94003E1
+load_spelled = spelled load 0xF94003E1 tt refl refl refl
 
-load_entry_spelled : Spells load_entry 0xF94002BE
-load_entry_spelled = spelled load_entry 0xF94002BE tt refl refl
+load_entry_spelled : SpellsIn One load_entry 0xF94002BE
+load_entry_spelled = spelled load_entry 0xF94002BE tt refl refl refl
 
-call_entry_spelled : Spells call_entry 0xD63F03C0
-call_entry_spelled = spelled call_entry 0xD63F03C0 tt refl refl
+call_entry_spelled : SpellsIn One call_entry 0xD63F03C0
+call_entry_spelled = spelled call_entry 0xD63F03C0 tt refl refl refl
 
-call_spelled : Spells call 0x94000002
-call_spelled = spelled call 0x94000002 (omega arith) refl refl
+call_spelled : SpellsIn One call 0x94000002
+call_spelled = spelled call 0x94000002 (omega arith) refl refl refl
 
-back_spelled : Spells back 0x17FFFFFB
-back_spelled = spelled back 0x17FFFFFB (omega arith) refl refl
+back_spelled : SpellsIn One back 0x17FFFFFB
+back_spelled = spelled back 0x17FFFFFB (omega arith) refl refl refl
 
-return_spelled : Spells return 0xD65F03C0
-return_spelled = spelled return 0xD65F03C0 tt refl refl
+return_spelled : SpellsIn One return 0xD65F03C0
+return_spelled = spelled return 0xD65F03C0 tt refl refl refl
 
 all_spell : AllSpell instructions loop_words
 all_spell = (store_spelled, (load_spelled, (load_entry_spelled, (call_entry_spelled, (call_spelled, (back_spelled, (return_spelled, tt)))))))
@@ -161,7 +162,7 @@ at_sp = record { base = 31; form = forms.Offset; offset = pos 0; bytes = 8 }
 abbrev at_table : Address
 at_table = record { base = 21; form = forms.Offset; offset = pos 0; bytes = 8 }
 
-fetches : (i : Instruction) (word address place : ℕ) → Spells i word → address ≡ place → word_at loop_image place ≡ Some word → Fetches loop_image address i
+fetches : (i : Instruction) (word address place : ℕ) → SpellsIn One i word → address ≡ place → word_at loop_image place ≡ Some word → Fetches loop_image address i
 fetches i word address place s e h = record { word = word; stands = subst (λ a. word_at loop_image a ≡ Some word) (sym e) h; spelled = s }
 
 carried_go : (i : Instruction) (s : State) (offset : ℕ) → is_in_slot from (next_pc i s.registers) ≡ true

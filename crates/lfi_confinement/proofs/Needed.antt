@@ -1,5 +1,6 @@
 -- Lawful code is as the law needs it.
 use Rattle.std.proofs.Common.{◌≡◌, true, length, subst}
+use Rattle.lfi_module.specs.declared.profile.Profile.{Profile}
 use Rattle.a64_word.specs.declared.instruction.Instruction.{Instruction}
 use Rattle.a64_semantics.specs.declared.registers.Registers.{Registers}
 use Rattle.lfi_rules.specs.declared.rule.Rule.{Rule}
@@ -12,7 +13,7 @@ use Rattle.lfi_image.specs.Image.{Image, IsImage}
 
 pub kept_at : (c : Image) (r : Registers) (i : Instruction) → IsImage c → (st : Stands c r.pc i) → IsKept i st.k (length c.words)
 kept_at c r i l st =
-    let each = λ (rule : Rule). keeps_each c.words (length c.words) st.k st.word i rule l.lawful.faultless st.is st.spelled in
+    let each = λ (rule : Rule). keeps_each c.profile c.words (length c.words) st.k st.word i rule l.lawful.faultless st.is st.spelled in
     record {
       access = each rules.AccessConfined;
       base = each rules.BaseKept;
@@ -24,8 +25,8 @@ kept_at c r i l st =
       branch = each rules.BranchBounded;
     }
 
-pub followed_by : (i next : Instruction) → meets_of next (opens_of i) ≡ true → IsFollowed i next
-followed_by i next h = record {
+pub followed_by : (p : Profile) (i next : Instruction) → meets_of next (opens_of p i) ≡ true → IsFollowed p i next
+followed_by p i next h = record {
   call = λ e. subst (λ need. meets_of next need ≡ true) e h;
   guard = λ e. subst (λ need. meets_of next need ≡ true) e h;
   probe = λ e. subst (λ need. meets_of next need ≡ true) e h;

@@ -2,7 +2,7 @@
 use Rattle.std.proofs.Common.{◌≡◌, ℕ, zero, suc, ◌+◌, ◌-◌, ◌*◌, ◌/◌, ◌%◌, ◌^◌, ◌<◌, ◌≤◌, Bool, true, false, cond, ◌&&◌, length, Option, Some, None, ℤ, pos, negsuc, nat_abs, refl, sym, ap, ◌∙◌, inl, inr, arith, ltb-true, ltb-false, leb-true, eqb-true, lt-ltb, le-leb, eq-eqb, ltb, leb, eqb, slice_get}
 use Rattle.std.proofs.lemmas.Bool.{and_parts, and_from, cond_both, cond-true, cases_lt, false≢true, lt-leb, and_right}
 use Rattle.a64_word.specs.declared.instruction.Instruction.{Instruction}
-use Rattle.a64_word.specs.Encoding.{Spells}
+use Rattle.a64_word.specs.Profiles.{SpellsIn}
 use Rattle.sparse_memory.specs.Bytes.{number_at}
 use Rattle.a64_semantics.specs.Accesses.{displaced}
 use Rattle.lfi_confinement.specs.Slots.{base, slot_size, guard_size, code_offset, table_bytes, InSlot, is_in_slot, is_guarded, word_address, word_place, entry_address, entry_count, entry_at, Permission, NoAccess, data_offset, permission_in, permission_at, is_permitted, byte_in, memory_of}
@@ -51,7 +51,7 @@ pub record Stands (c : Image) (address : ℕ) (i : Instruction) : Type 0 where
   pub within : k < length c.words
   pub word : ℕ
   pub is : slice_get c.words k ≡ Some word
-  pub spelled : Spells i word
+  pub spelled : SpellsIn c.profile i word
 
 pub stands : (c : Image) (address : ℕ) (i : Instruction) → Fetches c address i → Stands c address i
 stands c address i f = by_place (word_place (base c) (length c.words) address) refl f.stands

@@ -21,7 +21,7 @@ use Rattle.a64_word.specs.Encoding.{Spells}
 use Rattle.a64_effects.specs.declared.access.Form.{Form}
 use Rattle.a64_effects.specs.declared.access.Form.TheVariants as forms
 use Rattle.a64_effects.specs.declared.access.Address.{Address}
-use Rattle.a64_effects.specs.Effects.{address_of, changes_base, is_store, data_width, pair_bytes, pair_offset}
+use Rattle.a64_effects.specs.Effects.{address_of, changes_base, is_store, ordered_transfer, data_width, pair_bytes, pair_offset}
 use Rattle.a64_semantics.specs.Numbers.{operand}
 use Rattle.a64_semantics.specs.Sums.{sum_of, addend}
 use Rattle.a64_semantics.specs.Shifts.{extended_operand}
@@ -125,10 +125,10 @@ abbrev pub immediate_sum : AddSubImmediate → Registers → ℕ
 immediate_sum i r =
     sum_of i.width (operand i.width (x_or_sp_at r i.rn)) (addend i.width i.subtract (cond i.shifted (i.imm12 * 2 ^ 12) i.imm12)) (bit i.subtract)
 
-moved_by : (from : ℕ) (subtract : Bool) (imm sp : ℕ) → 2 ^ 32 ≤ from → from < 2 ^ 40 → imm < 4096 → IsStackFor from Nothing sp
-    → IsStackFor from Probe (sum_of widths.X sp (addend widths.X subtract imm) (bit subtract) % 2 ^ 64)
-moved_by from false imm sp b c small h = record { low = omega (arith, h.low, h.high); high = omega (arith, h.low, h.high) }
-moved_by from true imm sp b c small h = record { low = omega (arith, h.low, h.high); high = omega (arith, h.low, h.high) }
+moved_by : (from count : ℕ) (subtract : Bool) (imm sp : ℕ) → 2 ^ 32 ≤ from → from < 2 ^ 40 → imm < 4096 → IsStackFor from Nothing sp
+    → IsStackFor from (Probe count) (sum_of widths.X sp (addend widths.X subtract imm) (bit subtract) % 2 ^ 64)
+moved_by from count false imm sp b c small h = record { low = omega (arith, h.low, h.high); high = omega (arith, h.low, h.high) }
+moved_by from count true imm sp b c small h = record { low = omega (arith, h.low, h.high); high = omega (arith, h.low, h.high) }
 
 pub record Moves (i : AddSubImmediate) : Type 0 where
   pub width : i.width ≡ widths.X
@@ -145,9 +145,9 @@ moves i h =
     let d = and_parts (is_x i.width) (not i.set_flags) c.0 in
     record { width = x_width i.width d.0; flags = not_true i.set_flags d.1; shifted = not_true i.shifted c.1; place = eqb-true i.rd 31 b.1; first = eqb-true i.rn 31 a.1 }
 
-pub moved_in : (from : ℕ) (i : AddSubImmediate) (r : Registers) → 2 ^ 32 ≤ from → from < 2 ^ 40 → i.imm12 < 4096 → IsStackFor from Nothing r.sp → Moves i
-    → IsStackFor from Probe (low_bits i.width (immediate_sum i r))
-moved_in from i r b c small h m = rw (m.width, m.shifted, m.first) (moved_by from i.subtract i.imm12 r.sp b c small h)
+pub moved_in : (from count : ℕ) (i : AddSubImmediate) (r : Registers) → 2 ^ 32 ≤ from → from < 2 ^ 40 → i.imm12 < 4096 → IsStackFor from Nothing r.sp → Moves i
+    → IsStackFor from (Probe count) (low_bits i.width (immediate_sum i r))
+moved_in from count i r b c small h m = rw (m.width, m.shifted, m.first) (moved_by from count i.subtract i.imm12 r.sp b c small h)
 
 -- ---- the reach of accesses
 
@@ -194,6 +194,9 @@ short (instruction.SignedOffset i) word s =
     let o = signed_bound i.imm9 s.legal.1 in
     record { some = b.0; few = omega (arith, b.1); offset = omega (arith, o); change = λ _. omega (arith, o) }
 short (instruction.RegisterOffset i) word s =
+    let b = size_bytes i.size in
+    record { some = b.0; few = omega (arith, b.1); offset = omega arith; change = λ e. cc }
+short (instruction.Ordered i) word s =
     let b = size_bytes i.size in
     record { some = b.0; few = omega (arith, b.1); offset = omega arith; change = λ e. cc }
 short (instruction.Pair i) word s =
@@ -296,6 +299,7 @@ single_stack from need size transfer rt memory address ws h =
 
 loaded_stack : (from : ℕ) (need : Need) (i : Instruction) (memory : ℕ → ℕ) (address : ℕ) (ws : List Write) → AllStack from need ws → AllStack from need (with_loaded i memory address ws)
 loaded_stack from need (instruction.UnsignedOffset i) memory address ws h = single_stack from need i.size i.transfer i.rt memory address ws h
+loaded_stack from need (instruction.Ordered i) memory address ws h = single_stack from need i.size (ordered_transfer i.load) i.rt memory address ws h
 loaded_stack from need (instruction.SignedOffset i) memory address ws h = single_stack from need i.size i.transfer i.rt memory address ws h
 loaded_stack from need (instruction.RegisterOffset i) memory address ws h = single_stack from need i.size i.transfer i.rt memory address ws h
 loaded_stack from need (instruction.Pair i) memory address ws h =

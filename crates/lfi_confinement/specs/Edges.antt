@@ -8,11 +8,12 @@ use Rattle.a64_word.specs.declared.operands.Width.TheVariants.{X}
 use Rattle.a64_word.specs.declared.operands.PairMode.TheVariants.{Offset}
 use Rattle.a64_word.specs.declared.operands.BranchKind.{BranchKind}
 use Rattle.lfi_confinement.specs.Moves.{State}
+use Rattle.lfi_module.specs.declared.profile.Profile.TheVariants.{One}
 use Rattle.lfi_image.specs.Image.{Image}
 
 -- an image of one word in slot 0, which begins at 2 ^ 32
 abbrev pub edge_image : Image
-edge_image = record { entry = 0; slot = 0; words = 0xD503201F ∷ [] }
+edge_image = record { profile = One; entry = 0; slot = 0; words = 0xD503201F ∷ [] }
 
 -- x0 holds this, all else but pc is 0
 abbrev pub with_x0 : ℕ → State

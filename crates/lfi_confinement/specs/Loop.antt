@@ -3,6 +3,7 @@ use Rattle.std.specs.Prelude.{◌≡◌, ℕ, ◌+◌, ◌^◌, List, [], ◌∷
 use Rattle.lfi_confinement.specs.Slots.{base, word_address}
 use Rattle.lfi_confinement.specs.Lawful.{Held}
 use Rattle.lfi_confinement.specs.Moves.{State}
+use Rattle.lfi_module.specs.declared.profile.Profile.TheVariants.{One}
 use Rattle.lfi_image.specs.Image.{Image}
 
 abbrev pub loop_words : List ℕ
@@ -24,7 +25,7 @@ loop_words =
 
 -- in the first slot
 abbrev pub loop_image : Image
-loop_image = record { entry = 0; slot = 0; words = loop_words }
+loop_image = record { profile = One; entry = 0; slot = 0; words = loop_words }
 
 -- lawful registers at word 0, with sp in the middle of the slot
 pub record StartsLoop (s : State) : Type 0 where

@@ -1,10 +1,11 @@
 -- Lines written one after another.
-use Rattle.std.proofs.Common.{rules, add-one, ◌≡◌, ℕ, zero, suc, ◌+◌, ◌≤◌, List, [], ◌∷◌, ◌++◌, length, Option, Some, None, refl, sym, ◌∙◌, ap, subst, arith}
-use Rattle.std.specs.Prelude.{flat_map}
+use Rattle.std.proofs.Common.{rules, add-one, ◌≡◌, ℕ, zero, suc, ◌+◌, ◌≤◌, List, [], ◌∷◌, ◌++◌, length, Option, Some, None, Result, Ok, Err, refl, sym, ◌∙◌, ap, subst, arith}
+use Rattle.std.specs.Prelude.{flat_map, OnOk}
 use Rattle.std.specs.Io.KnownBytes.{Appends, Keeps, append_known}
 use Rattle.std.proofs.KnownBytes.{Appends-kept, Appends-trans, Keeps-refl, append_known-grown}
 use Rattle.std.proofs.lemmas.Grind.{flat_map-append}
 use Rattle.std.proofs.lemmas.List.{length-append, append-nil, append_assoc}
+use Rattle.lfi_module.specs.declared.profile.Profile.{Profile}
 use Rattle.lfi_explain.specs.declared.explanation.Explanation.{Explanation}
 use Rattle.lfi_explain.specs.declared.listing.ListedWord.{ListedWord}
 use Rattle.lfi_explain.specs.Explanations.{AreTold, IsToldAt, one_or_none}
@@ -16,24 +17,24 @@ appends_more line a b c before here p q =
     subst (λ bytes. Appends a c bytes) (sym (flat_map-append line before here)) (Appends-trans a b c (flat_map line before) (flat_map line here) p q)
 
 -- what is told of one place more
-pub told_more : (ws : List ℕ) (slot k : ℕ) (before : List Explanation) (here : Option Explanation) → AreTold ws slot k before → IsToldAt ws slot k here
-    → AreTold ws slot (k + 1) (before ++ one_or_none here)
-told_more ws slot k before here told at = rw add-one (before, here, told, at, refl)
+pub told_more : (profile : Profile) (ws : List ℕ) (slot k : ℕ) (before : List Explanation) (here : Option Explanation) → AreTold profile ws slot k before → IsToldAt profile ws slot k here
+    → AreTold profile ws slot (k + 1) (before ++ one_or_none here)
+told_more profile ws slot k before here told at = rw add-one (before, here, told, at, refl)
 
-pub listed_more : (ws : List ℕ) (slot k : ℕ) (before : List ListedWord) (here : ListedWord) → AreListed ws slot k before → IsListed ws slot k here
-    → AreListed ws slot (k + 1) (before ++ here ∷ [])
-listed_more ws slot k before here listed at = rw add-one (before, here, listed, at, refl)
+pub listed_more : (profile : Profile) (ws : List ℕ) (slot k : ℕ) (before : List ListedWord) (here : ListedWord) → AreListed profile ws slot k before → IsListed profile ws slot k here
+    → AreListed profile ws slot (k + 1) (before ++ here ∷ [])
+listed_more profile ws slot k before here listed at = rw add-one (before, here, listed, at, refl)
 
 pub one_at_most : (here : Option Explanation) → length (one_or_none here) ≤ 1
 one_at_most (Some e) = search rules
 one_at_most None = search rules
 
 -- no more is told than there are places
-pub told_count : (ws : List ℕ) (slot k : ℕ) (told : List Explanation) → AreTold ws slot k told → length told ≤ k
-told_count ws slot zero told is = rw is (search rules)
-told_count ws slot (suc k) told is =
+pub told_count : (profile : Profile) (ws : List ℕ) (slot k : ℕ) (told : List Explanation) → AreTold profile ws slot k told → length told ≤ k
+told_count profile ws slot zero told is = rw is (search rules)
+told_count profile ws slot (suc k) told is =
     let here = is.1 in
-    let before_count = told_count ws slot k is.0 is.2 in
+    let before_count = told_count profile ws slot k is.0 is.2 in
     let here_count = one_at_most here in
     let same : length told ≡ length is.0 + length (one_or_none here) = ap length is.4 ∙ length-append is.0 (one_or_none here) in
     omega (arith, before_count, here_count, same)
@@ -66,3 +67,13 @@ text_kept a b kept more bytes text done one =
 
 pub then_three : (ws xs ys zs : List ℕ) → ws ++ (xs ++ ys ++ zs) ≡ ws ++ xs ++ ys ++ zs
 then_three ws xs ys zs = sym (append_assoc ws (xs ++ ys) zs) ∙ ap (λ l. l ++ zs) (sym (append_assoc ws xs ys))
+
+-- the same of a write that may fail
+pub all_written_if : {A E : Type 0} (r : Result A E) (a b c : Option (List ℕ)) (kept left bytes : List ℕ) → Appends a (append_known b kept) bytes
+    → OnOk r (Keeps (append_known b kept) (append_known c left)) → OnOk r (left ≡ []) → OnOk r (Appends a c bytes)
+all_written_if (Ok x) a b c kept left bytes done moved none = all_written a b c kept left bytes done moved none
+all_written_if (Err e) a b c kept left bytes done moved none = tt
+
+pub on_ok : {A E : Type 0} (r : Result A E) (P Q : Type 0) → (P → Q) → OnOk r P → OnOk r Q
+on_ok (Ok x) P Q f p = f p
+on_ok (Err e) P Q f p = tt

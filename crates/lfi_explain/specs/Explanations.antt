@@ -1,6 +1,7 @@
 -- What is told of a fault, and of all words that break a rule.
 use Rattle.std.specs.Prelude.{◌≡◌, ℕ, zero, suc, ◌-◌, Bool, true, false, ◌&&◌, not, if◌then◌else◌, List, [], ◌∷◌, ◌++◌, length, flat_map, slice_get, codes, decimal, Option, Some, None}
 use Rattle.std.specs.Io.KnownBytes.{Appends}
+use Rattle.lfi_module.specs.declared.profile.Profile.{Profile}
 use Rattle.lfi_rules.specs.declared.rule.Rule.{Rule}
 use Rattle.lfi_rules.specs.declared.rule.Rule.TheVariants.{NeedMet}
 use Rattle.lfi_rules.specs.declared.fault.Fault.{Fault}
@@ -45,47 +46,47 @@ word_before ws zero = None
 word_before ws (suc j) = slice_get ws j
 
 -- the word with what spells it, if there is a word
-abbrev pub IsSpellingIf : Option ℕ → Option Spelling → Type 0
-IsSpellingIf None None = Unit {0}
-IsSpellingIf (Some word) (Some spelling) = IsSpelling word spelling
-IsSpellingIf _ _ = ⊥
+abbrev pub IsSpellingIf : Profile → Option ℕ → Option Spelling → Type 0
+IsSpellingIf profile None None = Unit {0}
+IsSpellingIf profile (Some word) (Some spelling) = IsSpelling profile word spelling
+IsSpellingIf profile _ _ = ⊥
 
--- It tells this fault of a module of n words in a slot, which has this word at the fault's place, and this one before it.
-pub record ExplainsWord (slot n : ℕ) (fault : Fault) (word : ℕ) (earlier : Option ℕ) (e : Explanation) : Type 0 where
+-- It tells this fault of a module of n words in a slot, which goes by a profile and has this word at the fault's place, and this one before it.
+pub record ExplainsWord (profile : Profile) (slot n : ℕ) (fault : Fault) (word : ℕ) (earlier : Option ℕ) (e : Explanation) : Type 0 where
   pub same_fault : e.fault ≡ fault
   pub same_slot : e.slot ≡ slot
   pub count : e.words ≡ n
-  pub at : IsSpelling word e.at
-  pub before : IsSpellingIf earlier e.before
+  pub at : IsSpelling profile word e.at
+  pub before : IsSpellingIf profile earlier e.before
 
 -- It tells this fault of the words of a module in a slot.
-pub record Explains (ws : List ℕ) (slot : ℕ) (fault : Fault) (e : Explanation) : Type 0 where
+pub record Explains (profile : Profile) (ws : List ℕ) (slot : ℕ) (fault : Fault) (e : Explanation) : Type 0 where
   pub word : ℕ
   pub here : slice_get ws fault.word ≡ Some word
-  pub tells : ExplainsWord slot (length ws) fault word (word_before ws fault.word) e
+  pub tells : ExplainsWord profile slot (length ws) fault word (word_before ws fault.word) e
 
 -- Of place k the least rule that its word breaks is told; nothing, where it breaks none.
-abbrev pub IsToldAt : List ℕ → (slot k : ℕ) → Option Explanation → Type 0
-IsToldAt ws slot k None = IsLeastAt ws (length ws) k None
-IsToldAt ws slot k (Some e) =
-    (rule : Rule) × IsLeastAt ws (length ws) k (Some rule) × Explains ws slot (record { word = k; rule = rule }) e
+abbrev pub IsToldAt : Profile → List ℕ → (slot k : ℕ) → Option Explanation → Type 0
+IsToldAt profile ws slot k None = IsLeastAt profile ws (length ws) k None
+IsToldAt profile ws slot k (Some e) =
+    (rule : Rule) × IsLeastAt profile ws (length ws) k (Some rule) × Explains profile ws slot (record { word = k; rule = rule }) e
 
 abbrev pub one_or_none : Option Explanation → List Explanation
 one_or_none (Some e) = e ∷ []
 one_or_none None = []
 
 -- what is told of the first `count` places, in order
-abbrev pub AreTold : List ℕ → (slot count : ℕ) → List Explanation → Type 0
-AreTold ws slot zero all = all ≡ []
-AreTold ws slot (suc k) all =
-    (before : List Explanation) × (here : Option Explanation) × AreTold ws slot k before × IsToldAt ws slot k here
+abbrev pub AreTold : Profile → List ℕ → (slot count : ℕ) → List Explanation → Type 0
+AreTold profile ws slot zero all = all ≡ []
+AreTold profile ws slot (suc k) all =
+    (before : List Explanation) × (here : Option Explanation) × AreTold profile ws slot k before × IsToldAt profile ws slot k here
     × (all ≡ before ++ one_or_none here)
 
 abbrev pub explanation_line : Explanation → List ℕ
 explanation_line e = explanation_text e ++ codes "\n"
 
 -- All that is told was written, and then how many words that is.
-abbrev pub WritesRefusals : List ℕ → (slot : ℕ) → (old new : Option (List ℕ)) → (refused : ℕ) → Type 0
-WritesRefusals ws slot old new refused =
-    (told : List Explanation) × AreTold ws slot (length ws) told × (refused ≡ length told)
+abbrev pub WritesRefusals : Profile → List ℕ → (slot : ℕ) → (old new : Option (List ℕ)) → (refused : ℕ) → Type 0
+WritesRefusals profile ws slot old new refused =
+    (told : List Explanation) × AreTold profile ws slot (length ws) told × (refused ≡ length told)
     × Appends old new (flat_map explanation_line told ++ codes "words refused: " ++ decimal refused ++ codes "\n")

@@ -2,6 +2,7 @@
 use Rattle.std.specs.Prelude.{◌≡◌, ℕ, zero, suc, ◌-◌, ℤ, List, [], ◌∷◌, ◌++◌, length, flat_map, replicate, slice_get, codes, decimal, Option, Some, None, if◌then◌else◌}
 use Rattle.std.specs.Fmt.{signed_decimal}
 use Rattle.std.specs.Io.KnownBytes.{Appends}
+use Rattle.lfi_module.specs.declared.profile.Profile.{Profile}
 use Rattle.lfi_rules.specs.declared.needs.Need.{Need}
 use Rattle.lfi_rules.specs.declared.needs.Need.TheVariants.{Nothing}
 use Rattle.lfi_rules.specs.Rules.{is_inside}
@@ -33,22 +34,22 @@ listed_text listed =
     ++ arrow_text listed.words (target_by located.spelling located.place) ++ opened_text (opened_by located.spelling)
 
 -- It is the word at place k of the words of a module in a slot.
-pub record IsListed (ws : List ℕ) (slot k : ℕ) (listed : ListedWord) : Type 0 where
+pub record IsListed (profile : Profile) (ws : List ℕ) (slot k : ℕ) (listed : ListedWord) : Type 0 where
   pub same_slot : listed.located.slot ≡ slot
   pub place : listed.located.place ≡ k
-  pub spelling : (word : ℕ) → slice_get ws k ≡ Some word → IsSpelling word listed.located.spelling
+  pub spelling : (word : ℕ) → slice_get ws k ≡ Some word → IsSpelling profile word listed.located.spelling
   pub count : listed.words ≡ length ws
 
 -- the words at the first `count` places, in order
-abbrev pub AreListed : List ℕ → (slot count : ℕ) → List ListedWord → Type 0
-AreListed ws slot zero all = all ≡ []
-AreListed ws slot (suc k) all =
-    (before : List ListedWord) × (here : ListedWord) × AreListed ws slot k before × IsListed ws slot k here
+abbrev pub AreListed : Profile → List ℕ → (slot count : ℕ) → List ListedWord → Type 0
+AreListed profile ws slot zero all = all ≡ []
+AreListed profile ws slot (suc k) all =
+    (before : List ListedWord) × (here : ListedWord) × AreListed profile ws slot k before × IsListed profile ws slot k here
     × (all ≡ before ++ here ∷ [])
 
 abbrev pub listed_line : ListedWord → List ℕ
 listed_line listed = listed_text listed ++ codes "\n"
 
 -- A line was written for each word.
-abbrev pub WritesListing : List ℕ → (slot : ℕ) → (old new : Option (List ℕ)) → Type 0
-WritesListing ws slot old new = (all : List ListedWord) × AreListed ws slot (length ws) all × Appends old new (flat_map listed_line all)
+abbrev pub WritesListing : Profile → List ℕ → (slot : ℕ) → (old new : Option (List ℕ)) → Type 0
+WritesListing profile ws slot old new = (all : List ListedWord) × AreListed profile ws slot (length ws) all × Appends old new (flat_map listed_line all)

@@ -88,7 +88,7 @@ abbrev pub met_text : Need → List ℕ
 met_text Nothing = codes "nothing is to be mended"
 met_text Call = codes "put blr x30 right after the load, and before the load what stood between them"
 met_text Guard = codes "put add x30, x21, w30, uxtw right after the load"
-met_text Probe = codes "put ldr xzr, [sp] right after the move, or let a pre- or post-indexed access move sp"
+met_text (Probe count) = codes "put ldr xzr, [sp] right after the move, or let a pre- or post-indexed access move sp"
 
 -- what is written instead of the word, or beside it, by the rule that it breaks
 abbrev pub way_text : Rule → Explanation → List ℕ

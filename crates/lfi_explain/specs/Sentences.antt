@@ -1,6 +1,10 @@
 -- What is told of a rule and of a word that breaks it. Source: this project's profile, docs/PROFILE.md.
-use Rattle.std.specs.Prelude.{ℕ, ℤ, List, [], ◌++◌, if◌then◌else◌, codes, decimal, Option, Some, None}
+use Rattle.std.specs.Prelude.{ℕ, ℤ, Bool, true, false, List, [], ◌++◌, if◌then◌else◌, codes, decimal, Option, Some, None}
 use Rattle.std.specs.Fmt.{signed_decimal}
+use Rattle.a64_word.specs.declared.instruction.Instruction.{Instruction}
+use Rattle.a64_word.specs.declared.instruction.Instruction.TheVariants.{Ordered}
+use Rattle.a64_word.specs.declared.operands.Size.{Size}
+use Rattle.a64_word.specs.declared.operands.Size.TheVariants.{Byte, Half}
 use Rattle.a64_word.specs.declared.operands.Width.TheVariants.{X}
 use Rattle.a64_word.specs.Names.{index_extend_name}
 use Rattle.a64_word.specs.Texts.{general, or_sp, index_width}
@@ -20,14 +24,14 @@ abbrev pub meeting_text : Need → List ℕ
 meeting_text Nothing = codes "any word"
 meeting_text Call = codes "blr x30"
 meeting_text Guard = codes "add x30, x21, w30, uxtw"
-meeting_text Probe = codes "a load or store at [sp]"
+meeting_text (Probe count) = codes "a load or store at [sp]"
 
 -- what opens a need
 abbrev pub opening_text : Need → List ℕ
 opening_text Nothing = codes "any other word"
 opening_text Call = codes "a load of a table entry into x30"
 opening_text Guard = codes "any other load of 64 bits into x30"
-opening_text Probe = codes "a move of sp by an immediate"
+opening_text (Probe count) = codes "a move of sp by an immediate"
 
 -- how an access comes from its base to its address, where it isn't by an immediate alone
 abbrev pub form_text : Form → List ℕ
@@ -81,9 +85,23 @@ asks_text rules.TargetInside = codes "a direct branch goes to a word of the modu
 asks_text rules.BranchBounded = codes "br and blr go through x18, x23, x24 or x30, and ret through x30"
 asks_text rules.NeedMet = []
 
+-- the names of ordered loads and stores
+abbrev pub ordered_name : (load : Bool) → Size → List ℕ
+ordered_name true Byte = codes "ldarb"
+ordered_name true Half = codes "ldarh"
+ordered_name true size = codes "ldar"
+ordered_name false Byte = codes "stlrb"
+ordered_name false Half = codes "stlrh"
+ordered_name false size = codes "stlr"
+
+-- what is told of a word that no instruction of the profile spells, by what spells it in the second profile
+abbrev pub unspelled_text : Option Instruction → List ℕ
+unspelled_text (Some (Ordered i)) = codes "; " ++ ordered_name i.load i.size ++ codes " is an instruction of profile 2"
+unspelled_text _ = codes "; none spells this one"
+
 -- what the word does instead
 abbrev pub does_text : Rule → Explanation → List ℕ
-does_text rules.Spelled e = codes "; none spells this one"
+does_text rules.Spelled e = unspelled_text e.at.in_second
 does_text rules.AccessConfined e = through_text (address_by e.at)
 does_text rules.BaseKept e = codes "; this one writes it"
 does_text rules.AddressGuarded e = writes_text (written_address_by e.at)

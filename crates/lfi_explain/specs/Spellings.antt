@@ -3,7 +3,9 @@ use Rattle.std.specs.Prelude.{◌≡◌, ℕ, ℤ, ◌+◌, ◌-◌, ◌*◌, if
 use Rattle.std.specs.Fmt.{digits}
 use Rattle.a64_word.specs.declared.instruction.Instruction.{Instruction}
 use Rattle.a64_word.specs.declared.instruction.Instruction.TheVariants.{BranchRegister}
-use Rattle.a64_word.specs.Encoding.{Spells}
+use Rattle.lfi_module.specs.declared.profile.Profile.{Profile}
+use Rattle.lfi_module.specs.declared.profile.Profile.TheVariants.{Two}
+use Rattle.a64_word.specs.Profiles.{SpellsIn}
 use Rattle.a64_word.specs.Texts.{text}
 use Rattle.a64_effects.specs.declared.access.Address.{Address}
 use Rattle.a64_effects.specs.Effects.{address_of, target_of}
@@ -15,18 +17,21 @@ use Rattle.lfi_rules.specs.Rules.{writes}
 use Rattle.lfi_rules.specs.Registers.{first_address, second_address, third_address}
 use Rattle.lfi_explain.specs.declared.spelling.Spelling.{Spelling}
 
--- The word, with the instruction that it spells, if one does.
-pub record IsSpelling (word : ℕ) (spelling : Spelling) : Type 0 where
+-- The word, with the instruction of a profile that spells it, if one does; and with that of the second profile.
+pub record IsSpelling (profile : Profile) (word : ℕ) (spelling : Spelling) : Type 0 where
   pub same : spelling.word ≡ word
-  pub found : IfSome spelling.instruction (λ i. Spells i word)
-  pub only : (i : Instruction) → Spells i word → spelling.instruction ≡ Some i
+  pub same_profile : spelling.profile ≡ profile
+  pub found : IfSome spelling.instruction (λ i. SpellsIn profile i word)
+  pub only : (i : Instruction) → SpellsIn profile i word → spelling.instruction ≡ Some i
+  pub found_in_second : IfSome spelling.in_second (λ i. SpellsIn Two i word)
+  pub only_in_second : (i : Instruction) → SpellsIn Two i word → spelling.in_second ≡ Some i
 
 -- what it asks of the next word
 abbrev pub opened_by : Spelling → Need
 opened_by spelling = of spelling.instruction
   where
     of : Option Instruction → Need
-    of (Some i) = opens_of i
+    of (Some i) = opens_of spelling.profile i
     of None = Nothing
 
 abbrev pub is_nothing : Need → Bool

@@ -10,7 +10,7 @@ use crate::mending::Mending;
 use crate::sentence::Sentence;
 use crate::spelling::Spelling;
 use a64_word::Words;
-use lfi_module::{ModuleNumber, WordCount};
+use lfi_module::{ModuleNumber, Profile, WordCount};
 use lfi_rules::{Fault, Need, Rule};
 use std::fmt;
 
@@ -111,32 +111,33 @@ impl fmt::Display for Explanation {
 }
 
 /// A word with what spells it, if there is a word.
-fn spelling_of(word: Option<u32>) -> Option<Spelling>
-    ensures { spec.IsSpellingIf word result }
+fn spelling_of(word: Option<u32>, profile: Profile) -> Option<Spelling>
+    ensures { spec.IsSpellingIf profile word result }
 {
     match word {
-        Some(word) => Some(Spelling::of(word)),
+        Some(word) => Some(Spelling::of(word, profile)),
         None => None,
     }
 }
 
-/// What is told of a fault of a module of so many words in a slot: of the word at its place, and of the one before it, if
-/// there is one.
+/// What is told of a fault of a module of so many words in a slot, by a profile: of the word at its place, and of the one
+/// before it, if there is one.
 pub fn explain_word(
     slot: ModuleNumber,
     words: WordCount,
     fault: Fault,
     word: u32,
     before: Option<u32>,
+    profile: Profile,
 ) -> Explanation
-    ensures { spec.ExplainsWord slot words fault word before result }
+    ensures { spec.ExplainsWord profile slot words fault word before result }
 {
     Explanation {
         fault,
         slot,
         words: words.number(),
-        at: Spelling::of(word),
-        before: spelling_of(before),
+        at: Spelling::of(word, profile),
+        before: spelling_of(before, profile),
     }
 }
 
@@ -152,14 +153,26 @@ fn word_before<W: Words>(words: &W, place: usize) -> Option<u32>
     }
 }
 
-/// What is told of a fault of the words of a module in a slot.
-pub fn explain<W: Words>(words: &W, slot: ModuleNumber, fault: Fault) -> Explanation
+/// What is told of a fault of the words of a module in a slot, by a profile.
+pub fn explain<W: Words>(
+    words: &W,
+    slot: ModuleNumber,
+    fault: Fault,
+    profile: Profile,
+) -> Explanation
     requires inside { fault.word < length (W.words words.now) }
     requires most { length (W.words words.now) ≤ most_words }
-    ensures { spec.Explains (W.words words.now) slot fault result }
+    ensures { spec.Explains profile (W.words words.now) slot fault result }
 {
     let place = fault.word as usize;
     let count = WordCount::of(words.count() as u32);
     let word = words.word(place);
-    explain_word(slot, count, fault, word, word_before(words, place))
+    explain_word(
+        slot,
+        count,
+        fault,
+        word,
+        word_before(words, place),
+        profile,
+    )
 }

@@ -11,7 +11,7 @@ use crate::located::Located;
 use crate::sentence::Meeting;
 use crate::spelling::Spelling;
 use a64_word::Words;
-use lfi_module::ModuleNumber;
+use lfi_module::{ModuleNumber, Profile};
 use lfi_rules::Need;
 use std::alloc::Global;
 use std::fmt;
@@ -84,12 +84,17 @@ impl fmt::Display for ListedWord {
 }
 
 /// The word at a place of a module in a slot, as it is listed.
-fn listed_at<L: Words>(words: &L, slot: ModuleNumber, place: usize) -> ListedWord
+fn listed_at<L: Words>(
+    words: &L,
+    slot: ModuleNumber,
+    place: usize,
+    profile: Profile,
+) -> ListedWord
     requires inside { place < length (L.words words.now) }
     requires most { length (L.words words.now) ≤ most_words }
-    ensures { spec.IsListed (L.words words.now) slot place result }
+    ensures { spec.IsListed profile (L.words words.now) slot place result }
 {
-    let spelling = Spelling::of(words.word(place));
+    let spelling = Spelling::of(words.word(place), profile);
     let located = Located {
         slot,
         place: place as u32,
@@ -117,14 +122,15 @@ pub fn write_listing<L: Words, W: Write>(
     alloc: Global,
     words: &L,
     slot: ModuleNumber,
+    profile: Profile,
     out: &mut W,
 ) -> io::Result<()>
     requires most { length (L.words words.now) ≤ most_words }
-    ensures { OnOk result (spec.WritesListing (L.words words.now) slot (W.contents out.old) (W.contents out.new)) }
+    ensures { OnOk result (spec.WritesListing profile (L.words words.now) slot (W.contents out.old) (W.contents out.new)) }
 {
     let mut kept = no_lines(alloc)?;
     for place in 0..words.count() {
-        write_listed(listed_at(words, slot, place), &mut kept)?;
+        write_listed(listed_at(words, slot, place, profile), &mut kept)?;
         write_many(&mut kept, out)?;
     }
     write_kept(&mut kept, out)

@@ -228,7 +228,7 @@ impl fmt::Display for Met {
             Need::Call =>
                 "put blr x30 right after the load, and before the load what stood between them",
             Need::Guard => "put add x30, x21, w30, uxtw right after the load",
-            Need::Probe =>
+            Need::Probe(_) =>
                 "put ldr xzr, [sp] right after the move, or let a pre- or post-indexed access move sp",
         })
     }

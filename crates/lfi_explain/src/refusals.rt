@@ -8,20 +8,25 @@ ghost use Rattle.lfi_explain.specs.Explanations as spec;
 use crate::explanation::{Explanation, explain};
 use crate::kept::{no_lines, write_kept, write_many};
 use a64_word::Words;
-use lfi_module::ModuleNumber;
+use lfi_module::{ModuleNumber, Profile};
 use lfi_rules::{Fault, broken_at};
 use std::alloc::Global;
 use std::io::{self, Write};
 
 /// What is told of the word at a place, where it breaks a rule: of those that it breaks, the one with the least number.
-fn explained_at<L: Words>(words: &L, slot: ModuleNumber, place: usize) -> Option<Explanation>
+fn explained_at<L: Words>(
+    words: &L,
+    slot: ModuleNumber,
+    place: usize,
+    profile: Profile,
+) -> Option<Explanation>
     requires inside { place < length (L.words words.now) }
     requires most { length (L.words words.now) ≤ most_words }
-    ensures { spec.IsToldAt (L.words words.now) slot place result }
+    ensures { spec.IsToldAt profile (L.words words.now) slot place result }
 {
-    let rule = broken_at(words, place)?;
+    let rule = broken_at(words, place, profile)?;
     let word = place as u32;
-    Some(explain(words, slot, Fault { word, rule }))
+    Some(explain(words, slot, Fault { word, rule }, profile))
 }
 
 /// Writes what is told of a word, if anything is. Gives of how many words something was told.
@@ -45,7 +50,8 @@ fn write_count<W: Write>(refused: u32, out: &mut W) -> io::Result<()>
     writeln!(out, "words refused: {refused}")
 }
 
-/// Writes what is told of each word of a module in a slot that breaks a rule, in order; then a line with how many these are,
+/// Writes what is told of each word of a module in a slot that breaks a rule of a
+/// profile, in order; then a line with how many these are,
 /// as `words refused: 2`. Gives how many.
 ///
 /// # Errors
@@ -55,15 +61,16 @@ pub fn write_refusals<L: Words, W: Write>(
     alloc: Global,
     words: &L,
     slot: ModuleNumber,
+    profile: Profile,
     out: &mut W,
 ) -> io::Result<u32>
     requires most { length (L.words words.now) ≤ most_words }
-    ensures { IfOk result (spec.WritesRefusals (L.words words.now) slot (W.contents out.old) (W.contents out.new)) }
+    ensures { IfOk result (spec.WritesRefusals profile (L.words words.now) slot (W.contents out.old) (W.contents out.new)) }
 {
     let mut kept = no_lines(alloc)?;
     let mut refused = 0;
     for place in 0..words.count() {
-        refused += write_told(explained_at(words, slot, place), &mut kept)?;
+        refused += write_told(explained_at(words, slot, place, profile), &mut kept)?;
         write_many(&mut kept, out)?;
     }
     write_count(refused, &mut kept)?;

@@ -5,7 +5,9 @@ ghost use Rattle.lfi_explain.specs.Sentences as spec;
 
 use crate::explanation::Explanation;
 use a64_effects::{Address, Form};
-use a64_word::{GeneralRegister, IndexExtend, Register, RegisterOrStack, Width};
+use a64_word::{
+    GeneralRegister, IndexExtend, Instruction, Register, RegisterOrStack, Size, Width,
+};
 use lfi_rules::{Need, Rule};
 use std::fmt;
 
@@ -21,7 +23,7 @@ impl fmt::Display for Meeting {
             Need::Nothing => "any word",
             Need::Call => "blr x30",
             Need::Guard => "add x30, x21, w30, uxtw",
-            Need::Probe => "a load or store at [sp]",
+            Need::Probe(_) => "a load or store at [sp]",
         })
     }
 }
@@ -38,7 +40,7 @@ impl fmt::Display for Opening {
             Need::Nothing => "any other word",
             Need::Call => "a load of a table entry into x30",
             Need::Guard => "any other load of 64 bits into x30",
-            Need::Probe => "a move of sp by an immediate",
+            Need::Probe(_) => "a move of sp by an immediate",
         })
     }
 }
@@ -201,6 +203,38 @@ impl fmt::Display for Asks {
     }
 }
 
+/// The name of an ordered load or store.
+fn ordered_name(load: bool, size: Size) -> &'static str
+    ensures { result.now ≡ spec.ordered_name load size }
+{
+    match (load, size) {
+        (true, Size::Byte) => "ldarb",
+        (true, Size::Half) => "ldarh",
+        (true, _) => "ldar",
+        (false, Size::Byte) => "stlrb",
+        (false, Size::Half) => "stlrh",
+        (false, _) => "stlr",
+    }
+}
+
+/// A word that no instruction of the profile spells, by what spells it in the second profile.
+#[derive(Clone, Copy)]
+struct Unspelled(Option<Instruction>);
+
+impl fmt::Display for Unspelled {
+    ghost output = { λ unspelled. Some (spec.unspelled_text unspelled.0) };
+
+    fn fmt<W: fmt::Write>(&self, f: &mut fmt::Formatter<W>) -> fmt::Result {
+        match self.0 {
+            Some(Instruction::Ordered(i)) => {
+                let name = ordered_name(i.load, i.size);
+                write!(f, "; {name} is an instruction of profile 2")
+            }
+            _ => write!(f, "; none spells this one"),
+        }
+    }
+}
+
 /// What the word does instead.
 #[derive(Clone, Copy)]
 struct Does(Explanation);
@@ -211,7 +245,7 @@ impl fmt::Display for Does {
     fn fmt<W: fmt::Write>(&self, f: &mut fmt::Formatter<W>) -> fmt::Result {
         let told = &self.0;
         match told.fault.rule {
-            Rule::Spelled => write!(f, "; none spells this one"),
+            Rule::Spelled => write!(f, "{}", Unspelled(told.at.in_second)),
             Rule::AccessConfined => write!(f, "{}", Through(told.at.address())),
             Rule::BaseKept => write!(f, "; this one writes it"),
             Rule::AddressGuarded => write!(f, "{}", WritesAddress(told.at.written_address())),

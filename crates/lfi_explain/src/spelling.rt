@@ -7,6 +7,7 @@ ghost use Rattle.lfi_explain.specs.Spellings as spec;
 use crate::digits::WordDigits;
 use a64_effects::{Address, address_of, target, writes};
 use a64_word::{Instruction, Register, decode};
+use lfi_module::Profile;
 use lfi_rules::registers::{FIRST_ADDRESS, SECOND_ADDRESS, THIRD_ADDRESS};
 use lfi_rules::{Need, meets, opens};
 use std::fmt;
@@ -35,23 +36,29 @@ fn first_written(instruction: &Instruction) -> Option<u8>
     }
 }
 
-/// A word, with the instruction that it spells, if one does.
+/// A word, with the instruction of a profile that spells it, if one does.
 #[derive(Clone, Copy)]
 pub struct Spelling {
     /// The word.
     pub word: u32,
-    /// What spells it.
+    /// The profile.
+    pub profile: Profile,
+    /// What spells it in the profile.
     pub instruction: Option<Instruction>,
+    /// What spells it in the second profile.
+    pub in_second: Option<Instruction>,
 }
 
 impl Spelling {
     /// The word with what spells it.
-    pub fn of(word: u32) -> Spelling
-        ensures { spec.IsSpelling word result }
+    pub fn of(word: u32, profile: Profile) -> Spelling
+        ensures { spec.IsSpelling profile word result }
     {
         Spelling {
             word,
-            instruction: decode(word),
+            profile,
+            instruction: decode(word, profile),
+            in_second: decode(word, Profile::Two),
         }
     }
 
@@ -60,7 +67,7 @@ impl Spelling {
         ensures { result ≡ spec.opened_by self.now }
     {
         match &self.instruction {
-            Some(instruction) => opens(instruction),
+            Some(instruction) => opens(instruction, self.profile),
             None => Need::Nothing,
         }
     }

@@ -1,6 +1,6 @@
 //! Listings: the first words of the compiled example, and branches in and out of a module.
 use lfi_explain::write_listing;
-use lfi_module::ModuleNumber;
+use lfi_module::{ModuleNumber, Profile};
 use std::test::Fail;
 
 /// The first words of examples/checksums.code, then some that branch.
@@ -28,7 +28,38 @@ const LISTING: &str =
 fn lists_words(rt: HostRuntime) -> Result<(), Fail> {
     let words = Vec::from_array(rt.alloc(), WORDS)?;
     let mut out = Vec::new(rt.alloc());
-    write_listing(rt.alloc(), &words, ModuleNumber::at(0), &mut out)?;
+    write_listing(
+        rt.alloc(),
+        &words,
+        ModuleNumber::at(0),
+        Profile::One,
+        &mut out,
+    )?;
     assert!(rt; out.as_slice() == LISTING.as_bytes());
+    Ok(())
+}
+
+/// Words of the second profile: LDAR X30, [X21], its guard, STLRH W1, [SP], LDAR W22, [X18].
+const ORDERED: [u32; 4] = [0xC8DFFEBE, 0x8B3E42BE, 0x489FFFE1, 0x88DFFE56];
+
+const ORDERED_LISTING: &str =
+    "      0  0x0000000100010000  c8dffebe  ldar x30, [x21]  ; opens: next is add x30, x21, w30, uxtw
+      1  0x0000000100010004  8b3e42be  add x30, x21, w30, uxtw
+      2  0x0000000100010008  489fffe1  stlrh w1, [sp]
+      3  0x000000010001000c  88dffe56  ldar w22, [x18]
+";
+
+#[test]
+fn lists_words_of_the_second_profile(rt: HostRuntime) -> Result<(), Fail> {
+    let words = Vec::from_array(rt.alloc(), ORDERED)?;
+    let mut out = Vec::new(rt.alloc());
+    write_listing(
+        rt.alloc(),
+        &words,
+        ModuleNumber::at(0),
+        Profile::Two,
+        &mut out,
+    )?;
+    assert!(rt; out.as_slice() == ORDERED_LISTING.as_bytes());
     Ok(())
 }

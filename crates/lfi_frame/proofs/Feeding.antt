@@ -5,6 +5,7 @@ use Rattle.std.proofs.lemmas.List.{append-nil, length-take, length-drop}
 use Rattle.std.proofs.lemmas.List.Elements.{All-push}
 use Rattle.std.proofs.lemmas.Bool.{eq-eqb, eqb-true, lt-ltb}
 use Rattle.std.proofs.lemmas.Bool.Decides.{eqb_tells}
+use Rattle.lfi_module.specs.declared.profile.Profile.TheVariants.{One}
 use Rattle.lfi_frame.specs.declared.header.Header.{Header}
 use Rattle.lfi_frame.specs.declared.fault.FrameFault.{FrameFault}
 use Rattle.lfi_frame.specs.declared.fault.FrameFault.TheVariants.{Kind, SecondByte, Module, PageLength, CloseNumbers, WordCount, Entry, NoMemory, Ended, ReadFailed}
@@ -146,18 +147,18 @@ module _ (new : Feed) (messages : List Message) (rest used : List ℕ) (each : A
         | inl two ↦
             let page = in_page none two in
             let b = eq-eqb h.kind 2 two in
-            let g : got ≡ Page h.«module» h.a h.b = brings ∙ ap (λ b. if b then Page h.«module» h.a h.b else if h.kind == 1 then Open h.«module» (record { words = h.a; entry = h.b }) else Close h.«module») b in
+            let g : got ≡ Page h.«module» h.a h.b = brings ∙ ap (λ b. if b then Page h.«module» h.a h.b else if h.kind == 1 then Open h.«module» (record { words = h.a; entry = h.b; profile = One }) else Close h.«module») b in
             let p : new.position ≡ position.Payload h.b = is ∙ ap (λ b. if b then position.Payload h.b else position.Header 0) b in
             subst (λ g. IsTold g new messages rest used) (sym g) (record { each = each; position = subst (λ q. IsAt new.held q (rest ++ used)) (sym p) page }, twelve, page_rest (rest ++ used) h.b page)
         | inr other ↦ elim other [
           | inl one ↦
               let message = open_message h.«module» h.a h.b in
-              let g : got ≡ Open h.«module» (record { words = h.a; entry = h.b }) = brings ∙ ap (λ k. if k == 2 then Page h.«module» h.a h.b else if k == 1 then Open h.«module» (record { words = h.a; entry = h.b }) else Close h.«module») one in
+              let g : got ≡ Open h.«module» (record { words = h.a; entry = h.b; profile = One }) = brings ∙ ap (λ k. if k == 2 then Page h.«module» h.a h.b else if k == 1 then Open h.«module» (record { words = h.a; entry = h.b; profile = One }) else Close h.«module») one in
               let p : new.position ≡ position.Header 0 = is ∙ ap (λ k. if k == 2 then position.Payload h.b else position.Header 0) one in
               subst (λ g. IsTold g new messages rest used) (sym g) (between new messages message p each (message_is message h (open_is h none one) none fits.0 fits.1), spelled message (open_is h none one) refl)
           | inr three ↦
               let message = close_message h.«module» in
-              let g : got ≡ Close h.«module» = brings ∙ ap (λ k. if k == 2 then Page h.«module» h.a h.b else if k == 1 then Open h.«module» (record { words = h.a; entry = h.b }) else Close h.«module») three in
+              let g : got ≡ Close h.«module» = brings ∙ ap (λ k. if k == 2 then Page h.«module» h.a h.b else if k == 1 then Open h.«module» (record { words = h.a; entry = h.b; profile = One }) else Close h.«module») three in
               let p : new.position ≡ position.Header 0 = is ∙ ap (λ k. if k == 2 then position.Payload h.b else position.Header 0) three in
               subst (λ g. IsTold g new messages rest used) (sym g) (between new messages message p each (message_is message h (close_is h none three) none fits.0 fits.1), spelled message (close_is h none three) refl)
         ]

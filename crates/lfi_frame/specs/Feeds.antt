@@ -1,5 +1,6 @@
 -- What a feed stands for, and what its answers tell. Source: this project's format, docs/PROFILE.md.
 use Rattle.std.specs.Prelude.{◌≡◌, ◌≢◌, ℕ, ◌%◌, ◌≤◌, ◌<◌, ◌+◌, ◌==◌, ◌^◌, true, false, List, [], ◌∷◌, ◌++◌, length, take, drop, ◌⊎◌, Option, Some, None, Result, Ok, Err, All, if◌then◌else◌}
+use Rattle.lfi_module.specs.declared.profile.Profile.TheVariants.{One}
 use Rattle.lfi_module.specs.Numbers.{page_bytes}
 use Rattle.lfi_frame.specs.declared.header.Header.{Header}
 use Rattle.lfi_frame.specs.declared.fault.FrameFault.{FrameFault}
@@ -129,7 +130,7 @@ IsAtEnd (Some before) rest answer = Unit {0}
 
 -- what a header brings, and where a feed is after it
 abbrev pub got_by : Header → Got
-got_by h = if h.kind == 2 then Page h.«module» h.a h.b else if h.kind == 1 then Open h.«module» (record { words = h.a; entry = h.b }) else Close h.«module»
+got_by h = if h.kind == 2 then Page h.«module» h.a h.b else if h.kind == 1 then Open h.«module» (record { words = h.a; entry = h.b; profile = One }) else Close h.«module»
 
 abbrev pub answer_by : Option FrameFault → Header → Result Got FrameFault
 answer_by (Some fault) h = Err fault

@@ -13,7 +13,7 @@ ghost use Rattle.lfi_frame.specs.Feeds.{IsInRange, answer_to};
 use crate::answer::Got;
 use crate::fault::FrameFault;
 use byteorder::{ByteOrder, LittleEndian};
-use lfi_module::{Extent, ModuleNumber, PageSize, WordCount};
+use lfi_module::{Extent, ModuleNumber, PageSize, Profile, WordCount};
 
 /// The bytes of a header.
 pub const HEADER_BYTES: usize = 12;
@@ -120,7 +120,7 @@ impl Header {
         match kind {
             MessageKind::Open => {
                 let words = WordCount::new(self.a).ok_or(FrameFault::WordCount)?;
-                let extent = Extent::new(words, self.b).ok_or(FrameFault::Entry)?;
+                let extent = Extent::new(words, self.b, Profile::One).ok_or(FrameFault::Entry)?;
                 Ok(Got::Open { module, extent })
             }
             MessageKind::Page if !self.is_page_length() => Err(FrameFault::PageLength),

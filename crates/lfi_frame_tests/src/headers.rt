@@ -4,7 +4,7 @@ ghost use Rattle.std.specs.Prelude.{◌<◌, ◌≤◌};
 ghost use Rattle.lfi_module.specs.Numbers.{module_count, most_words};
 
 use lfi_frame::{Feed, FrameFault, Got, Header, Step};
-use lfi_module::{Extent, ModuleNumber, WordCount};
+use lfi_module::{Extent, ModuleNumber, Profile, WordCount};
 
 /// The bytes of a header with these numbers.
 pub fn header(kind: u8, second: u8, module: u16, a: u32, b: u32) -> [u8; 12] {
@@ -84,7 +84,7 @@ pub fn open(module: usize, words: u32, entry: u32) -> Got
 {
     Got::Open {
         module: ModuleNumber::at(module),
-        extent: Extent::of(WordCount::of(words), entry),
+        extent: Extent::of(WordCount::of(words), entry, Profile::One),
     }
 }
 

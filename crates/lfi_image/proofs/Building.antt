@@ -2,6 +2,7 @@
 use Rattle.std.proofs.Common.{◌≡◌, ℕ, zero, suc, ◌+◌, ◌-◌, ◌*◌, ◌/◌, ◌%◌, ◌<◌, ◌≤◌, min, List, [], ◌∷◌, ◌++◌, length, get_or, Option, None, refl, sym, ◌∙◌, ap, subst, arith, length-append, append_assoc, append-nil}
 use Rattle.std.proofs.lemmas.List.{get_or_append_left, get_or-append-add}
 use Rattle.a64_word.specs.Words.{words_of}
+use Rattle.lfi_module.specs.declared.profile.Profile.{Profile}
 use Rattle.lfi_rules.specs.declared.needs.Need.{Need}
 use Rattle.lfi_rules.specs.declared.fault.Fault.{Fault}
 use Rattle.lfi_rules.specs.declared.verdict.PageVerdict.{PageVerdict}
@@ -33,23 +34,23 @@ full_before (q ∷ []) p full last = (full.0, last)
 full_before (q ∷ r ∷ ps) p full last = (full.0, full_before (r ∷ ps) p full.1 last)
 
 -- what the fields of a builder say of the module that it is
-module _ (count first slot placed : ℕ) (tail : Need) (pages : List (List ℕ)) (ws : List ℕ) (n : ℕ)
-    (built : IsBuilt count first slot placed tail pages) (words : words_in pages ≡ ws) (same : count ≡ n) where
+module _ (p : Profile) (count first slot placed : ℕ) (tail : Need) (pages : List (List ℕ)) (ws : List ℕ) (n : ℕ)
+    (built : IsBuilt p count first slot placed tail pages) (words : words_in pages ≡ ws) (same : count ≡ n) where
   pub placed_is : placed ≡ length ws
   placed_is = built.all ∙ ap length words
 
-  pub none_yet : FirstFault ws n None
-  none_yet = subst (λ k. FirstFault ws k None) same (subst (λ l. FirstFault l count None) words built.faultless)
+  pub none_yet : (q : Profile) → p ≡ q → FirstFault q ws n None
+  none_yet q goes = subst (λ x. FirstFault x ws n None) goes (subst (λ k. FirstFault p ws k None) same (subst (λ l. FirstFault p l count None) words built.faultless))
 
   -- with all its words placed it is an image
-  pub image_of : (e s : ℕ) → first ≡ e → slot ≡ s → count ≤ placed → IsImage (record { entry = e; slot = s; words = ws }) × (length ws ≡ n)
-  image_of e s same_entry same_slot whole =
+  pub image_of : (q : Profile) (e s : ℕ) → p ≡ q → first ≡ e → slot ≡ s → count ≤ placed → IsImage (record { profile = q; entry = e; slot = s; words = ws }) × (length ws ≡ n)
+  image_of q e s goes same_entry same_slot whole =
       let len : length ws ≡ count = omega (arith, placed_is, built.within, whole) in (
         record {
           lawful = record {
             some = omega (arith, len, built.some);
             most = omega (arith, len, built.most);
-            faultless = subst (λ k. FirstFault ws k None) (sym (len ∙ same)) none_yet;
+            faultless = subst (λ k. FirstFault q ws k None) (sym (len ∙ same)) (none_yet q goes);
           };
           entry = omega (arith, len, built.entry_in, same_entry);
           slot = omega (arith, built.slot_in, same_slot);
@@ -57,11 +58,11 @@ module _ (count first slot placed : ℕ) (tail : Need) (pages : List (List ℕ))
         len ∙ same,
       )
 
-pub built_more : (count first slot placed : ℕ) (tail : Need) (pages : List (List ℕ)) (page : List ℕ) (verdict : PageVerdict)
-    → IsBuilt count first slot placed tail pages → 1 ≤ length (words_of page) → LeavesOpen (words_in pages ++ words_of page) verdict.tail
-    → FirstFault (words_in pages ++ words_of page) count None → length (words_of page) ≡ min 1024 (count - placed)
-    → IsBuilt count first slot (placed + length (words_of page)) verdict.tail (pages ++ page ∷ [])
-built_more count first slot placed tail pages page verdict built some leaves none due =
+pub built_more : (p : Profile) (count first slot placed : ℕ) (tail left : Need) (pages : List (List ℕ)) (page : List ℕ)
+    → IsBuilt p count first slot placed tail pages → 1 ≤ length (words_of page) → LeavesOpen p (words_in pages ++ words_of page) left
+    → FirstFault p (words_in pages ++ words_of page) count None → length (words_of page) ≡ min 1024 (count - placed)
+    → IsBuilt p count first slot (placed + length (words_of page)) left (pages ++ page ∷ [])
+built_more p count first slot placed tail left pages page built some leaves none due =
     let words = words_in-more pages page in
     let size : length (words_in (pages ++ page ∷ [])) ≡ placed + length (words_of page) = ap length words ∙ length-append (words_in pages) (words_of page) ∙ ap (λ n. n + length (words_of page)) (sym built.all) in
     let room : placed < count = omega (arith, some, due, built.within) in
@@ -74,13 +75,13 @@ built_more count first slot placed tail pages page verdict built some leaves non
       within = omega (arith, due, room);
       whole = λ less. full_more pages page (built.whole room) (let full : length (words_of page) ≡ 1024 = omega (arith, due, less) in full);
       full = full_before pages page (built.whole room) (omega (arith, due));
-      faultless = subst (λ l. FirstFault l count None) (sym words) none;
-      leaves = subst (λ l. LeavesOpen l verdict.tail) (sym words) leaves;
+      faultless = subst (λ l. FirstFault p l count None) (sym words) none;
+      leaves = subst (λ l. LeavesOpen p l left) (sym words) leaves;
     }
 
 -- There is a place for another page while words are missing.
-pub room_for_page : (count first slot placed : ℕ) (tail : Need) (pages : List (List ℕ)) → IsBuilt count first slot placed tail pages → placed < count → length pages < (count + 1023) / 1024
-room_for_page count first slot placed tail pages built room = omega (arith, full_words pages (built.whole room), built.all, room)
+pub room_for_page : (p : Profile) (count first slot placed : ℕ) (tail : Need) (pages : List (List ℕ)) → IsBuilt p count first slot placed tail pages → placed < count → length pages < (count + 1023) / 1024
+room_for_page p count first slot placed tail pages built room = omega (arith, full_words pages (built.whole room), built.all, room)
 
 -- The word 1024 k + r of pages is the word r of the page k.
 pub word_in_page : (ps : List (List ℕ)) → AreFull ps → (i k r : ℕ) (d : List ℕ) → i ≡ 1024 * k + r → r < 1024 → i < length (words_in ps)
@@ -111,10 +112,12 @@ word_of_page ps full size i d is within =
     (word_in_page ps full i (i / 1024) (i % 1024) d (omega arith) (omega arith) within)
 
 -- A page that was judged at the place and in the module of a builder.
-pub judged_there : (page : List ℕ) (first place words n : ℕ) (verdict : PageVerdict) → first ≡ place → words ≡ n → Judges page first words verdict → Judges page place n verdict
-judged_there page first place words n verdict at same judged = subst (λ k. Judges page k n verdict) at (subst (λ k. Judges page first k verdict) same judged)
+pub judged_there : (p q : Profile) (page : List ℕ) (first place words n : ℕ) (verdict : PageVerdict) → p ≡ q → first ≡ place → words ≡ n → Judges p page first words verdict → Judges q page place n verdict
+judged_there p q page first place words n verdict goes at same judged =
+    subst (λ x. Judges x page place n verdict) goes (subst (λ k. Judges p page k n verdict) at (subst (λ k. Judges p page first k verdict) same judged))
 
 -- The same fault, told of the module that a builder is.
-pub told_of : (pages ws page : List ℕ) (words n : ℕ) (found fault : Option Fault) → pages ≡ ws → words ≡ n → found ≡ fault → FirstFault (pages ++ page) words found → FirstFault (ws ++ page) n fault
-told_of pages ws page words n found fault same size is first =
-    subst (λ f. FirstFault (ws ++ page) n f) is (subst (λ k. FirstFault (ws ++ page) k found) size (subst (λ l. FirstFault (l ++ page) words found) same first))
+pub told_of : (p q : Profile) (pages ws page : List ℕ) (words n : ℕ) (found fault : Option Fault) → p ≡ q → pages ≡ ws → words ≡ n → found ≡ fault → FirstFault p (pages ++ page) words found → FirstFault q (ws ++ page) n fault
+told_of p q pages ws page words n found fault goes same size is first =
+    subst (λ x. FirstFault x (ws ++ page) n fault) goes
+    (subst (λ f. FirstFault p (ws ++ page) n f) is (subst (λ k. FirstFault p (ws ++ page) k found) size (subst (λ l. FirstFault p (l ++ page) words found) same first)))

@@ -1,14 +1,17 @@
 -- The bytes of a header from what they say.
-use Rattle.std.proofs.Common.{◌≡◌, ℕ, zero, suc, ◌+◌, ◌<◌, ◌≤◌, true, List, [], ◌∷◌, ◌++◌, length, drop, get_or, refl, sym, ◌∙◌, ap, subst, arith}
+use Rattle.std.proofs.Common.{◌≡◌, ℕ, zero, suc, ◌+◌, ◌<◌, ◌≤◌, Bool, true, false, List, [], ◌∷◌, ◌++◌, length, drop, get_or, refl, sym, ◌∙◌, ap, subst, arith}
 use Rattle.std.proofs.lemmas.Bool.{and_parts, eqb-true}
 use Rattle.std.proofs.lemmas.List.{get_or-drop, length-drop, drop-drop}
 use Rattle.std.proofs.lemmas.Nat.{le_bytes_4, le_bytes_8}
 use Rattle.std.specs.Int.{w32, w64, to_le_bytes, from_le_bytes}
-use Rattle.std.specs.Prelude.{nat_lt, ◌==◌}
+use Rattle.std.specs.Prelude.{nat_lt, ◌==◌, ◌||◌}
 use Rattle.byteorder.specs.Endian.{little_bytes, little_number}
+use Rattle.lfi_module.specs.declared.profile.Profile.{Profile}
+use Rattle.lfi_module.specs.declared.profile.Profile.TheVariants.{One, Two}
+use Rattle.lfi_module.specs.Profiles.{profile_number}
 use Rattle.lfi_module.specs.Numbers.{base_of}
-use Rattle.lfi_image.specs.Image.{magic, profile, header_of}
-use Rattle.lfi_image.specs.Reading.{count_in, entry_in, profile_in, base_in, slot_at, is_base}
+use Rattle.lfi_image.specs.Image.{magic, header_of}
+use Rattle.lfi_image.specs.Reading.{count_in, entry_in, profile_in, is_profile, base_in, slot_at, is_base}
 use Rattle.lfi_image.proofs.Pieces.{IsBytes}
 
 bytes_after : (n : ℕ) (xs : List ℕ) → IsBytes xs → IsBytes (drop n xs)
@@ -45,9 +48,9 @@ part bytes at long within small =
 base_is : (base slot : ℕ) → is_base base ≡ true → slot ≡ slot_at base → base ≡ base_of slot
 base_is base slot test at = eqb-true base (base_of (slot_at base)) (and_parts (nat_lt (slot_at base) 16) (base == base_of (slot_at base)) test).1 ∙ ap base_of (sym at)
 
-pub header_back : (bytes : List ℕ) (slot : ℕ) → length bytes ≡ 24 → IsBytes bytes → little_number 4 bytes ≡ little_number 4 magic → profile_in bytes ≡ profile
-    → is_base (base_in bytes) ≡ true → slot ≡ slot_at (base_in bytes) → bytes ≡ header_of (count_in bytes) (entry_in bytes) slot
-header_back bytes slot long small is_magic is_profile is_base_in at =
+pub header_back : (bytes : List ℕ) (profile : Profile) (slot : ℕ) → length bytes ≡ 24 → IsBytes bytes → little_number 4 bytes ≡ little_number 4 magic → profile_in bytes ≡ profile_number profile
+    → is_base (base_in bytes) ≡ true → slot ≡ slot_at (base_in bytes) → bytes ≡ header_of (count_in bytes) (entry_in bytes) profile slot
+header_back bytes profile slot long small is_magic is_profile is_base_in at =
     let first : bytes ≡ little_bytes 4 (little_number 4 bytes) ++ drop 4 bytes = cut_4 bytes (omega (arith, long)) small in
     let count : drop 4 bytes ≡ little_bytes 4 (count_in bytes) ++ drop 8 bytes = part bytes 4 long (omega arith) small in
     let entry : drop 8 bytes ≡ little_bytes 4 (entry_in bytes) ++ drop 12 bytes = part bytes 8 long (omega arith) small in
@@ -60,3 +63,12 @@ header_back bytes slot long small is_magic is_profile is_base_in at =
     (third ∙ ap (λ l. little_bytes 4 (profile_in bytes) ++ l) base))) in
     let is_base_of : base_in bytes ≡ base_of slot = base_is (base_in bytes) slot is_base_in at in
     all ∙ (λ i. little_bytes 4 (is_magic i) ++ (little_bytes 4 (count_in bytes) ++ (little_bytes 4 (entry_in bytes) ++ (little_bytes 4 (is_profile i) ++ little_bytes 8 (is_base_of i)))))
+
+pub or_false : (b c : Bool) → b ≡ false → c ≡ false → (b || c) ≡ false
+or_false false c p q = q
+or_false true c p q = p
+
+-- a profile's number is one
+pub profile_fits : (profile : Profile) → is_profile (profile_number profile) ≡ true
+profile_fits One = refl
+profile_fits Two = refl

@@ -3,6 +3,5 @@ pub mod Headers
 pub mod Pieces
 pub mod Runs
 pub mod Small
-pub mod Stays
 pub mod Whole
 pub mod Written

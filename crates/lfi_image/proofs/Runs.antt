@@ -7,20 +7,20 @@ use Rattle.std.proofs.KnownBytes.{Consumes-trans, Consumes-nil}
 use Rattle.std.proofs.lemmas.Bool.{cases_lt, leb-true, leb-false}
 use Rattle.std.proofs.lemmas.List.{get_or_append_left, get_or-drop, drop-drop}
 use Rattle.a64_word.specs.Words.{words_of}
-use Rattle.a64_word.proofs.WordLaws.{words_fit}
+use Rattle.lfi_module.specs.declared.profile.Profile.{Profile}
 use Rattle.lfi_rules.specs.declared.fault.Fault.{Fault}
 use Rattle.lfi_rules.specs.Faults.{FirstFault}
 use Rattle.lfi_image.specs.declared.fault.ImageFault.{ImageFault}
-use Rattle.lfi_image.specs.declared.fault.ImageFault.TheVariants.{Magic, Profile, Counts, Base, Truncated, More, Unlawful, NoMemory, Device}
+use Rattle.lfi_image.specs.declared.fault.ImageFault.TheVariants.{Magic, Profile as OtherProfile, Counts, Base, Truncated, More, Unlawful, NoMemory, Device}
 use Rattle.lfi_image.specs.Image.{Module, Image, header_of, code_of, FileOf}
 use Rattle.lfi_image.specs.Built.{due}
-use Rattle.lfi_image.specs.Reading.{count_in, header_fault, whole_pages, page_end, IsCodeFault, IsFault, IsUnread, IsRestUnread, of_header, of_code}
+use Rattle.lfi_image.specs.Reading.{count_in, named_profile, header_fault, whole_pages, page_end, IsCodeFault, IsFault, IsUnread, IsRestUnread, of_header, of_code}
 use Rattle.lfi_image.specs.inner.Steps.{ReadsPage, IsPageFault, IsRead}
 use Rattle.lfi_image.proofs.Pieces.{words_of-append, code_of-append, word_count}
-use Rattle.lfi_image.proofs.Stays.{fault_stays, fault_in_page}
+use Rattle.lfi_rules.proofs.Following.{fault_stays, fault_comes}
 
-pub read_more : (old mid new : Option (List ℕ)) (count : ℕ) (m after : Module) → IsRead old mid count m.placed → ReadsPage mid new m after → m.words ≡ count → length m.placed < count → IsRead old new count after.placed
-read_more old mid new count m after read step same less =
+pub read_more : (p : Profile) (old mid new : Option (List ℕ)) (count : ℕ) (m after : Module) → IsRead p old mid count m.placed → ReadsPage mid new m after → m.profile ≡ p → m.words ≡ count → length m.placed < count → IsRead p old new count after.placed
+read_more p old mid new count m after read step goes same less =
     let more = words_of step.page in
     let size : length more ≡ due m = word_count step.page (due m) step.size in
     let words : after.placed ≡ m.placed ++ more = ap words_at step.placed in
@@ -36,14 +36,14 @@ read_more old mid new count m after read step same less =
       within = omega (arith, longer, size, is_due, same, less);
       pages = read.pages + 1;
       whole = λ still. omega (arith, longer, size, is_due, same, still, read.whole less);
-      faultless = subst (λ l. FirstFault l count None) (sym words) (subst (λ n. FirstFault (m.placed ++ more) n None) same step.faultless);
+      faultless = subst (λ l. FirstFault p l count None) (sym words) (subst (λ n. FirstFault p (m.placed ++ more) n None) same (subst (λ x. FirstFault x (m.placed ++ more) m.words None) goes step.faultless));
     }
   where
     words_at : Module → List ℕ
     words_at w = w.placed
 
-pub read_nothing : (a : Option (List ℕ)) (count : ℕ) (ws : List ℕ) → ws ≡ [] → FirstFault [] count None → IsRead a a count ws
-read_nothing a count ws e none = subst (λ l. IsRead a a count l) (sym e) (record {
+pub read_nothing : (p : Profile) (a : Option (List ℕ)) (count : ℕ) (ws : List ℕ) → ws ≡ [] → FirstFault p [] count None → IsRead p a a count ws
+read_nothing p a count ws e none = subst (λ l. IsRead p a a count l) (sym e) (record {
   code = [];
   consumed = Consumes-nil a;
   spelled = refl;
@@ -111,26 +111,26 @@ whole_begins n pages front rest fits even = by_test (nat_le (4 * n) (length text
         cut (4096 * (length (front ++ rest) / 4096)) low (omega (arith, short)) (ap (λ b. if b then take (4 * n) (front ++ rest) else take (4096 * (length (front ++ rest) / 4096)) (front ++ rest)) test)
 
 -- what is wrong with a page is wrong with the code
-pub page_fault : (old mid new : Option (List ℕ)) (count : ℕ) (m : Module) (fault : ImageFault) → IsRead old mid count m.placed → m.words ≡ count → length m.placed < count
-    → IsPageFault mid new m fault → IfSome old (λ code. IsCodeFault count code fault)
-page_fault None mid new count m fault read same less told = tt
-page_fault (Some xs) None new count m fault read same less told = absurd read.consumed
-page_fault (Some xs) (Some ys) new count m NoMemory read same less told = tt
-page_fault (Some xs) (Some ys) new count m Device read same less told = tt
-page_fault (Some xs) (Some ys) new count m Magic read same less told = absurd told
-page_fault (Some xs) (Some ys) new count m Profile read same less told = absurd told
-page_fault (Some xs) (Some ys) new count m Counts read same less told = absurd told
-page_fault (Some xs) (Some ys) new count m Base read same less told = absurd told
-page_fault (Some xs) (Some ys) new count m More read same less told = absurd told
-page_fault (Some xs) (Some ys) new count m Truncated read same less told =
+pub page_fault : (p : Profile) (old mid new : Option (List ℕ)) (count : ℕ) (m : Module) (fault : ImageFault) → IsRead p old mid count m.placed → m.profile ≡ p → m.words ≡ count → length m.placed < count
+    → IsPageFault mid new m fault → IfSome old (λ code. IsCodeFault p count code fault)
+page_fault p None mid new count m fault read goes same less told = tt
+page_fault p (Some xs) None new count m fault read goes same less told = absurd read.consumed
+page_fault p (Some xs) (Some ys) new count m NoMemory read goes same less told = tt
+page_fault p (Some xs) (Some ys) new count m Device read goes same less told = tt
+page_fault p (Some xs) (Some ys) new count m Magic read goes same less told = absurd told
+page_fault p (Some xs) (Some ys) new count m OtherProfile read goes same less told = absurd told
+page_fault p (Some xs) (Some ys) new count m Counts read goes same less told = absurd told
+page_fault p (Some xs) (Some ys) new count m Base read goes same less told = absurd told
+page_fault p (Some xs) (Some ys) new count m More read goes same less told = absurd told
+page_fault p (Some xs) (Some ys) new count m Truncated read goes same less told =
     let is_due : due m ≡ min 1024 (m.words - length m.placed) = refl in
     let all : length xs ≡ length read.code + length ys = ap length read.consumed ∙ length-append read.code ys in
     let short : length ys < 4 * due m = told in
     let even : length read.code ≡ 4096 * read.pages = omega (arith, read.size, read.whole less) in
     let whole : whole_pages count xs ≡ read.code = ap (whole_pages count) read.consumed ∙ whole_is count read.pages read.code ys even (omega (arith, short, is_due)) (omega (arith, short, is_due, same, less, read.size)) in
-    (subst (λ ws. FirstFault ws count None) (sym (ap words_of whole ∙ read.spelled)) read.faultless, omega (arith, all, short, is_due, same, less, read.size))
-page_fault (Some xs) (Some ys) None count m (Unlawful fault) read same less told = absurd told.consumed
-page_fault (Some xs) (Some ys) (Some rest) count m (Unlawful fault) read same less told =
+    (subst (λ ws. FirstFault p ws count None) (sym (ap words_of whole ∙ read.spelled)) read.faultless, omega (arith, all, short, is_due, same, less, read.size))
+page_fault p (Some xs) (Some ys) None count m (Unlawful fault) read goes same less told = absurd told.consumed
+page_fault p (Some xs) (Some ys) (Some rest) count m (Unlawful fault) read goes same less told =
     let page : List ℕ = told.page in
     let size : length page ≡ 4 * due m = told.size in
     let is_due : due m ≡ min 1024 (m.words - length m.placed) = refl in
@@ -146,24 +146,24 @@ page_fault (Some xs) (Some ys) (Some rest) count m (Unlawful fault) read same le
     let words_front : words_of front ≡ m.placed ++ words_of page = words_of-append read.code page (omega (arith, read.size)) ∙ ap (λ l. l ++ words_of page) read.spelled in
     let words : words_of (whole_pages count xs) ≡ (m.placed ++ words_of page) ++ words_of more =
     ap (λ l. words_of (whole_pages count l)) text ∙ ap words_of begins.1 ∙ words_of-append front more (omega (arith, long, size, read.size)) ∙ ap (λ l. l ++ words_of more) words_front in
-    let fits : length ((m.placed ++ words_of page) ++ words_of more) ≤ count = omega (arith, ap length words, words_fit (whole_pages count xs), ap (λ l. length (whole_pages count l)) text, begins.2) in
-    subst (λ ws. FirstFault ws count (Some fault)) (sym words) (fault_stays (m.placed ++ words_of page) (words_of more) count fault fits (subst (λ n. FirstFault (m.placed ++ words_of page) n (Some fault)) same told.first))
+    subst (λ ws. FirstFault p ws count (Some fault)) (sym words) (fault_stays p (m.placed ++ words_of page) (words_of more) count fault
+    (subst (λ n. FirstFault p (m.placed ++ words_of page) n (Some fault)) same (subst (λ x. FirstFault x (m.placed ++ words_of page) m.words (Some fault)) goes told.first)))
 
 -- what follows a page with a fault is left
-pub page_unread : (old mid new : Option (List ℕ)) (count : ℕ) (m : Module) (fault : ImageFault) → IsRead old mid count m.placed → m.words ≡ count → length m.placed < count
+pub page_unread : (p : Profile) (old mid new : Option (List ℕ)) (count : ℕ) (m : Module) (fault : ImageFault) → IsRead p old mid count m.placed → m.profile ≡ p → m.words ≡ count → length m.placed < count
     → IsPageFault mid new m fault → IfSome old (λ code. IsUnread count code new fault)
-page_unread None mid new count m fault read same less told = tt
-page_unread (Some xs) None new count m fault read same less told = absurd read.consumed
-page_unread (Some xs) (Some ys) new count m NoMemory read same less told = tt
-page_unread (Some xs) (Some ys) new count m Device read same less told = tt
-page_unread (Some xs) (Some ys) new count m Magic read same less told = tt
-page_unread (Some xs) (Some ys) new count m Profile read same less told = tt
-page_unread (Some xs) (Some ys) new count m Counts read same less told = tt
-page_unread (Some xs) (Some ys) new count m Base read same less told = tt
-page_unread (Some xs) (Some ys) new count m More read same less told = tt
-page_unread (Some xs) (Some ys) new count m Truncated read same less told = tt
-page_unread (Some xs) (Some ys) None count m (Unlawful fault) read same less told = absurd told.consumed
-page_unread (Some xs) (Some ys) (Some rest) count m (Unlawful fault) read same less told =
+page_unread p None mid new count m fault read goes same less told = tt
+page_unread p (Some xs) None new count m fault read goes same less told = absurd read.consumed
+page_unread p (Some xs) (Some ys) new count m NoMemory read goes same less told = tt
+page_unread p (Some xs) (Some ys) new count m Device read goes same less told = tt
+page_unread p (Some xs) (Some ys) new count m Magic read goes same less told = tt
+page_unread p (Some xs) (Some ys) new count m OtherProfile read goes same less told = tt
+page_unread p (Some xs) (Some ys) new count m Counts read goes same less told = tt
+page_unread p (Some xs) (Some ys) new count m Base read goes same less told = tt
+page_unread p (Some xs) (Some ys) new count m More read goes same less told = tt
+page_unread p (Some xs) (Some ys) new count m Truncated read goes same less told = tt
+page_unread p (Some xs) (Some ys) None count m (Unlawful fault) read goes same less told = absurd told.consumed
+page_unread p (Some xs) (Some ys) (Some rest) count m (Unlawful fault) read goes same less told =
     let page : List ℕ = told.page in
     let size : length page ≡ 4 * due m = told.size in
     let is_due : due m ≡ min 1024 (m.words - length m.placed) = refl in
@@ -171,7 +171,7 @@ page_unread (Some xs) (Some ys) (Some rest) count m (Unlawful fault) read same l
     let long : length front ≡ length read.code + length page = length-append read.code page in
     let text : xs ≡ front ++ rest = read.consumed ∙ ap (λ l. read.code ++ l) told.consumed ∙ sym (append_assoc read.code page rest) in
     let words : length (words_of page) ≡ due m = word_count page (due m) size in
-    let at = fault_in_page m.placed (words_of page) m.words fault (omega (arith, same, less)) (subst (λ n. FirstFault m.placed n None) (sym same) read.faultless) told.first in
+    let at = fault_comes p m.placed (words_of page) m.words fault (subst (λ n. FirstFault p m.placed n None) (sym same) read.faultless) (subst (λ x. FirstFault x (m.placed ++ words_of page) m.words (Some fault)) goes told.first) in
     let before : length m.placed ≡ 1024 * read.pages = read.whole less in
     let low : 1024 * read.pages ≤ fault.word = omega (arith, before, at.0) in
     let high : fault.word < 1024 * read.pages + 1024 = omega (arith, before, at.1, words, is_due) in
@@ -186,34 +186,35 @@ header_told None new header fault consumed long told = tt
 header_told (Some xs) None header fault consumed long told = absurd consumed
 header_told (Some xs) (Some ys) header fault consumed long told = of_header header ys consumed long told
 
-pub code_told : (old new : Option (List ℕ)) (header : List ℕ) (n : ℕ) (fault : ImageFault) → Consumes old new header → length header ≡ 24 → header_fault header ≡ None → n ≡ count_in header
-    → IfSome new (λ code. IsCodeFault n code fault) → IfSome old (λ bytes. IsFault bytes fault)
-code_told None new header n fault consumed long none count told = tt
-code_told (Some xs) None header n fault consumed long none count told = absurd consumed
-code_told (Some xs) (Some ys) header n fault consumed long none count told = of_code header ys consumed long none (subst (λ k. IsCodeFault k ys fault) count told)
+pub code_told : (p : Profile) (old new : Option (List ℕ)) (header : List ℕ) (n : ℕ) (fault : ImageFault) → Consumes old new header → length header ≡ 24 → header_fault header ≡ None → p ≡ named_profile header → n ≡ count_in header
+    → IfSome new (λ code. IsCodeFault p n code fault) → IfSome old (λ bytes. IsFault bytes fault)
+code_told p None new header n fault consumed long none goes count told = tt
+code_told p (Some xs) None header n fault consumed long none goes count told = absurd consumed
+code_told p (Some xs) (Some ys) header n fault consumed long none goes count told =
+    of_code header ys consumed long none (subst (λ x. IsCodeFault x (count_in header) ys fault) goes (subst (λ k. IsCodeFault p k ys fault) count told))
 
-pub more_told : (old new : Option (List ℕ)) (n : ℕ) (words : List ℕ) → IsRead old new n words → length words ≡ n → IfSome new (λ rest. 0 < length rest)
-    → IfSome old (λ code. IsCodeFault n code More)
-more_told None new n words read all some = tt
-more_told (Some xs) None n words read all some = absurd read.consumed
-more_told (Some xs) (Some ys) n words read all some =
+pub more_told : (p : Profile) (old new : Option (List ℕ)) (n : ℕ) (words : List ℕ) → IsRead p old new n words → length words ≡ n → IfSome new (λ rest. 0 < length rest)
+    → IfSome old (λ code. IsCodeFault p n code More)
+more_told p None new n words read all some = tt
+more_told p (Some xs) None n words read all some = absurd read.consumed
+more_told p (Some xs) (Some ys) n words read all some =
     let long : length xs ≡ length read.code + length ys = ap length read.consumed ∙ length-append read.code ys in
     let begins = whole_begins n read.pages read.code ys (omega (arith, read.size, all)) (inr (omega (arith, read.size, all))) in
     let size : length (whole_pages n (read.code ++ ys)) ≡ length read.code + length begins.0 = ap length begins.1 ∙ length-append read.code begins.0 in
     let none : length begins.0 ≡ 0 = omega (arith, size, begins.2, read.size, all) in
     let whole : whole_pages n xs ≡ read.code = ap (whole_pages n) read.consumed ∙ begins.1 ∙ nothing_more read.code begins.0 none in
-    (subst (λ ws. FirstFault ws n None) (sym (ap words_of whole ∙ read.spelled)) read.faultless, omega (arith, long, read.size, all, some))
+    (subst (λ ws. FirstFault p ws n None) (sym (ap words_of whole ∙ read.spelled)) read.faultless, omega (arith, long, read.size, all, some))
   where
     nothing_more : (xs ms : List ℕ) → length ms ≡ 0 → xs ++ ms ≡ xs
     nothing_more xs [] e = append-nil xs
     nothing_more xs (m ∷ ms) e = absurd (omega (arith, e))
 
-pub file_told : (old mid new : Option (List ℕ)) (header : List ℕ) (n : ℕ) (words : List ℕ) (image : Image) → Consumes old mid header → IsRead mid new n words → IfSome new (λ rest. rest ≡ [])
-    → header ≡ header_of (length image.words) image.entry image.slot → words ≡ image.words → IfSome old (λ bytes. FileOf image bytes)
-file_told None mid new header n words image consumed read ended first same = tt
-file_told (Some xs) None new header n words image consumed read ended first same = absurd consumed
-file_told (Some xs) (Some ys) None header n words image consumed read ended first same = absurd read.consumed
-file_told (Some xs) (Some ys) (Some zs) header n words image consumed read ended first same =
+pub file_told : (p : Profile) (old mid new : Option (List ℕ)) (header : List ℕ) (n : ℕ) (words : List ℕ) (image : Image) → Consumes old mid header → IsRead p mid new n words → IfSome new (λ rest. rest ≡ [])
+    → header ≡ header_of (length image.words) image.entry image.profile image.slot → words ≡ image.words → IfSome old (λ bytes. FileOf image bytes)
+file_told p None mid new header n words image consumed read ended first same = tt
+file_told p (Some xs) None new header n words image consumed read ended first same = absurd consumed
+file_told p (Some xs) (Some ys) None header n words image consumed read ended first same = absurd read.consumed
+file_told p (Some xs) (Some ys) (Some zs) header n words image consumed read ended first same =
     let rest : ys ≡ code_of image.words = read.consumed ∙ ap (λ l. read.code ++ l) ended ∙ append-nil read.code ∙ sym read.back ∙ ap code_of same in
     consumed ∙ (λ i. first i ++ rest i)
 
@@ -231,7 +232,7 @@ file_unread (Some xs) None new header n fault consumed long count told = absurd 
 file_unread (Some xs) (Some ys) new header n NoMemory consumed long count told = tt
 file_unread (Some xs) (Some ys) new header n Device consumed long count told = tt
 file_unread (Some xs) (Some ys) new header n Magic consumed long count told = tt
-file_unread (Some xs) (Some ys) new header n Profile consumed long count told = tt
+file_unread (Some xs) (Some ys) new header n OtherProfile consumed long count told = tt
 file_unread (Some xs) (Some ys) new header n Counts consumed long count told = tt
 file_unread (Some xs) (Some ys) new header n Base consumed long count told = tt
 file_unread (Some xs) (Some ys) new header n More consumed long count told = tt
@@ -242,7 +243,7 @@ file_unread (Some xs) (Some ys) new header n (Unlawful fault) consumed long coun
     told ∙ ap Some (ap (drop (page_end n fault.word)) (sym code) ∙ drop-drop (page_end n fault.word) 24 xs ∙ ap (λ k. drop (24 + page_end k fault.word) xs) words)
 
 -- A fault of a header isn't one of a page.
-by_tests : (x y z w : Bool) (fault : Fault) → (if not x then Some Magic else if not y then Some Profile else if z then Some Counts else if not w then Some Base else None) ≡ Some (Unlawful fault) → ⊥
+by_tests : (x y z w : Bool) (fault : Fault) → (if not x then Some Magic else if not y then Some OtherProfile else if z then Some Counts else if not w then Some Base else None) ≡ Some (Unlawful fault) → ⊥
 by_tests false y z w fault e = cc
 by_tests true false z w fault e = cc
 by_tests true true true w fault e = cc
@@ -258,7 +259,7 @@ header_unread None new header fault told = tt
 header_unread (Some xs) new header NoMemory told = tt
 header_unread (Some xs) new header Device told = tt
 header_unread (Some xs) new header Magic told = tt
-header_unread (Some xs) new header Profile told = tt
+header_unread (Some xs) new header OtherProfile told = tt
 header_unread (Some xs) new header Counts told = tt
 header_unread (Some xs) new header Base told = tt
 header_unread (Some xs) new header More told = tt

@@ -6,9 +6,10 @@ use Rattle.std.proofs.lemmas.Bool.{cases_lt}
 use Rattle.std.proofs.lemmas.Option.{slice_get-get_or}
 use Rattle.a64_word.specs.declared.fields.Field.{Field}
 use Rattle.a64_word.specs.declared.instruction.Instruction.{Instruction}
-use Rattle.a64_word.specs.declared.instruction.Instruction.TheVariants.{AddSubImmediate, LogicalImmediate, MoveWide, PcRelative, Bitfield, LogicalShifted, AddSubShifted, AddSubExtended, ConditionalCompare, ConditionalSelect, TwoSource, CountLeadingZeros, MultiplyAdd, MultiplyHigh, Nop, Breakpoint, Branch, ConditionalBranch, CompareBranch, TestBranch, BranchRegister, UnsignedOffset, SignedOffset, RegisterOffset, Pair}
+use Rattle.a64_word.specs.declared.instruction.Instruction.TheVariants.{AddSubImmediate, LogicalImmediate, MoveWide, PcRelative, Bitfield, LogicalShifted, AddSubShifted, AddSubExtended, ConditionalCompare, ConditionalSelect, TwoSource, CountLeadingZeros, MultiplyAdd, MultiplyHigh, Nop, Breakpoint, Branch, ConditionalBranch, CompareBranch, TestBranch, BranchRegister, UnsignedOffset, SignedOffset, RegisterOffset, Pair, Ordered}
 use Rattle.a64_word.specs.Encoding.{fields, Spells}
 use Rattle.a64_word.specs.Fields.{total_width, sum_of, AllFit}
+use Rattle.lfi_module.specs.declared.profile.Profile.{Profile}
 use Rattle.lfi_rules.specs.Faults.{FirstFault}
 use Rattle.lfi_rules.proofs.Lawful.{is_spelled}
 
@@ -41,6 +42,7 @@ total_is (UnsignedOffset i) = refl
 total_is (SignedOffset i) = refl
 total_is (RegisterOffset i) = refl
 total_is (Pair i) = refl
+total_is (Ordered i) = refl
 
 sum_below : (fs : List Field) → AllFit fs → sum_of fs < 2 ^ total_width fs
 sum_below [] fit = omega arith
@@ -57,11 +59,11 @@ outside [] i past = refl
 outside (x ∷ xs) zero past = absurd (omega (arith, past))
 outside (x ∷ xs) (suc i) past = outside xs i (omega (arith, past))
 
-pub lawful_small : (words : List ℕ) (n : ℕ) → FirstFault words n None → AreWords words
-lawful_small words n none i = elim (cases_lt i (length words)) [
+pub lawful_small : (profile : Profile) (words : List ℕ) (n : ℕ) → FirstFault profile words n None → AreWords words
+lawful_small profile words n none i = elim (cases_lt i (length words)) [
   | inl inside ↦ elim (cases_lt (get_or words i 0) (2 ^ 32)) [
     | inl small ↦ small
-    | inr large ↦ absurd (is_spelled words n i (get_or words i 0) none (slice_get-get_or words i 0 inside) (λ inst s. let small : get_or words i 0 < 2 ^ 32 = spelled_small inst (get_or words i 0) s in omega (arith, small, large)))
+    | inr large ↦ absurd (is_spelled profile words n i (get_or words i 0) none (slice_get-get_or words i 0 inside) (λ inst s. let small : get_or words i 0 < 2 ^ 32 = spelled_small inst (get_or words i 0) s.spells in omega (arith, small, large)))
   ]
   | inr past ↦ let e : get_or words i 0 ≡ 0 = outside words i past in omega (arith, e)
 ]

@@ -16,4 +16,4 @@ due m = words_due page_words m.words (length m.placed)
 
 -- with more words placed
 abbrev pub with_placed : Module → List ℕ → Module
-with_placed m more = record { words = m.words; entry = m.entry; slot = m.slot; placed = m.placed ++ more }
+with_placed m more = record { words = m.words; entry = m.entry; profile = m.profile; slot = m.slot; placed = m.placed ++ more }

@@ -18,7 +18,7 @@ number_of Device = 9
 -- what `{}` prints of a fault
 abbrev pub fault_text : ImageFault → List ℕ
 fault_text Magic = codes "it is no image file"
-fault_text Profile = codes "its profile is not 1"
+fault_text Profile = codes "its profile is neither 1 nor 2"
 fault_text Counts = codes "its word count or its entry is out of range"
 fault_text Base = codes "its base is that of no slot"
 fault_text Truncated = codes "it ends before its code does"

@@ -2,12 +2,14 @@
 -- docs/PROFILE.md.
 use Rattle.std.specs.Prelude.{◌≡◌, ℕ, ◌+◌, ◌*◌, ◌/◌, ◌^◌, ◌<◌, ◌==◌, nat_lt, nat_le, not, ◌||◌, ◌&&◌, Bool, if◌then◌else◌, List, ◌++◌, length, take, drop, min, Option, Some, None, ⊤}
 use Rattle.byteorder.specs.Endian.{little_number}
+use Rattle.lfi_module.specs.declared.profile.Profile.{Profile}
+use Rattle.lfi_module.specs.declared.profile.Profile.TheVariants.{One, Two}
 use Rattle.lfi_module.specs.Numbers.{module_count, most_words, page_words, page_bytes, base_of}
 use Rattle.a64_word.specs.Words.{words_of}
 use Rattle.lfi_rules.specs.Faults.{FirstFault}
 use Rattle.lfi_image.specs.declared.fault.ImageFault.{ImageFault}
-use Rattle.lfi_image.specs.declared.fault.ImageFault.TheVariants.{Magic, Profile, Counts, Base, Truncated, More, Unlawful, NoMemory, Device}
-use Rattle.lfi_image.specs.Image.{magic, profile}
+use Rattle.lfi_image.specs.declared.fault.ImageFault.TheVariants.{Magic, Profile as OtherProfile, Counts, Base, Truncated, More, Unlawful, NoMemory, Device}
+use Rattle.lfi_image.specs.Image.{magic}
 
 -- the fields of a header
 abbrev pub count_in : List ℕ → ℕ
@@ -29,11 +31,19 @@ slot_at base = base / 2 ^ 33
 abbrev pub is_base : ℕ → Bool
 is_base base = nat_lt (slot_at base) module_count && base == base_of (slot_at base)
 
+-- the number of a profile
+abbrev pub is_profile : ℕ → Bool
+is_profile number = number == 1 || number == 2
+
+-- the profile that a header names, where it names one
+abbrev pub named_profile : List ℕ → Profile
+named_profile header = if profile_in header == 2 then Two else One
+
 -- the first fault of a file's header
 unfoldable pub header_fault : List ℕ → Option ImageFault
 header_fault header =
     if not (little_number 4 header == little_number 4 magic) then Some Magic
-    else if not (profile_in header == profile) then Some Profile
+    else if not (is_profile (profile_in header)) then Some OtherProfile
     else if count_in header == 0 || nat_lt most_words (count_in header) || nat_le (count_in header) (entry_in header) then Some Counts
     else if not (is_base (base_in header)) then Some Base
     else None
@@ -42,14 +52,14 @@ header_fault header =
 abbrev pub whole_pages : ℕ → List ℕ → List ℕ
 whole_pages n code = if nat_le (4 * n) (length code) then take (4 * n) code else take (page_bytes * (length code / page_bytes)) code
 
--- the fault of what follows a header for n words; memory can run out and the device can fail at any time
-abbrev pub IsCodeFault : ℕ → List ℕ → ImageFault → Type 0
-IsCodeFault n code (Unlawful fault) = FirstFault (words_of (whole_pages n code)) n (Some fault)
-IsCodeFault n code Truncated = FirstFault (words_of (whole_pages n code)) n None × (length code < 4 * n)
-IsCodeFault n code More = FirstFault (words_of (whole_pages n code)) n None × (4 * n < length code)
-IsCodeFault n code NoMemory = ⊤
-IsCodeFault n code Device = ⊤
-IsCodeFault n code _ = ⊥
+-- the fault of what follows a header for n words of a profile; memory can run out and the device can fail at any time
+abbrev pub IsCodeFault : Profile → ℕ → List ℕ → ImageFault → Type 0
+IsCodeFault profile n code (Unlawful fault) = FirstFault profile (words_of (whole_pages n code)) n (Some fault)
+IsCodeFault profile n code Truncated = FirstFault profile (words_of (whole_pages n code)) n None × (length code < 4 * n)
+IsCodeFault profile n code More = FirstFault profile (words_of (whole_pages n code)) n None × (4 * n < length code)
+IsCodeFault profile n code NoMemory = ⊤
+IsCodeFault profile n code Device = ⊤
+IsCodeFault profile n code _ = ⊥
 
 -- The fault of a file, in the order of reading: the header, then page by page, then the end. Memory is asked for once
 -- the header is there and has no fault.
@@ -58,7 +68,7 @@ pub data IsFault (bytes : List ℕ) (fault : ImageFault) : Type 0 where
   short : fault ≡ Truncated → length bytes < 24 → IsFault bytes fault
   of_header : (header rest : List ℕ) → bytes ≡ header ++ rest → length header ≡ 24 → header_fault header ≡ Some fault → IsFault bytes fault
   of_code : (header code : List ℕ) → bytes ≡ header ++ code → length header ≡ 24 → header_fault header ≡ None
-      → IsCodeFault (count_in header) code fault → IsFault bytes fault
+      → IsCodeFault (named_profile header) (count_in header) code fault → IsFault bytes fault
 
 -- where in the code of n words the page of this word ends, in bytes
 abbrev pub page_end : (n word : ℕ) → ℕ

@@ -10,20 +10,21 @@ ghost use Rattle.lfi_image.specs.inner.Builders.{IsBuilt};
 
 use crate::judged::JudgedPage;
 use crate::places::Places;
-use lfi_module::{Extent, ModuleNumber, PageSize, WordCount};
-use lfi_rules::{Fault, Need, fault_after};
+use lfi_module::{Extent, ModuleNumber, PageSize, Profile, WordCount};
+use lfi_rules::{Fault, Need, fault_after, leave};
 use page_buf::SealedPage;
 use std::alloc::{AllocError, Global};
 use std::marker::Model;
 
 /// The pages of a module so far. Their words have no fault.
 ///
-/// A contract sees it as the module: how many words it has in all, its entry, its slot and the words placed.
+/// A contract sees it as the module: how many words it has in all, its entry, its profile, its slot and the words placed.
 #[derive(Drop)]
 pub struct Builder {
     pages: Vec<SealedPage>,
     words: u32,
     entry: u32,
+    profile: Profile,
     slot: u16,
     placed: u32,
     tail: Need,
@@ -32,20 +33,20 @@ pub struct Builder {
 impl Model for Builder {
     ghost Value = { Module };
 
-    ghost view = { λ b. record { words = b.words; entry = b.entry; slot = b.slot; placed = words_in b.pages.items } };
+    ghost view = { λ b. record { words = b.words; entry = b.entry; profile = b.profile; slot = b.slot; placed = words_in b.pages.items } };
 
-    ghost invariant = { λ b. IsBuilt b.words b.entry b.slot b.placed b.tail b.pages.items × (page_count page_words b.words ≤ vec_capacity b.pages) };
+    ghost invariant = { λ b. IsBuilt b.profile b.words b.entry b.slot b.placed b.tail b.pages.items × (page_count page_words b.words ≤ vec_capacity b.pages) };
 }
 
 impl Builder {
-    /// A module of so many words with this entry, in this slot. No word is placed, and the places for its pages are
+    /// A module of so many words with this entry and this profile, in this slot. No word is placed, and the places for its pages are
     /// reserved.
     ///
     /// # Errors
     ///
     /// Where the places' memory is refused.
     pub fn new(alloc: Global, extent: Extent, slot: ModuleNumber) -> Result<Builder, AllocError>
-        ensures { IfOk result (λ b. b ≡ record { words = extent.words; entry = extent.entry; slot = slot; placed = [] }) }
+        ensures { IfOk result (λ b. b ≡ record { words = extent.words; entry = extent.entry; profile = extent.profile; slot = slot; placed = [] }) }
     {
         let places = Places::new(alloc, extent.words())?;
         Ok(Builder::in_places(places, extent, slot))
@@ -54,20 +55,21 @@ impl Builder {
     /// The same module in places that were reserved before, which are enough: see [`Places::words`]. It takes no memory.
     pub fn in_places(places: Places, extent: Extent, slot: ModuleNumber) -> Builder
         requires { extent.words ≤ places }
-        ensures { result ≡ record { words = extent.words; entry = extent.entry; slot = slot; placed = [] } }
+        ensures { result ≡ record { words = extent.words; entry = extent.entry; profile = extent.profile; slot = slot; placed = [] } }
     {
         let Places { pages, words: _ } = places;
         Builder {
             pages,
             words: extent.words().number(),
             entry: extent.entry(),
+            profile: extent.profile(),
             slot: slot.number(),
             placed: 0,
             tail: Need::Nothing,
         }
     }
 
-    /// Places the next page of this module, one that was judged there. It takes no memory.
+    /// Places the next page of this module, one that was judged there by its profile. It takes no memory.
     ///
     /// # Errors
     ///
@@ -75,10 +77,11 @@ impl Builder {
     /// need; and the page.
     pub fn append(&mut self, page: JudgedPage) -> Result<(), (Fault, SealedPage)>
         requires module { page.words ≡ self.old.words }
+        requires profile { page.profile ≡ self.old.profile }
         requires place { page.first ≡ length self.old.placed }
         ensures placed { IfOk result (λ _. self.new ≡ with_placed self.old (words_of page.page)) }
-        ensures faultless { IfOk result (λ _. FirstFault (self.old.placed ++ words_of page.page) self.old.words None) }
-        ensures fault { IfErr result (λ back. FirstFault (self.old.placed ++ words_of page.page) self.old.words (Some back.0)) }
+        ensures faultless { IfOk result (λ _. FirstFault self.old.profile (self.old.placed ++ words_of page.page) self.old.words None) }
+        ensures fault { IfErr result (λ back. FirstFault self.old.profile (self.old.placed ++ words_of page.page) self.old.words (Some back.0)) }
         ensures back { IfErr result (λ back. back.1 ≡ page.page) }
         ensures stays { OnErr result (self.new ≡ self.old) }
     {
@@ -90,7 +93,7 @@ impl Builder {
         match self.pages.push(page) {
             Ok(()) => {
                 self.placed += count as u32;
-                self.tail = verdict.tail;
+                self.tail = leave(self.tail, &verdict);
                 Ok(())
             }
             Err(_) => unreachable!(),
@@ -104,7 +107,7 @@ impl Builder {
     /// The builder, where words are still to come.
     pub fn finish(self) -> Result<CompleteImage, Builder>
         ensures { MatchResult result
-            (λ image. (length self.placed ≡ self.words) × (image ≡ record { entry = self.entry; slot = self.slot; words = self.placed }))
+            (λ image. (length self.placed ≡ self.words) × (image ≡ record { profile = self.profile; entry = self.entry; slot = self.slot; words = self.placed }))
             (λ b. (length self.placed < self.words) × (b ≡ self)) }
     {
         if self.placed < self.words {
@@ -128,6 +131,13 @@ impl Builder {
         self.entry
     }
 
+    /// The profile that it goes by.
+    pub fn profile(&self) -> Profile
+        ensures { result ≡ self.now.profile }
+    {
+        self.profile
+    }
+
     /// The slot.
     pub fn slot(&self) -> ModuleNumber
         ensures { result ≡ self.now.slot }
@@ -139,7 +149,7 @@ impl Builder {
     pub fn placed(&self) -> u32
         ensures count { result ≡ length self.now.placed }
         ensures within { result ≤ self.now.words }
-        ensures faultless { FirstFault self.now.placed self.now.words None }
+        ensures faultless { FirstFault self.now.profile self.now.placed self.now.words None }
     {
         self.placed
     }
@@ -161,9 +171,9 @@ impl Builder {
     }
 }
 
-/// A whole module. Its words are lawful.
+/// A whole module. Its words are lawful by its profile.
 ///
-/// A contract sees it as its entry, its slot and its words.
+/// A contract sees it as its profile, its entry, its slot and its words.
 #[derive(Drop)]
 pub struct CompleteImage {
     builder: Builder,
@@ -172,9 +182,9 @@ pub struct CompleteImage {
 impl Model for CompleteImage {
     ghost Value = { Image };
 
-    ghost view = { λ c. record { entry = c.builder.entry; slot = c.builder.slot; words = c.builder.placed } };
+    ghost view = { λ c. record { profile = c.builder.profile; entry = c.builder.entry; slot = c.builder.slot; words = c.builder.placed } };
 
-    ghost invariant = { λ c. IsImage (record { entry = c.builder.entry; slot = c.builder.slot; words = c.builder.placed }) × (length c.builder.placed ≡ c.builder.words) };
+    ghost invariant = { λ c. IsImage (record { profile = c.builder.profile; entry = c.builder.entry; slot = c.builder.slot; words = c.builder.placed }) × (length c.builder.placed ≡ c.builder.words) };
 }
 
 impl CompleteImage {
@@ -199,6 +209,13 @@ impl CompleteImage {
         ensures range { self.now.entry < length self.now.words }
     {
         self.builder.entry()
+    }
+
+    /// The profile by which its words are lawful.
+    pub fn profile(&self) -> Profile
+        ensures { result ≡ self.now.profile }
+    {
+        self.builder.profile()
     }
 
     /// The slot.

@@ -11,7 +11,7 @@ use std::fmt;
 pub enum ImageFault {
     /// The file does not begin with `LFI1`.
     Magic,
-    /// The profile is not 1.
+    /// The profile is neither 1 nor 2.
     Profile,
     /// The number of words is not 1 to 4,194,304, or the entry is not below it.
     Counts,
@@ -55,7 +55,7 @@ impl fmt::Display for ImageFault {
     fn fmt<W: fmt::Write>(&self, f: &mut fmt::Formatter<W>) -> fmt::Result {
         match self {
             ImageFault::Magic => f.write_str("it is no image file"),
-            ImageFault::Profile => f.write_str("its profile is not 1"),
+            ImageFault::Profile => f.write_str("its profile is neither 1 nor 2"),
             ImageFault::Counts => f.write_str("its word count or its entry is out of range"),
             ImageFault::Base => f.write_str("its base is that of no slot"),
             ImageFault::Truncated => f.write_str("it ends before its code does"),

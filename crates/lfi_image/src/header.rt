@@ -1,11 +1,12 @@
 //! What stands before the code in an image file.
 ghost use Rattle.std.specs.Prelude.{◌≡◌, true, false, length, None, Some, IfOk, MatchOption, MatchResult};
+ghost use Rattle.lfi_module.specs.Profiles.{profile_number};
 ghost use Rattle.lfi_image.specs.Image.{header_of};
-ghost use Rattle.lfi_image.specs.Reading.{header_fault, count_in, is_base, slot_at};
+ghost use Rattle.lfi_image.specs.Reading.{header_fault, count_in, is_profile, named_profile, is_base, slot_at};
 
 use crate::fault::ImageFault;
 use byteorder::{ByteOrder, LittleEndian};
-use lfi_module::{Extent, ModuleNumber, WordCount};
+use lfi_module::{Extent, ModuleNumber, Profile, WordCount};
 
 /// The bytes of a header.
 pub(crate) const HEADER_BYTES: usize = 24;
@@ -13,9 +14,7 @@ pub(crate) const HEADER_BYTES: usize = 24;
 /// `LFI1`.
 const MAGIC: [u8; 4] = [0x4C, 0x46, 0x49, 0x31];
 
-const PROFILE: u32 = 1;
-
-/// What a header says: how many words there are, which of them is entered, and the slot.
+/// What a header says: how many words there are, which of them is entered, the profile, and the slot.
 #[derive(Clone, Copy)]
 pub(crate) struct Header {
     pub(crate) extent: Extent,
@@ -36,15 +35,27 @@ fn slot_of(base: u64) -> Option<ModuleNumber>
     None
 }
 
+/// The profile with a number.
+fn profile_of(number: u32) -> Option<Profile>
+    ensures { MatchOption result (is_profile number ≡ false) (λ profile. (is_profile number ≡ true) × (profile_number profile ≡ number)) }
+{
+    Profile::new(number)
+}
+
 /// The header of an image of so many words.
-pub(crate) fn encode(words: u32, entry: u32, slot: ModuleNumber) -> [u8; HEADER_BYTES]
-    ensures { result ≡ header_of words entry slot }
+pub(crate) fn encode(
+    words: u32,
+    entry: u32,
+    profile: Profile,
+    slot: ModuleNumber,
+) -> [u8; HEADER_BYTES]
+    ensures { result ≡ header_of words entry profile slot }
 {
     let mut bytes = [0; HEADER_BYTES];
     bytes[..4].copy_from_slice(&MAGIC);
     LittleEndian::write_u32(&mut bytes[4..], words);
     LittleEndian::write_u32(&mut bytes[8..], entry);
-    LittleEndian::write_u32(&mut bytes[12..], PROFILE);
+    LittleEndian::write_u32(&mut bytes[12..], profile.number());
     LittleEndian::write_u64(&mut bytes[16..], slot.base());
     bytes
 }
@@ -56,18 +67,19 @@ impl Header {
         requires { length bytes.now ≡ 24 }
         ensures fault { MatchResult result (λ _. header_fault bytes.now ≡ None) (λ fault. header_fault bytes.now ≡ Some fault) }
         ensures count { IfOk result (λ h. h.extent.words ≡ count_in bytes.now) }
-        ensures bytes { IfOk result (λ h. bytes.now ≡ header_of h.extent.words h.extent.entry h.slot) }
+        ensures bytes { IfOk result (λ h. bytes.now ≡ header_of h.extent.words h.extent.entry h.extent.profile h.slot) }
+        ensures profile { IfOk result (λ h. h.extent.profile ≡ named_profile bytes.now) }
     {
         if LittleEndian::read_u32(bytes) != LittleEndian::read_u32(&MAGIC) {
             return Err(ImageFault::Magic);
         }
-        if LittleEndian::read_u32(&bytes[12..]) != PROFILE {
+        let Some(profile) = profile_of(LittleEndian::read_u32(&bytes[12..])) else {
             return Err(ImageFault::Profile);
-        }
+        };
         let Some(words) = WordCount::new(LittleEndian::read_u32(&bytes[4..])) else {
             return Err(ImageFault::Counts);
         };
-        let Some(extent) = Extent::new(words, LittleEndian::read_u32(&bytes[8..])) else {
+        let Some(extent) = Extent::new(words, LittleEndian::read_u32(&bytes[8..]), profile) else {
             return Err(ImageFault::Counts);
         };
         match slot_of(LittleEndian::read_u64(&bytes[16..])) {

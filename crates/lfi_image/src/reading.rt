@@ -82,7 +82,12 @@ fn read_page<R: Read>(
     ensures fault { IfErr result (λ fault. IsPageFault (R.remaining reader.old) (R.remaining reader.new) builder.old fault) }
 {
     let page = read_sealed(alloc, reader, 4 * builder.due() as usize)?;
-    let page = JudgedPage::judge(page, builder.placed(), builder.words());
+    let page = JudgedPage::judge(
+        page,
+        builder.placed(),
+        builder.words(),
+        builder.profile(),
+    );
     match builder.append(page) {
         Ok(()) => Ok(()),
         Err((fault, _)) => Err(ImageFault::Unlawful(fault)),
@@ -96,10 +101,10 @@ fn read_code<R: Read>(
     builder: &mut Builder,
 ) -> Result<(), ImageFault>
     requires { builder.old.placed ≡ [] }
-    ensures code { OnOk result (IsRead (R.remaining reader.old) (R.remaining reader.new) builder.old.words builder.new.placed) }
+    ensures code { OnOk result (IsRead builder.old.profile (R.remaining reader.old) (R.remaining reader.new) builder.old.words builder.new.placed) }
     ensures whole { OnOk result (length builder.new.placed ≡ builder.old.words) }
     ensures same { OnOk result (IsSameModule builder.old builder.new) }
-    ensures fault { IfErr result (λ fault. IfSome (R.remaining reader.old) (λ code. IsCodeFault builder.old.words code fault)) }
+    ensures fault { IfErr result (λ fault. IfSome (R.remaining reader.old) (λ code. IsCodeFault builder.old.profile builder.old.words code fault)) }
     ensures unread { IfErr result (λ fault. IfSome (R.remaining reader.old) (λ code. IsUnread builder.old.words code (R.remaining reader.new) fault)) }
 {
     while builder.placed() < builder.words().number() {

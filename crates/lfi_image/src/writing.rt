@@ -57,7 +57,12 @@ pub fn write_image<W: Write>(image: &CompleteImage, writer: &mut W) -> Result<()
     ensures fault { IfErr result (λ fault. fault ≡ Device) }
     ensures part { OnErr result (AppendsBeginning (W.contents writer.old) (W.contents writer.new) (file_of image.now)) }
 {
-    let header = encode(image.words().number(), image.entry(), image.slot());
+    let header = encode(
+        image.words().number(),
+        image.entry(),
+        image.profile(),
+        image.slot(),
+    );
     write_bytes(writer, &header)?;
     write_pages(writer, image.pages())
 }

@@ -5,7 +5,7 @@ use crate::rows::{
     page_ending,
 };
 use lfi_image::{Builder, JudgedPage, Places};
-use lfi_module::WordCount;
+use lfi_module::{Profile, WordCount};
 use lfi_rules::{Fault, Rule};
 use page_buf::SealedPage;
 use std::marker::Send;
@@ -16,7 +16,7 @@ fn needs_send<T: Send>(_: &T) {}
 #[test]
 fn a_judged_page_and_its_parts(rt: HostRuntime) -> Result<(), Fail> {
     let page = SealedPage::of(rt.alloc(), &MOVE_STACK)?;
-    let judged = JudgedPage::judge(page, 1024, WordCount::of(1025));
+    let judged = JudgedPage::judge(page, 1024, WordCount::of(1025), Profile::One);
     needs_send(&judged);
     assert!(rt; judged.first() == 1024 && judged.words().number() == 1025);
     assert!(rt; judged.verdict().inner.is_none() && judged.page().len_words() == 1);

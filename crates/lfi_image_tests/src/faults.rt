@@ -2,6 +2,7 @@
 
 use crate::rows::{ONE_RET, UNKNOWN, fault_of};
 use lfi_image::ImageFault;
+use lfi_module::Profile;
 use lfi_rules::{Fault, Rule, check_all};
 use page_buf::SealedPage;
 use std::test::Fail;
@@ -44,6 +45,7 @@ fn number(at: usize, value: u8) -> u8 {
         4 | 5 => 5,
         6 if value <= 63 => 5,
         6..=11 => 3,
+        12 if value == 2 => 0,
         12..=15 => 2,
         20 if value % 2 == 1 && value <= 31 => 0,
         _ => 4,
@@ -65,24 +67,39 @@ fn each_header_byte(rt: HostRuntime) {
     }
 }
 
+/// LDAR X0, [X18] is a word of the second profile alone: the file says which.
+#[test]
+fn by_the_profile_of_the_file(rt: HostRuntime) {
+    let mut file = ONE_RET;
+    file[24..].copy_from_slice(&[0x40, 0xFE, 0xDF, 0xC8]);
+    assert!(rt; fault_of(rt.alloc(), &file) == Some(FIRST_UNKNOWN));
+    file[12] = 2;
+    assert!(rt; fault_of(rt.alloc(), &file).is_none());
+    file[12] = 3;
+    assert!(rt; fault_of(rt.alloc(), &file) == Some(ImageFault::Profile));
+}
+
 #[test]
 fn each_code_byte(rt: HostRuntime) -> Result<(), Fail> {
     let mut lawful = 0u32;
-    for at in 24..28 {
-        for value in 0..=255u8 {
-            let mut bytes = ONE_RET;
-            bytes[at] = value;
-            let page = SealedPage::of(rt.alloc(), &bytes[24..])?;
-            let want = check_all(&page).map(ImageFault::Unlawful);
-            assert!(rt;
-                fault_of(rt.alloc(), &bytes) == want,
-                "byte {at} is {value}"
-            );
-            lawful = lawful.saturating_add(u32::from(want.is_none()));
+    for profile in [Profile::One, Profile::Two] {
+        for at in 24..28 {
+            for value in 0..=255u8 {
+                let mut bytes = ONE_RET;
+                bytes[12] = if profile == Profile::One { 1 } else { 2 };
+                bytes[at] = value;
+                let page = SealedPage::of(rt.alloc(), &bytes[24..])?;
+                let want = check_all(&page, profile).map(ImageFault::Unlawful);
+                assert!(rt;
+                    fault_of(rt.alloc(), &bytes) == want,
+                    "byte {at} is {value}"
+                );
+                lawful = lawful.saturating_add(u32::from(want.is_none()));
+            }
         }
     }
-    // RET itself four times, at least.
-    assert!(rt; lawful >= 4);
+    // RET itself four times by each profile, at least.
+    assert!(rt; lawful >= 8);
     Ok(())
 }
 

@@ -1,7 +1,7 @@
 //! What the tests share: code, the image file of one RET, and images of code.
 
 use lfi_image::{Builder, CompleteImage, ImageFault, JudgedPage, read_image};
-use lfi_module::{Extent, ModuleNumber, WordCount};
+use lfi_module::{Extent, ModuleNumber, Profile, WordCount};
 use lfi_rules::Fault;
 use page_buf::SealedPage;
 use std::alloc::Global;
@@ -40,7 +40,7 @@ pub fn append(alloc: Global, builder: &mut Builder, code: &[u8]) -> Result<Optio
     if page.len_words() != builder.due() as usize {
         return Err(Fail::from("the page has not the words due"));
     }
-    let page = JudgedPage::judge(page, builder.placed(), builder.words());
+    let page = JudgedPage::judge(page, builder.placed(), builder.words(), builder.profile());
     match builder.append(page) {
         Ok(()) => Ok(None),
         Err((fault, _)) => Ok(Some(fault)),
@@ -52,7 +52,7 @@ pub fn module(words: u32, entry: u32, slot: u16) -> Result<(Extent, ModuleNumber
     let Some(words) = WordCount::new(words) else {
         return Err(Fail::from("no module has so many words"));
     };
-    let Some(extent) = Extent::new(words, entry) else {
+    let Some(extent) = Extent::new(words, entry, Profile::One) else {
         return Err(Fail::from("the entry is no word of the module"));
     };
     let Some(slot) = ModuleNumber::new(slot) else {

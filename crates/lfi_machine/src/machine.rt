@@ -41,7 +41,7 @@ impl Model for Machine {
 
     ghost view = { λ m. record { registers = m.registers; owned = m.slot } };
 
-    ghost invariant = { λ m. IsImage m.slot.image × IsSafe m.slot.image m.registers × AreDecoded m.instructions.items m.slot.image.words × (length m.slot.image.words ≤ vec_capacity m.instructions) };
+    ghost invariant = { λ m. IsImage m.slot.image × IsSafe m.slot.image m.registers × AreDecoded m.slot.image.profile m.instructions.items m.slot.image.words × (length m.slot.image.words ≤ vec_capacity m.instructions) };
 }
 
 impl Machine {

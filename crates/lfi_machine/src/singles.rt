@@ -16,13 +16,14 @@ ghost use Rattle.lfi_machine.specs.Keeping.{KeepsStored};
 ghost use Rattle.lfi_machine.specs.Owned.{memory, state_of, writes_by, IsLocated};
 ghost use Rattle.lfi_machine.specs.Halting.{CarriesOut};
 ghost use Rattle.lfi_machine.specs.inner.Transfers.{Transfers, denied_in, access_move, Accesses, base_write, Finishes};
-ghost use Rattle.lfi_machine.specs.inner.Addresses.{unsigned_access, signed_access, index_access, pair_access};
+ghost use Rattle.lfi_machine.specs.inner.Addresses.{unsigned_access, signed_access, index_access, pair_access, ordered_access};
 
 use crate::halt::Halt;
 use crate::slot::{Access, Data, bytes_of};
 use a64_semantics::Registers;
+use a64_effects::ordered_transfer;
 use a64_word::{
-    IndexExtend, IndexMode, Register, RegisterOffset, SignedOffset, Size, Transfer, UnsignedOffset,
+    IndexExtend, IndexMode, Ordered, Register, RegisterOffset, SignedOffset, Size, Transfer, UnsignedOffset,
     Width,
 };
 use lfi_confinement::Cause;
@@ -295,6 +296,35 @@ pub fn register_offset(
     let operand = Operand {
         size: i.size,
         transfer: i.transfer,
+        rt: i.rt,
+    };
+    single(slot, registers, operand, address, i.rn, None)
+}
+
+/// The address of an ordered load or store.
+#[inline(always)]
+fn ordered_address(registers: &Registers, i: &Ordered) -> u64
+    ensures { result ≡ first_byte (ordered_access i.now) registers.now }
+{
+    registers.x_or_sp(i.rn)
+}
+
+/// The ordered loads and stores, at a base. One thread runs, so their order is that of the others.
+///
+/// # Errors
+///
+/// As of [`unsigned_offset`].
+#[inline(always)]
+pub fn ordered(slot: &mut Data, registers: &mut Registers, i: &Ordered) -> Result<(), Halt>
+    requires image { IsImage slot.old.image }
+    requires confined { access_move (Instruction.Ordered i.now) slot.old registers.old ≢ escape }
+    ensures accesses { Accesses (Instruction.Ordered i.now) slot.old slot.new registers.old registers.new result }
+    ensures image { slot.new.image ≡ slot.old.image }
+{
+    let address = ordered_address(registers, i);
+    let operand = Operand {
+        size: i.size,
+        transfer: ordered_transfer(i.load),
         rt: i.rt,
     };
     single(slot, registers, operand, address, i.rn, None)

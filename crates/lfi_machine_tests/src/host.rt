@@ -5,7 +5,7 @@ ghost use Rattle.std.specs.Prelude.{⊤};
 use a64_semantics::Registers;
 use lfi_image::{Builder, CompleteImage, JudgedPage};
 use lfi_machine::{Answer, Data, DataFault, Machine, Runtime};
-use lfi_module::{Extent, ModuleNumber, WordCount};
+use lfi_module::{Extent, ModuleNumber, Profile, WordCount};
 use page_buf::SealedPage;
 use std::alloc::Global;
 use std::test::Fail;
@@ -74,6 +74,17 @@ pub fn image_in(
     entry: u32,
     words: &[u32],
 ) -> Result<CompleteImage, Fail> {
+    image_by(alloc, slot, entry, words, Profile::One)
+}
+
+/// The same by a profile.
+pub fn image_by(
+    alloc: Global,
+    slot: ModuleNumber,
+    entry: u32,
+    words: &[u32],
+    profile: Profile,
+) -> Result<CompleteImage, Fail> {
     let mut code = Vec::new(alloc);
     for word in words {
         for byte in word.to_le_bytes() {
@@ -86,7 +97,7 @@ pub fn image_in(
     let Some(count) = WordCount::new((code.len() / 4) as u32) else {
         return Err(Fail::from("no module has so many words"));
     };
-    let Some(extent) = Extent::new(count, entry) else {
+    let Some(extent) = Extent::new(count, entry, profile) else {
         return Err(Fail::from("the entry is no word of the module"));
     };
     let mut builder = Builder::new(alloc, extent, slot)?;
@@ -108,7 +119,7 @@ fn append(alloc: Global, builder: &mut Builder, bytes: &[u8]) -> Result<(), Fail
     if page.len_words() != builder.due() as usize {
         return Err(Fail::from("the page has not the words due"));
     }
-    let page = JudgedPage::judge(page, builder.placed(), builder.words());
+    let page = JudgedPage::judge(page, builder.placed(), builder.words(), builder.profile());
     if builder.append(page).is_err() {
         return Err(Fail::from("the code breaks a rule"));
     }

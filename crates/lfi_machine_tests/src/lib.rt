@@ -10,4 +10,6 @@ mod edges;
 #[cfg(test)]
 mod host;
 #[cfg(test)]
+mod ordered;
+#[cfg(test)]
 mod runs;

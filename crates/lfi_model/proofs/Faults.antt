@@ -1,4 +1,5 @@
--- A fault stays where more words follow, and what has been placed up to it is the longest beginning.
+-- What has been placed up to a fault is the longest beginning without one.
+use Rattle.lfi_module.specs.declared.profile.Profile.TheVariants.{One}
 use Rattle.lfi_rules.specs.declared.rule.Rule.{Rule}
 use Rattle.std.proofs.Common.{◌≡◌, ℕ, ◌+◌, ◌<◌, ◌≤◌, List, [], ◌∷◌, ◌++◌, length, Some, None, refl, sym, ◌∙◌, ap, subst, inl, inr, arith, length-append, append_assoc}
 use Rattle.std.specs.List.{slice_get}
@@ -6,49 +7,10 @@ use Rattle.std.proofs.lemmas.Option.{slice_get_within, get_or_from_slice_get, sl
 use Rattle.std.proofs.lemmas.List.{get_or_append_left, append-nil}
 use Rattle.std.proofs.lemmas.Bool.{cases_lt}
 use Rattle.lfi_rules.specs.declared.fault.Fault.{Fault}
-use Rattle.lfi_rules.specs.Faults.{Breaks, inside, left_open, by_itself, unmet, FirstFault}
+use Rattle.lfi_rules.specs.Faults.{Breaks, FirstFault}
+use Rattle.lfi_rules.proofs.Following.{breaks_more}
 use Rattle.lfi_rules.specs.Verdicts.{all_words}
 use Rattle.lfi_model.specs.Outcomes.{Begins, Placed}
-
-get_more : (ws more : List ℕ) (k w : ℕ) → slice_get ws k ≡ Some w → slice_get (ws ++ more) k ≡ Some w
-get_more ws more k w e =
-    let within : k < length ws = slice_get_within ws k w e in
-    let longer : k < length (ws ++ more) = omega (arith, length-append ws more) in
-    slice_get-get_or (ws ++ more) k w longer ∙ ap Some (get_or_append_left ws more w k within ∙ get_or_from_slice_get ws k w w e)
-
-get_less : (ws more : List ℕ) (k w : ℕ) → k < length ws → slice_get (ws ++ more) k ≡ Some w → slice_get ws k ≡ Some w
-get_less ws more k w within e =
-    slice_get-get_or ws k w within ∙ ap Some (sym (get_or_append_left ws more w k within) ∙ get_or_from_slice_get (ws ++ more) k w w e)
-
-pub breaks_within : (ws : List ℕ) (n k : ℕ) (r : Rule) → Breaks ws n k r → k < length ws
-breaks_within ws n k r (inside (by_itself i word p at broken)) = let within = slice_get_within ws i word at in omega arith
-breaks_within ws n k r (inside (unmet i before word need p at_before at ten opens misses)) = let within = slice_get_within ws (i + 1) word at in omega arith
-breaks_within ws n k r (left_open word need at last ten opens some) = slice_get_within ws k word at
-
-pub breaks_more : (ws more : List ℕ) (n k : ℕ) (r : Rule) → Breaks ws n k r → Breaks (ws ++ more) n k r
-breaks_more ws more n k r (inside (by_itself i word p at broken)) = inside (by_itself i word p (get_more ws more i word at) broken)
-breaks_more ws more n k r (inside (unmet i before word need p at_before at ten opens misses)) =
-    inside (unmet i before word need p (get_more ws more i before at_before) (get_more ws more (i + 1) word at) ten opens misses)
-breaks_more ws more n k r (left_open word need at last ten opens some) = left_open word need (get_more ws more k word at) last ten opens some
-
-pub breaks_less : (ws more : List ℕ) (n k : ℕ) (r : Rule) → k < length ws → Breaks (ws ++ more) n k r → Breaks ws n k r
-breaks_less ws more n k r within (inside (by_itself i word p at broken)) = inside (by_itself i word p (get_less ws more i word (omega arith) at) broken)
-breaks_less ws more n k r within (inside (unmet i before word need p at_before at ten opens misses)) =
-    inside (unmet i before word need p (get_less ws more i before (omega arith) at_before) (get_less ws more (i + 1) word (omega arith) at) ten opens misses)
-breaks_less ws more n k r within (left_open word need at last ten opens some) = left_open word need (get_less ws more k word within at) last ten opens some
-
--- the first fault of a beginning is that of the whole
-pub fault_stays : (ws more : List ℕ) (n : ℕ) (fault : Fault) → FirstFault ws n (Some fault) → FirstFault (ws ++ more) n (Some fault)
-fault_stays ws more n fault first = record {
-  breaks = breaks_more ws more n fault.word fault.rule first.breaks;
-  least = λ k r h. elim (cases_lt k (length ws)) [
-    | inl within ↦ first.least k r (breaks_less ws more n k r within h)
-    | inr past ↦ let within : fault.word < length ws = breaks_within ws n fault.word fault.rule first.breaks in inl (omega arith)
-  ];
-}
-
-pub lawful_less : (ws more : List ℕ) (n : ℕ) → FirstFault (ws ++ more) n None → FirstFault ws n None
-lawful_less ws more n lawful k r h = lawful k r (breaks_more ws more n k r h)
 
 pub all_words-append : (us vs : List (List ℕ)) → all_words (us ++ vs) ≡ all_words us ++ all_words vs
 all_words-append [] vs = refl
@@ -66,7 +28,7 @@ longer_begins (u ∷ us) (v ∷ vs) rest more x l e =
     let b1 = b.1 in (b.0, cc)
 
 -- what was placed before a page with a fault is the longest beginning without one
-pub placed_to_fault : (n : ℕ) (us rest : List (List ℕ)) (page : List ℕ) (fault : Fault) → FirstFault (all_words us) n None → FirstFault (all_words us ++ page) n (Some fault) → Placed n (us ++ page ∷ rest) us
+pub placed_to_fault : (n : ℕ) (us rest : List (List ℕ)) (page : List ℕ) (fault : Fault) → FirstFault One (all_words us) n None → FirstFault One (all_words us ++ page) n (Some fault) → Placed n (us ++ page ∷ rest) us
 placed_to_fault n us rest page fault lawful first = record {
   beginning = (page ∷ rest, refl);
   lawful = lawful;
@@ -75,12 +37,12 @@ placed_to_fault n us rest page fault lawful first = record {
         let b = longer_begins us vs rest begins.0 page shorter begins.1 in
         let words : all_words vs ≡ (all_words us ++ page) ++ all_words b.0 =
         ap all_words b.1 ∙ all_words-append us (page ∷ b.0) ∙ sym (append_assoc (all_words us) page (all_words b.0)) in
-        absurd (lawful_vs fault.word fault.rule (subst (λ l. Breaks l n fault.word fault.rule) (sym words) (breaks_more (all_words us ++ page) (all_words b.0) n fault.word fault.rule first.breaks)))
+        absurd (lawful_vs fault.word fault.rule (subst (λ l. Breaks One l n fault.word fault.rule) (sym words) (breaks_more One (all_words us ++ page) (all_words b.0) n fault.word fault.rule first.breaks)))
     | inr enough ↦ enough
   ];
 }
 
-pub placed_whole : (n : ℕ) (pages : List (List ℕ)) → FirstFault (all_words pages) n None → Placed n pages pages
+pub placed_whole : (n : ℕ) (pages : List (List ℕ)) → FirstFault One (all_words pages) n None → Placed n pages pages
 placed_whole n pages lawful = record {
   beginning = ([], sym (append-nil pages));
   lawful = lawful;
@@ -88,7 +50,7 @@ placed_whole n pages lawful = record {
 }
 
 -- where an earlier page has a fault, one more page places nothing
-pub placed_on : (n : ℕ) (pages us : List (List ℕ)) (page : List ℕ) (fault : Fault) → Placed n pages us → FirstFault (all_words pages) n (Some fault) → Placed n (pages ++ page ∷ []) us
+pub placed_on : (n : ℕ) (pages us : List (List ℕ)) (page : List ℕ) (fault : Fault) → Placed n pages us → FirstFault One (all_words pages) n (Some fault) → Placed n (pages ++ page ∷ []) us
 placed_on n pages us page fault placed first = record {
   beginning = (placed.beginning.0 ++ page ∷ [], ap (λ l. l ++ page ∷ []) placed.beginning.1 ∙ append_assoc us placed.beginning.0 (page ∷ []));
   lawful = placed.lawful;
@@ -96,7 +58,7 @@ placed_on n pages us page fault placed first = record {
     | inl longer ↦
         let b = longer_begins pages vs [] begins.0 page longer begins.1 in
         let words : all_words vs ≡ all_words pages ++ all_words (page ∷ b.0) = ap all_words b.1 ∙ all_words-append pages (page ∷ b.0) in
-        absurd (lawful fault.word fault.rule (subst (λ l. Breaks l n fault.word fault.rule) (sym words) (breaks_more (all_words pages) (all_words (page ∷ b.0)) n fault.word fault.rule first.breaks)))
+        absurd (lawful fault.word fault.rule (subst (λ l. Breaks One l n fault.word fault.rule) (sym words) (breaks_more One (all_words pages) (all_words (page ∷ b.0)) n fault.word fault.rule first.breaks)))
     | inr enough ↦ placed.longest vs (shorter_begins vs pages begins.0 page enough begins.1) lawful
   ];
 }

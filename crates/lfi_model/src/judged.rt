@@ -4,18 +4,19 @@ ghost use Rattle.std.specs.Prelude.{◌≡◌, ◌-◌, ◌*◌};
 
 use crate::item::{Item, ItemKind, NumberedItem, PageBody};
 use lfi_image::JudgedPage;
-use lfi_module::PageSize;
+use lfi_module::{PageSize, Profile};
 
 impl PageBody for JudgedPage {
     ghost use Rattle.lfi_module.specs.Numbers.{page_words};
+    ghost use Rattle.lfi_module.specs.declared.profile.Profile.TheVariants.{One};
 
     ghost bytes = { λ page. page.page };
 
-    ghost IsAtPlace = { λ ordinal words page. (page.first ≡ page_words * (ordinal - 1)) × (page.words ≡ words) };
+    ghost IsAtPlace = { λ ordinal words page. (page.first ≡ page_words * (ordinal - 1)) × (page.words ≡ words) × (page.profile ≡ One) };
 }
 
 /// One of the numbered items of a module, with the verdict on its page where it brings one: that
-/// page was judged at its own place, the word 1,024 times (ordinal - 1) of its module.
+/// page was judged by the first profile at its own place, the word 1,024 times (ordinal - 1) of its module.
 pub type Judged = NumberedItem<JudgedPage>;
 
 impl Item {
@@ -33,7 +34,7 @@ impl Item {
             ItemKind::Open { entry } => ItemKind::Open { entry },
             ItemKind::Page(page) => {
                 let first = PageSize::PROFILE.words() * (ordinal - 1);
-                ItemKind::Page(JudgedPage::judge(page, first, words))
+                ItemKind::Page(JudgedPage::judge(page, first, words, Profile::One))
             }
             ItemKind::End(reason) => ItemKind::End(reason),
         };

@@ -6,6 +6,7 @@ ghost use Rattle.lfi_frame.specs.declared.fault.FrameFault.{FrameFault};
 ghost use Rattle.lfi_frame.specs.Streams.{Message, short};
 ghost use Rattle.lfi_model.specs.Item.{ItemView};
 ghost use Rattle.lfi_model.specs.declared.item.Reason.{Reason};
+ghost use Rattle.lfi_module.specs.declared.profile.Profile.TheVariants.{One};
 ghost use Rattle.lfi_rules.specs.declared.fault.Fault.{Fault};
 ghost use Rattle.lfi_rules.specs.Faults.{FirstFault};
 ghost use Rattle.lfi_rules.specs.Verdicts.{all_words};
@@ -22,12 +23,10 @@ pub fn items_are_a_module()
         (items_of messages rest cause claimed m ≡ []) ⊎ ((reason : Reason) × (end_of (items_of messages rest cause claimed m) ≡ Some reason)) }
 {}
 
-/// What was placed up to a page with a fault, or in all, is the longest lawful beginning; and the
-/// first fault of a beginning is that of the whole.
+/// What was placed up to a page with a fault, or in all, is the longest lawful beginning.
 pub fn longest_beginning()
-    ensures refused { (n : ℕ) (us rest : List (List ℕ)) (page : List ℕ) (fault : Fault) → FirstFault (all_words us) n None → FirstFault (all_words us ++ page) n (Some fault) → Placed n (us ++ page ∷ rest) us }
-    ensures whole { (n : ℕ) (pages : List (List ℕ)) → FirstFault (all_words pages) n None → Placed n pages pages }
-    ensures stays { (ws more : List ℕ) (n : ℕ) (fault : Fault) → FirstFault ws n (Some fault) → FirstFault (ws ++ more) n (Some fault) }
+    ensures refused { (n : ℕ) (us rest : List (List ℕ)) (page : List ℕ) (fault : Fault) → FirstFault One (all_words us) n None → FirstFault One (all_words us ++ page) n (Some fault) → Placed n (us ++ page ∷ rest) us }
+    ensures whole { (n : ℕ) (pages : List (List ℕ)) → FirstFault One (all_words pages) n None → Placed n pages pages }
 {}
 
 /// One more message of a stream is one more step of its module's share, and of no other.

@@ -1,3 +1,4 @@
 pub mod Numbers
 pub mod Extents
 pub mod Pages
+pub mod Profiles

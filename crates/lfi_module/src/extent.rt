@@ -5,6 +5,7 @@ ghost use Rattle.lfi_module.specs.Numbers.{most_words};
 ghost use Rattle.lfi_module.specs.Pages.{page_count, words_due, bytes_in_page, is_due};
 
 use crate::page_size::PageSize;
+use crate::profile::Profile;
 use std::marker::Model;
 
 /// How many words a module has: 1 to 4,194,304.
@@ -91,11 +92,12 @@ impl WordCount {
     }
 }
 
-/// How many words a module has, and the one at which it is entered.
+/// How many words a module has, the one at which it is entered, and the profile that it goes by.
 #[derive(Clone, Copy, PartialEq, Eq, Debug)]
 pub struct Extent {
     words: WordCount,
     entry: u32,
+    profile: Profile,
 }
 
 impl Model for Extent {
@@ -103,32 +105,42 @@ impl Model for Extent {
 
     ghost Value = { ExtentView };
 
-    ghost view = { λ e. record { words = e.words; entry = e.entry } };
+    ghost view = { λ e. record { words = e.words; entry = e.entry; profile = e.profile } };
 
-    ghost invariant = { λ e. IsExtent (record { words = e.words; entry = e.entry }) };
+    ghost invariant = { λ e. IsExtent (record { words = e.words; entry = e.entry; profile = e.profile }) };
 
-    ghost inverse = { λ v. record { words = v.words; entry = v.entry } };
+    ghost inverse = { λ v. record { words = v.words; entry = v.entry; profile = v.profile } };
 }
 
 impl Extent {
-    /// A module of so many words that is entered at the word `entry`; `None` where that isn't one of them.
-    pub fn new(words: WordCount, entry: u32) -> Option<Extent>
-        ensures some { IfSome result (λ extent. extent ≡ record { words = words; entry = entry }) }
+    /// A module of so many words that is entered at the word `entry` and goes by a profile; `None` where that isn't one
+    /// of its words.
+    pub fn new(words: WordCount, entry: u32, profile: Profile) -> Option<Extent>
+        ensures some { IfSome result (λ extent. extent ≡ record { words = words; entry = entry; profile = profile }) }
         ensures none { IfNone result (words ≤ entry) }
     {
         if entry < words.number() {
-            Some(Extent { words, entry })
+            Some(Extent {
+                words,
+                entry,
+                profile,
+            })
         } else {
             None
         }
     }
 
-    /// A module of so many words that is entered at the word `entry`, which is known to be one of them.
-    pub fn of(words: WordCount, entry: u32) -> Extent
+    /// A module of so many words that is entered at the word `entry`, which is known to be one of them, and goes by a
+    /// profile.
+    pub fn of(words: WordCount, entry: u32, profile: Profile) -> Extent
         requires { entry < words }
-        ensures { result ≡ record { words = words; entry = entry } }
+        ensures { result ≡ record { words = words; entry = entry; profile = profile } }
     {
-        Extent { words, entry }
+        Extent {
+            words,
+            entry,
+            profile,
+        }
     }
 
     /// How many words the module has.
@@ -144,5 +156,12 @@ impl Extent {
         ensures range { result < self.words }
     {
         self.entry
+    }
+
+    /// The profile that it goes by.
+    pub fn profile(self) -> Profile
+        ensures { result ≡ self.profile }
+    {
+        self.profile
     }
 }

@@ -1,5 +1,5 @@
-//! Modules by their numbers: which module it is, how many words it has and where it is entered, and how its words are
-//! cut into pages. Source: this project's profile, docs/PROFILE.md.
+//! Modules by their numbers: which module it is, which profile it goes by, how many words it has and where it is entered,
+//! and how its words are cut into pages. Source: this project's profile, docs/PROFILE.md.
 //!
 //! # How data flows
 //!
@@ -18,12 +18,15 @@
 //!   to its definitions: the bytes of a page (page_buf), the most bytes of code (lfi_commands), and those of the plain
 //!   program.
 //! - **A module's number is its slot's.** There is one type for both, `ModuleNumber`, and no table between them.
-//! - **`Extent` keeps that the entry is one of the words.** A header's answer and a new builder have one. An item has
+//! - **`Extent` keeps that the entry is one of the words**, and has the profile beside them: what an Open says of a
+//!   module. A header's answer and a new builder have one. An item has
 //!   the words in each and the entry in its Open alone.
 //! - **`ModuleNumber`, `WordCount` and `Extent` have two ways in**: `new`, which tests and answers an `Option`, for
 //!   numbers from outside; and `at` or `of`, with a condition, for numbers that are known to be in range.
 //! - **The page's size is a parameter** of the page arithmetic, in code (`PageSize`) and in definitions. This profile's
 //!   is `PageSize::PROFILE`; a full page of any size has at most 4,096 words.
+//! - **`Profile` stands here**, at the bottom: words are decoded by it, modules are judged by it, and image files and
+//!   command lines name it by its number.
 //! - **`page_buf` names the page's numbers of `lfi_module` in its contracts**, and nothing else of modules: a page of
 //!   raw memory has this profile's size, and no module.
 #![tactic(auto)]
@@ -31,7 +34,9 @@
 mod extent;
 mod number;
 mod page_size;
+mod profile;
 
 pub use extent::{Extent, WordCount};
 pub use number::ModuleNumber;
 pub use page_size::PageSize;
+pub use profile::Profile;

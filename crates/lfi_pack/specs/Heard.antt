@@ -1,6 +1,7 @@
 -- What a receiver hears of packed modules. Source: this project's format, docs/PROFILE.md.
 use Rattle.std.specs.Prelude.{◌≡◌, ◌≢◌, ℕ, ◌+◌, Bool, true, List, [], ◌∷◌, ◌++◌, length, Some}
 use Rattle.a64_word.specs.Words.{words_of}
+use Rattle.lfi_module.specs.declared.profile.Profile.TheVariants.{One}
 use Rattle.lfi_module.specs.Extents.{ExtentView}
 use Rattle.lfi_rules.specs.Verdicts.{all_words}
 use Rattle.lfi_model.specs.Item.{ItemView}
@@ -21,7 +22,7 @@ pub record PackedView : Type 0 where
 abbrev pub modules_from : (number entry : ℕ) → List (List ℕ) → List PackedView
 modules_from number entry [] = []
 modules_from number entry (code ∷ files) =
-    record { number = number; extent = record { words = length (words_of code); entry = entry }; code = code }
+    record { number = number; extent = record { words = length (words_of code); entry = entry; profile = One }; code = code }
     ∷ modules_from (number + 1) entry files
 
 -- The text is these modules, packed one after another.

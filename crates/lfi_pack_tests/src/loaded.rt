@@ -1,7 +1,7 @@
 //! Packed modules, loaded by the stage.
 
 use crate::devices::{CodeReader, StreamWriter, code};
-use lfi_module::{Extent, ModuleNumber, WordCount};
+use lfi_module::{Extent, ModuleNumber, Profile, WordCount};
 use lfi_pack::pack_module;
 use lfi_place::OpenGate;
 use lfi_receive::Input;
@@ -17,7 +17,7 @@ fn three_files(rt: HostRuntime) -> Result<(), Fail> {
         let mut code = CodeReader::new(file.as_slice(), 700);
         let count = WordCount::new(words).ok_or("no such number of words")?;
         let module = ModuleNumber::new(number).ok_or("no such module")?;
-        let packed = pack_module(module, Extent::of(count, 0), &mut code, &mut stream);
+        let packed = pack_module(module, Extent::of(count, 0, Profile::One), &mut code, &mut stream);
         assert!(rt; packed == Ok(()), "{words} words");
     }
     let mut inputs = Vec::new(alloc);

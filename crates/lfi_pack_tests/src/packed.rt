@@ -1,7 +1,7 @@
 //! Packed streams, byte by byte.
 
 use crate::devices::{CodeReader, StreamWriter, code};
-use lfi_module::{Extent, ModuleNumber, WordCount};
+use lfi_module::{Extent, ModuleNumber, Profile, WordCount};
 use lfi_pack::{PackFault, pack_module};
 use std::io::ErrorKind;
 use std::test::Fail;
@@ -14,7 +14,7 @@ const ONE_RET: [u8; 40] = [
 
 /// One word, entered there.
 fn one_word() -> Extent {
-    Extent::of(WordCount::of(1), 0)
+    Extent::of(WordCount::of(1), 0, Profile::One)
 }
 
 #[test]
@@ -62,7 +62,7 @@ fn headers_of_two_pages(rt: HostRuntime) -> Result<(), Fail> {
     let words = code(rt.alloc(), 1025)?;
     let mut code = CodeReader::new(words.as_slice(), 1000);
     let mut stream = StreamWriter::new(rt.alloc(), 10_000, 999);
-    let extent = Extent::of(WordCount::of(1025), 1024);
+    let extent = Extent::of(WordCount::of(1025), 1024, Profile::One);
     let packed = pack_module(ModuleNumber::at(3), extent, &mut code, &mut stream);
     assert!(rt; packed == Ok(()));
     let taken = stream.taken.as_slice();
@@ -97,7 +97,7 @@ fn code_that_is_not_as_told(rt: HostRuntime) -> Result<(), Fail> {
         let mut code = CodeReader::new(&words.as_slice()[..len.min(words.len())], 4096);
         code.fails = fails;
         let mut stream = StreamWriter::new(rt.alloc(), 10_000, 4096);
-        let extent = Extent::of(WordCount::of(1025), 0);
+        let extent = Extent::of(WordCount::of(1025), 0, Profile::One);
         let packed = pack_module(ModuleNumber::at(0), extent, &mut code, &mut stream);
         assert!(rt; packed == Err(want), "{len} bytes");
         assert!(rt; stream.taken.len() <= 4136, "{len} bytes");

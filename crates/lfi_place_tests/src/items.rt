@@ -3,7 +3,7 @@
 ghost use Rattle.std.specs.Prelude.{◌≡◌};
 
 use lfi_model::{Item, ItemKind, Judged, Reason};
-use lfi_module::{Extent, ModuleNumber, PageSize, WordCount};
+use lfi_module::{Extent, ModuleNumber, PageSize, Profile, WordCount};
 use page_buf::SealedPage;
 use std::alloc::Global;
 use std::test::Fail;
@@ -83,7 +83,7 @@ pub fn item_of(alloc: Global, words: WordCount, part: Part) -> Result<Item, Fail
     match part {
         Part::Open => {
             let entry = 7.min(words.number() - 1);
-            let extent = Extent::new(words, entry).ok_or("no such word")?;
+            let extent = Extent::new(words, entry, Profile::One).ok_or("no such word")?;
             Ok(Item {
                 module: module(),
                 ordinal: 0,

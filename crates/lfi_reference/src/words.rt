@@ -2,6 +2,7 @@
 
 ghost use Rattle.std.specs.Prelude.{◌≡◌, ◌≤◌, ◌<◌, map, take, length, IfOk};
 ghost use Rattle.lfi_module.specs.Numbers.{most_words};
+ghost use Rattle.lfi_module.specs.declared.profile.Profile.TheVariants.{One};
 ghost use Rattle.lfi_rules.specs.Faults.{FirstFault};
 ghost use Rattle.lfi_rules.specs.Verdicts.{all_words};
 ghost use Rattle.a64_word.specs.Words.{words_of};
@@ -10,6 +11,7 @@ ghost use Rattle.lfi_reference.specs.Shares.{items_by};
 ghost use Rattle.lfi_reference.specs.Pages.{pages_by};
 
 use crate::share::{PlainItem, PlainKind};
+use lfi_module::Profile;
 use lfi_rules::{Fault, Need, fault_after, judge};
 use std::alloc::{AllocError, Global};
 
@@ -65,12 +67,12 @@ pub fn all_words(alloc: Global, pages: &[Vec<u32>]) -> Result<Vec<u32>, AllocErr
 pub fn first_fault(words: &Vec<u32>, n: u32) -> Option<Fault>
     requires room { length words.now.items ≤ n }
     requires most { n ≤ most_words }
-    ensures { FirstFault words.now.items n result }
+    ensures { FirstFault One words.now.items n result }
 {
     if words.is_empty() {
         return None;
     }
-    let verdict = judge(words, 0, n);
+    let verdict = judge(words, 0, n, Profile::One);
     fault_after(n, Need::Nothing, &verdict, words.len())
 }
 

@@ -1,7 +1,7 @@
 -- The classes of loads and stores of one register.
-use Rattle.std.proofs.Common.{◌≡◌, ◌≢◌, ℕ, ◌+◌, ◌*◌, ◌/◌, ◌%◌, ◌^◌, ◌<◌, ◌≤◌, eqb, [], true, false, refl, subst, arith, inl, inr}
+use Rattle.std.proofs.Common.{◌≡◌, ◌≢◌, ℕ, ◌+◌, ◌*◌, ◌/◌, ◌%◌, ◌^◌, ◌<◌, ◌≤◌, eqb, [], Bool, true, false, refl, subst, arith, inl, inr}
 use Rattle.std.specs.Prelude.{nat_lt, ◌&&◌}
-use Rattle.std.proofs.lemmas.Bool.{and_parts, or_cases, not-true, and_left, and_right, or_right, le-ltb, lt-ltb, ltb-true, ltb-false}
+use Rattle.std.proofs.lemmas.Bool.{and_parts, eqb-true, or_cases, not-true, and_left, and_right, or_right, le-ltb, lt-ltb, ltb-true, ltb-false}
 use Rattle.std.proofs.lemmas.Nat.{mod_below}
 use Rattle.a64_word.specs.Operands.{size_code, transfer_code, index_mode_code}
 use Rattle.a64_word.specs.Encoding.{Spells, IsAccess}
@@ -23,7 +23,12 @@ use Rattle.a64_effects.specs.Uses.{general, or_sp}
 use Rattle.a64_effects.specs.Effects.{is_store, data_width, changes_base, form_of_mode, address_of, writes_of}
 use Rattle.lfi_classes.specs.Parts.{IsIn}
 use Rattle.lfi_classes.specs.Sets as sets
-use Rattle.lfi_classes.specs.Classes.{load_entry, load_link_past_table, load_link, load_link_unscaled, pop_link, load_link_at_index, load, load_unscaled, store_unscaled, pop, push, load_at_index, store_at_index}
+use Rattle.lfi_classes.specs.Classes.{load_entry, load_link_past_table, load_link, load_link_unscaled, pop_link, load_link_at_index, load, load_unscaled, store_unscaled, pop, push, load_at_index, store_at_index, load_link_ordered, load_ordered, store_ordered}
+use Rattle.a64_word.specs.declared.load_store.Ordered.{Ordered}
+use Rattle.lfi_module.specs.declared.profile.Profile.TheVariants.{Two}
+use Rattle.a64_word.specs.Profiles.{SpellsIn}
+use Rattle.a64_word.specs.Operands.{bit}
+use Rattle.lfi_rules.specs.inner.Quiet.{IsToldWord}
 use Rattle.lfi_rules.specs.declared.needs.Need.TheVariants.{Nothing, Call, Guard}
 use Rattle.lfi_rules.specs.Needs.{is_load_64}
 use Rattle.lfi_rules.specs.Rules.{is_confined}
@@ -31,7 +36,7 @@ use Rattle.lfi_rules.specs.inner.Quiet.{IsUnreserved, IsQuietWord}
 use Rattle.lfi_rules.specs.inner.Passing.{signed_of}
 use Rattle.lfi_rules.proofs.Fields.{top_is, middle_is, low_is, top_is_not, top_bits, below_bits, joined, low_unreserved, low_base}
 use Rattle.lfi_rules.proofs.Operands.{size_of, size_is, transfer_of, transfer_is, two_bits, access, no_store, signed_9}
-use Rattle.lfi_rules.proofs.Avoiding.{avoids_none, avoids_stack, avoids_link, avoids_more, not_used, spares_none, spares_one, quiet_avoiding, quiet_sparing, link_kept, stack_kept, opens_none, opens_guard, opens_call}
+use Rattle.lfi_rules.proofs.Avoiding.{sparing, avoids_none, avoids_stack, avoids_link, avoids_more, not_used, spares_none, spares_one, quiet_avoiding, quiet_sparing, link_kept, stack_kept, opens_none, opens_guard, opens_call}
 
 -- ---- what a word transfers
 pub no_load_64 : (s : Size) → is_load_64 s transfers.Store ≡ false
@@ -68,7 +73,7 @@ load_is_quiet w k n below h =
     let low = and_parts _ _ h.low in
     let free : IsUnreserved (bits_at w 0 5) = low_unreserved w low.0 in
     let i = instructions.UnsignedOffset (unsigned_at (size_of (bits_at w 30 2)) (transfer_of (bits_at w 22 2)) (bits_at w 5 5) (bits_at w 0 5) w) in
-    quiet_sparing w k n i (unsigned_spells w _ _ _ _ below tests.0 (size_is w 30) (transfer_is w 22) a.legal refl refl)
+    quiet_sparing w k n i refl (unsigned_spells w _ _ _ _ below tests.0 (size_is w 30) (transfer_is w 22) a.legal refl refl)
     (general (bits_at w 0 5) (data_width (size_of (bits_at w 30 2)) (transfer_of (bits_at w 22 2))) []) (rw a.loads refl) (spares_one _ _ free)
     (low_base w low.1) refl refl (opens_none i (and_left _ _ (and_left _ _ (and_right _ _ free.link))) (and_right _ _ free.link) refl)
 
@@ -77,7 +82,7 @@ unsigned_store_quiet w k n below h base =
     let tests = and_parts _ _ h in
     let no_load = no_load_64 (size_of (bits_at w 30 2)) in
     let i = instructions.UnsignedOffset (unsigned_at (size_of (bits_at w 30 2)) transfers.Store (bits_at w 5 5) (bits_at w 0 5) w) in
-    quiet_sparing w k n i (unsigned_spells w _ _ _ _ below tests.0 (size_is w 30) (top_is w 1 2 0 tests.1) tt refl refl)
+    quiet_sparing w k n i refl (unsigned_spells w _ _ _ _ below tests.0 (size_is w 30) (top_is w 1 2 0 tests.1) tt refl refl)
     _ refl spares_none (low_base w base) refl refl (opens_none i (and_left _ _ (and_left _ _ (and_left _ _ no_load))) (and_left _ _ no_load) refl)
 
 -- a load of 64 bits into x30
@@ -102,6 +107,7 @@ load_entry_opens w k n below h =
     let i = instructions.UnsignedOffset (unsigned_at sizes.Double transfers.Load 21 30 w) in
     record {
       instruction = i;
+      of_one = refl;
       spells = link_spells w 21 below tests.0 low.0 (low_is w 0 5 5 21 low.1);
       quiet = quiet_avoiding i k n Call (avoids_link _ avoids_none) (or_right _ _ refl) (stack_kept i k n refl) refl refl refl (opens_call i within);
     }
@@ -115,6 +121,7 @@ load_link_past_table_opens w k n below h =
     let i = instructions.UnsignedOffset (unsigned_at sizes.Double transfers.Load 21 30 w) in
     record {
       instruction = i;
+      of_one = refl;
       spells = link_spells w 21 below h.top low.0 (low_is w 0 5 5 21 low.1);
       quiet = quiet_avoiding i k n Guard (avoids_link _ avoids_none) (or_right _ _ refl) (stack_kept i k n refl) refl refl refl (opens_guard i past refl);
     }
@@ -127,6 +134,7 @@ load_link_opens w k n below h =
     let i = instructions.UnsignedOffset (unsigned_at sizes.Double transfers.Load (bits_at w 5 5) 30 w) in
     record {
       instruction = i;
+      of_one = refl;
       spells = link_spells w _ below h.top loaded.0 refl;
       quiet = quiet_avoiding i k n Guard (avoids_link _ avoids_none) (or_right _ _ refl) (stack_kept i k n refl) (low_base w loaded.1) refl refl
           (opens_guard i (and_left _ _ other) refl);
@@ -151,7 +159,7 @@ load_unscaled_is_quiet w k n below h =
     let low = and_parts _ _ h.low in
     let free : IsUnreserved (bits_at w 0 5) = low_unreserved w low.0 in
     let i = instructions.SignedOffset (signed_at (size_of (bits_at w 30 2)) (transfer_of (bits_at w 22 2)) modes.Unscaled (bits_at w 5 5) (bits_at w 0 5) w) in
-    quiet_sparing w k n i (signed_spells w _ _ _ _ modes.Unscaled below tests.0 (size_is w 30) (transfer_is w 22) a.legal (middle_is w 9 2 0 0 h.middle) (λ other. absurd (other refl)) refl refl)
+    quiet_sparing w k n i refl (signed_spells w _ _ _ _ modes.Unscaled below tests.0 (size_is w 30) (transfer_is w 22) a.legal (middle_is w 9 2 0 0 h.middle) (λ other. absurd (other refl)) refl refl)
     (general (bits_at w 0 5) (data_width (size_of (bits_at w 30 2)) (transfer_of (bits_at w 22 2))) []) (rw a.loads refl) (spares_one _ _ free)
     (low_base w low.1) refl refl (opens_none i refl (and_right _ _ free.link) refl)
 
@@ -160,7 +168,7 @@ store_unscaled_is_quiet w k n below h =
     let tests = and_parts _ _ h.top in
     let no_load = no_load_64 (size_of (bits_at w 30 2)) in
     let i = instructions.SignedOffset (signed_at (size_of (bits_at w 30 2)) transfers.Store modes.Unscaled (bits_at w 5 5) (bits_at w 0 5) w) in
-    quiet_sparing w k n i (signed_spells w _ _ _ _ modes.Unscaled below tests.0 (size_is w 30) (top_is w 1 2 0 tests.1) tt (middle_is w 9 2 0 0 h.middle) (λ other. absurd (other refl)) refl refl)
+    quiet_sparing w k n i refl (signed_spells w _ _ _ _ modes.Unscaled below tests.0 (size_is w 30) (top_is w 1 2 0 tests.1) tt (middle_is w 9 2 0 0 h.middle) (λ other. absurd (other refl)) refl refl)
     _ refl spares_none (low_base w h.low) refl refl (opens_none i refl (and_left _ _ no_load) refl)
 
 pub load_link_unscaled_opens : (w k n : ℕ) → w < 2 ^ 32 → IsIn load_link_unscaled w → IsQuietWord w k n Guard
@@ -171,6 +179,7 @@ load_link_unscaled_opens w k n below h =
     let i = instructions.SignedOffset (signed_at sizes.Double transfers.Load modes.Unscaled (bits_at w 5 5) 30 w) in
     record {
       instruction = i;
+      of_one = refl;
       spells = signed_spells w _ 30 sizes.Double transfers.Load modes.Unscaled below tests.0 (top_is w 9 2 3 double.0) (top_is w 1 2 1 double.1) tt (middle_is w 9 2 0 0 h.middle)
           (λ other. absurd (other refl)) refl (low_is w 5 5 0 30 low.0);
       quiet = quiet_avoiding i k n Guard (avoids_link _ avoids_none) (or_right _ _ refl) (stack_kept i k n refl) (low_base w low.1) refl refl (opens_guard i refl refl);
@@ -205,6 +214,7 @@ pop_is_quiet w k n below h = by_mode w (IsQuietWord w k n Nothing) h.middle (λ 
     let written : writes_of i ≡ uses = rw (a.loads, c.changes) refl in
     record {
       instruction = i;
+      of_one = refl;
       spells = signed_spells w 31 _ _ _ mode below tests.0 (size_is w 30) (transfer_is w 22) a.legal c.code (λ _ same. refl) (low_is w 0 5 5 31 low.1) refl;
       quiet = quiet_avoiding i k n Nothing (rw written (avoids_more _ _ _ free avoids_stack))
           (link_kept i k n (rw written (not_used _ 30 _ (or_sp 31 widths.X []) free.link))) (or_right _ _ c.changes) c.confined refl refl
@@ -219,6 +229,7 @@ push_is_quiet w k n below h = by_mode w (IsQuietWord w k n Nothing) h.middle (λ
     let written : writes_of i ≡ or_sp 31 widths.X [] = rw c.changes refl in
     record {
       instruction = i;
+      of_one = refl;
       spells = signed_spells w 31 _ _ _ mode below tests.0 (size_is w 30) (top_is w 1 2 0 tests.1) tt c.code (λ _ same. refl) (low_is w 0 5 5 31 h.low) refl;
       quiet = quiet_avoiding i k n Nothing (rw written avoids_stack) (link_kept i k n (rw written refl)) (or_right _ _ c.changes) c.confined refl refl
           (opens_none i refl (and_left _ _ no_load) refl);
@@ -233,6 +244,7 @@ pop_link_opens w k n below h = by_mode w (IsQuietWord w k n Guard) h.middle (λ 
     let written : writes_of i ≡ general 30 widths.X (or_sp 31 widths.X []) = rw c.changes refl in
     record {
       instruction = i;
+      of_one = refl;
       spells = signed_spells w 31 30 sizes.Double transfers.Load mode below tests.0 (top_is w 9 2 3 double.0) (top_is w 1 2 1 double.1) tt c.code (λ _ same. refl)
           (low_is w 0 5 5 31 low.1) (low_is w 5 5 0 30 low.0);
       quiet = quiet_avoiding i k n Guard (rw written (avoids_link _ avoids_stack)) (or_right _ _ refl) (or_right _ _ c.changes) c.confined refl refl (opens_guard i refl refl);
@@ -264,7 +276,7 @@ load_at_index_is_quiet w k n below h =
     let low = and_parts _ _ h.low in
     let free : IsUnreserved (bits_at w 0 5) = low_unreserved w low.0 in
     let i = instructions.RegisterOffset (index_at (size_of (bits_at w 30 2)) (transfer_of (bits_at w 22 2)) (bits_at w 0 5) w) in
-    quiet_sparing w k n i (index_spells w _ _ _ below tests.0 h.middle (size_is w 30) (transfer_is w 22) a.legal (low_is w 0 5 5 21 low.1) refl)
+    quiet_sparing w k n i refl (index_spells w _ _ _ below tests.0 h.middle (size_is w 30) (transfer_is w 22) a.legal (low_is w 0 5 5 21 low.1) refl)
     (general (bits_at w 0 5) (data_width (size_of (bits_at w 30 2)) (transfer_of (bits_at w 22 2))) []) (rw a.loads refl) (spares_one _ _ free)
     refl refl refl (opens_none i refl (and_right _ _ free.link) refl)
 
@@ -273,7 +285,7 @@ store_at_index_is_quiet w k n below h =
     let tests = and_parts _ _ h.top in
     let no_load = no_load_64 (size_of (bits_at w 30 2)) in
     let i = instructions.RegisterOffset (index_at (size_of (bits_at w 30 2)) transfers.Store (bits_at w 0 5) w) in
-    quiet_sparing w k n i (index_spells w _ _ _ below tests.0 h.middle (size_is w 30) (top_is w 1 2 0 tests.1) tt (low_is w 0 5 5 21 h.low) refl)
+    quiet_sparing w k n i refl (index_spells w _ _ _ below tests.0 h.middle (size_is w 30) (top_is w 1 2 0 tests.1) tt (low_is w 0 5 5 21 h.low) refl)
     _ refl spares_none refl refl refl (opens_none i refl (and_left _ _ no_load) refl)
 
 pub load_link_at_index_opens : (w k n : ℕ) → w < 2 ^ 32 → IsIn load_link_at_index w → IsQuietWord w k n Guard
@@ -284,6 +296,60 @@ load_link_at_index_opens w k n below h =
     let i = instructions.RegisterOffset (index_at sizes.Double transfers.Load 30 w) in
     record {
       instruction = i;
+      of_one = refl;
       spells = index_spells w 30 sizes.Double transfers.Load below tests.0 h.middle (top_is w 9 2 3 double.0) (top_is w 1 2 1 double.1) tt (low_is w 0 5 5 21 low.1) (low_is w 5 5 0 30 low.0);
       quiet = quiet_avoiding i k n Guard (avoids_link _ avoids_none) (or_right _ _ refl) (stack_kept i k n refl) refl refl refl (opens_guard i refl refl);
+    }
+
+-- ---- ordered loads and stores, which the second profile alone has
+abbrev ordered_at : Size → Bool → (rn rt : ℕ) → Ordered
+ordered_at size load rn rt = record { size = size; load = load; rn = rn; rt = rt }
+
+ordered_spells : (w rn rt : ℕ) (size : Size) (load : Bool) → w < 2 ^ 32 → sets.is_ordered (w / 2 ^ 21) ≡ true → sets.is_acquire (w / 2 ^ 10 % 2 ^ 11) ≡ true → bits_at w 30 2 ≡ size_code size
+    → bits_at w 22 1 ≡ bit load → bits_at w 5 5 ≡ rn → bits_at w 0 5 ≡ rt → SpellsIn Two (instructions.Ordered (ordered_at size load rn rt)) w
+ordered_spells w rn rt size load below h m sized loads from to =
+    let tests = and_parts _ _ h in
+    let zero_bit : bits_at w 21 1 ≡ 0 = top_is w 0 1 0 tests.1 in
+    let ones : bits_at w 10 11 ≡ 2047 = eqb-true _ _ m in
+    let whole = imm12_is w in
+    let middle : bits_at w 10 12 ≡ 2047 = omega arith in
+    record {
+      spells = record { legal = tt; word_of = IsWordOf-from_reads _ w below (sized, (top_is w 2 7 17 tests.0, (loads, (middle, (from, (to, tt)))))) };
+      of_profile = refl;
+    }
+
+pub load_ordered_is_told : (w k n : ℕ) → w < 2 ^ 32 → IsIn load_ordered w → IsToldWord Two w k n Nothing
+load_ordered_is_told w k n below h =
+    let tests = and_parts _ _ h.top in
+    let low = and_parts _ _ h.low in
+    let free : IsUnreserved (bits_at w 0 5) = low_unreserved w low.0 in
+    let i = instructions.Ordered (ordered_at (size_of (bits_at w 30 2)) true (bits_at w 5 5) (bits_at w 0 5)) in
+    record {
+      instruction = i;
+      spells = ordered_spells w _ _ _ true below tests.0 h.middle (size_is w 30) (top_is w 1 1 1 tests.1) refl refl;
+      quiet = sparing k n i (general (bits_at w 0 5) (data_width (size_of (bits_at w 30 2)) transfers.Load) []) refl (spares_one _ _ free)
+          (low_base w low.1) refl refl (opens_none i refl (and_right _ _ free.link) refl);
+    }
+
+pub store_ordered_is_told : (w k n : ℕ) → w < 2 ^ 32 → IsIn store_ordered w → IsToldWord Two w k n Nothing
+store_ordered_is_told w k n below h =
+    let tests = and_parts _ _ h.top in
+    let no_load = no_load_64 (size_of (bits_at w 30 2)) in
+    let i = instructions.Ordered (ordered_at (size_of (bits_at w 30 2)) false (bits_at w 5 5) (bits_at w 0 5)) in
+    record {
+      instruction = i;
+      spells = ordered_spells w _ _ _ false below tests.0 h.middle (size_is w 30) (top_is w 1 1 0 tests.1) refl refl;
+      quiet = sparing k n i [] refl spares_none (low_base w h.low) refl refl (opens_none i refl (and_left _ _ no_load) refl);
+    }
+
+pub load_link_ordered_opens : (w k n : ℕ) → w < 2 ^ 32 → IsIn load_link_ordered w → IsToldWord Two w k n Guard
+load_link_ordered_opens w k n below h =
+    let tests = and_parts _ _ h.top in
+    let loads = and_parts _ _ tests.0 in
+    let low = and_parts _ _ h.low in
+    let i = instructions.Ordered (ordered_at sizes.Double true (bits_at w 5 5) 30) in
+    record {
+      instruction = i;
+      spells = ordered_spells w _ 30 sizes.Double true below loads.0 h.middle (top_is w 9 2 3 tests.1) (top_is w 1 1 1 loads.1) refl (low_is w 5 5 0 30 low.0);
+      quiet = quiet_avoiding i k n Guard (avoids_link _ avoids_none) (or_right _ _ refl) (stack_kept i k n refl) (low_base w low.1) refl refl (opens_guard i refl refl);
     }

@@ -4,6 +4,7 @@ use Rattle.std.specs.Prelude.{if◌then◌else◌}
 use Rattle.std.proofs.lemmas.Bool.{cases_Bool}
 use Rattle.a64_word.specs.declared.instruction.Instruction.{Instruction}
 use Rattle.a64_word.specs.Encoding.{Spells}
+use Rattle.a64_word.specs.Profiles.{is_of}
 use Rattle.a64_word.specs.declared.operands.Width.{Width}
 use Rattle.a64_word.specs.declared.operands.Width.TheVariants as widths
 use Rattle.a64_effects.specs.Uses.{Use, general, or_sp, width_in}
@@ -11,6 +12,7 @@ use Rattle.a64_effects.specs.Effects.{writes_of, address_of, target_of}
 use Rattle.lfi_rules.specs.declared.needs.Need.{Need}
 use Rattle.lfi_rules.specs.declared.needs.Need.TheVariants.{Nothing, Call, Guard}
 use Rattle.lfi_rules.specs.declared.rule.Rule.TheVariants as rules
+use Rattle.lfi_module.specs.declared.profile.Profile.TheVariants.{One}
 use Rattle.lfi_rules.specs.Needs.{opens_of, loads_link, loads_entry, moves_stack}
 use Rattle.lfi_rules.specs.Rules.{written, keeps, is_confined, is_inside, is_bounded, is_narrow}
 use Rattle.lfi_rules.specs.inner.Quiet.{IsUnreserved, IsFree, IsQuiet, IsQuietWord}
@@ -106,7 +108,7 @@ stack_kept i k n e = let e31 : written i 31 ≡ None = e in rw e31 refl
 
 -- An instruction that avoids them is quiet where it keeps the rules on x30, sp, accesses and branches.
 pub quiet_avoiding : (i : Instruction) (k n : ℕ) (need : Need) → Avoids (writes_of i) → keeps i k n rules.LinkGuarded ≡ true → keeps i k n rules.StackBounded ≡ true
-    → is_confined (address_of i) ≡ true → is_inside n (target_of i k) ≡ true → is_bounded i ≡ true → opens_of i ≡ need → IsQuiet i k n need
+    → is_confined (address_of i) ≡ true → is_inside n (target_of i k) ≡ true → is_bounded i ≡ true → opens_of One i ≡ need → IsQuiet i k n need
 unfolding written
 quiet_avoiding i k n need a link stack confined inside bounded opens =
     let e18 : written i 18 ≡ None = a.first_address in
@@ -126,22 +128,28 @@ quiet_avoiding i k n need a link stack confined inside bounded opens =
     }
 
 -- One that spares them is quiet where it keeps the rules on accesses and branches.
-pub quiet_sparing : (w k n : ℕ) (i : Instruction) → Spells i w → (uses : List Use) → writes_of i ≡ uses → Spares uses
-    → is_confined (address_of i) ≡ true → is_inside n (target_of i k) ≡ true → is_bounded i ≡ true → opens_of i ≡ Nothing → IsQuietWord w k n Nothing
-quiet_sparing w k n i spells uses e s confined inside bounded opens = record {
+pub sparing : (k n : ℕ) (i : Instruction) → (uses : List Use) → writes_of i ≡ uses → Spares uses
+    → is_confined (address_of i) ≡ true → is_inside n (target_of i k) ≡ true → is_bounded i ≡ true → opens_of One i ≡ Nothing → IsQuiet i k n Nothing
+sparing k n i uses e s confined inside bounded opens =
+    quiet_avoiding i k n Nothing (subst Avoids (sym e) s.avoids) (link_kept i k n (ap (λ u. width_in u 30) e ∙ s.link))
+    (stack_kept i k n (ap (λ u. width_in u 31) e ∙ s.stack)) confined inside bounded opens
+
+pub quiet_sparing : (w k n : ℕ) (i : Instruction) → is_of One i ≡ true → Spells i w → (uses : List Use) → writes_of i ≡ uses → Spares uses
+    → is_confined (address_of i) ≡ true → is_inside n (target_of i k) ≡ true → is_bounded i ≡ true → opens_of One i ≡ Nothing → IsQuietWord w k n Nothing
+quiet_sparing w k n i of_one spells uses e s confined inside bounded opens = record {
   instruction = i;
+  of_one = of_one;
   spells = spells;
-  quiet = quiet_avoiding i k n Nothing (subst Avoids (sym e) s.avoids) (link_kept i k n (ap (λ u. width_in u 30) e ∙ s.link))
-      (stack_kept i k n (ap (λ u. width_in u 31) e ∙ s.stack)) confined inside bounded opens;
+  quiet = sparing k n i uses e s confined inside bounded opens;
 }
 
-pub opens_none : (i : Instruction) → loads_entry i ≡ false → loads_link i ≡ false → moves_stack i ≡ false → opens_of i ≡ Nothing
+pub opens_none : (i : Instruction) → loads_entry i ≡ false → loads_link i ≡ false → moves_stack i ≡ false → opens_of One i ≡ Nothing
 opens_none i a b c = rw (a, b, c) refl
 
-pub opens_guard : (i : Instruction) → loads_entry i ≡ false → loads_link i ≡ true → opens_of i ≡ Guard
+pub opens_guard : (i : Instruction) → loads_entry i ≡ false → loads_link i ≡ true → opens_of One i ≡ Guard
 opens_guard i a b = rw (a, b) refl
 
-pub opens_call : (i : Instruction) → loads_entry i ≡ true → opens_of i ≡ Call
+pub opens_call : (i : Instruction) → loads_entry i ≡ true → opens_of One i ≡ Call
 opens_call i a = rw a refl
 
 pub same_if : (b : Bool) (uses : List Use) → (if b then uses else uses) ≡ uses

@@ -1,19 +1,24 @@
 -- What the kinds of classes tell of their words.
-use Rattle.std.proofs.Common.{◌≡◌, ◌≢◌, ℕ, ◌+◌, ◌^◌, ◌<◌, ◌≤◌, List, [], ◌∷◌, ◌++◌, Bool, true, false, refl, arith, inl, inr, ◌⊎◌}
+use Rattle.std.proofs.Common.{◌≡◌, ◌≢◌, ℕ, ◌+◌, ◌^◌, ◌<◌, ◌≤◌, List, [], ◌∷◌, ◌++◌, true, refl, sym, arith, inl, inr, ◌⊎◌}
 use Rattle.a64_word.specs.inner.Bits.{bits_at}
 use Rattle.lfi_classes.specs.Parts.{Class, IsIn}
-use Rattle.lfi_classes.specs.Classes.{AnyHas, IsQuietHere, call_classes, probe_classes, guard_classes, pair_classes, direct_classes, near_classes, quiet_classes}
+use Rattle.lfi_classes.specs.Classes.{AnyHas, IsQuietHere, call_classes, probe_classes, guard_classes, pair_classes, direct_classes, ordered_guard_classes, ordered_classes, near_classes, quiet_classes}
 use Rattle.lfi_rules.specs.declared.needs.Need.TheVariants.{Nothing, Call, Guard, Probe}
 use Rattle.std.specs.Prelude.{pos, ◌+ℤ◌}
 use Rattle.std.proofs.Common.{Some, subst}
 use Rattle.std.proofs.lemmas.Bool.{or_cases}
 use Rattle.lfi_rules.specs.Rules.{is_inside}
-use Rattle.lfi_rules.specs.inner.Quiet.{IsQuietWord}
+use Rattle.lfi_classes.specs.declared.classes.Reach.{Reach}
+use Rattle.lfi_classes.specs.declared.classes.Reach.TheVariants.{Quiet, Near, Ordered}
+use Rattle.lfi_module.specs.declared.profile.Profile.{Profile}
+use Rattle.lfi_module.specs.declared.profile.Profile.TheVariants.{Two}
+use Rattle.lfi_rules.specs.inner.Quiet.{IsToldWord, IsQuietWord}
+use Rattle.lfi_rules.proofs.Broken.{quiet_told}
 use Rattle.lfi_rules.specs.inner.Passing.{IsFarFromEnds, signed_of, IsOffset, of_branch, of_bit_test, of_other}
 use Rattle.lfi_rules.proofs.Fields.{top_is, low_is}
 use Rattle.lfi_rules.proofs.Jumps.{branch_quiet, conditional_quiet, comparison_quiet, bit_test_quiet}
 use Rattle.lfi_rules.proofs.Numbers.{plain_is_quiet, sum_is_quiet, narrow_shift_is_quiet, long_bitmask_is_quiet, long_ands_is_quiet, short_bitmask_is_quiet, short_ands_is_quiet, extended_sum_is_quiet, extended_flags_is_quiet, conditional_compare_is_quiet, conditional_select_is_quiet, two_source_is_quiet, leading_zeros_is_quiet, high_product_is_quiet, offset_plain_is_quiet, offset_shift_is_quiet, offset_bitmask_is_quiet, offset_extended_is_quiet}
-use Rattle.lfi_rules.proofs.Accesses.{load_entry_opens, load_link_past_table_opens, load_link_opens, load_link_unscaled_opens, pop_link_opens, load_link_at_index_opens, load_is_quiet, load_unscaled_is_quiet, store_unscaled_is_quiet, pop_is_quiet, push_is_quiet, load_at_index_is_quiet, store_at_index_is_quiet}
+use Rattle.lfi_rules.proofs.Accesses.{load_entry_opens, load_link_past_table_opens, load_link_opens, load_link_unscaled_opens, pop_link_opens, load_link_at_index_opens, load_is_quiet, load_unscaled_is_quiet, store_unscaled_is_quiet, pop_is_quiet, push_is_quiet, load_at_index_is_quiet, store_at_index_is_quiet, load_ordered_is_told, store_ordered_is_told, load_link_ordered_opens}
 use Rattle.lfi_rules.proofs.Doubles.{load_link_first_opens, load_link_second_opens, pop_link_first_opens, pop_link_second_opens, load_pair_is_quiet, pop_pair_is_quiet, store_is_quiet, push_pair_is_quiet, load_even_odd_is_quiet, load_odd_even_is_quiet, pop_even_odd_is_quiet, pop_odd_even_is_quiet}
 use Rattle.lfi_rules.proofs.Jumps.{move_stack_opens, branch_on_is_quiet, branch_back_is_quiet, conditional_on_is_quiet, conditional_back_is_quiet, comparison_on_is_quiet, comparison_back_is_quiet, bit_test_on_is_quiet, bit_test_back_is_quiet, guard_is_quiet, stack_from_offset_is_quiet, nop_is_quiet, breakpoint_is_quiet, jump_is_quiet, ret_is_quiet}
 
@@ -163,17 +168,45 @@ each_near w k n below far =
       ),
     )
 
-pub quiet_here : (w k n : ℕ) (near : Bool) → w < 2 ^ 32 → (near ≡ true → IsFarFromEnds k n) → IsQuietHere near w → IsQuietWord w k n Nothing
-quiet_here w k n true below far has = from_each w (IsQuietWord w k n Nothing) (near_classes ++ quiet_classes) (each_near w k n below (far refl)) has
-quiet_here w k n false below far has = from_each w (IsQuietWord w k n Nothing) quiet_classes (each_quiet w k n below) has
+quiet_anywhere : (w k n : ℕ) → w < 2 ^ 32 → AnyHas quiet_classes w → IsQuietWord w k n Nothing
+quiet_anywhere w k n below has = from_each w (IsQuietWord w k n Nothing) quiet_classes (each_quiet w k n below) has
+
+quiet_far : (w k n : ℕ) → w < 2 ^ 32 → IsFarFromEnds k n → AnyHas (near_classes ++ quiet_classes) w → IsQuietWord w k n Nothing
+quiet_far w k n below far has = from_each w (IsQuietWord w k n Nothing) (near_classes ++ quiet_classes) (each_near w k n below far) has
+
+pub quiet_here : (w k n : ℕ) → w < 2 ^ 32 → IsQuietHere Quiet w → IsQuietWord w k n Nothing
+quiet_here w k n below has = quiet_anywhere w k n below has
+
+pub ordered_told : (w k n : ℕ) → w < 2 ^ 32 → AnyHas ordered_classes w → IsToldWord Two w k n Nothing
+unfolding ordered_classes
+ordered_told w k n below has = from_each w (IsToldWord Two w k n Nothing) ordered_classes (load_ordered_is_told w k n below, (store_ordered_is_told w k n below, tt)) has
+
+pub ordered_guard_opens : (w k n : ℕ) → w < 2 ^ 32 → AnyHas ordered_guard_classes w → IsToldWord Two w k n Guard
+unfolding ordered_guard_classes
+ordered_guard_opens w k n below has = from_each w (IsToldWord Two w k n Guard) ordered_guard_classes (load_link_ordered_opens w k n below, tt) has
+
+-- one of the ordered classes, or of those after them
+either_of : (w : ℕ) → AnyHas (ordered_classes ++ (near_classes ++ quiet_classes)) w → AnyHas ordered_classes w ⊎ AnyHas (near_classes ++ quiet_classes) w
+unfolding ordered_classes
+either_of w (inl a) = inl (inl a)
+either_of w (inr (inl b)) = inl (inr (inl b))
+either_of w (inr (inr c)) = inr c
+
+pub told_here : (p : Profile) (w k n : ℕ) (near : Reach) → w < 2 ^ 32 → (near ≢ Quiet → IsFarFromEnds k n) → (near ≡ Ordered → p ≡ Two) → IsQuietHere near w → IsToldWord p w k n Nothing
+told_here p w k n Quiet below far of has = quiet_told p w k n Nothing (quiet_anywhere w k n below has)
+told_here p w k n Near below far of has = quiet_told p w k n Nothing (quiet_far w k n below (far (λ e. cc)) has)
+told_here p w k n Ordered below far of has = elim (either_of w has) [
+  | inl ordered ↦ subst (λ x. IsToldWord x w k n Nothing) (sym (of refl)) (ordered_told w k n below ordered)
+  | inr other ↦ quiet_told p w k n Nothing (quiet_far w k n below (far (λ e. cc)) other)
+]
 
 pub call_opens : (w k n : ℕ) → w < 2 ^ 32 → AnyHas call_classes w → IsQuietWord w k n Call
 unfolding call_classes
 call_opens w k n below has = from_each w (IsQuietWord w k n Call) call_classes (load_entry_opens w k n below, tt) has
 
-pub probe_opens : (w k n : ℕ) → w < 2 ^ 32 → AnyHas probe_classes w → IsQuietWord w k n Probe
+pub probe_opens : (w k n : ℕ) → w < 2 ^ 32 → AnyHas probe_classes w → IsQuietWord w k n (Probe 1)
 unfolding probe_classes
-probe_opens w k n below has = from_each w (IsQuietWord w k n Probe) probe_classes (move_stack_opens w k n below, tt) has
+probe_opens w k n below has = from_each w (IsQuietWord w k n (Probe 1)) probe_classes (move_stack_opens w k n below, tt) has
 
 pub guard_opens : (w k n : ℕ) → w < 2 ^ 32 → AnyHas guard_classes w → IsQuietWord w k n Guard
 unfolding guard_classes
@@ -222,6 +255,7 @@ direct_tells w bits half k n below (of_other no_branch no_test b h) (inr (inl cl
 direct_tells w bits half k n below (of_other no_branch no_test b h) (inr (inr none)) inside = absurd none
 
 -- a quiet word, or a pair into two registers
-pub follower : (w k n : ℕ) (near : Bool) → w < 2 ^ 32 → (near ≡ true → IsFarFromEnds k n) → IsQuietHere near w ⊎ (AnyHas pair_classes w × (bits_at w 0 5 ≢ bits_at w 10 5)) → IsQuietWord w k n Nothing
-follower w k n near below far (inl quiet) = quiet_here w k n near below far quiet
-follower w k n near below far (inr pair) = pair_tells w k n below pair.0 pair.1
+pub follower : (p : Profile) (w k n : ℕ) (near : Reach) → w < 2 ^ 32 → (near ≢ Quiet → IsFarFromEnds k n) → (near ≡ Ordered → p ≡ Two) → IsQuietHere near w ⊎ (AnyHas pair_classes w × (bits_at w 0 5 ≢ bits_at w 10 5))
+    → IsToldWord p w k n Nothing
+follower p w k n near below far of (inl quiet) = told_here p w k n near below far of quiet
+follower p w k n near below far of (inr pair) = quiet_told p w k n Nothing (pair_tells w k n below pair.0 pair.1)

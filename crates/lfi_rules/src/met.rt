@@ -1,8 +1,9 @@
 //! Words that surely meet a need: told by a look at the fields that matter.
 
-ghost use Rattle.std.specs.Prelude.{◌≡◌, ◌<◌, IsTrue};
+ghost use Rattle.std.specs.Prelude.{◌≡◌, ◌<◌, IsTrue, false};
 ghost use Rattle.lfi_classes.specs.Sets as sets;
-ghost use Rattle.lfi_rules.specs.declared.needs.Need.TheVariants.{Probe};
+ghost use Rattle.lfi_module.specs.declared.profile.Profile.{Profile};
+ghost use Rattle.lfi_rules.specs.declared.needs.Need.TheVariants.{Call, Guard, Probe};
 ghost use Rattle.lfi_rules.specs.Faults.{Meets};
 ghost use Rattle.lfi_rules.specs.inner.Quiet.{IsMet};
 
@@ -17,13 +18,15 @@ const GUARD: u32 = 0x8B3E42BE;
 /// Whether a word surely meets a need.
 #[inline(always)]
 pub fn is_met(word: u32, need: Need) -> bool
-    ensures { IsTrue result → Meets word need }
+    ensures met { (profile : Profile) → IsTrue result → Meets profile word need }
+    ensures call { (profile : Profile) → need ≡ Call → result ≡ false → Meets profile word Call → ⊥ }
+    ensures guard { (profile : Profile) → need ≡ Guard → result ≡ false → Meets profile word Guard → ⊥ }
 {
     match need {
         Need::Nothing => true,
         Need::Call => word == CALL,
         Need::Guard => word == GUARD,
-        Need::Probe => probes_by_one(word) | probes_by_two(word),
+        Need::Probe(_) => probes_by_one(word) | probes_by_two(word),
     }
 }
 
@@ -40,7 +43,7 @@ fn is_access(size: u32, transfer: u32) -> bool
 /// Whether a word is a load or store of one register at sp.
 #[inline(always)]
 fn probes_by_one(word: u32) -> bool
-    ensures { IsTrue result → IsMet word Probe }
+    ensures { IsTrue result → IsMet word (Probe 1) }
 {
     (word >> 24 & 0b111111 == 0b111001)
         & (word >> 5 & 0x1FFFF == 31)
@@ -50,7 +53,7 @@ fn probes_by_one(word: u32) -> bool
 /// Whether a word is a load or store of two registers at sp.
 #[inline(always)]
 fn probes_by_two(word: u32) -> bool
-    ensures { IsTrue result → IsMet word Probe }
+    ensures { IsTrue result → IsMet word (Probe 1) }
 {
     let stores = word >> 22 & 1 == 0;
     let apart = word & 31 != word >> 10 & 31;

@@ -1,13 +1,15 @@
 //! What an instruction asks of the next one: docs/PROFILE.md.
 
-ghost use Rattle.std.specs.Prelude.{◌≡◌};
+ghost use Rattle.std.specs.Prelude.{◌≡◌, nat_lt};
 ghost use Rattle.lfi_rules.specs.Needs as spec;
 
 use crate::guard::guards_link;
 use crate::registers::{BASE, LINK, STACK};
+use a64_effects::ordered_transfer;
 use a64_word::{BranchKind, Instruction, PairMode, Size, Transfer, Width};
+use lfi_module::Profile;
 
-/// What an instruction asks of the next word.
+/// What an instruction asks of the words after it.
 #[derive(Clone, Copy, PartialEq, Eq, Debug)]
 pub enum Need {
     /// No condition.
@@ -16,8 +18,18 @@ pub enum Need {
     Call,
     /// The guard of x30 by itself, after any other load of 64 bits into it.
     Guard,
-    /// An access at sp, after sp was moved by an immediate.
-    Probe,
+    /// An access at sp, after sp was moved by an immediate, among so many words; those before it are calm.
+    Probe(u8),
+}
+
+/// Among how many words after an instruction that moves sp the probe has to come.
+pub fn window(profile: Profile) -> u8
+    ensures { result ≡ spec.window profile }
+{
+    match profile {
+        Profile::One => 1,
+        Profile::Two => 1,
+    }
 }
 
 /// The entries of the table from x21 up, of 8 bytes each, through which code calls its runtime.
@@ -38,6 +50,9 @@ pub fn loads_link(instruction: &Instruction) -> bool
         Instruction::UnsignedOffset(i) => is_load_64(i.size, i.transfer) && i.rt.number() == LINK,
         Instruction::SignedOffset(i) => is_load_64(i.size, i.transfer) && i.rt.number() == LINK,
         Instruction::RegisterOffset(i) => is_load_64(i.size, i.transfer) && i.rt.number() == LINK,
+        Instruction::Ordered(i) => {
+            is_load_64(i.size, ordered_transfer(i.load)) && i.rt.number() == LINK
+        }
         Instruction::Pair(i) => i.load
             && i.width == Width::X
             && (i.rt.number() == LINK || i.rt2.number() == LINK),
@@ -76,16 +91,16 @@ pub fn moves_stack(instruction: &Instruction) -> bool
     }
 }
 
-/// The need that an instruction opens, for the next word to meet.
-pub fn opens(instruction: &Instruction) -> Need
-    ensures { result ≡ spec.opens_of instruction.now }
+/// The need that an instruction opens, for the words after it to meet.
+pub fn opens(instruction: &Instruction, profile: Profile) -> Need
+    ensures { result ≡ spec.opens_of profile instruction.now }
 {
     if loads_entry(instruction) {
         Need::Call
     } else if loads_link(instruction) {
         Need::Guard
     } else if moves_stack(instruction) {
-        Need::Probe
+        Need::Probe(window(profile))
     } else {
         Need::Nothing
     }
@@ -120,6 +135,32 @@ pub fn meets(instruction: &Instruction, need: Need) -> bool
         Need::Nothing => true,
         Need::Call => calls_link(instruction),
         Need::Guard => guards_link(instruction),
-        Need::Probe => probes_stack(instruction),
+        Need::Probe(_) => probes_stack(instruction),
+    }
+}
+
+/// What is left of a need after a word that may go by: nothing, where that was the last that might.
+pub fn waits(need: Need) -> Need
+    ensures { result ≡ spec.waits need }
+{
+    match need {
+        Need::Probe(count) => {
+            if count > 1 {
+                Need::Probe(count - 1)
+            } else {
+                Need::Nothing
+            }
+        }
+        _ => Need::Nothing,
+    }
+}
+
+/// Whether a word may go by before a need is met.
+pub fn may_wait(need: Need) -> bool
+    ensures { result ≡ nat_lt 1 (spec.term_of need) }
+{
+    match need {
+        Need::Probe(count) => count > 1,
+        _ => false,
     }
 }

@@ -1,10 +1,14 @@
 //! The first fault of words by themselves: nearly all are told by their classes, and a closer look is taken at the others alone.
 
-ghost use Rattle.std.specs.Prelude.{◌≡◌, ◌+◌, ◌<◌, ◌≤◌, IsTrue, IfSome, IfNone, ℕ, length, slice_index, true};
+ghost use Rattle.std.specs.Prelude.{◌≡◌, ◌≢◌, ◌+◌, ◌<◌, ◌≤◌, IsTrue, IfSome, IfNone, ℕ, length, slice_index};
 ghost use Rattle.lfi_module.specs.Numbers.{most_words};
+ghost use Rattle.lfi_module.specs.Profiles.{is_two};
+ghost use Rattle.lfi_module.specs.declared.profile.Profile.{Profile};
+ghost use Rattle.lfi_module.specs.declared.profile.Profile.TheVariants.{Two};
+ghost use Rattle.lfi_classes.specs.declared.classes.Reach.TheVariants.{Quiet, Ordered};
 ghost use Rattle.lfi_rules.specs.declared.needs.Need.TheVariants.{Nothing, Call, Guard, Probe};
 ghost use Rattle.lfi_rules.specs.Faults.{IsFirstInside};
-ghost use Rattle.lfi_rules.specs.inner.Quiet.{IsQuietWord};
+ghost use Rattle.lfi_rules.specs.inner.Quiet.{IsToldWord};
 ghost use Rattle.lfi_rules.specs.inner.Passing.{AreFarFromEnds, IsMetAfter, IsFine, AreFine, AreMarked, AreWithin, AreMarkedFine, IsFoundIn};
 
 use crate::direct::stays_inside;
@@ -13,7 +17,8 @@ use crate::inspect::inspect;
 use crate::met::is_met;
 use crate::needs::Need;
 use a64_word::Words;
-use lfi_classes::classes_of;
+use lfi_classes::{Reach, classes_of};
+use lfi_module::Profile;
 
 /// How many words a near branch goes at most, either way.
 const REACH: u32 = 2048;
@@ -29,6 +34,32 @@ fn are_far_from_ends(start: u32, stop: u32, n: u32) -> bool
     start >= REACH && n - stop >= REACH
 }
 
+/// Whether a profile has ordered loads and stores.
+#[inline(always)]
+fn has_ordered(profile: Profile) -> bool
+    ensures { result ≡ is_two profile }
+{
+    match profile {
+        Profile::One => false,
+        Profile::Two => true,
+    }
+}
+
+/// Which classes count as quiet at the places from one on, up to another.
+fn reach_between(start: u32, stop: u32, n: u32, profile: Profile) -> Reach
+    requires { stop ≤ n }
+    ensures far { result ≢ Quiet → AreFarFromEnds start stop n }
+    ensures of_profile { result ≡ Ordered → profile ≡ Two }
+{
+    if !are_far_from_ends(start, stop, n) {
+        return Reach::Quiet;
+    }
+    match profile {
+        Profile::One => Reach::Near,
+        Profile::Two => Reach::Ordered,
+    }
+}
+
 /// Marks the places from `from` on, up to `stop`, whose words aren't quiet, behind `count` places that are marked: writes them
 /// down in order, and answers how many are marked then. Without a branch by what a word is.
 #[inline(always)]
@@ -36,7 +67,7 @@ fn mark_loud<W: Words>(
     words: &W,
     from: usize,
     stop: usize,
-    near: bool,
+    reach: Reach,
     first: u32,
     n: u32,
     places: &mut [u32],
@@ -47,15 +78,16 @@ fn mark_loud<W: Words>(
     requires room { first + length (W.words words.now) ≤ n }
     requires most { n ≤ most_words }
     requires space { count + stop ≤ from + length places.old }
-    requires far { near ≡ true → AreFarFromEnds (first + from) (first + stop) n }
+    requires far { reach ≢ Quiet → AreFarFromEnds (first + from) (first + stop) n }
     ensures count { result + from ≤ count + stop }
-    ensures marked { (start : ℕ) → start ≤ from → AreMarked (W.words words.now) first n start from places.old count
-        → AreMarked (W.words words.now) first n start stop places.new result }
+    ensures marked { (profile : Profile) (start : ℕ) → (reach ≡ Ordered → profile ≡ Two) → start ≤ from
+        → AreMarked profile (W.words words.now) first n start from places.old count
+        → AreMarked profile (W.words words.now) first n start stop places.new result }
 {
     let mut marked = count;
     for i in from..stop {
         places[marked] = i as u32;
-        if !classes_of(words.word(i)).is_quiet(near) {
+        if !classes_of(words.word(i)).is_quiet(reach) {
             marked += 1;
         }
     }
@@ -68,7 +100,7 @@ fn mark_span<W: Words>(
     words: &W,
     start: usize,
     stop: usize,
-    near: bool,
+    reach: Reach,
     first: u32,
     n: u32,
     places: &mut [u32],
@@ -78,17 +110,18 @@ fn mark_span<W: Words>(
     requires room { first + length (W.words words.now) ≤ n }
     requires most { n ≤ most_words }
     requires space { stop ≤ start + length places.old }
-    requires far { near ≡ true → AreFarFromEnds (first + start) (first + stop) n }
+    requires far { reach ≢ Quiet → AreFarFromEnds (first + start) (first + stop) n }
     ensures count { result ≤ length places.new }
-    ensures marked { AreMarked (W.words words.now) first n start stop places.new result }
+    ensures marked { (profile : Profile) → (reach ≡ Ordered → profile ≡ Two)
+        → AreMarked profile (W.words words.now) first n start stop places.new result }
 {
     let mut count = 0;
     let mut i = start;
     while stop - i >= 8 {
-        count = mark_loud(words, i, i + 8, near, first, n, places, count);
+        count = mark_loud(words, i, i + 8, reach, first, n, places, count);
         i += 8;
     }
-    mark_loud(words, i, stop, near, first, n, places, count)
+    mark_loud(words, i, stop, reach, first, n, places, count)
 }
 
 /// Which needs a word meets.
@@ -104,9 +137,9 @@ struct Met {
 fn met_after<W: Words>(words: &W, i: usize) -> Met
     requires within { i < length (W.words words.now) }
     requires small { length (W.words words.now) ≤ most_words }
-    ensures call { IsTrue result.call → IsMetAfter (W.words words.now) i Call }
-    ensures guard { IsTrue result.guard → IsMetAfter (W.words words.now) i Guard }
-    ensures probe { IsTrue result.probe → IsMetAfter (W.words words.now) i Probe }
+    ensures call { (profile : Profile) → IsTrue result.call → IsMetAfter profile (W.words words.now) i Call }
+    ensures guard { (profile : Profile) → IsTrue result.guard → IsMetAfter profile (W.words words.now) i Guard }
+    ensures probe { (profile : Profile) → IsTrue result.probe → IsMetAfter profile (W.words words.now) i (Probe 1) }
 {
     if i + 1 >= words.count() {
         return Met {
@@ -119,72 +152,76 @@ fn met_after<W: Words>(words: &W, i: usize) -> Met
     Met {
         call: is_met(next, Need::Call),
         guard: is_met(next, Need::Guard),
-        probe: is_met(next, Need::Probe),
+        probe: is_met(next, Need::Probe(1)),
     }
 }
 
-/// Whether a word is told by itself: it goes to one of the n words, or its two data registers differ.
+/// Whether a word is told by itself: it goes to one of the n words, its two data registers differ, or it is an ordered load or
+/// store and the profile has these.
 #[inline(always)]
-fn is_told_alone(word: u32, place: u32, n: u32) -> bool
+fn is_told_alone(word: u32, place: u32, n: u32, profile: Profile) -> bool
     requires place { place < n }
     requires most { n ≤ most_words }
-    ensures { IsTrue result → IsQuietWord word place n Nothing }
+    ensures { IsTrue result → IsToldWord profile word place n Nothing }
 {
     let classes = classes_of(word);
     let apart = word & 31 != word >> 10 & 31;
-    classes.is_direct() & stays_inside(word, place, n) | classes.loads_pair() & apart
+    classes.is_direct() & stays_inside(word, place, n)
+        | classes.loads_pair() & apart
+        | classes.is_ordered() & has_ordered(profile)
 }
 
 /// Whether the word at a place is told by its class, its own fields and the word after it: it is fine.
 #[inline(always)]
-fn is_told<W: Words>(words: &W, i: usize, first: u32, n: u32) -> bool
+fn is_told<W: Words>(words: &W, i: usize, first: u32, n: u32, profile: Profile) -> bool
     requires within { i < length (W.words words.now) }
     requires room { first + length (W.words words.now) ≤ n }
     requires most { n ≤ most_words }
-    ensures { IsTrue result → IsFine (W.words words.now) first n i }
+    ensures { IsTrue result → IsFine profile (W.words words.now) first n i }
 {
     let word = words.word(i);
     let classes = classes_of(word);
     let met = met_after(words, i);
-    is_told_alone(word, first + i as u32, n)
-        | classes.opens_guard() & met.guard
+    let guards = classes.opens_guard() | classes.opens_guard_ordered() & has_ordered(profile);
+    is_told_alone(word, first + i as u32, n, profile)
+        | guards & met.guard
         | classes.opens_call() & met.call
         | classes.opens_probe() & met.probe
 }
 
 /// Whether all marked words are told. Without a branch by what a word is.
 #[inline(never)]
-fn are_told<W: Words>(words: &W, marked: &[u32], first: u32, n: u32) -> bool
+fn are_told<W: Words>(words: &W, marked: &[u32], first: u32, n: u32, profile: Profile) -> bool
     requires within { AreWithin marked.now (length (W.words words.now)) }
     requires room { first + length (W.words words.now) ≤ n }
     requires most { n ≤ most_words }
-    ensures { IsTrue result → AreMarkedFine (W.words words.now) first n marked.now (length marked.now) }
+    ensures { IsTrue result → AreMarkedFine profile (W.words words.now) first n marked.now (length marked.now) }
 {
     let mut told = true;
     for place in marked {
-        told = told & is_told(words, *place as usize, first, n);
+        told = told & is_told(words, *place as usize, first, n, profile);
     }
     told
 }
 
 /// The first fault of the words from the place `first + i` on, where it is at that place or the next: what the word breaks by
 /// itself; else what the next one breaks after it, where it opens a need.
-fn fault_at<W: Words>(words: &W, i: usize, first: u32, n: u32) -> Option<Fault>
+fn fault_at<W: Words>(words: &W, i: usize, first: u32, n: u32, profile: Profile) -> Option<Fault>
     requires within { i < length (W.words words.now) }
     requires room { first + length (W.words words.now) ≤ n }
     requires most { n ≤ most_words }
-    ensures some { IfSome result (λ fault. AreFine (W.words words.now) first n 0 i → IsFirstInside (W.words words.now) first n (Some fault)) }
-    ensures none { IfNone result (IsFine (W.words words.now) first n i) }
+    ensures some { IfSome result (λ fault. AreFine profile (W.words words.now) first n 0 i → IsFirstInside profile (W.words words.now) first n (Some fault)) }
+    ensures none { IfNone result (IsFine profile (W.words words.now) first n i) }
 {
     let place = first + i as u32;
-    let (rule, opened) = inspect(words.word(i), Need::Nothing, place, n);
+    let (rule, opened) = inspect(words.word(i), Need::Nothing, place, n, profile);
     if let Some(rule) = rule {
         return Some(Fault { word: place, rule });
     }
     if opened == Need::Nothing || i + 1 == words.count() {
         return None;
     }
-    let (rule, _) = inspect(words.word(i + 1), opened, place + 1, n);
+    let (rule, _) = inspect(words.word(i + 1), opened, place + 1, n, profile);
     match rule {
         Some(rule) => Some(Fault {
             word: place + 1,
@@ -196,17 +233,23 @@ fn fault_at<W: Words>(words: &W, i: usize, first: u32, n: u32) -> Option<Fault>
 
 /// The first fault that a closer look at marked words finds.
 #[inline(never)]
-fn first_by_look<W: Words>(words: &W, marked: &[u32], first: u32, n: u32) -> Option<Fault>
+fn first_by_look<W: Words>(
+    words: &W,
+    marked: &[u32],
+    first: u32,
+    n: u32,
+    profile: Profile,
+) -> Option<Fault>
     requires within { AreWithin marked.now (length (W.words words.now)) }
     requires room { first + length (W.words words.now) ≤ n }
     requires most { n ≤ most_words }
-    ensures some { IfSome result (λ fault. IsFoundIn (W.words words.now) first n marked.now fault) }
-    ensures none { IfNone result (AreMarkedFine (W.words words.now) first n marked.now (length marked.now)) }
+    ensures some { IfSome result (λ fault. IsFoundIn profile (W.words words.now) first n marked.now fault) }
+    ensures none { IfNone result (AreMarkedFine profile (W.words words.now) first n marked.now (length marked.now)) }
 {
     for place in marked {
         let i = *place as usize;
-        if !is_told(words, i, first, n) {
-            let fault = fault_at(words, i, first, n);
+        if !is_told(words, i, first, n, profile) {
+            let fault = fault_at(words, i, first, n, profile);
             if fault.is_some() {
                 return fault;
             }
@@ -223,6 +266,7 @@ fn first_in_span<W: Words>(
     stop: usize,
     first: u32,
     n: u32,
+    profile: Profile,
     places: &mut [u32],
 ) -> Option<Fault>
     requires start { start ≤ stop }
@@ -230,33 +274,39 @@ fn first_in_span<W: Words>(
     requires room { first + length (W.words words.now) ≤ n }
     requires most { n ≤ most_words }
     requires space { stop ≤ start + length places.old }
-    ensures some { IfSome result (λ fault. AreFine (W.words words.now) first n 0 start → IsFirstInside (W.words words.now) first n (Some fault)) }
-    ensures none { IfNone result (AreFine (W.words words.now) first n start stop) }
+    ensures some { IfSome result (λ fault. AreFine profile (W.words words.now) first n 0 start → IsFirstInside profile (W.words words.now) first n (Some fault)) }
+    ensures none { IfNone result (AreFine profile (W.words words.now) first n start stop) }
 {
-    let near = are_far_from_ends(first + start as u32, first + stop as u32, n);
-    let count = mark_span(words, start, stop, near, first, n, places);
+    let reach = reach_between(first + start as u32, first + stop as u32, n, profile);
+    let count = mark_span(words, start, stop, reach, first, n, places);
     let marked = &places[..count];
-    if are_told(words, marked, first, n) {
+    if are_told(words, marked, first, n, profile) {
         None
     } else {
-        first_by_look(words, marked, first, n)
+        first_by_look(words, marked, first, n, profile)
     }
 }
 
 /// The first fault of words, as many of them at once as there are places to mark.
 #[inline(always)]
-fn first_in_spans<W: Words>(words: &W, first: u32, n: u32, places: &mut [u32]) -> Option<Fault>
+fn first_in_spans<W: Words>(
+    words: &W,
+    first: u32,
+    n: u32,
+    profile: Profile,
+    places: &mut [u32],
+) -> Option<Fault>
     requires room { first + length (W.words words.now) ≤ n }
     requires most { n ≤ most_words }
     requires space { 1 ≤ length places.old }
     requires size { length places.old ≤ most_words }
-    ensures { IsFirstInside (W.words words.now) first n result }
+    ensures { IsFirstInside profile (W.words words.now) first n result }
 {
     let count = words.count();
     let mut start = 0;
     while start < count {
         let stop = count.min(start + places.len());
-        let fault = first_in_span(words, start, stop, first, n, places);
+        let fault = first_in_span(words, start, stop, first, n, profile, places);
         if fault.is_some() {
             return fault;
         }
@@ -267,11 +317,11 @@ fn first_in_spans<W: Words>(words: &W, first: u32, n: u32, places: &mut [u32]) -
 
 /// The first fault of words that stand in a module of n words from `first` on.
 #[inline(never)]
-pub fn first_inside<W: Words>(words: &W, first: u32, n: u32) -> Option<Fault>
+pub fn first_inside<W: Words>(words: &W, first: u32, n: u32, profile: Profile) -> Option<Fault>
     requires room { first + length (W.words words.now) ≤ n }
     requires most { n ≤ most_words }
-    ensures { IsFirstInside (W.words words.now) first n result }
+    ensures { IsFirstInside profile (W.words words.now) first n result }
 {
     let mut places = [0u32; SPAN];
-    first_in_spans(words, first, n, &mut places)
+    first_in_spans(words, first, n, profile, &mut places)
 }

@@ -6,6 +6,8 @@ mod modules;
 #[cfg(test)]
 mod needs;
 #[cfg(test)]
+mod ordered;
+#[cfg(test)]
 mod pages;
 #[cfg(test)]
 mod plain;

@@ -1,5 +1,5 @@
 //! Modules of a few words, each with its first fault by this project's rules (docs/PROFILE.md).
-use crate::words::fault_of;
+use crate::words::{PROFILES, fault_of};
 use lfi_rules::{Fault, Rule};
 use std::test::Fail;
 
@@ -102,7 +102,9 @@ const UNMET_FAULT: Option<Fault> = Some(Fault {
 #[test]
 fn needs_met(rt: HostRuntime) -> Result<(), Fail> {
     for words in MET.chunks(2) {
-        assert!(rt; fault_of(&rt, words)? == None, "{words:?}");
+        for profile in PROFILES {
+            assert!(rt; fault_of(&rt, words, profile)? == None, "{words:?}");
+        }
     }
     Ok(())
 }
@@ -110,7 +112,9 @@ fn needs_met(rt: HostRuntime) -> Result<(), Fail> {
 #[test]
 fn needs_unmet(rt: HostRuntime) -> Result<(), Fail> {
     for words in UNMET.chunks(2) {
-        assert!(rt; fault_of(&rt, words)? == UNMET_FAULT, "{words:?}");
+        for profile in PROFILES {
+            assert!(rt; fault_of(&rt, words, profile)? == UNMET_FAULT, "{words:?}");
+        }
     }
     Ok(())
 }
@@ -230,7 +234,9 @@ const MODULES: [(&[u32], Option<Fault>); 16] = [
 #[test]
 fn modules(rt: HostRuntime) -> Result<(), Fail> {
     for (words, fault) in &MODULES {
-        assert!(rt; fault_of(&rt, words)? == *fault, "{words:?}");
+        for profile in PROFILES {
+            assert!(rt; fault_of(&rt, words, profile)? == *fault, "{words:?}");
+        }
     }
     Ok(())
 }

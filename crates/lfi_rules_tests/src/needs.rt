@@ -1,10 +1,11 @@
 //! What instructions ask of the next word, and whether they meet it: docs/PROFILE.md.
 use a64_word::decode;
+use lfi_module::Profile;
 use lfi_rules::{Need, meets, opens};
 use std::test::Fail;
 
 /// Words, and what they open.
-const OPENINGS: [(u32, Need); 32] = [
+const OPENINGS: [(u32, Need); 37] = [
     (0xF94002BE, Need::Call), // LDR X30, [X21]
     (0xF947FEBE, Need::Call), // LDR X30, [X21, #4088]
     (0xF94802BE, Need::Guard), // LDR X30, [X21, #4096]
@@ -25,9 +26,9 @@ const OPENINGS: [(u32, Need); 32] = [
     (0x294003FE, Need::Nothing), // LDP W30, W0, [SP]
     (0xA90003FE, Need::Nothing), // STP X30, X0, [SP]
     (0xA94077FC, Need::Nothing), // LDP X28, X29, [SP]
-    (0xD10043FF, Need::Probe), // SUB SP, SP, #16
-    (0x910043FF, Need::Probe), // ADD SP, SP, #16
-    (0x910003FF, Need::Probe), // ADD SP, SP, #0
+    (0xD10043FF, Need::Probe(1)), // SUB SP, SP, #16
+    (0x910043FF, Need::Probe(1)), // ADD SP, SP, #16
+    (0x910003FF, Need::Probe(1)), // ADD SP, SP, #0
     (0x510043FF, Need::Nothing), // SUB WSP, WSP, #16
     (0xD14043FF, Need::Nothing), // SUB SP, SP, #16, LSL #12
     (0xF10043FF, Need::Nothing), // SUBS XZR, SP, #16
@@ -37,10 +38,15 @@ const OPENINGS: [(u32, Need); 32] = [
     (0xD63F03C0, Need::Nothing), // BLR X30
     (0x8B3E42BE, Need::Nothing), // the guard of X30
     (0x8B3662BF, Need::Nothing), // ADD SP, X21, X22, UXTX
+    (0xC8DFFEBE, Need::Guard), // LDAR X30, [X21]
+    (0xC8DFFFFE, Need::Guard), // LDAR X30, [SP]
+    (0x88DFFEBE, Need::Nothing), // LDAR W30, [X21]
+    (0xC89FFEBE, Need::Nothing), // STLR X30, [X21]
+    (0xC8DFFE40, Need::Nothing), // LDAR X0, [X18]
 ];
 
 /// Words, and whether they meet Call, Guard and Probe.
-const MEETINGS: [(u32, bool, bool, bool); 40] = [
+const MEETINGS: [(u32, bool, bool, bool); 42] = [
     (0xD63F03C0, true, false, false), // BLR X30
     (0xD61F03C0, false, false, false), // BR X30
     (0xD65F03C0, false, false, false), // RET
@@ -81,18 +87,20 @@ const MEETINGS: [(u32, bool, bool, bool); 40] = [
     (0xA9000640, false, false, false), // STP X0, X1, [X18]
     (0xD503201F, false, false, false), // NOP
     (0xF8614BE0, false, false, false), // LDR X0, [SP, W1, UXTW]
+    (0xC8DFFFE0, false, false, false), // LDAR X0, [SP]
+    (0xC89FFFE0, false, false, false), // STLR X0, [SP]
 ];
 
 fn is_opened(word: u32, need: Need) -> bool {
-    match decode(word) {
-        Some(instruction) => opens(&instruction) == need,
+    match decode(word, Profile::Two) {
+        Some(instruction) => opens(&instruction, Profile::Two) == need,
         None => false,
     }
 }
 
 /// Whether a word is an instruction that meets a need.
 fn is_met(word: u32, need: Need) -> bool {
-    match decode(word) {
+    match decode(word, Profile::Two) {
         Some(instruction) => meets(&instruction, need),
         None => false,
     }
@@ -111,6 +119,6 @@ fn needs_met_by_a_word(rt: HostRuntime) {
         assert!(rt; is_met(word, Need::Nothing), "{word:#x}");
         assert!(rt; is_met(word, Need::Call) == call, "{word:#x}");
         assert!(rt; is_met(word, Need::Guard) == guard, "{word:#x}");
-        assert!(rt; is_met(word, Need::Probe) == probe, "{word:#x}");
+        assert!(rt; is_met(word, Need::Probe(1)) == probe, "{word:#x}");
     }
 }

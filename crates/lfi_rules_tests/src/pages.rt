@@ -1,26 +1,28 @@
 //! Modules page by page: the verdict on a page, and the verdicts one after another.
 ghost use Rattle.std.specs.Prelude.{◌≤◌};
 
-use crate::words::fault_of;
-use lfi_rules::{Fault, Need, PageVerdict, Rule, fault_after, judge, seam};
+use crate::words::{PROFILES, fault_of};
+use lfi_module::Profile;
+use lfi_rules::{Fault, Need, PageVerdict, Rule, fault_after, judge, leave, seam};
 use std::test::Fail;
 
 const NOP: u32 = 0xD503201F;
 /// The guard of x30 by itself.
 const GUARD: u32 = 0x8B3E42BE;
 
-/// The verdict on a page that stands in a module of n words from `first` on.
+/// The verdict on a page that stands in a module of n words from `first` on, by a profile.
 pub fn verdict_of(
     rt: &HostRuntime,
     words: &[u32],
     first: u32,
     n: u32,
+    profile: Profile,
 ) -> Result<PageVerdict, Fail> {
     let words = Vec::from_slice(rt.alloc(), words)?;
     if words.is_empty() || n > 4_194_304 || first > n || words.len() > (n - first) as usize {
         return Err(Fail::new("the page doesn't fit"));
     }
-    Ok(judge(&words, first, n))
+    Ok(judge(&words, first, n, profile))
 }
 
 /// The first fault once a page of `count` words comes after words that leave `tail` open.
@@ -30,42 +32,52 @@ fn fault_with(
     verdict: &PageVerdict,
     count: usize,
 ) -> Result<Option<Fault>, Fail> {
-    if n == 0 || verdict.first > n || count > (n - verdict.first) as usize {
+    if n == 0 || n > 4_194_304 || verdict.first > n || count > (n - verdict.first) as usize {
         return Err(Fail::new("the page doesn't fit"));
     }
     Ok(fault_after(n, tail, verdict, count))
 }
 
 /// The first fault of a module that is cut into pages of so many words, by their verdicts.
-pub fn fault_by_pages(rt: &HostRuntime, words: &[u32], size: usize) -> Result<Option<Fault>, Fail>
+pub fn fault_by_pages(
+    rt: &HostRuntime,
+    words: &[u32],
+    size: usize,
+    profile: Profile,
+) -> Result<Option<Fault>, Fail>
     requires { 1 ≤ size }
 {
     let n = u32::try_from(words.len())?;
     let mut left = Need::Nothing;
     let mut first = 0u32;
     for page in words.chunks(size) {
-        let verdict = verdict_of(rt, page, first, n)?;
+        let verdict = verdict_of(rt, page, first, n, profile)?;
         let fault = fault_with(n, left, &verdict, page.len())?;
         if fault.is_some() {
             return Ok(fault);
         }
-        left = verdict.tail;
+        left = leave(left, &verdict);
         first = first.saturating_add(u32::try_from(page.len())?);
     }
     Ok(None)
 }
 
 /// The first fault of a module that is cut in two, by the verdicts on its parts.
-fn fault_of_two(rt: &HostRuntime, left: &[u32], right: &[u32]) -> Result<Option<Fault>, Fail> {
+fn fault_of_two(
+    rt: &HostRuntime,
+    left: &[u32],
+    right: &[u32],
+    profile: Profile,
+) -> Result<Option<Fault>, Fail> {
     let at = u32::try_from(left.len())?;
     let n = at.saturating_add(u32::try_from(right.len())?);
-    let first = verdict_of(rt, left, 0, n)?;
-    let second = verdict_of(rt, right, at, n)?;
+    let first = verdict_of(rt, left, 0, n, profile)?;
+    let second = verdict_of(rt, right, at, n, profile)?;
     let fault = fault_with(n, Need::Nothing, &first, left.len())?;
     if fault.is_some() {
         return Ok(fault);
     }
-    fault_with(n, first.tail, &second, right.len())
+    fault_with(n, leave(Need::Nothing, &first), &second, right.len())
 }
 
 /// Small modules, which are cut in every way.
@@ -82,11 +94,15 @@ const SMALL: [&[u32]; 9] = [
 ];
 
 /// The first place at which a module is cut in two so that its fault is another than that of its words together.
-fn first_other_cut(rt: &HostRuntime, words: &[u32]) -> Result<Option<usize>, Fail> {
-    let whole = fault_of(rt, words)?;
+fn first_other_cut(
+    rt: &HostRuntime,
+    words: &[u32],
+    profile: Profile,
+) -> Result<Option<usize>, Fail> {
+    let whole = fault_of(rt, words, profile)?;
     for at in 1..words.len() {
         let (left, right) = words.split_at(at);
-        if fault_of_two(rt, left, right)? != whole {
+        if fault_of_two(rt, left, right, profile)? != whole {
             return Ok(Some(at));
         }
     }
@@ -94,10 +110,15 @@ fn first_other_cut(rt: &HostRuntime, words: &[u32]) -> Result<Option<usize>, Fai
 }
 
 /// The first size of pages by which a module's fault is another than that of its words together.
-fn first_other(rt: &HostRuntime, words: &[u32], sizes: &[usize]) -> Result<Option<usize>, Fail> {
-    let whole = fault_of(rt, words)?;
+fn first_other(
+    rt: &HostRuntime,
+    words: &[u32],
+    sizes: &[usize],
+    profile: Profile,
+) -> Result<Option<usize>, Fail> {
+    let whole = fault_of(rt, words, profile)?;
     for size in sizes {
-        if *size > 0 && fault_by_pages(rt, words, *size)? != whole {
+        if *size > 0 && fault_by_pages(rt, words, *size, profile)? != whole {
             return Ok(Some(*size));
         }
     }
@@ -107,22 +128,30 @@ fn first_other(rt: &HostRuntime, words: &[u32], sizes: &[usize]) -> Result<Optio
 #[test]
 fn cuts_small_modules(rt: HostRuntime) -> Result<(), Fail> {
     for words in SMALL {
-        let other = first_other_cut(&rt, words)?;
-        assert!(rt; other == None, "{words:?} at {other:?}");
+        for profile in PROFILES {
+            let other = first_other_cut(&rt, words, profile)?;
+            assert!(rt; other == None, "{words:?} at {other:?}");
+        }
     }
     Ok(())
 }
 
 #[test]
 fn judges_a_page(rt: HostRuntime) -> Result<(), Fail> {
-    let verdict = verdict_of(&rt, &[0xF9400240, 0xF9400020, 0xD10043FF], 1024, 1100)?;
+    let verdict = verdict_of(
+        &rt,
+        &[0xF9400240, 0xF9400020, 0xD10043FF],
+        1024,
+        1100,
+        Profile::One,
+    )?;
     let inner = Some(Fault {
         word: 1025,
         rule: Rule::AccessConfined,
     });
     assert!(rt; verdict.first == 1024);
     assert!(rt; verdict.inner == inner);
-    assert!(rt; verdict.tail == Need::Probe);
+    assert!(rt; verdict.tail == Need::Probe(1));
     assert!(rt; !verdict.head.call && !verdict.head.guard && !verdict.head.probe);
     assert!(rt; seam(Need::Nothing, &verdict) == inner);
     let unmet = Some(Fault {
@@ -143,13 +172,13 @@ const HEADS_AND_TAILS: [(u32, bool, bool, bool, Need); 9] = [
     (0xF94006BE, false, false, false, Need::Call),
     (0xF9400A5E, false, false, false, Need::Guard),
     (0xF94003FE, false, false, true, Need::Guard),
-    (0xD10043FF, false, false, false, Need::Probe),
+    (0xD10043FF, false, false, false, Need::Probe(1)),
 ];
 
 #[test]
 fn judges_heads_and_tails(rt: HostRuntime) -> Result<(), Fail> {
     for (word, call, guard, probe, tail) in HEADS_AND_TAILS {
-        let verdict = verdict_of(&rt, &[word], 0, 4_194_304)?;
+        let verdict = verdict_of(&rt, &[word], 0, 4_194_304, Profile::Two)?;
         assert!(rt; verdict.head.call == call, "{word:#x}");
         assert!(rt; verdict.head.guard == guard, "{word:#x}");
         assert!(rt; verdict.head.probe == probe, "{word:#x}");
@@ -170,7 +199,7 @@ const SEAMS: [([u32; 2], u32, Rule); 4] = [
 #[test]
 fn orders_faults_at_a_seam(rt: HostRuntime) -> Result<(), Fail> {
     for (words, word, rule) in SEAMS {
-        let verdict = verdict_of(&rt, &words, 5, 7)?;
+        let verdict = verdict_of(&rt, &words, 5, 7, Profile::Two)?;
         assert!(rt;
             seam(Need::Guard, &verdict) == Some(Fault { word, rule }),
             "{words:?}"
@@ -193,7 +222,7 @@ const FAR_BRANCHES: [(u32, u32, u32, bool); 6] = [
 #[test]
 fn judges_far_branches(rt: HostRuntime) -> Result<(), Fail> {
     for (word, first, n, stays) in FAR_BRANCHES {
-        let verdict = verdict_of(&rt, &[word], first, n)?;
+        let verdict = verdict_of(&rt, &[word], first, n, Profile::Two)?;
         let outside = Some(Fault {
             word: first,
             rule: Rule::TargetInside,
@@ -341,19 +370,25 @@ fn has_fault(
     at: usize,
     changed: &[u32],
     expected: Option<Fault>,
+    profile: Profile,
 ) -> Result<bool, Fail> {
     let mut words = Vec::with_capacity(rt.alloc(), 2100)?;
     for place in 0..2100usize {
         let word = changed.get(place.wrapping_sub(at)).copied();
         words.push(word.unwrap_or(NOP))?;
     }
-    Ok(fault_of(rt, &words)? == expected && first_other(rt, &words, &SIZES)? == None)
+    Ok(
+        fault_of(rt, &words, profile)? == expected
+            && first_other(rt, &words, &SIZES, profile)? == None,
+    )
 }
 
 #[test]
 fn cuts_large_modules(rt: HostRuntime) -> Result<(), Fail> {
     for (at, changed, expected) in &LARGE {
-        assert!(rt; has_fault(&rt, *at, changed, *expected)?, "{at}");
+        for profile in PROFILES {
+            assert!(rt; has_fault(&rt, *at, changed, *expected, profile)?, "{at}");
+        }
     }
     Ok(())
 }

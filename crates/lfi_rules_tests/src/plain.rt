@@ -2,6 +2,7 @@
 
 use a64_effects::{Address, Form, address_of, target, writes};
 use a64_word::{BranchKind, IndexExtend, Instruction, Width, decode};
+use lfi_module::Profile;
 use lfi_rules::{Fault, Need, Rule, meets, opens};
 
 /// The rules that an instruction keeps by itself, in the order of their numbers.
@@ -66,7 +67,7 @@ fn is_bounded(instruction: &Instruction) -> bool {
 fn keeps(word: u32, instruction: &Instruction, rule: Rule, place: u32, n: u32) -> bool {
     let written = writes(instruction);
     let guard = is_guard(word);
-    let opened = opens(instruction);
+    let opened = opens(instruction, Profile::Two);
     match rule {
         Rule::AccessConfined => match address_of(instruction) {
             Some(address) => is_confined(&address),
@@ -91,7 +92,7 @@ fn keeps(word: u32, instruction: &Instruction, rule: Rule, place: u32, n: u32) -
             guard
                 || written.sp() == None
                 || word == 0x8B3662BF
-                || opened == Need::Probe
+                || matches!(opened, Need::Probe(_))
                 || is_indexed(instruction)
         }
         Rule::TargetInside => match target(instruction, place) {
@@ -104,11 +105,17 @@ fn keeps(word: u32, instruction: &Instruction, rule: Rule, place: u32, n: u32) -
 }
 
 /// The rule with the least number that a word breaks at a place of n words, where `need` is to be met; and what it opens.
-pub fn rule_of(word: u32, need: Need, place: u32, n: u32) -> (Option<Rule>, Need) {
-    let Some(instruction) = decode(word) else {
+pub fn rule_of(
+    word: u32,
+    need: Need,
+    place: u32,
+    n: u32,
+    profile: Profile,
+) -> (Option<Rule>, Need) {
+    let Some(instruction) = decode(word, profile) else {
         return (Some(Rule::Spelled), Need::Nothing);
     };
-    let opened = opens(&instruction);
+    let opened = opens(&instruction, profile);
     for rule in RULES {
         if !keeps(word, &instruction, rule, place, n) {
             return (Some(rule), opened);
@@ -122,12 +129,12 @@ pub fn rule_of(word: u32, need: Need, place: u32, n: u32) -> (Option<Rule>, Need
 }
 
 /// The first fault of a module, word by word.
-pub fn fault_word_by_word(words: &[u32]) -> Option<Fault> {
+pub fn fault_word_by_word(words: &[u32], profile: Profile) -> Option<Fault> {
     let n = words.len().min(4_194_304) as u32;
     let mut need = Need::Nothing;
     let mut place = 0u32;
     for word in words {
-        let (rule, opened) = rule_of(*word, need, place, n);
+        let (rule, opened) = rule_of(*word, need, place, n, profile);
         if let Some(rule) = rule {
             return Some(Fault { word: place, rule });
         }

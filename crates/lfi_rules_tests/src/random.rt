@@ -4,7 +4,8 @@ ghost use Rattle.std.specs.Prelude.{◌<◌};
 
 use crate::pages::{fault_by_pages, verdict_of};
 use crate::plain::{fault_word_by_word, rule_of};
-use crate::words::fault_of;
+use crate::words::{PROFILES, fault_of};
+use lfi_module::Profile;
 use lfi_rules::Need;
 use std::test::Fail;
 
@@ -42,17 +43,32 @@ impl Draws {
         self.next() % most
     }
 
-    /// A word at random, of each top part equally often.
+    /// The top and the middle part of an ordered load or store.
+    fn ordered(&mut self) -> (u32, u32) {
+        (self.below(4) << 9 | 0x44 | self.below(2) << 1, 2047)
+    }
+
+    /// A word at random, of each top part equally often, but that one in 16 is an ordered load or store.
     fn word(&mut self) -> u32 {
+        let (top, middle) = if self.below(16) == 0 {
+            self.ordered()
+        } else {
+            self.any()
+        };
+        let rn = REGISTERS[self.below(16) as usize];
+        let rd = REGISTERS[self.below(16) as usize];
+        top << 21 | middle << 10 | rn << 5 | rd
+    }
+
+    /// A top and a middle part at random.
+    fn any(&mut self) -> (u32, u32) {
         let top = self.below(2048);
         let middle = if self.below(4) == 0 {
             MIDDLES[self.below(16) as usize]
         } else {
             self.below(2048)
         };
-        let rn = REGISTERS[self.below(16) as usize];
-        let rd = REGISTERS[self.below(16) as usize];
-        top << 21 | middle << 10 | rn << 5 | rd
+        (top, middle)
     }
 }
 
@@ -62,12 +78,17 @@ const PLACES: [u32; 16] = [
 ];
 
 /// The first of so many words at random whose verdict, on a page of this word alone, isn't that of the rules one by one.
-fn first_other(rt: &HostRuntime, draws: &mut Draws, count: u32) -> Result<Option<u32>, Fail> {
+fn first_other(
+    rt: &HostRuntime,
+    draws: &mut Draws,
+    count: u32,
+    profile: Profile,
+) -> Result<Option<u32>, Fail> {
     for _i in 0..count {
         let word = draws.word();
         let place = PLACES[draws.below(16) as usize];
-        let verdict = verdict_of(rt, &[word], place, 8192)?;
-        let (rule, opened) = rule_of(word, Need::Nothing, place, 8192);
+        let verdict = verdict_of(rt, &[word], place, 8192, profile)?;
+        let (rule, opened) = rule_of(word, Need::Nothing, place, 8192, profile);
         let same = match verdict.inner {
             Some(fault) => rule == Some(fault.rule) && fault.word == place,
             None => rule == None,
@@ -80,7 +101,12 @@ fn first_other(rt: &HostRuntime, draws: &mut Draws, count: u32) -> Result<Option
 }
 
 /// A lawful module of n words at random, of as many draws as that takes, at most a hundred a word; the rest is NOPs.
-fn lawful_module(rt: &HostRuntime, draws: &mut Draws, n: usize) -> Result<Vec<u32>, Fail>
+fn lawful_module(
+    rt: &HostRuntime,
+    draws: &mut Draws,
+    n: usize,
+    profile: Profile,
+) -> Result<Vec<u32>, Fail>
     requires { n < 4194304 }
 {
     let mut words = Vec::with_capacity(rt.alloc(), n)?;
@@ -94,7 +120,7 @@ fn lawful_module(rt: &HostRuntime, draws: &mut Draws, n: usize) -> Result<Vec<u3
             Need::Nothing => draws.word(),
             _ => NEXT[draws.below(4) as usize],
         };
-        let (rule, opened) = rule_of(word, need, place as u32, n as u32);
+        let (rule, opened) = rule_of(word, need, place as u32, n as u32, profile);
         if rule == None && (opened == Need::Nothing || place + 1 < n) {
             words.push(word)?;
             need = opened;
@@ -107,13 +133,13 @@ fn lawful_module(rt: &HostRuntime, draws: &mut Draws, n: usize) -> Result<Vec<u3
 }
 
 /// Whether a module's first fault is that of the rules one by one: whole, and cut into pages of one to nine words.
-fn is_judged_alike(rt: &HostRuntime, words: &[u32]) -> Result<bool, Fail> {
-    let expected = fault_word_by_word(words);
-    if fault_of(rt, words)? != expected {
+fn is_judged_alike(rt: &HostRuntime, words: &[u32], profile: Profile) -> Result<bool, Fail> {
+    let expected = fault_word_by_word(words, profile);
+    if fault_of(rt, words, profile)? != expected {
         return Ok(false);
     }
     for size in 1..10usize {
-        if fault_by_pages(rt, words, size)? != expected {
+        if fault_by_pages(rt, words, size, profile)? != expected {
             return Ok(false);
         }
     }
@@ -122,31 +148,41 @@ fn is_judged_alike(rt: &HostRuntime, words: &[u32]) -> Result<bool, Fail> {
 
 #[test]
 fn judges_words_at_random(rt: HostRuntime) -> Result<(), Fail> {
-    let mut draws = Draws { state: 1 };
-    let other = first_other(&rt, &mut draws, 600_000)?;
-    assert!(rt; other == None, "{other:?}");
+    for profile in PROFILES {
+        let mut draws = Draws { state: 1 };
+        let other = first_other(&rt, &mut draws, 300_000, profile)?;
+        assert!(rt; other == None, "{other:?}");
+    }
     Ok(())
 }
 
-#[test]
-fn judges_modules_at_random(rt: HostRuntime) -> Result<(), Fail> {
-    let mut draws = Draws { state: 2 };
+/// Whether lawful modules at random, and the same with words at random in them, are judged alike.
+fn are_judged_alike(rt: &HostRuntime, draws: &mut Draws, profile: Profile) -> Result<bool, Fail> {
     for size in [
         1usize, 7, 100, 2047, 2048, 2049, 4095, 4096, 4097, 5000, 6000,
     ] {
-        let mut words = lawful_module(&rt, &mut draws, size)?;
-        assert!(rt; is_judged_alike(&rt, &words)?, "{size} words");
+        let mut words = lawful_module(rt, draws, size, profile)?;
+        let mut alike = is_judged_alike(rt, &words, profile)?;
         for _i in 0..8u32 {
             let place = draws.next() as usize % size;
             let word = draws.word();
             if place < words.len() {
                 words[place] = word;
             }
-            assert!(rt;
-                is_judged_alike(&rt, &words)?,
-                "{size} words, with {word:#x} at {place}"
-            );
+            alike = alike && is_judged_alike(rt, &words, profile)?;
         }
+        if !alike {
+            return Ok(false);
+        }
+    }
+    Ok(true)
+}
+
+#[test]
+fn judges_modules_at_random(rt: HostRuntime) -> Result<(), Fail> {
+    for profile in PROFILES {
+        let mut draws = Draws { state: 2 };
+        assert!(rt; are_judged_alike(&rt, &mut draws, profile)?);
     }
     Ok(())
 }

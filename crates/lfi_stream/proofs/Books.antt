@@ -3,6 +3,7 @@ use Rattle.std.proofs.Common.{◌≡◌, ℕ, ◌+◌, ◌*◌, ◌<◌, ◌≤�
 use Rattle.std.specs.Prelude.{◌&&◌, nat_lt}
 use Rattle.std.proofs.lemmas.Bool.{and_parts, eqb-true, eq-eqb, ltb-true}
 use Rattle.std.proofs.lemmas.Bool.Decides.{eqb_tells}
+use Rattle.lfi_module.specs.declared.profile.Profile.{Profile}
 use Rattle.lfi_module.specs.Numbers.{page_words, page_bytes}
 use Rattle.lfi_module.specs.Pages.{is_due, page_count, bytes_in_page}
 use Rattle.lfi_frame.specs.Streams.{Message, open_message, page_message, close_message, short, unfinished, rest_of}
@@ -45,10 +46,10 @@ message_moves old new ms message F q none at to holds grows = record {
 }
 
 -- an Open of a module that wasn't opened
-pub opened : (old new : LfiStream) (ms : List Message) (payload : List ℕ) (k words entry : ℕ) → progress_at old.modules k ≡ Unclaimed → new.page ≡ old.page
+pub opened : (old new : LfiStream) (ms : List Message) (payload : List ℕ) (k words entry : ℕ) (profile : Profile) → progress_at old.modules k ≡ Unclaimed → new.page ≡ old.page
     → ((m : ℕ) → progress_at new.modules m ≡ (if m == k then Going words 0 else progress_at old.modules m)) → Holds old ms []
-    → let now = ms ++ open_message k words entry ∷ [] in Holds new now [] × Grows (Open k (record { words = words; entry = entry })) ms [] now [] payload
-opened old new ms payload k words entry was page at holds =
+    → let now = ms ++ open_message k words entry ∷ [] in Holds new now [] × Grows (Open k (record { words = words; entry = entry; profile = profile })) ms [] now [] payload
+opened old new ms payload k words entry profile was page at holds =
     let message : Message = open_message k words entry in
     let F : ℕ → Share → Share = (λ m s. with_item s (item_of m 0 words (item.Open entry)) (Going words 0)) in
     let share : (made_of ms short k).progress ≡ Unclaimed = sym (holds.progress k) ∙ was in

@@ -4,6 +4,7 @@ use Rattle.std.specs.Prelude.{All}
 use Rattle.std.specs.List.{filter, fold}
 use Rattle.std.proofs.lemmas.List.Elements.{All-nil, All-cons, All-head, All-tail, All-filter, All-append}
 use Rattle.a64_word.specs.Words.{words_of}
+use Rattle.lfi_module.specs.declared.profile.Profile.TheVariants.{One}
 use Rattle.lfi_rules.specs.Faults.{FirstFault}
 use Rattle.lfi_rules.specs.Verdicts.{all_words}
 use Rattle.lfi_rules.specs.declared.fault.Fault.{Fault}
@@ -94,7 +95,7 @@ outcome_is n items None reason e = (reason, e, refl)
 
 -- The first fault of the whole pages and the end tell what becomes of a module.
 pub loaded : (ms : List Message) (rest : List ℕ) (cause : Cause) (m n : ℕ) (item : ItemView) (items : List ItemView) (fault : Option Fault) (reason : Reason) → All IsMessage ms
-    → items_of ms rest cause (λ _. true) m ≡ item ∷ items → FirstFault (words_of (code_of (item ∷ items))) n fault → end_of (item ∷ items) ≡ Some reason → Load n (item ∷ items) (outcome_by n (item ∷ items) fault reason)
+    → items_of ms rest cause (λ _. true) m ≡ item ∷ items → FirstFault One (words_of (code_of (item ∷ items))) n fault → end_of (item ∷ items) ≡ Some reason → Load n (item ∷ items) (outcome_by n (item ∷ items) fault reason)
 loaded ms rest cause m n item items fault reason each is first ended =
     let wholes : Wholes (item ∷ items) = subst Wholes is (items_whole ms rest cause m each) in
-    (fault, subst (λ ws. FirstFault ws n fault) (words_are (item ∷ items) wholes) first, outcome_is n (item ∷ items) fault reason ended)
+    (fault, subst (λ ws. FirstFault One ws n fault) (words_are (item ∷ items) wholes) first, outcome_is n (item ∷ items) fault reason ended)

@@ -4,6 +4,7 @@ ghost use Rattle.std.specs.Prelude.{◌≡◌, ◌<◌, ◌*◌, ℕ, List, [], 
 ghost use Rattle.lfi_module.specs.Numbers.{page_words, page_bytes};
 ghost use Rattle.lfi_module.specs.Pages.{page_count};
 ghost use Rattle.a64_word.specs.Words.{words_of};
+ghost use Rattle.lfi_module.specs.declared.profile.Profile.TheVariants.{One};
 ghost use Rattle.lfi_rules.specs.Faults.{FirstFault};
 ghost use Rattle.lfi_rules.specs.declared.fault.Fault.{Fault};
 ghost use Rattle.lfi_frame.specs.Streams.{Message, IsMessage, Cut, rest_of};
@@ -27,7 +28,7 @@ pub fn one_cut()
 /// over the module's items makes of it: the outcome that `lfiload load` tells.
 pub fn one_outcome()
     ensures { (messages : List Message) (rest : List ℕ) (cause : Cause) (m words : ℕ) (item : ItemView) (items : List ItemView) (fault : Option Fault) (reason : Reason) →
-        All IsMessage messages → items_of messages rest cause (λ _. true) m ≡ item ∷ items → FirstFault (words_of (code_of (item ∷ items))) words fault →
+        All IsMessage messages → items_of messages rest cause (λ _. true) m ≡ item ∷ items → FirstFault One (words_of (code_of (item ∷ items))) words fault →
         end_of (item ∷ items) ≡ Some reason → Load words (item ∷ items) (outcome_by words (item ∷ items) fault reason) }
 {}
 

@@ -1,6 +1,7 @@
 -- Of the same bytes there is one verdict, and one way to tell it.
 use Rattle.std.proofs.Common.{◌≡◌, ℕ, ◌<◌, ◌≤◌, ◌⊎◌, inl, inr, List, length, Some, sym, ap, ◌∙◌, arith}
 use Rattle.a64_word.specs.Words.{words_of}
+use Rattle.lfi_module.specs.declared.profile.Profile.{Profile}
 use Rattle.lfi_rules.specs.declared.fault.Fault.{Fault}
 use Rattle.lfi_rules.specs.Faults.{Breaks, IsLeast}
 use Rattle.lfi_rules.specs.Rules.{rule_number}
@@ -26,8 +27,8 @@ at_most a b m n (inl l) (inr k) = let e = k.0 in absurd (omega (arith, l, e))
 at_most a b m n (inr l) (inl k) = let e = l.0 in absurd (omega (arith, k, e))
 at_most a b m n (inr l) (inr k) = let low = l.1 in let high = k.1 in omega (arith, low, high)
 
-same_fault : (ws : List ℕ) (n : ℕ) (a b : Fault) → IsLeast (Breaks ws n) a → IsLeast (Breaks ws n) b → fault_told (Some a) ≡ fault_told (Some b)
-same_fault ws n a b ha hb =
+same_fault : (p : Profile) (ws : List ℕ) (n : ℕ) (a b : Fault) → IsLeast (Breaks p ws n) a → IsLeast (Breaks p ws n) b → fault_told (Some a) ≡ fault_told (Some b)
+same_fault p ws n a b ha hb =
     let before = ha.least b.word b.rule hb.breaks in
     let after = hb.least a.word a.rule ha.breaks in
     let words : a.word ≡ b.word = below a.word b.word _ _ before after (λ h. h.0) (λ h. h.0) in
@@ -35,14 +36,14 @@ same_fault ws n a b ha hb =
     ap (λ x. numbers x (rule_number a.rule)) words ∙ ap (λ x. numbers b.word x) rules
 
 -- two verdicts on the same bytes are told alike
-pub one : (bytes : List ℕ) (a b : Verdict) (m n : ℕ) (f g : LfiFault) → Checks bytes a → Checks bytes b → Tells a m f → Tells b n g → (m ≡ n) × (f ≡ g)
-one bytes (Lawful w) (Lawful v) m n f g ca cb ta tb = (ta.0 ∙ sym tb.0, ta.1 ∙ sym tb.1)
-one bytes (Lawful w) (Refused y) m n f g ca cb ta tb = absurd (ca.2 y.word y.rule cb.1.breaks)
-one bytes (Lawful w) BadLength m n f g ca cb ta tb = absurd (cb ca.0)
-one bytes (Refused x) (Lawful v) m n f g ca cb ta tb = absurd (cb.2 x.word x.rule ca.1.breaks)
-one bytes (Refused x) (Refused y) m n f g ca cb ta tb =
-    (ta.0 ∙ sym tb.0, ta.1 ∙ same_fault (words_of bytes) (length (words_of bytes)) x y ca.1 cb.1 ∙ sym tb.1)
-one bytes (Refused x) BadLength m n f g ca cb ta tb = absurd (cb ca.0)
-one bytes BadLength (Lawful v) m n f g ca cb ta tb = absurd (ca cb.0)
-one bytes BadLength (Refused y) m n f g ca cb ta tb = absurd (ca cb.0)
-one bytes BadLength BadLength m n f g ca cb ta tb = (ta.0 ∙ sym tb.0, ta.1 ∙ sym tb.1)
+pub one : (p : Profile) (bytes : List ℕ) (a b : Verdict) (m n : ℕ) (f g : LfiFault) → Checks p bytes a → Checks p bytes b → Tells a m f → Tells b n g → (m ≡ n) × (f ≡ g)
+one p bytes (Lawful w) (Lawful v) m n f g ca cb ta tb = (ta.0 ∙ sym tb.0, ta.1 ∙ sym tb.1)
+one p bytes (Lawful w) (Refused y) m n f g ca cb ta tb = absurd (ca.2 y.word y.rule cb.1.breaks)
+one p bytes (Lawful w) BadLength m n f g ca cb ta tb = absurd (cb ca.0)
+one p bytes (Refused x) (Lawful v) m n f g ca cb ta tb = absurd (cb.2 x.word x.rule ca.1.breaks)
+one p bytes (Refused x) (Refused y) m n f g ca cb ta tb =
+    (ta.0 ∙ sym tb.0, ta.1 ∙ same_fault p (words_of bytes) (length (words_of bytes)) x y ca.1 cb.1 ∙ sym tb.1)
+one p bytes (Refused x) BadLength m n f g ca cb ta tb = absurd (cb ca.0)
+one p bytes BadLength (Lawful v) m n f g ca cb ta tb = absurd (ca cb.0)
+one p bytes BadLength (Refused y) m n f g ca cb ta tb = absurd (ca cb.0)
+one p bytes BadLength BadLength m n f g ca cb ta tb = (ta.0 ∙ sym tb.0, ta.1 ∙ sym tb.1)

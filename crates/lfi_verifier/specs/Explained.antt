@@ -1,6 +1,7 @@
 -- What is told of a fault as text.
 use Rattle.std.specs.Prelude.{◌≡◌, ℕ, ◌<◌, ◌==◌, if◌then◌else◌, List, ◌++◌, length, take, drop, Option, Some, None}
 use Rattle.lfi_module.specs.Numbers.{module_count}
+use Rattle.lfi_module.specs.declared.profile.Profile.{Profile}
 use Rattle.lfi_rules.specs.declared.fault.Fault.{Fault}
 use Rattle.lfi_explain.specs.declared.explanation.Explanation.{Explanation}
 use Rattle.lfi_explain.specs.Explanations.{ExplainsWord, explanation_text}
@@ -19,9 +20,9 @@ pub record IsTold (slot words : ℕ) (told : LfiFault) (fault : Fault) : Type 0 
 abbrev pub earlier : (place before : ℕ) → Option ℕ
 earlier place before = if place == 0 then None else Some before
 
--- The text begins with the explanation of this fault, by the word at its place and the one before it, as far as there was room, and is otherwise as it was; the size is that of the whole explanation.
-pub record TellsFault (slot words : ℕ) (found : Fault) (word before : ℕ) (old new : List ℕ) (told : ℕ) : Type 0 where
+-- The text begins with the explanation of this fault by a profile, by the word at its place and the one before it, as far as there was room, and is otherwise as it was; the size is that of the whole explanation.
+pub record TellsFault (profile : Profile) (slot words : ℕ) (found : Fault) (word before : ℕ) (old new : List ℕ) (told : ℕ) : Type 0 where
   pub explanation : Explanation
-  pub explains : ExplainsWord slot words found word (earlier found.word before) explanation
+  pub explains : ExplainsWord profile slot words found word (earlier found.word before) explanation
   pub text : new ≡ take (length old) (explanation_text explanation) ++ drop (length (explanation_text explanation)) old
   pub size : told ≡ length (explanation_text explanation)

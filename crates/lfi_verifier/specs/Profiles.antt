@@ -1,14 +1,16 @@
 -- The profiles by which code is judged, and what a host is told of them.
-use Rattle.std.specs.Prelude.{◌≡◌, ℕ, ◌+◌}
+use Rattle.std.specs.Prelude.{◌≡◌, ◌≢◌, ℕ, ◌+◌}
+use Rattle.lfi_module.specs.declared.profile.Profile.{Profile}
+use Rattle.lfi_module.specs.Profiles.{profile_number}
 use Rattle.lfi_rules.specs.Registers as registers
 use Rattle.lfi_confinement.specs.Slots as slot
 use Rattle.lfi_confinement.specs.Lawful.{stack_reach}
 use Rattle.lfi_verifier.specs.declared.profile.LfiMap.{LfiMap}
 use Rattle.lfi_verifier.specs.declared.profile.LfiRegisters.{LfiRegisters}
 
--- there is a profile with this number
-abbrev pub IsKnown : ℕ → Type 0
-IsKnown profile = profile ≡ 1
+-- there is no profile with this number
+abbrev pub IsUnknown : ℕ → Type 0
+IsUnknown number = (profile : Profile) → profile_number profile ≢ number
 
 -- The map tells where the parts of the slot lie that begins at `from`, as code that was found lawful is confined to it.
 pub record IsMapOf (from : ℕ) (map : LfiMap) : Type 0 where

@@ -1,5 +1,6 @@
 -- How a verdict on code is told in C.
 use Rattle.std.specs.Prelude.{◌≡◌, ℕ, List, Some, None}
+use Rattle.lfi_module.specs.declared.profile.Profile.{Profile}
 use Rattle.lfi_code.specs.Checking.{Checks}
 use Rattle.lfi_code.specs.declared.verdict.Verdict.{Verdict}
 use Rattle.lfi_code.specs.declared.verdict.Verdict.TheVariants as verdict
@@ -14,8 +15,8 @@ Tells (verdict.Lawful words) number told = (number ≡ status_number status.Lawf
 Tells (verdict.Refused fault) number told = (number ≡ status_number status.Refused) × (told ≡ fault_told (Some fault))
 Tells verdict.BadLength number told = (number ≡ status_number status.BadLength) × (told ≡ fault_told None)
 
--- They tell the verdict on these bytes: the one that `lfiload check` prints.
-pub record TellsVerdict (bytes : List ℕ) (number : ℕ) (told : LfiFault) : Type 0 where
+-- They tell the verdict on these bytes by a profile: the one that `lfiload check` prints.
+pub record TellsVerdict (profile : Profile) (bytes : List ℕ) (number : ℕ) (told : LfiFault) : Type 0 where
   pub verdict : Verdict
-  pub checks : Checks bytes verdict
+  pub checks : Checks profile bytes verdict
   pub tells : Tells verdict number told

@@ -6,12 +6,14 @@ ghost use Rattle.lfi_rules.specs.declared.fault.Fault.{Fault};
 ghost use Rattle.lfi_explain.specs.Explanations.{explanation_text};
 ghost use Rattle.lfi_verifier.specs.Explained.{IsTold, TellsFault, earlier};
 ghost use Rattle.lfi_verifier.specs.Faults.{fault_at};
-ghost use Rattle.lfi_verifier.specs.Profiles.{IsKnown};
+ghost use Rattle.lfi_module.specs.declared.profile.Profile.{Profile};
+ghost use Rattle.lfi_module.specs.Profiles.{profile_number};
+ghost use Rattle.lfi_verifier.specs.Profiles.{IsUnknown};
 ghost use Rattle.lfi_verifier.specs.States.{IsWordCount};
 ghost use Rattle.lfi_verifier.specs.Statuses.{status_number};
 
 use crate::fault::{LfiFault, fault_of};
-use crate::profile::is_known;
+use crate::profile::profile_of;
 use crate::status::Status;
 use arrayvec::ArrayString;
 use lfi_explain::{Explanation, explain_word};
@@ -59,18 +61,18 @@ pub extern "C" fn lfi_explain(
     text: &mut [u8],
     size: &mut usize,
 ) -> u32
-    ensures told { (found : Fault) → IsKnown profile → IsTold «module» words fault.now found → result ≡ status_number Status.Lawful →
-        TellsFault «module» words found word before text.old text.new size.new }
+    ensures told { (by : Profile) (found : Fault) → profile_number by ≡ profile → IsTold «module» words fault.now found → result ≡ status_number Status.Lawful →
+        TellsFault by «module» words found word before text.old text.new size.new }
     ensures kept { result ≢ status_number Status.Lawful → (text.new ≡ text.old) × (size.new ≡ size.old) }
-    ensures unknown { ¬ (IsKnown profile) → result ≡ status_number Status.UnknownProfile }
-    ensures module { IsKnown profile → ¬ («module» < module_count) → result ≡ status_number Status.UnknownModule }
-    ensures length { IsKnown profile → «module» < module_count → ¬ (IsWordCount words × (fault.now.word < words)) → result ≡ status_number Status.BadLength }
-    ensures fault { IsKnown profile → «module» < module_count → IsWordCount words × (fault.now.word < words) → ((found : Fault) → fault_at fault.now ≢ Some (Some found)) →
+    ensures unknown { IsUnknown profile → result ≡ status_number Status.UnknownProfile }
+    ensures module { (by : Profile) → profile_number by ≡ profile → ¬ («module» < module_count) → result ≡ status_number Status.UnknownModule }
+    ensures length { (by : Profile) → profile_number by ≡ profile → «module» < module_count → ¬ (IsWordCount words × (fault.now.word < words)) → result ≡ status_number Status.BadLength }
+    ensures fault { (by : Profile) → profile_number by ≡ profile → «module» < module_count → IsWordCount words × (fault.now.word < words) → ((found : Fault) → fault_at fault.now ≢ Some (Some found)) →
         result ≡ status_number Status.BadState }
 {
-    if !is_known(profile) {
+    let Some(by) = profile_of(profile) else {
         return Status::UnknownProfile.number();
-    }
+    };
     if module as usize >= ModuleNumber::COUNT {
         return Status::UnknownModule.number();
     }
@@ -87,6 +89,7 @@ pub extern "C" fn lfi_explain(
         found,
         word,
         earlier(found.word, before),
+        by,
     );
     let Some(whole) = text_of(&explanation) else {
         return Status::NoRoom.number();

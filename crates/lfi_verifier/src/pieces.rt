@@ -2,13 +2,15 @@
 
 ghost use Rattle.std.specs.Prelude.{◌≡◌, ◌*◌, ◌<◌, ℕ, List, [], ◌++◌, length, true, false, None};
 ghost use Rattle.lfi_verifier.specs.Faults.{fault_told};
-ghost use Rattle.lfi_verifier.specs.Profiles.{IsKnown};
+ghost use Rattle.lfi_module.specs.declared.profile.Profile.{Profile};
+ghost use Rattle.lfi_module.specs.Profiles.{profile_number};
+ghost use Rattle.lfi_verifier.specs.Profiles.{IsUnknown};
 ghost use Rattle.lfi_verifier.specs.States.{IsWordCount, IsState, IsInRange, StandsFor, Fits, HasRoom, TellsSoFar, TellsPart, status_after, status_within};
 ghost use Rattle.lfi_verifier.specs.Statuses.{status_number};
 ghost use Rattle.lfi_verifier.specs.Verdicts.{TellsVerdict};
 
 use crate::fault::{LfiFault, NO_FAULT, told_of};
-use crate::profile::is_known;
+use crate::profile::profile_of;
 use crate::state::{LfiState, beginning_of, state_of};
 use crate::status::Status;
 use crate::whole::tell;
@@ -20,17 +22,17 @@ use lfi_rules::Fault;
 /// Begins to judge a module of so many words by a profile.
 #[unsafe(no_mangle)]
 pub extern "C" fn lfi_verify_init(state: &mut LfiState, words: u32, profile: u32) -> u32
-    ensures begun { IsKnown profile → IsWordCount words → StandsFor state.new words [] × (result ≡ status_number Status.Lawful) }
-    ensures length { IsKnown profile → ¬ (IsWordCount words) → (result ≡ status_number Status.BadLength) × (state.new ≡ state.old) }
-    ensures unknown { ¬ (IsKnown profile) → (result ≡ status_number Status.UnknownProfile) × (state.new ≡ state.old) }
+    ensures begun { (by : Profile) → profile_number by ≡ profile → IsWordCount words → StandsFor state.new by words [] × (result ≡ status_number Status.Lawful) }
+    ensures length { (by : Profile) → profile_number by ≡ profile → ¬ (IsWordCount words) → (result ≡ status_number Status.BadLength) × (state.new ≡ state.old) }
+    ensures unknown { IsUnknown profile → (result ≡ status_number Status.UnknownProfile) × (state.new ≡ state.old) }
 {
-    if !is_known(profile) {
+    let Some(by) = profile_of(profile) else {
         return Status::UnknownProfile.number();
-    }
+    };
     if words == 0 || words > WordCount::MOST.number() {
         return Status::BadLength.number();
     }
-    *state = state_of(Beginning::none(words));
+    *state = state_of(Beginning::none(words, by));
     Status::Lawful.number()
 }
 
@@ -67,9 +69,9 @@ fn within(fault: Option<Fault>) -> Status
 /// Judges the next piece of a module: whole words, in any cutting, also none.
 #[unsafe(no_mangle)]
 pub extern "C" fn lfi_verify_update(state: &mut LfiState, piece: &[u8]) -> u32
-    ensures takes { (words : ℕ) (bytes : List ℕ) → StandsFor state.old words bytes → Fits words bytes piece.now →
-        StandsFor state.new words (bytes ++ piece.now) × TellsSoFar words (bytes ++ piece.now) result }
-    ensures unfit { (words : ℕ) (bytes : List ℕ) → StandsFor state.old words bytes → ¬ (Fits words bytes piece.now) →
+    ensures takes { (by : Profile) (words : ℕ) (bytes : List ℕ) → StandsFor state.old by words bytes → Fits words bytes piece.now →
+        StandsFor state.new by words (bytes ++ piece.now) × TellsSoFar by words (bytes ++ piece.now) result }
+    ensures unfit { (by : Profile) (words : ℕ) (bytes : List ℕ) → StandsFor state.old by words bytes → ¬ (Fits words bytes piece.now) →
         (result ≡ status_number Status.BadLength) × (state.new ≡ state.old) }
     ensures bad { ¬ (IsState state.old) → (result ≡ status_number Status.BadState) × (state.new ≡ state.old) }
 {
@@ -90,10 +92,10 @@ pub extern "C" fn lfi_verify_update(state: &mut LfiState, piece: &[u8]) -> u32
 /// Tells what is found of all that came.
 #[unsafe(no_mangle)]
 pub extern "C" fn lfi_verify_final(state: &LfiState, fault: &mut LfiFault) -> u32
-    ensures whole { (words : ℕ) (bytes : List ℕ) → StandsFor state.now words bytes → length bytes ≡ 4 * words →
-        TellsVerdict bytes result fault.new }
-    ensures part { (words : ℕ) (bytes : List ℕ) → StandsFor state.now words bytes → length bytes < 4 * words →
-        TellsPart words bytes result fault.new }
+    ensures whole { (by : Profile) (words : ℕ) (bytes : List ℕ) → StandsFor state.now by words bytes → length bytes ≡ 4 * words →
+        TellsVerdict by bytes result fault.new }
+    ensures part { (by : Profile) (words : ℕ) (bytes : List ℕ) → StandsFor state.now by words bytes → length bytes < 4 * words →
+        TellsPart by words bytes result fault.new }
     ensures bad { ¬ (IsState state.now) → (result ≡ status_number Status.BadState) × (fault.new ≡ fault_told None) }
 {
     let Some(beginning) = beginning_of(*state) else {

@@ -1,16 +1,16 @@
-//! The profiles by which code is judged, and what a host needs to know of them: there is one, profile 1.
+//! The profiles by which code is judged, and what a host needs to know of them: there are two, which share map and
+//! registers.
 
-ghost use Rattle.std.specs.Prelude.{◌≡◌, ◌<◌, true, false};
+ghost use Rattle.std.specs.Prelude.{◌≡◌, ◌<◌, IfSome, IfNone, Some};
 ghost use Rattle.lfi_module.specs.Numbers.{module_count, base_of};
-ghost use Rattle.lfi_verifier.specs.Profiles.{IsKnown, IsMapOf, AreRegisters};
+ghost use Rattle.lfi_module.specs.declared.profile.Profile.{Profile};
+ghost use Rattle.lfi_module.specs.Profiles.{profile_number};
+ghost use Rattle.lfi_verifier.specs.Profiles.{IsUnknown, IsMapOf, AreRegisters};
 ghost use Rattle.lfi_verifier.specs.Statuses.{status_number};
 
 use crate::status::Status;
-use lfi_module::ModuleNumber;
+use lfi_module::{ModuleNumber, Profile};
 use lfi_rules::registers::{BASE, FIRST_ADDRESS, LINK, OFFSET, SECOND_ADDRESS, THIRD_ADDRESS};
-
-/// The number of the one profile: docs/PROFILE.md.
-pub(crate) const PROFILE: u32 = 1;
 
 /// The number of this interface, which grows with each change of it.
 const VERSION: u32 = 2;
@@ -54,12 +54,13 @@ pub struct LfiRegisters {
     pub stack_reach: u32,
 }
 
-/// Whether there is a profile with this number.
-pub(crate) fn is_known(profile: u32) -> bool
-    ensures known { result ≡ true → IsKnown profile }
-    ensures unknown { result ≡ false → ¬ (IsKnown profile) }
+/// The profile with this number, if there is one.
+pub(crate) fn profile_of(number: u32) -> Option<Profile>
+    ensures some { IfSome result (λ profile. profile_number profile ≡ number) }
+    ensures only { (profile : Profile) → profile_number profile ≡ number → result ≡ Some profile }
+    ensures none { IfNone result (IsUnknown number) }
 {
-    profile == PROFILE
+    Profile::new(number)
 }
 
 /// The map of the slot that begins at an address.
@@ -81,11 +82,11 @@ fn map_at(base: u64) -> LfiMap
 /// Tells where the parts of a module's slot lie.
 #[unsafe(no_mangle)]
 pub extern "C" fn lfi_profile_map(profile: u32, module: u32, map: &mut LfiMap) -> u32
-    ensures known { IsKnown profile → «module» < module_count → IsMapOf (base_of «module») map.new × (result ≡ status_number Status.Lawful) }
-    ensures module { IsKnown profile → ¬ («module» < module_count) → (result ≡ status_number Status.UnknownModule) × (map.new ≡ map.old) }
-    ensures unknown { ¬ (IsKnown profile) → (result ≡ status_number Status.UnknownProfile) × (map.new ≡ map.old) }
+    ensures known { (by : Profile) → profile_number by ≡ profile → «module» < module_count → IsMapOf (base_of «module») map.new × (result ≡ status_number Status.Lawful) }
+    ensures module { (by : Profile) → profile_number by ≡ profile → ¬ («module» < module_count) → (result ≡ status_number Status.UnknownModule) × (map.new ≡ map.old) }
+    ensures unknown { IsUnknown profile → (result ≡ status_number Status.UnknownProfile) × (map.new ≡ map.old) }
 {
-    if !is_known(profile) {
+    if profile_of(profile).is_none() {
         return Status::UnknownProfile.number();
     }
     if module as usize >= ModuleNumber::COUNT {
@@ -98,10 +99,10 @@ pub extern "C" fn lfi_profile_map(profile: u32, module: u32, map: &mut LfiMap) -
 /// Tells the registers that code rests on.
 #[unsafe(no_mangle)]
 pub extern "C" fn lfi_profile_registers(profile: u32, registers: &mut LfiRegisters) -> u32
-    ensures known { IsKnown profile → AreRegisters registers.new × (result ≡ status_number Status.Lawful) }
-    ensures unknown { ¬ (IsKnown profile) → (result ≡ status_number Status.UnknownProfile) × (registers.new ≡ registers.old) }
+    ensures known { (by : Profile) → profile_number by ≡ profile → AreRegisters registers.new × (result ≡ status_number Status.Lawful) }
+    ensures unknown { IsUnknown profile → (result ≡ status_number Status.UnknownProfile) × (registers.new ≡ registers.old) }
 {
-    if !is_known(profile) {
+    if profile_of(profile).is_none() {
         return Status::UnknownProfile.number();
     }
     *registers = LfiRegisters {

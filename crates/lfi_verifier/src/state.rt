@@ -4,7 +4,7 @@ ghost use Rattle.std.specs.Prelude.{◌≡◌, ◌≤◌, true, false, Some, IfS
 ghost use Rattle.lfi_verifier.specs.States.{need_at, Keeps, IsWordCount, IsInRange, IsState};
 
 use crate::fault::{LfiFault, fault_of, told_of};
-use crate::profile::{PROFILE, is_known};
+use crate::profile::profile_of;
 use lfi_code::Beginning;
 use lfi_module::WordCount;
 use lfi_rules::Need;
@@ -21,7 +21,7 @@ pub struct LfiState {
     pub judged: u32,
     /// The first fault so far.
     pub fault: LfiFault,
-    /// What the last word asks of the next one.
+    /// What the words judged leave open.
     pub need: u32,
 }
 
@@ -33,7 +33,7 @@ fn need_of(number: u32) -> Option<Need>
         0 => Some(Need::Nothing),
         1 => Some(Need::Call),
         2 => Some(Need::Guard),
-        3 => Some(Need::Probe),
+        3..=258 => Some(Need::Probe((number - 3) as u8)),
         _ => None,
     }
 }
@@ -46,7 +46,7 @@ fn number_of(need: Need) -> u32
         Need::Nothing => 0,
         Need::Call => 1,
         Need::Guard => 2,
-        Need::Probe => 3,
+        Need::Probe(count) => 3 + u32::from(count),
     }
 }
 
@@ -55,7 +55,7 @@ pub(crate) fn state_of(beginning: Beginning) -> LfiState
     ensures { Keeps result beginning }
 {
     LfiState {
-        profile: PROFILE,
+        profile: beginning.profile.number(),
         words: beginning.words,
         judged: beginning.judged,
         fault: told_of(beginning.fault),
@@ -76,12 +76,14 @@ pub(crate) fn beginning_of(state: LfiState) -> Option<Beginning>
     ensures some { IfSome result (λ beginning. Keeps state beginning × IsInRange beginning) }
     ensures none { IfNone result (¬ (IsState state)) }
 {
-    if !is_known(state.profile) || !is_in_range(state) {
+    let profile = profile_of(state.profile)?;
+    if !is_in_range(state) {
         return None;
     }
     let fault = fault_of(state.fault)?;
     let tail = need_of(state.need)?;
     Some(Beginning {
+        profile,
         words: state.words,
         judged: state.judged,
         fault,

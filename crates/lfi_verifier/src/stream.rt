@@ -7,11 +7,13 @@ ghost use Rattle.lfi_frame.specs.Streams.{Message};
 ghost use Rattle.lfi_stream.specs.Numbers.{position_at};
 ghost use Rattle.lfi_stream.specs.Streams.{IsIn, StandsFor};
 ghost use Rattle.lfi_stream.specs.declared.event.Event.TheVariants.{Fault};
-ghost use Rattle.lfi_verifier.specs.Profiles.{IsKnown};
+ghost use Rattle.lfi_module.specs.declared.profile.Profile.{Profile};
+ghost use Rattle.lfi_module.specs.Profiles.{profile_number};
+ghost use Rattle.lfi_verifier.specs.Profiles.{IsUnknown};
 ghost use Rattle.lfi_verifier.specs.Statuses.{status_number};
 ghost use Rattle.lfi_verifier.specs.StreamEvents.{reason_numbers, event_numbers, no_stream, TellsNext, TellsEnd, TellsLost};
 
-use crate::profile::is_known;
+use crate::profile::profile_of;
 use crate::status::Status;
 use lfi_model::Reason;
 use lfi_stream::{Event, LfiStream};
@@ -123,10 +125,10 @@ fn numbers_of(event: Event) -> LfiEvent
 /// Begins a stream whose code is to be judged by a profile.
 #[unsafe(no_mangle)]
 pub extern "C" fn lfi_stream_init(stream: &mut LfiStream, profile: u32) -> u32
-    ensures begun { IsKnown profile → StandsFor stream.new [] [] × (result ≡ status_number Status.Lawful) }
-    ensures unknown { ¬ (IsKnown profile) → (result ≡ status_number Status.UnknownProfile) × (stream.new ≡ stream.old) }
+    ensures begun { (by : Profile) → profile_number by ≡ profile → StandsFor stream.new [] [] × (result ≡ status_number Status.Lawful) }
+    ensures unknown { IsUnknown profile → (result ≡ status_number Status.UnknownProfile) × (stream.new ≡ stream.old) }
 {
-    if !is_known(profile) {
+    if profile_of(profile).is_none() {
         return Status::UnknownProfile.number();
     }
     *stream = lfi_stream::begin();

@@ -2,12 +2,14 @@
 
 ghost use Rattle.std.specs.Prelude.{◌≡◌, None};
 ghost use Rattle.lfi_verifier.specs.Faults.{fault_told};
-ghost use Rattle.lfi_verifier.specs.Profiles.{IsKnown};
+ghost use Rattle.lfi_module.specs.declared.profile.Profile.{Profile};
+ghost use Rattle.lfi_module.specs.Profiles.{profile_number};
+ghost use Rattle.lfi_verifier.specs.Profiles.{IsUnknown};
 ghost use Rattle.lfi_verifier.specs.Statuses.{status_number};
 ghost use Rattle.lfi_verifier.specs.Verdicts.{Tells, TellsVerdict};
 
 use crate::fault::{LfiFault, NO_FAULT, told_of};
-use crate::profile::is_known;
+use crate::profile::profile_of;
 use crate::status::Status;
 use lfi_code::{Verdict, judge_code};
 
@@ -34,12 +36,12 @@ pub(crate) fn tell(verdict: Verdict, fault: &mut LfiFault) -> u32
 /// Judges whole code by a profile.
 #[unsafe(no_mangle)]
 pub extern "C" fn lfi_verify(code: &[u8], profile: u32, fault: &mut LfiFault) -> u32
-    ensures known { IsKnown profile → TellsVerdict code.now result fault.new }
-    ensures unknown { ¬ (IsKnown profile) → (result ≡ status_number Status.UnknownProfile) × (fault.new ≡ fault_told None) }
+    ensures known { (by : Profile) → profile_number by ≡ profile → TellsVerdict by code.now result fault.new }
+    ensures unknown { IsUnknown profile → (result ≡ status_number Status.UnknownProfile) × (fault.new ≡ fault_told None) }
 {
-    if !is_known(profile) {
+    let Some(by) = profile_of(profile) else {
         *fault = NO_FAULT;
         return Status::UnknownProfile.number();
-    }
-    tell(judge_code(code), fault)
+    };
+    tell(judge_code(code, by), fault)
 }

@@ -7,8 +7,8 @@ ghost use Rattle.a64_word.specs.inner.Addresses.{based};
 
 use super::names::Access;
 use super::operands::{Based, ExtendedIndex, GeneralRegister, RegisterOrStack};
-use crate::load_store::{Pair, RegisterOffset, SignedOffset, UnsignedOffset};
-use crate::operands::{IndexExtend, IndexMode, Width};
+use crate::load_store::{Ordered, Pair, RegisterOffset, SignedOffset, UnsignedOffset};
+use crate::operands::{IndexExtend, IndexMode, Transfer, Width};
 use std::fmt;
 
 impl fmt::Display for UnsignedOffset {
@@ -24,6 +24,27 @@ impl fmt::Display for UnsignedOffset {
         let rt = GeneralRegister(name.width(), self.rt);
         let bytes = i64::from(self.imm12) << self.size.code();
         write!(f, "{name} {rt}, {}", Based::Offset(self.rn, bytes))
+    }
+}
+
+impl fmt::Display for Ordered {
+    ghost output = { λ i. Some (spec.text (Instruction.Ordered i)) };
+
+    /// Writes the instruction, as `ldar x0, [x18]`.
+    fn fmt<W: fmt::Write>(&self, f: &mut fmt::Formatter<W>) -> fmt::Result {
+        let access = Access {
+            unscaled: false,
+            transfer: Transfer::Load,
+            size: self.size,
+        };
+        let name = if self.load { "ldar" } else { "stlr" };
+        let rt = GeneralRegister(access.width(), self.rt);
+        write!(
+            f,
+            "{name}{} {rt}, {}",
+            access.end(),
+            Based::Offset(self.rn, 0)
+        )
     }
 }
 

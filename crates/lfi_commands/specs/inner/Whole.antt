@@ -3,6 +3,7 @@ use Rattle.std.specs.Prelude.{◌≡◌, ℕ, List, length, Option, Some, None, 
 use Rattle.std.specs.Global.{Vec}
 use Rattle.std.specs.Io.KnownBytes.{Appends}
 use Rattle.a64_word.specs.Words.{words_of}
+use Rattle.lfi_module.specs.declared.profile.Profile.TheVariants.{One}
 use Rattle.lfi_pack.specs.Packs.{IsPacked}
 use Rattle.lfi_commands.specs.declared.packing.Stop.{Stop}
 use Rattle.lfi_commands.specs.declared.packing.Stop.TheVariants.{NoModule, Failed}
@@ -27,4 +28,4 @@ StopsAtOne entry paths file_at stop = (c : ℕ) × (path : List ℕ) × (slice_g
 -- one module was written
 abbrev pub WritesModule : (number entry : ℕ) → (code : List ℕ) → (old new : Option (List ℕ)) → Type 0
 WritesModule number entry code old new =
-    (text : List ℕ) × IsPacked number (record { words = length (words_of code); entry = entry }) code text × Appends old new text
+    (text : List ℕ) × IsPacked number (record { words = length (words_of code); entry = entry; profile = One }) code text × Appends old new text

@@ -18,11 +18,11 @@ abbrev pub IsLinkFor : (from : ℕ) → Need → (value : ℕ) → Type 0
 IsLinkFor from Nothing value = InSlot from value
 IsLinkFor from Call value = (j : ℕ) × (j < entry_count) × (value ≡ entry_address j)
 IsLinkFor from Guard value = ⊤
-IsLinkFor from Probe value = InSlot from value
+IsLinkFor from (Probe count) value = InSlot from value
 
 -- how far sp may be from the slot: before a probe, by an immediate of 12 bits more
 abbrev pub reach_for : Need → ℕ
-reach_for Probe = 4607
+reach_for (Probe count) = 4607
 reach_for need = stack_reach
 
 pub record IsStackFor (from : ℕ) (need : Need) (sp : ℕ) : Type 0 where

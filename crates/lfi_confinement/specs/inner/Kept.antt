@@ -2,9 +2,10 @@
 -- leaves the law unproved.
 use Rattle.std.specs.Prelude.{◌≡◌, ℕ, IsTrue}
 use Rattle.a64_word.specs.declared.instruction.Instruction.{Instruction}
+use Rattle.lfi_module.specs.declared.profile.Profile.{Profile}
 use Rattle.lfi_rules.specs.declared.needs.Need.TheVariants.{Call, Guard, Probe}
 use Rattle.lfi_rules.specs.declared.rule.Rule.TheVariants as rules
-use Rattle.lfi_rules.specs.Needs.{opens_of, meets_of}
+use Rattle.lfi_rules.specs.Needs.{window, opens_of, meets_of}
 use Rattle.lfi_rules.specs.Rules.{keeps}
 
 -- the rules that an instruction keeps by itself, at place k of a module of n words
@@ -18,8 +19,8 @@ pub record IsKept (i : Instruction) (k n : ℕ) : Type 0 where
   pub target : IsTrue (keeps i k n rules.TargetInside)
   pub branch : IsTrue (keeps i k n rules.BranchBounded)
 
--- An instruction meets what the one before it opens.
-pub record IsFollowed (i next : Instruction) : Type 0 where
-  pub call : opens_of i ≡ Call → IsTrue (meets_of next Call)
-  pub guard : opens_of i ≡ Guard → IsTrue (meets_of next Guard)
-  pub probe : opens_of i ≡ Probe → IsTrue (meets_of next Probe)
+-- An instruction meets what the one before it opens in a profile.
+pub record IsFollowed (p : Profile) (i next : Instruction) : Type 0 where
+  pub call : opens_of p i ≡ Call → IsTrue (meets_of next Call)
+  pub guard : opens_of p i ≡ Guard → IsTrue (meets_of next Guard)
+  pub probe : opens_of p i ≡ Probe (window p) → IsTrue (meets_of next (Probe (window p)))

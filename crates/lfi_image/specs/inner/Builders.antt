@@ -1,5 +1,6 @@
 -- What the type of a builder keeps.
 use Rattle.std.specs.Prelude.{◌≡◌, ℕ, ◌<◌, ◌≤◌, List, [], ◌∷◌, length, None, ⊤}
+use Rattle.lfi_module.specs.declared.profile.Profile.{Profile}
 use Rattle.lfi_module.specs.Numbers.{module_count, most_words, page_words}
 use Rattle.a64_word.specs.Words.{words_of}
 use Rattle.lfi_rules.specs.declared.needs.Need.{Need}
@@ -20,8 +21,8 @@ AreFull [] = ⊤
 AreFull (page ∷ []) = length (words_of page) ≤ page_words
 AreFull (page ∷ next ∷ pages) = IsFull page × AreFull (next ∷ pages)
 
--- These pages are placed, with so many words, and the last of these leaves a need open.
-pub record IsBuilt (words entry slot placed : ℕ) (open_need : Need) (pages : List (List ℕ)) : Type 0 where
+-- These pages are placed, with so many words, and these leave a need open.
+pub record IsBuilt (profile : Profile) (words entry slot placed : ℕ) (open_need : Need) (pages : List (List ℕ)) : Type 0 where
   pub some : 1 ≤ words
   pub most : words ≤ most_words
   pub entry_in : entry < words
@@ -30,5 +31,5 @@ pub record IsBuilt (words entry slot placed : ℕ) (open_need : Need) (pages : L
   pub within : placed ≤ words
   pub whole : placed < words → AllFull pages
   pub full : AreFull pages
-  pub faultless : FirstFault (words_in pages) words None
-  pub leaves : LeavesOpen (words_in pages) open_need
+  pub faultless : FirstFault profile (words_in pages) words None
+  pub leaves : LeavesOpen profile (words_in pages) open_need

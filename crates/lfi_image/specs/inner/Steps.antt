@@ -2,6 +2,7 @@
 use Rattle.std.specs.Prelude.{◌≡◌, ℕ, ◌*◌, ◌<◌, ◌≤◌, List, ◌++◌, length, Option, Some, None, IfSome, ⊤}
 use Rattle.std.specs.Io.KnownBytes.{Consumes}
 use Rattle.lfi_module.specs.Numbers.{page_words}
+use Rattle.lfi_module.specs.declared.profile.Profile.{Profile}
 use Rattle.a64_word.specs.Words.{words_of}
 use Rattle.lfi_rules.specs.declared.fault.Fault.{Fault}
 use Rattle.lfi_rules.specs.Faults.{FirstFault}
@@ -30,14 +31,14 @@ pub record ReadsPage (old new : Option (List ℕ)) (m after : Module) : Type 0 w
   pub size : length page ≡ 4 * due m
   pub back : code_of (words_of page) ≡ page
   pub placed : after ≡ with_placed m (words_of page)
-  pub faultless : FirstFault (m.placed ++ words_of page) m.words None
+  pub faultless : FirstFault m.profile (m.placed ++ words_of page) m.words None
 
 -- A page was read that brings this fault.
 pub record ReadsFault (old new : Option (List ℕ)) (m : Module) (fault : Fault) : Type 0 where
   pub page : List ℕ
   pub consumed : Consumes old new page
   pub size : length page ≡ 4 * due m
-  pub first : FirstFault (m.placed ++ words_of page) m.words (Some fault)
+  pub first : FirstFault m.profile (m.placed ++ words_of page) m.words (Some fault)
 
 -- why no page was placed
 abbrev pub IsPageFault : (old new : Option (List ℕ)) → Module → ImageFault → Type 0
@@ -51,10 +52,11 @@ IsPageFault old new m _ = ⊥
 pub record IsSameModule (old new : Module) : Type 0 where
   pub words : new.words ≡ old.words
   pub entry : new.entry ≡ old.entry
+  pub profile : new.profile ≡ old.profile
   pub slot : new.slot ≡ old.slot
 
--- Of a module of `count` words, these have been read.
-pub record IsRead (old new : Option (List ℕ)) (count : ℕ) (words : List ℕ) : Type 0 where
+-- Of a module of `count` words, which goes by a profile, these have been read.
+pub record IsRead (profile : Profile) (old new : Option (List ℕ)) (count : ℕ) (words : List ℕ) : Type 0 where
   pub code : List ℕ
   pub consumed : Consumes old new code
   pub spelled : words_of code ≡ words
@@ -63,4 +65,4 @@ pub record IsRead (old new : Option (List ℕ)) (count : ℕ) (words : List ℕ)
   pub within : length words ≤ count
   pub pages : ℕ
   pub whole : length words < count → length words ≡ page_words * pages
-  pub faultless : FirstFault words count None
+  pub faultless : FirstFault profile words count None

@@ -1,11 +1,21 @@
 -- What the pass over quiet words tells.
 use Rattle.std.specs.Prelude.{◌≡◌, ℕ, ◌+◌, ◌-◌, ◌*◌, ◌^◌, ◌<◌, ◌≤◌, ◌⊎◌, if◌then◌else◌, nat_lt, ℤ, pos, negsuc, List, length, Some, None, slice_get, slice_index}
 use Rattle.a64_word.specs.inner.Bits.{bits_at}
+use Rattle.lfi_module.specs.declared.profile.Profile.{Profile}
 use Rattle.lfi_rules.specs.declared.needs.Need.{Need}
-use Rattle.lfi_rules.specs.declared.needs.Need.TheVariants.{Nothing}
+use Rattle.lfi_rules.specs.declared.needs.Need.TheVariants.{Nothing, Call, Guard, Probe}
 use Rattle.lfi_rules.specs.declared.fault.Fault.{Fault}
-use Rattle.lfi_rules.specs.Faults.{Opens, Meets, IsFirstInside}
+use Rattle.lfi_rules.specs.Needs.{term_of, window}
+use Rattle.lfi_rules.specs.Calm.{IsCalm}
+use Rattle.lfi_rules.specs.Faults.{Meets, IsDue, IsFirstInside}
 use Rattle.lfi_rules.specs.inner.Least.{IsLeastBroken}
+
+-- a need that an instruction opens in the first profile, as it does in a profile
+abbrev pub in_profile : Profile → Need → Need
+in_profile profile Nothing = Nothing
+in_profile profile Call = Call
+in_profile profile Guard = Guard
+in_profile profile (Probe count) = Probe (window profile)
 
 -- the number that bits stand for in two's complement, of which half stand for numbers below 0
 abbrev pub signed_of : (half bits : ℕ) → ℤ
@@ -27,19 +37,24 @@ pub record IsFarFromEnds (k n : ℕ) : Type 0 where
   pub start : 2048 ≤ k
   pub end : k + 2048 ≤ n
 
+-- So many words before a place are calm.
+pub record AreCalmBefore (profile : Profile) (ws : List ℕ) (place gone : ℕ) : Type 0 where
+  pub calm : (j word : ℕ) → place ≤ j + gone → j < place → slice_get ws j ≡ Some word → IsCalm profile word
+
 -- The word after place i of ws, where there is one, meets a need.
-abbrev pub IsMetAfter : List ℕ → (i : ℕ) → Need → Type 0
-IsMetAfter ws i need = (next : ℕ) → slice_get ws (i + 1) ≡ Some next → Meets next need
+abbrev pub IsMetAfter : Profile → List ℕ → (i : ℕ) → Need → Type 0
+IsMetAfter profile ws i need = (next : ℕ) → slice_get ws (i + 1) ≡ Some next → Meets profile next need
 
 -- The words ws stand in a module of n words from the place `first` on. The word at place i of them breaks no rule by itself, and
--- the one after it, where there is one, doesn't miss what it opens.
-pub record IsFine (ws : List ℕ) (first n i : ℕ) : Type 0 where
-  pub alone : (word : ℕ) → slice_get ws i ≡ Some word → IsLeastBroken word Nothing (first + i) n None
-  pub after : (word next : ℕ) (need : Need) → slice_get ws i ≡ Some word → slice_get ws (i + 1) ≡ Some next → Opens word need → (Meets next need → ⊥) → ⊥
+-- no later one fails what it opens.
+pub record IsFine (profile : Profile) (ws : List ℕ) (first n i : ℕ) : Type 0 where
+  pub alone : (word : ℕ) → slice_get ws i ≡ Some word → IsLeastBroken profile word Nothing (first + i) n None
+  pub after : (d word : ℕ) (need : Need) → IsDue profile ws i d need → slice_get ws (i + d + 1) ≡ Some word
+      → (Meets profile word need → ⊥) → (IsCalm profile word → d + 1 ≡ term_of need) → ⊥
 
 -- The words from a place on, up to another, are fine.
-pub record AreFine (ws : List ℕ) (first n start stop : ℕ) : Type 0 where
-  pub each : (i : ℕ) → start ≤ i → i < stop → IsFine ws first n i
+pub record AreFine (profile : Profile) (ws : List ℕ) (first n start stop : ℕ) : Type 0 where
+  pub each : (i : ℕ) → start ≤ i → i < stop → IsFine profile ws first n i
 
 -- a number is one of the first of a list
 abbrev pub IsAmong : List ℕ → (count i : ℕ) → Type 0
@@ -47,8 +62,8 @@ IsAmong places count i = (p : ℕ) × (p < count) × (slice_index places p ≡ i
 
 -- Of the words from a place on, up to another, those that are at none of the first `count` places of a list are fine; these are
 -- among them, in order.
-pub record AreMarked (ws : List ℕ) (first n start stop : ℕ) (places : List ℕ) (count : ℕ) : Type 0 where
-  pub fine : (i : ℕ) → start ≤ i → i < stop → IsFine ws first n i ⊎ IsAmong places count i
+pub record AreMarked (profile : Profile) (ws : List ℕ) (first n start stop : ℕ) (places : List ℕ) (count : ℕ) : Type 0 where
+  pub fine : (i : ℕ) → start ≤ i → i < stop → IsFine profile ws first n i ⊎ IsAmong places count i
   pub low : (p : ℕ) → p < count → start ≤ slice_index places p
   pub high : (p : ℕ) → p < count → slice_index places p < stop
   pub rising : (p q : ℕ) → p < q → q < count → slice_index places p < slice_index places q
@@ -58,12 +73,12 @@ pub record AreWithin (places : List ℕ) (stop : ℕ) : Type 0 where
   pub each : (p : ℕ) → p < length places → slice_index places p < stop
 
 -- the words at the first `count` places of a list are fine
-pub record AreMarkedFine (ws : List ℕ) (first n : ℕ) (places : List ℕ) (count : ℕ) : Type 0 where
-  pub each : (p : ℕ) → p < count → IsFine ws first n (slice_index places p)
+pub record AreMarkedFine (profile : Profile) (ws : List ℕ) (first n : ℕ) (places : List ℕ) (count : ℕ) : Type 0 where
+  pub each : (p : ℕ) → p < count → IsFine profile ws first n (slice_index places p)
 
 -- A fault is the first one, where all words before some place of a list are fine; so are the words at the places before that one.
-pub record IsFoundIn (ws : List ℕ) (first n : ℕ) (places : List ℕ) (fault : Fault) : Type 0 where
+pub record IsFoundIn (profile : Profile) (ws : List ℕ) (first n : ℕ) (places : List ℕ) (fault : Fault) : Type 0 where
   pub p : ℕ
   pub within : p < length places
-  pub before : AreMarkedFine ws first n places p
-  pub found : AreFine ws first n 0 (slice_index places p) → IsFirstInside ws first n (Some fault)
+  pub before : AreMarkedFine profile ws first n places p
+  pub found : AreFine profile ws first n 0 (slice_index places p) → IsFirstInside profile ws first n (Some fault)

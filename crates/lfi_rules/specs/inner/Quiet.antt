@@ -2,9 +2,12 @@
 use Rattle.std.specs.Prelude.{◌≡◌, ℕ, ◌==◌, true, false}
 use Rattle.a64_word.specs.declared.instruction.Instruction.{Instruction}
 use Rattle.a64_word.specs.Encoding.{Spells}
+use Rattle.a64_word.specs.Profiles.{is_of, SpellsIn}
+use Rattle.lfi_module.specs.declared.profile.Profile.{Profile}
 use Rattle.lfi_rules.specs.declared.needs.Need.{Need}
 use Rattle.lfi_rules.specs.declared.rule.Rule.TheVariants as rules
 use Rattle.lfi_rules.specs.Registers as registers
+use Rattle.lfi_module.specs.declared.profile.Profile.TheVariants.{One}
 use Rattle.lfi_rules.specs.Needs.{opens_of, meets_of}
 use Rattle.lfi_rules.specs.Rules.{keeps}
 
@@ -22,7 +25,7 @@ pub record IsFree (register : ℕ) : Type 0 where
   pub unreserved : IsUnreserved register
   pub stack : (register == registers.stack) ≡ false
 
--- An instruction keeps all rules but those that need the word or a second one, and opens this need.
+-- An instruction keeps all rules but those that need the word or a second one, and opens this need in the first profile.
 pub record IsQuiet (i : Instruction) (k n : ℕ) (need : Need) : Type 0 where
   pub confined : keeps i k n rules.AccessConfined ≡ true
   pub base : keeps i k n rules.BaseKept ≡ true
@@ -32,16 +35,24 @@ pub record IsQuiet (i : Instruction) (k n : ℕ) (need : Need) : Type 0 where
   pub stack : keeps i k n rules.StackBounded ≡ true
   pub target : keeps i k n rules.TargetInside ≡ true
   pub branch : keeps i k n rules.BranchBounded ≡ true
-  pub opens : opens_of i ≡ need
+  pub opens : opens_of One i ≡ need
 
--- A word is an instruction that does so.
+-- A word is an instruction of a profile that does so.
+pub record IsToldWord (profile : Profile) (word k n : ℕ) (need : Need) : Type 0 where
+  pub instruction : Instruction
+  pub spells : SpellsIn profile instruction word
+  pub quiet : IsQuiet instruction k n need
+
+-- A word is an instruction of every profile that does so.
 pub record IsQuietWord (word k n : ℕ) (need : Need) : Type 0 where
   pub instruction : Instruction
+  pub of_one : is_of One instruction ≡ true
   pub spells : Spells instruction word
   pub quiet : IsQuiet instruction k n need
 
--- A word is an instruction that meets this need.
+-- A word is an instruction of every profile that meets this need.
 pub record IsMet (word : ℕ) (need : Need) : Type 0 where
   pub instruction : Instruction
+  pub of_one : is_of One instruction ≡ true
   pub spells : Spells instruction word
   pub met : meets_of instruction need ≡ true

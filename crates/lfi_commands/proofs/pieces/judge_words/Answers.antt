@@ -6,6 +6,7 @@ pub loop-beginning-preserved : goal.loop-beginning-preserved
 loop-beginning-preserved g c = record {
   size = search rules;
   words = c.in_ok-beginning.ensures.words ∙ c.loop-beginning.invariant.words;
+  profile = c.in_ok-beginning.ensures.profile ∙ c.loop-beginning.invariant.profile;
   room = search rules;
   bytes = c.loop-beginning.invariant.bytes ++ c.next_piece.new.piece;
   read = Consumes-trans _ _ _ _ _ c.loop-beginning.invariant.read c.in_ok-beginning.ensures.read;

@@ -7,5 +7,5 @@ use Rattle.lfi_explain.proofs.refusals.write_refusals.Given as goal
 
 abbrev pub invariant-loop-place : goal.invariant-loop-place
 invariant-loop-place g l =
-    (told : List Explanation) × AreTold (g.L.Words.words l.words) l.slot l.place told × (l.refused ≡ length told)
+    (told : List Explanation) × AreTold l.profile (g.L.Words.words l.words) l.slot l.place told × (l.refused ≡ length told)
     × Appends (g.W.Write.contents l.initial.out) (append_known (g.W.Write.contents l.out) l.kept.items) (flat_map explanation_line told)

@@ -3,7 +3,7 @@ use Rattle.std.specs.Option.{IfSome}
 use Rattle.std.proofs.lemmas.Result.{err_from_is_err_and}
 use Rattle.lfi_image.specs.declared.fault.ImageFault.{ImageFault}
 use Rattle.lfi_image.specs.declared.fault.ImageFault.TheVariants.{More}
-use Rattle.lfi_image.specs.Reading.{count_in, header_fault, IsFault, IsRestUnread}
+use Rattle.lfi_image.specs.Reading.{count_in, named_profile, header_fault, IsFault, IsRestUnread}
 use Rattle.lfi_image.proofs.Runs.{header_told, code_told, more_told, header_unread, file_unread, memory_told}
 use Rattle.lfi_image.proofs.reading.read_image.Goals as goal
 
@@ -25,8 +25,9 @@ returns-in_err-read_code-clause-fault g c =
     let long : length header ≡ 24 = search rules in
     let none : header_fault header ≡ None = c.in_ok-header.ensures.fault in
     let count : c.in-Ok.builder.words ≡ count_in header = search rules in
+    let profile : c.in-Ok.builder.profile ≡ named_profile header = search rules in
     rw p.1 (subst (λ f. IfSome (g.R.Read.remaining c.args.reader.now) (λ bytes. IsFault bytes f)) (sym p.2)
-    (code_told (g.R.Read.remaining c.args.reader.now) (g.R.Read.remaining c.read_bytes.new.reader) header c.in-Ok.builder.words fault c.in_ok-read_bytes.ensures.full long none count c.in_err-read_code.ensures.fault))
+    (code_told c.in-Ok.builder.profile (g.R.Read.remaining c.args.reader.now) (g.R.Read.remaining c.read_bytes.new.reader) header c.in-Ok.builder.words fault c.in_ok-read_bytes.ensures.full long none profile count c.in_err-read_code.ensures.fault))
 
 pub returns-then-not-branch-clause-fault : goal.returns-then-not-branch-clause-fault
 returns-then-not-branch-clause-fault g c =
@@ -34,9 +35,10 @@ returns-then-not-branch-clause-fault g c =
     let long : length header ≡ 24 = search rules in
     let none : header_fault header ≡ None = c.in_ok-header.ensures.fault in
     let count : c.in-Ok.builder.words ≡ count_in header = search rules in
+    let profile : c.in-Ok.builder.profile ≡ named_profile header = search rules in
     let more : IfSome (g.R.Read.remaining c.read_code.new.reader) (λ rest. 0 < length rest) = search rules in
-    code_told (g.R.Read.remaining c.args.reader.now) (g.R.Read.remaining c.read_bytes.new.reader) header c.in-Ok.builder.words More c.in_ok-read_bytes.ensures.full long none count
-    (more_told (g.R.Read.remaining c.read_bytes.new.reader) (g.R.Read.remaining c.read_code.new.reader) c.in-Ok.builder.words c.read_code.new.builder.placed c.in_ok-read_code.ensures.code c.in_ok-read_code.ensures.whole more)
+    code_told c.in-Ok.builder.profile (g.R.Read.remaining c.args.reader.now) (g.R.Read.remaining c.read_bytes.new.reader) header c.in-Ok.builder.words More c.in_ok-read_bytes.ensures.full long none profile count
+    (more_told c.in-Ok.builder.profile (g.R.Read.remaining c.read_bytes.new.reader) (g.R.Read.remaining c.read_code.new.reader) c.in-Ok.builder.words c.read_code.new.builder.placed c.in_ok-read_code.ensures.code c.in_ok-read_code.ensures.whole more)
 
 pub returns-in_err-header-clause-unread : goal.returns-in_err-header-clause-unread
 returns-in_err-header-clause-unread g c =

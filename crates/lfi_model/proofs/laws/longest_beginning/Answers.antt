@@ -1,4 +1,4 @@
-use Rattle.lfi_model.proofs.Faults.{placed_to_fault, placed_whole, fault_stays}
+use Rattle.lfi_model.proofs.Faults.{placed_to_fault, placed_whole}
 use Rattle.lfi_model.proofs.laws.longest_beginning.Goals as goal
 
 pub returns-clause-refused : goal.returns-clause-refused
@@ -6,6 +6,3 @@ returns-clause-refused c = placed_to_fault
 
 pub returns-clause-whole : goal.returns-clause-whole
 returns-clause-whole c = placed_whole
-
-pub returns-clause-stays : goal.returns-clause-stays
-returns-clause-stays c = fault_stays

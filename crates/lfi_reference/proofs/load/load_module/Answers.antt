@@ -1,5 +1,6 @@
 use Rattle.std.proofs.Common.{◌≡◌, ap, sym, ◌∙◌, subst, length, take, arith}
 use Rattle.std.proofs.lemmas.List.{take-map, length-map}
+use Rattle.lfi_module.specs.declared.profile.Profile.TheVariants.{One}
 use Rattle.lfi_rules.specs.Faults.{FirstFault}
 use Rattle.lfi_rules.specs.Verdicts.{all_words}
 use Rattle.lfi_model.specs.Outcomes.{Placed, pages_of, end_of}
@@ -15,7 +16,7 @@ returns-clause-outcome c =
     let pages : length c.in_ok-pages.pages.items ≡ length (pages_of items) = sym (length-map c.in_ok-pages.pages.items (λ p. p.items)) ∙ ap length c.in_ok-pages.ensures in
     let count : c.len.result ≡ length (all_words (pages_of items)) = (let e : c.len.result ≡ length c.in_ok-words.words.items = omega (arith, c.len.ensures) in e ∙ ap length words) in
     let many : c.len-2.result ≡ length (pages_of items) = (let e : c.len-2.result ≡ length c.in_ok-pages.pages.items = omega (arith, c.len-2.ensures) in e ∙ pages) in
-    load_is n items c.first_fault-fault.result _ (subst (λ ws. FirstFault ws n c.first_fault-fault.result) words c.first_fault-fault.ensures) c.requires.ended
+    load_is n items c.first_fault-fault.result _ (subst (λ ws. FirstFault One ws n c.first_fault-fault.result) words c.first_fault-fault.ensures) c.requires.ended
     (c.outcome-outcome.ensures
     ∙ ap (λ e. told_by n c.first_fault-fault.result e c.len.result c.len-2.result) c.end_of.ensures
     ∙ ap (λ w. told_by n c.first_fault-fault.result (end_of items) w c.len-2.result) count

@@ -1,9 +1,10 @@
-use Rattle.std.proofs.Common.{◌≡◌, ℕ, ◌+◌, ◌^◌, ◌<◌, ◌≤◌, List, length, Some, true, sym, subst, ap, ◌∙◌, arith, rules}
+use Rattle.std.proofs.Common.{◌≡◌, ◌≢◌, ℕ, ◌+◌, ◌^◌, ◌<◌, ◌≤◌, List, length, Some, sym, subst, ap, ◌∙◌, arith, rules}
 use Rattle.std.specs.Prelude.{slice_get, slice_set}
 use Rattle.std.proofs.lemmas.Option.{slice_get-get_or}
 use Rattle.lfi_classes.specs.Classes.{IsQuietHere}
-use Rattle.lfi_rules.specs.inner.Passing.{IsFarFromEnds, IsFine, AreMarked}
-use Rattle.lfi_rules.proofs.ByKind.{quiet_here}
+use Rattle.lfi_classes.specs.declared.classes.Reach.TheVariants.{Quiet}
+use Rattle.lfi_rules.specs.inner.Passing.{IsFarFromEnds, AreMarked}
+use Rattle.lfi_rules.proofs.ByKind.{told_here}
 use Rattle.lfi_rules.proofs.Fine.{fine_quiet}
 use Rattle.lfi_rules.proofs.Marked.{fine_more, marked_more}
 use Rattle.lfi_rules.proofs.pass.mark_loud.Goals.{then-not-is_quiet, else-not-is_quiet}
@@ -35,18 +36,18 @@ loop-i-preserved g c =
           let more : c.if-not-is_quiet.marked ≡ count + 1 = b.marked-is in
           record {
             count = omega arith;
-            marked = λ start early m. subst (λ x. AreMarked ws first n start (i + 1) (slice_set places count i) x) (sym more)
-                (marked_more ws first n start i places count (omega arith) room (c.loop-i.invariant.marked start early m));
+            marked = λ p start of early m. subst (λ x. AreMarked p ws first n start (i + 1) (slice_set places count i) x) (sym more)
+                (marked_more p ws first n start i places count (omega arith) room (c.loop-i.invariant.marked p start of early m));
           }
       | else-not-is_quiet b ↦
           let same : c.if-not-is_quiet.marked ≡ count = b.marked-is in
-          let here : IsQuietHere c.args.near w = c.is_quiet.ensures w c.classes_of.ensures (search rules) in
-          let far : c.args.near ≡ true → IsFarFromEnds (first + i) n =
+          let here : IsQuietHere c.args.reach w = c.is_quiet.ensures w c.classes_of.ensures (search rules) in
+          let far : c.args.reach ≢ Quiet → IsFarFromEnds (first + i) n =
           λ e. let f = c.requires.far e in let least : 2048 ≤ first + from = f.from_start in let to : first + stop + 2048 ≤ n = f.to_end in record { start = omega arith; end = omega arith } in
-          let fine : IsFine ws first n i = fine_quiet ws first n i w at (quiet_here w (first + i) n c.args.near fits far here) in
           record {
             count = omega arith;
-            marked = λ start early m. subst (λ x. AreMarked ws first n start (i + 1) (slice_set places count i) x) (sym same)
-                (fine_more ws first n start i places count i (c.loop-i.invariant.marked start early m) fine);
+            marked = λ p start of early m. subst (λ x. AreMarked p ws first n start (i + 1) (slice_set places count i) x) (sym same)
+                (fine_more p ws first n start i places count i (c.loop-i.invariant.marked p start of early m)
+                (fine_quiet p ws first n i w at (told_here p w (first + i) n c.args.reach fits far of here)));
           }
     ]

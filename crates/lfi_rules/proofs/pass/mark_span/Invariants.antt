@@ -1,4 +1,7 @@
-use Rattle.std.proofs.Common.{◌+◌, ◌-◌, ◌≤◌}
+use Rattle.std.proofs.Common.{◌≡◌, ◌+◌, ◌-◌, ◌≤◌}
+use Rattle.lfi_module.specs.declared.profile.Profile.{Profile}
+use Rattle.lfi_module.specs.declared.profile.Profile.TheVariants.{Two}
+use Rattle.lfi_classes.specs.declared.classes.Reach.TheVariants.{Ordered}
 use Rattle.lfi_rules.specs.inner.Passing.{AreMarked}
 use Rattle.lfi_rules.proofs.pass.mark_span.Given as goal
 
@@ -7,7 +10,7 @@ invariant-loop-i g l = record {
   low : l.start ≤ l.i;
   high : l.i ≤ l.stop;
   count : l.start + l.count ≤ l.i;
-  marked : AreMarked (g.W.Words.words l.words) l.first l.n l.start l.i l.places l.count;
+  marked : (profile : Profile) → (l.reach ≡ Ordered → profile ≡ Two) → AreMarked profile (g.W.Words.words l.words) l.first l.n l.start l.i l.places l.count;
 }
 
 abbrev pub decreases-loop-i : goal.decreases-loop-i

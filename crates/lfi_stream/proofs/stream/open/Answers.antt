@@ -11,7 +11,7 @@ returns-in-Unclaimed-clause-holds c = λ ms payload holds.
     let r = c.args.stream.now in
     let new = c.place.new.stream in
     let was : progress_at r.modules c.args.«module» ≡ Unclaimed = sym c.progress_in.ensures.at ∙ c.in-Unclaimed.is in
-    opened r new ms payload c.args.«module» c.args.extent.words c.args.extent.entry was (ap (λ z. z.page) c.place.ensures.rest)
+    opened r new ms payload c.args.«module» c.args.extent.words c.args.extent.entry c.args.extent.profile was (ap (λ z. z.page) c.place.ensures.rest)
     (subst (λ w. (m : ℕ) → progress_at new.modules m ≡ (if m == c.args.«module» then Going w 0 else progress_at r.modules m)) c.words-words.ensures c.place.ensures.at) holds
 
 pub returns-in_default : goal.returns-in_default

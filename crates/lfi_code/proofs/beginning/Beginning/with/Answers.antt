@@ -26,6 +26,7 @@ returns-clause-begins c = λ bytes h.
     let same : c.in-Some.code ≡ c.args.piece.now = c.in-Some.ensures.some.1 in
     let none : c.args.self.fault ≡ None = nothing c.args.self.fault (sym c.is_some.ensures ∙ c.if-is_some.false) in
     let count : c.len_words.result ≡ length (words_of c.args.piece.now) = c.len_words.ensures.count ∙ ap (λ code. length (words_of code)) same in
-    begins_more c.args.self bytes c.args.piece.now c.judge-verdict.result c.fault_after.result none c.requires.whole c.requires.room
-    (subst (λ code. Judges (words_of code) c.args.self.judged c.args.self.words c.judge-verdict.result) same c.judge-verdict.ensures)
-    (λ placed page first left judges size. c.fault_after.ensures.first placed page first left judges (count ∙ size)) c.fault_after.ensures.left h
+    begins_more c.args.self bytes c.args.piece.now c.judge-verdict.result c.fault_after.result c.leave.result none c.requires.whole c.requires.room
+    (subst (λ code. Judges c.args.self.profile (words_of code) c.args.self.judged c.args.self.words c.judge-verdict.result) same c.judge-verdict.ensures)
+    (λ placed page first left judges size. c.fault_after.ensures.first c.args.self.profile placed page first left judges (count ∙ size))
+    (λ placed page left judges. c.leave.ensures.left c.args.self.profile placed page c.args.self.words left judges) h

@@ -9,8 +9,8 @@ pub invariant_of-result : goal.invariant_of-result
 invariant_of-result c =
     let verdict = c.judge-verdict.result in
     let there : c.args.first ≡ verdict.first = sym c.judge-verdict.ensures.place in
-    let judged : Judges (words_of c.args.page) c.args.first c.args.words verdict = subst (λ n. Judges (words_of c.args.page) c.args.first n verdict) c.number.ensures.value c.judge-verdict.ensures in
+    let judged : Judges c.args.profile (words_of c.args.page) c.args.first c.args.words verdict = subst (λ n. Judges c.args.profile (words_of c.args.page) c.args.first n verdict) c.number.ensures.value c.judge-verdict.ensures in
     record {
       due = subst (λ first. length (words_of c.args.page) ≡ words_due page_words c.args.words first) there c.requires.due;
-      judged = subst (λ first. Judges (words_of c.args.page) first c.args.words verdict) there judged;
+      judged = subst (λ first. Judges c.args.profile (words_of c.args.page) first c.args.words verdict) there judged;
     }

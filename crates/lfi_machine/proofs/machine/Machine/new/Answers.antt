@@ -26,7 +26,7 @@ invariant_of-result c =
     let same = sym c.in-Ok-new.ensures.image in (
       subst IsImage same c.words.ensures.lawful,
       safe_start c.in-Ok-new.slot.image c.args.registers (subst (λ (m : Image). Held (base m) c.args.registers) same held),
-      subst (λ (xs : List Instruction). AreDecoded xs c.in-Ok-new.slot.image.words) (sym c.in-Ok.ensures.items) (decoded_none c.in-Ok-new.slot.image.words),
+      subst (λ (xs : List Instruction). AreDecoded c.in-Ok-new.slot.image.profile xs c.in-Ok-new.slot.image.words) (sym c.in-Ok.ensures.items) (decoded_none c.in-Ok-new.slot.image.profile c.in-Ok-new.slot.image.words),
       subst (λ (m : Image). length m.words ≤ vec_capacity c.in-Ok.instructions) same (omega (arith, c.in-Ok.ensures.capacity, c.words.ensures.count, c.number-count.ensures.value)),
     )
 
