@@ -6,8 +6,10 @@ use Rattle.std.proofs.lemmas.List.Elements.{All-nil, All-cons, All-head, All-tai
 use Rattle.std.proofs.lemmas.Bool.{cases_lt, eq-eqb, ltb-false, le-ltb, lt-ltb}
 use Rattle.lfi_frame.specs.declared.header.Header.{Header}
 use Rattle.lfi_frame.specs.declared.fault.FrameFault.{FrameFault}
-use Rattle.lfi_frame.specs.Feeds.{page_header}
-use Rattle.lfi_frame.specs.Streams.{AreBytes, Message, open_message, page_message, close_message, header_of, payload_of, spelling, header_at, header_bytes, header_fault, IsMessage, Rest, short, faulty, unfinished, whole, rest_after, rest_of, Cut}
+use Rattle.lfi_module.specs.declared.profile.Profile.{Profile}
+use Rattle.lfi_module.specs.declared.profile.Profile.TheVariants.{One, Two}
+use Rattle.lfi_frame.specs.Feeds.{page_header, opened}
+use Rattle.lfi_frame.specs.Streams.{AreBytes, Message, open_message, page_message, close_message, open_kind, is_open, opened_by, header_of, payload_of, spelling, header_at, header_bytes, header_fault, IsMessage, Rest, short, faulty, unfinished, whole, rest_after, rest_of, Cut}
 use Rattle.lfi_frame.proofs.Headers.{header_back, header_spells, header_fits, sound}
 
 -- a text with a header goes on as its header says
@@ -31,8 +33,12 @@ rest_spelled h xs none a_fits b_fits =
 tell_whole : (b : Bool) (m index len : ℕ) → b ≡ false → (if b then unfinished m index len else whole) ≡ whole
 tell_whole b m index len e = ap (λ b. if b then unfinished m index len else whole) e
 
+enough_open : (profile : Profile) (few : Bool) → (open_kind profile == 2 && few) ≡ false
+enough_open One few = refl
+enough_open Two few = refl
+
 enough : (message : Message) (xs : List ℕ) → ((header_of message).kind == 2 && nat_lt (length (payload_of message ++ xs)) (header_of message).b) ≡ false
-enough (open_message m words entry) xs = refl
+enough (open_message m extent) xs = enough_open extent.profile _
 enough (page_message m index payload) xs = le-ltb (length (payload ++ xs)) (length payload) (omega (arith, length-append payload xs))
 enough (close_message m) xs = refl
 
@@ -44,10 +50,14 @@ rest_whole message xs is =
 
 -- the message of a header and what follows it
 abbrev pub message_at : Header → List ℕ → Message
-message_at h bs = if h.kind == 2 then page_message h.«module» h.a (take h.b bs) else if h.kind == 1 then open_message h.«module» h.a h.b else close_message h.«module»
+message_at h bs = if h.kind == 2 then page_message h.«module» h.a (take h.b bs) else if is_open h.kind then open_message h.«module» (opened h) else close_message h.«module»
+
+open_back : (profile : Profile) (m words entry : ℕ) (xs : List ℕ) → message_at (record { kind = open_kind profile; second = 0; «module» = m; a = words; b = entry }) xs ≡ open_message m (record { words = words; entry = entry; profile = profile })
+open_back One m words entry xs = refl
+open_back Two m words entry xs = refl
 
 read_back : (message : Message) (xs : List ℕ) → message_at (header_of message) (payload_of message ++ xs) ≡ message
-read_back (open_message m words entry) xs = refl
+read_back (open_message m extent) xs = open_back extent.profile m extent.words extent.entry xs
 read_back (page_message m index payload) xs = ap (λ p. page_message m index p) (take_front payload xs)
   where
     take_front : (ys xs : List ℕ) → take (length ys) (ys ++ xs) ≡ ys
@@ -88,8 +98,12 @@ only bytes messages other rest last cut cut' = one messages other rest last cut.
 pub page_is : (h : Header) → header_fault h ≡ None → h.kind ≡ 2 → page_header h.«module» h.a h.b ≡ h
 page_is h none kind = λ i. record { kind = sym kind i; second = sym (sound h none).second i; «module» = h.«module»; a = h.a; b = h.b }
 
-pub open_is : (h : Header) → header_fault h ≡ None → h.kind ≡ 1 → header_of (open_message h.«module» h.a h.b) ≡ h
-open_is h none kind = λ i. record { kind = sym kind i; second = sym (sound h none).second i; «module» = h.«module»; a = h.a; b = h.b }
+pub open_is : (h : Header) → header_fault h ≡ None → (h.kind ≡ 1) ⊎ (h.kind ≡ 4) → header_of (open_message h.«module» (opened h)) ≡ h
+open_is h none kind = let same : open_kind (opened_by h.kind) ≡ h.kind = same_kind h.kind kind in λ i. record { kind = same i; second = sym (sound h none).second i; «module» = h.«module»; a = h.a; b = h.b }
+  where
+    same_kind : (kind : ℕ) → (kind ≡ 1) ⊎ (kind ≡ 4) → open_kind (opened_by kind) ≡ kind
+    same_kind kind (inl one) = ap (λ k. open_kind (opened_by k)) one ∙ sym one
+    same_kind kind (inr four) = ap (λ k. open_kind (opened_by k)) four ∙ sym four
 
 pub close_is : (h : Header) → header_fault h ≡ None → h.kind ≡ 3 → header_of (close_message h.«module») ≡ h
 close_is h none kind =
@@ -141,6 +155,11 @@ comes bytes small w =
     let none : header_fault h ≡ None = faultless_of (header_fault h) h (length d) after in
     let full : (h.kind == 2 && nat_lt (length d) h.b) ≡ false = full_by _ _ _ _ (ap (λ f. rest_after f h (length d)) (sym none) ∙ after) in
     let fits = header_fits bytes small in
+    let opens = λ (kind : (h.kind ≡ 1) ⊎ (h.kind ≡ 4)).
+        let message = open_message h.«module» (opened h) in
+        let found : Comes bytes = record { message = message; more = d; is = message_is message h (open_is h none kind) none fits.0 fits.1; spelled = comes_by message d bytes long small (open_is h none kind) refl } in
+        found
+    in
     elim (sound h none).kind [
       | inl two ↦
           let enough : h.b ≤ length d = ltb-false (length d) h.b (and_false (h.kind == 2) (nat_lt (length d) h.b) full (eq-eqb h.kind 2 two)) in
@@ -149,10 +168,12 @@ comes bytes small w =
           let is : header_of message ≡ h = ap (λ n. page_header h.«module» h.a n) len ∙ page_is h none two in
           record { message = message; more = drop h.b d; is = message_is message h is none fits.0 fits.1; spelled = comes_by message (drop h.b d) bytes long small is (take-append-drop h.b d) }
       | inr other ↦ elim other [
-        | inl one ↦ let message = open_message h.«module» h.a h.b in
-            record { message = message; more = d; is = message_is message h (open_is h none one) none fits.0 fits.1; spelled = comes_by message d bytes long small (open_is h none one) refl }
-        | inr three ↦ let message = close_message h.«module» in
-            record { message = message; more = d; is = message_is message h (close_is h none three) none fits.0 fits.1; spelled = comes_by message d bytes long small (close_is h none three) refl }
+        | inl one ↦ opens (inl one)
+        | inr last ↦ elim last [
+          | inl three ↦ let message = close_message h.«module» in
+              record { message = message; more = d; is = message_is message h (close_is h none three) none fits.0 fits.1; spelled = comes_by message d bytes long small (close_is h none three) refl }
+          | inr four ↦ opens (inr four)
+        ]
       ]
     ]
 

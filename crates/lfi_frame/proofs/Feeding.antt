@@ -5,7 +5,6 @@ use Rattle.std.proofs.lemmas.List.{append-nil, length-take, length-drop}
 use Rattle.std.proofs.lemmas.List.Elements.{All-push}
 use Rattle.std.proofs.lemmas.Bool.{eq-eqb, eqb-true, lt-ltb}
 use Rattle.std.proofs.lemmas.Bool.Decides.{eqb_tells}
-use Rattle.lfi_module.specs.declared.profile.Profile.TheVariants.{One}
 use Rattle.lfi_frame.specs.declared.header.Header.{Header}
 use Rattle.lfi_frame.specs.declared.fault.FrameFault.{FrameFault}
 use Rattle.lfi_frame.specs.declared.fault.FrameFault.TheVariants.{Kind, SecondByte, Module, PageLength, CloseNumbers, WordCount, Entry, NoMemory, Ended, ReadFailed}
@@ -15,8 +14,8 @@ use Rattle.lfi_frame.specs.declared.answer.Got.TheVariants.{Open, Page, Payload,
 use Rattle.lfi_frame.specs.declared.feed.Position.{Position}
 use Rattle.lfi_frame.specs.declared.feed.Position.TheVariants as position
 use Rattle.lfi_frame.specs.inner.Positions.{is_between}
-use Rattle.lfi_frame.specs.Streams.{Cut, AreBytes, Message, open_message, page_message, close_message, header_of, payload_of, spelling, header_at, header_bytes, header_fault, IsMessage, short, faulty, unfinished, whole, rest_after, rest_of}
-use Rattle.lfi_frame.specs.Feeds.{IsAtEnd, fault_at, page_header, IsInPage, IsSeen, IsAt, FeedStands, IsTold, got_by, answer_by, answer_to, position_by, position_after}
+use Rattle.lfi_frame.specs.Streams.{Cut, AreBytes, Message, open_message, page_message, close_message, is_open, header_of, payload_of, spelling, header_at, header_bytes, header_fault, IsMessage, short, faulty, unfinished, whole, rest_after, rest_of}
+use Rattle.lfi_frame.specs.Feeds.{IsAtEnd, fault_at, page_header, IsInPage, IsSeen, IsAt, FeedStands, IsTold, opened, got_by, answer_by, answer_to, position_by, position_after}
 use Rattle.lfi_frame.proofs.Headers.{header_spells, header_fits, sound}
 use Rattle.lfi_frame.proofs.Cuts.{rest_long, rest_short, rest_spelled, page_is, open_is, close_is, message_is, comes_by, long_by}
 
@@ -140,6 +139,22 @@ module _ (new : Feed) (messages : List Message) (rest used : List ℕ) (each : A
         unended = (sound h none).some two;
       }
 
+  opened_told : (got : Got) → header_fault h ≡ None → got ≡ got_by h → new.position ≡ position_by None h → (h.kind ≡ 1) ⊎ (h.kind ≡ 4) → IsTold got new messages rest used
+  opened_told got none brings is kind =
+      let fits = header_fits (rest ++ used) small in
+      let message = open_message h.«module» (opened h) in
+      let g : got ≡ Open h.«module» (opened h) = brings ∙ brought h.kind kind in
+      let p : new.position ≡ position.Header 0 = is ∙ put h.kind kind in
+      subst (λ g. IsTold g new messages rest used) (sym g) (between new messages message p each (message_is message h (open_is h none kind) none fits.0 fits.1), spelled message (open_is h none kind) refl)
+    where
+      brought : (k : ℕ) → (k ≡ 1) ⊎ (k ≡ 4) → (if k == 2 then Page h.«module» h.a h.b else if is_open k then Open h.«module» (opened h) else Close h.«module») ≡ Open h.«module» (opened h)
+      brought k (inl one) = ap (λ k. if k == 2 then Page h.«module» h.a h.b else if is_open k then Open h.«module» (opened h) else Close h.«module») one
+      brought k (inr four) = ap (λ k. if k == 2 then Page h.«module» h.a h.b else if is_open k then Open h.«module» (opened h) else Close h.«module») four
+
+      put : (k : ℕ) → (k ≡ 1) ⊎ (k ≡ 4) → (if k == 2 then position.Payload h.b else position.Header 0) ≡ position.Header 0
+      put k (inl one) = ap (λ k. if k == 2 then position.Payload h.b else position.Header 0) one
+      put k (inr four) = ap (λ k. if k == 2 then position.Payload h.b else position.Header 0) four
+
   sound_told : (got : Got) → header_fault h ≡ None → got ≡ got_by h → new.position ≡ position_by None h → IsTold got new messages rest used
   sound_told got none brings is =
       let fits = header_fits (rest ++ used) small in
@@ -147,20 +162,19 @@ module _ (new : Feed) (messages : List Message) (rest used : List ℕ) (each : A
         | inl two ↦
             let page = in_page none two in
             let b = eq-eqb h.kind 2 two in
-            let g : got ≡ Page h.«module» h.a h.b = brings ∙ ap (λ b. if b then Page h.«module» h.a h.b else if h.kind == 1 then Open h.«module» (record { words = h.a; entry = h.b; profile = One }) else Close h.«module») b in
+            let g : got ≡ Page h.«module» h.a h.b = brings ∙ ap (λ b. if b then Page h.«module» h.a h.b else if is_open h.kind then Open h.«module» (opened h) else Close h.«module») b in
             let p : new.position ≡ position.Payload h.b = is ∙ ap (λ b. if b then position.Payload h.b else position.Header 0) b in
             subst (λ g. IsTold g new messages rest used) (sym g) (record { each = each; position = subst (λ q. IsAt new.held q (rest ++ used)) (sym p) page }, twelve, page_rest (rest ++ used) h.b page)
         | inr other ↦ elim other [
-          | inl one ↦
-              let message = open_message h.«module» h.a h.b in
-              let g : got ≡ Open h.«module» (record { words = h.a; entry = h.b; profile = One }) = brings ∙ ap (λ k. if k == 2 then Page h.«module» h.a h.b else if k == 1 then Open h.«module» (record { words = h.a; entry = h.b; profile = One }) else Close h.«module») one in
-              let p : new.position ≡ position.Header 0 = is ∙ ap (λ k. if k == 2 then position.Payload h.b else position.Header 0) one in
-              subst (λ g. IsTold g new messages rest used) (sym g) (between new messages message p each (message_is message h (open_is h none one) none fits.0 fits.1), spelled message (open_is h none one) refl)
-          | inr three ↦
+          | inl one ↦ opened_told got none brings is (inl one)
+          | inr last ↦ elim last [
+            | inr four ↦ opened_told got none brings is (inr four)
+            | inl three ↦
               let message = close_message h.«module» in
-              let g : got ≡ Close h.«module» = brings ∙ ap (λ k. if k == 2 then Page h.«module» h.a h.b else if k == 1 then Open h.«module» (record { words = h.a; entry = h.b; profile = One }) else Close h.«module») three in
+              let g : got ≡ Close h.«module» = brings ∙ ap (λ k. if k == 2 then Page h.«module» h.a h.b else if is_open k then Open h.«module» (opened h) else Close h.«module») three in
               let p : new.position ≡ position.Header 0 = is ∙ ap (λ k. if k == 2 then position.Payload h.b else position.Header 0) three in
               subst (λ g. IsTold g new messages rest used) (sym g) (between new messages message p each (message_is message h (close_is h none three) none fits.0 fits.1), spelled message (close_is h none three) refl)
+          ]
         ]
       ]
 

@@ -83,7 +83,7 @@ second_false false c e t = absurd (cc)
 
 -- what a header without a fault says
 pub record IsSound (h : Header) : Type 0 where
-  pub kind : (h.kind ≡ 2) ⊎ ((h.kind ≡ 1) ⊎ (h.kind ≡ 3))
+  pub kind : (h.kind ≡ 2) ⊎ ((h.kind ≡ 1) ⊎ ((h.kind ≡ 3) ⊎ (h.kind ≡ 4)))
   pub second : h.second ≡ 0
   pub m_below : h.«module» < module_count
   pub zeros : h.kind ≡ 3 → (h.a ≡ 0) × (h.b ≡ 0)
@@ -95,22 +95,25 @@ above_zero : (n : ℕ) → (n == 0) ≡ false → 0 < n
 above_zero zero e = absurd (cc)
 above_zero (suc n) e = omega arith
 
-kind_among : (k : ℕ) → (k == 0 || nat_lt 3 k) ≡ false → (k ≡ 2) ⊎ ((k ≡ 1) ⊎ (k ≡ 3))
+kind_among : (k : ℕ) → (k == 0 || nat_lt 4 k) ≡ false → (k ≡ 2) ⊎ ((k ≡ 1) ⊎ ((k ≡ 3) ⊎ (k ≡ 4)))
 kind_among k e =
-    let two = neither (k == 0) (nat_lt 3 k) e in
-    let most : k ≤ 3 = ltb-false 3 k two.1 in
+    let two = neither (k == 0) (nat_lt 4 k) e in
+    let most : k ≤ 4 = ltb-false 4 k two.1 in
     let least : 0 < k = above_zero k two.0 in
     elim (eqb_tells k 2) [
       | inl a ↦ inl a.1
       | inr a ↦ elim (eqb_tells k 1) [
         | inl b ↦ inr (inl b.1)
-        | inr b ↦ let no_two : k ≢ 2 = a.1 in let no_one : k ≢ 1 = b.1 in inr (inr (omega arith))
+        | inr b ↦ elim (eqb_tells k 3) [
+          | inl c ↦ inr (inr (inl c.1))
+          | inr c ↦ let no_two : k ≢ 2 = a.1 in let no_one : k ≢ 1 = b.1 in let no_three : k ≢ 3 = c.1 in inr (inr (inr (omega arith)))
+        ]
       ]
     ]
 
 pub sound : (h : Header) → header_fault h ≡ None → IsSound h
 sound h none =
-    let one = passed (h.kind == 0 || nat_lt 3 h.kind) Kind _ none in
+    let one = passed (h.kind == 0 || nat_lt 4 h.kind) Kind _ none in
     let two = passed (not (h.second == 0)) SecondByte _ one.1 in
     let three = passed (nat_le module_count h.«module») Module _ two.1 in
     let four = passed (h.kind == 2 && not (is_page_length h.b)) PageLength _ three.1 in

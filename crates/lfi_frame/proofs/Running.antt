@@ -62,7 +62,7 @@ got_heard More old new heard rest used agrees told = (
   ]),
   same_text heard.messages rest used,
 )
-got_heard (Open m extent) old new heard rest used agrees told = new_message new heard (open_message m extent.words extent.entry) rest used [] told.0 told.1
+got_heard (Open m extent) old new heard rest used agrees told = new_message new heard (open_message m extent) rest used [] told.0 told.1
 got_heard (Close m) old new heard rest used agrees told = new_message new heard (close_message m) rest used [] told.0 told.1
 got_heard (Page m index len) old new heard rest used agrees told =
     (rest ++ used, record { stands = told.0; page = λ n j k e. (let s = same_page m index len n j k (sym told.2 ∙ e) in (s.0, s.1, sym (nothing_after (rest ++ used) told.1))) }, same_text heard.messages rest used)

@@ -1,6 +1,6 @@
 -- What a feed stands for, and what its answers tell. Source: this project's format, docs/PROFILE.md.
 use Rattle.std.specs.Prelude.{◌≡◌, ◌≢◌, ℕ, ◌%◌, ◌≤◌, ◌<◌, ◌+◌, ◌==◌, ◌^◌, true, false, List, [], ◌∷◌, ◌++◌, length, take, drop, ◌⊎◌, Option, Some, None, Result, Ok, Err, All, if◌then◌else◌}
-use Rattle.lfi_module.specs.declared.profile.Profile.TheVariants.{One}
+use Rattle.lfi_module.specs.Extents.{ExtentView}
 use Rattle.lfi_module.specs.Numbers.{page_bytes}
 use Rattle.lfi_frame.specs.declared.header.Header.{Header}
 use Rattle.lfi_frame.specs.declared.fault.FrameFault.{FrameFault}
@@ -11,7 +11,7 @@ use Rattle.lfi_frame.specs.declared.answer.Got.{Got}
 use Rattle.lfi_frame.specs.declared.answer.Got.TheVariants.{More, Open, Page, Payload, Close}
 use Rattle.lfi_frame.specs.declared.feed.Position.{Position}
 use Rattle.lfi_frame.specs.declared.feed.Position.TheVariants as position
-use Rattle.lfi_frame.specs.Streams.{AreBytes, Message, open_message, page_message, close_message, spelling, header_bytes, header_fault, IsMessage, rest_of, faulty, unfinished, short, whole}
+use Rattle.lfi_frame.specs.Streams.{AreBytes, Message, open_message, page_message, close_message, is_open, opened_by, spelling, header_bytes, header_fault, IsMessage, rest_of, faulty, unfinished, short, whole}
 
 -- the header of a page
 abbrev pub page_header : ℕ → ℕ → ℕ → Header
@@ -52,7 +52,7 @@ abbrev pub IsTold : Got → Feed → List Message → List ℕ → List ℕ → 
 IsTold More new messages rest used =
     FeedStands new messages (rest ++ used) × ((rest_of (rest ++ used) ≡ short) ⊎ (used ≡ []))
 IsTold (Open m extent) new messages rest used =
-    FeedStands new (messages ++ open_message m extent.words extent.entry ∷ []) [] × (rest ++ used ≡ spelling (open_message m extent.words extent.entry))
+    FeedStands new (messages ++ open_message m extent ∷ []) [] × (rest ++ used ≡ spelling (open_message m extent))
 IsTold (Page m index len) new messages rest used =
     FeedStands new messages (rest ++ used) × (length (rest ++ used) ≡ 12) × (rest_of (rest ++ used) ≡ unfinished m index len)
 IsTold (Payload false) new messages rest used =
@@ -128,9 +128,13 @@ IsAtEnd None rest (Ok _) = rest ≡ []
 IsAtEnd None rest (Err fault) = (rest ≢ []) × (fault ≡ Ended)
 IsAtEnd (Some before) rest answer = Unit {0}
 
+-- how large a module is that a header opens
+abbrev pub opened : Header → ExtentView
+opened h = record { words = h.a; entry = h.b; profile = opened_by h.kind }
+
 -- what a header brings, and where a feed is after it
 abbrev pub got_by : Header → Got
-got_by h = if h.kind == 2 then Page h.«module» h.a h.b else if h.kind == 1 then Open h.«module» (record { words = h.a; entry = h.b; profile = One }) else Close h.«module»
+got_by h = if h.kind == 2 then Page h.«module» h.a h.b else if is_open h.kind then Open h.«module» (opened h) else Close h.«module»
 
 abbrev pub answer_by : Option FrameFault → Header → Result Got FrameFault
 answer_by (Some fault) h = Err fault

@@ -32,7 +32,7 @@ pub record Heard : Type 0 where
 
 abbrev pub hear_got : Got → Heard → List ℕ → Heard
 hear_got More heard used = heard
-hear_got (Open m extent) heard used = record heard { messages = heard.messages ++ open_message m extent.words extent.entry ∷ [] }
+hear_got (Open m extent) heard used = record heard { messages = heard.messages ++ open_message m extent ∷ [] }
 hear_got (Page m index len) heard used = record { messages = heard.messages; m = m; index = index; payload = [] }
 hear_got (Payload false) heard used = record heard { payload = heard.payload ++ used }
 hear_got (Payload true) heard used = record heard { messages = heard.messages ++ page_message heard.m heard.index (heard.payload ++ used) ∷ [] }

@@ -2,6 +2,9 @@
 use Rattle.std.specs.Prelude.{◌≡◌, ◌≢◌, ℕ, ◌<◌, ◌==◌, ◌%◌, ◌^◌, nat_lt, nat_le, ◌||◌, ◌&&◌, not, if◌then◌else◌, Bool, List, [], ◌∷◌, ◌++◌, length, drop, slice_index, Option, Some, None, flat_map, All}
 use Rattle.byteorder.specs.Endian.{little_bytes, little_number}
 use Rattle.lfi_module.specs.Numbers.{module_count, most_words, page_bytes}
+use Rattle.lfi_module.specs.declared.profile.Profile.{Profile}
+use Rattle.lfi_module.specs.declared.profile.Profile.TheVariants.{One, Two}
+use Rattle.lfi_module.specs.Extents.{ExtentView}
 use Rattle.lfi_frame.specs.declared.header.Header.{Header}
 use Rattle.lfi_frame.specs.declared.fault.FrameFault.{FrameFault}
 use Rattle.lfi_frame.specs.declared.fault.FrameFault.TheVariants.{Kind, SecondByte, Module, PageLength, CloseNumbers, WordCount, Entry}
@@ -10,21 +13,33 @@ use Rattle.lfi_frame.specs.declared.fault.FrameFault.TheVariants.{Kind, SecondBy
 abbrev pub AreBytes : List ℕ → Type 0
 AreBytes bytes = (i : ℕ) → slice_index bytes i < 256
 
--- a whole message: a module with its words and entry, a page of it with its index and bytes, or its close
+-- a whole message: a module with its words, entry and profile, a page of it with its index and bytes, or its close
 pub data Message : Type 0 where
-  open_message : (m words entry : ℕ) → Message
+  open_message : (m : ℕ) (extent : ExtentView) → Message
   page_message : (m index : ℕ) (payload : List ℕ) → Message
   close_message : (m : ℕ) → Message
 
+-- the kind of a module's opening, by its profile
+abbrev pub open_kind : Profile → ℕ
+open_kind One = 1
+open_kind Two = 4
+
+-- whether a kind is that of an opening, and of which profile it then is
+abbrev pub is_open : ℕ → Bool
+is_open kind = kind == 1 || kind == 4
+
+abbrev pub opened_by : ℕ → Profile
+opened_by kind = if kind == 4 then Two else One
+
 -- the header of a message
 abbrev pub header_of : Message → Header
-header_of (open_message m words entry) = record { kind = 1; second = 0; «module» = m; a = words; b = entry }
+header_of (open_message m extent) = record { kind = open_kind extent.profile; second = 0; «module» = m; a = extent.words; b = extent.entry }
 header_of (page_message m index payload) = record { kind = 2; second = 0; «module» = m; a = index; b = length payload }
 header_of (close_message m) = record { kind = 3; second = 0; «module» = m; a = 0; b = 0 }
 
 -- the bytes that follow the header
 abbrev pub payload_of : Message → List ℕ
-payload_of (open_message m words entry) = []
+payload_of (open_message m extent) = []
 payload_of (page_message m index payload) = payload
 payload_of (close_message m) = []
 
@@ -50,16 +65,16 @@ header_at bytes = record {
 abbrev pub is_page_length : ℕ → Bool
 is_page_length bytes = nat_lt 0 bytes && nat_le bytes page_bytes && bytes % 4 == 0
 
--- The first fault that a header shows by itself: of its kind (1 Open, 2 Page, 3 Close), its second byte, its module, the length of a page, the numbers of a Close, the words of an Open (at most 4,194,304) and its entry.
+-- The first fault that a header shows by itself: of its kind (1 Open, 2 Page, 3 Close, 4 Open by the second profile), its second byte, its module, the length of a page, the numbers of a Close, the words of an Open (at most 4,194,304) and its entry.
 abbrev pub header_fault : Header → Option FrameFault
 header_fault h =
-    if h.kind == 0 || nat_lt 3 h.kind then Some Kind
+    if h.kind == 0 || nat_lt 4 h.kind then Some Kind
     else if not (h.second == 0) then Some SecondByte
     else if nat_le module_count h.«module» then Some Module
     else if h.kind == 2 && not (is_page_length h.b) then Some PageLength
     else if h.kind == 3 && not (h.a == 0 && h.b == 0) then Some CloseNumbers
-    else if h.kind == 1 && (h.a == 0 || nat_lt most_words h.a) then Some WordCount
-    else if h.kind == 1 && nat_le h.a h.b then Some Entry
+    else if is_open h.kind && (h.a == 0 || nat_lt most_words h.a) then Some WordCount
+    else if is_open h.kind && nat_le h.a h.b then Some Entry
     else None
 
 -- a message without a fault, whose numbers fit their four bytes

@@ -7,7 +7,7 @@ use lfi_module::{Extent, ModuleNumber};
 pub enum Got {
     /// The whole piece was used, or it was empty, and nothing came to its end.
     More,
-    /// A whole Open of this module, with its words and its entry.
+    /// A whole Open of this module, with its words, its entry and its profile.
     Open {
         module: ModuleNumber,
         extent: Extent,

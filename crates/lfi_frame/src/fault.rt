@@ -13,7 +13,8 @@ use std::fmt;
 /// docs/PROFILE.md, "Faults".
 #[derive(Clone, Copy, Debug, PartialEq, Eq)]
 pub enum FrameFault {
-    /// The kind, a header's first byte, isn't 1 (Open), 2 (Page) or 3 (Close).
+    /// The kind, a header's first byte, isn't 1 (Open), 2 (Page), 3 (Close) or 4 (Open by the
+    /// second profile).
     Kind,
     /// The second byte of a header isn't 0.
     SecondByte,

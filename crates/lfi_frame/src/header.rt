@@ -24,8 +24,8 @@ const WORD_BYTES: u32 = 4;
 /// What a message is about, by the first byte of its header.
 #[derive(Clone, Copy, Debug, PartialEq, Eq)]
 pub(crate) enum MessageKind {
-    /// A module begins: 1.
-    Open,
+    /// A module begins that goes by this profile: 1 for the first, 4 for the second.
+    Open(Profile),
     /// A page of a module: 2.
     Page,
     /// A module has come to its end: 3.
@@ -38,9 +38,10 @@ impl MessageKind {
         ensures { result ≡ kind_of number }
     {
         match number {
-            1 => Some(MessageKind::Open),
+            1 => Some(MessageKind::Open(Profile::One)),
             2 => Some(MessageKind::Page),
             3 => Some(MessageKind::Close),
+            4 => Some(MessageKind::Open(Profile::Two)),
             _ => None,
         }
     }
@@ -49,7 +50,7 @@ impl MessageKind {
 /// The five numbers of a header, as they come.
 #[derive(Clone, Copy, Debug, PartialEq, Eq)]
 pub struct Header {
-    /// 1 for an Open, 2 for a Page, 3 for a Close.
+    /// 1 for an Open, 2 for a Page, 3 for a Close, 4 for an Open by the second profile.
     pub kind: u8,
     /// The second byte, always 0.
     pub second: u8,
@@ -118,9 +119,9 @@ impl Header {
             return Err(FrameFault::Module);
         };
         match kind {
-            MessageKind::Open => {
+            MessageKind::Open(profile) => {
                 let words = WordCount::new(self.a).ok_or(FrameFault::WordCount)?;
-                let extent = Extent::new(words, self.b, Profile::One).ok_or(FrameFault::Entry)?;
+                let extent = Extent::new(words, self.b, profile).ok_or(FrameFault::Entry)?;
                 Ok(Got::Open { module, extent })
             }
             MessageKind::Page if !self.is_page_length() => Err(FrameFault::PageLength),

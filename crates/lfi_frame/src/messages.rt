@@ -2,18 +2,28 @@
 
 ghost use Rattle.std.specs.Prelude.{◌≡◌};
 ghost use Rattle.lfi_frame.specs.Feeds.{page_header};
-ghost use Rattle.lfi_frame.specs.Streams.{header_bytes, IsMessage, spelling, open_message, close_message};
+ghost use Rattle.lfi_frame.specs.Streams.{header_bytes, IsMessage, spelling, open_kind, open_message, close_message};
 
 use crate::header::{HEADER_BYTES, Header};
-use lfi_module::{Extent, ModuleNumber};
+use lfi_module::{Extent, ModuleNumber, Profile};
+
+/// The kind of a module's Open, by the profile that it goes by.
+fn opening_kind(profile: Profile) -> u8
+    ensures { result ≡ open_kind profile }
+{
+    match profile {
+        Profile::One => 1,
+        Profile::Two => 4,
+    }
+}
 
 /// The Open of a module.
 pub fn open_bytes(module: ModuleNumber, extent: Extent) -> [u8; HEADER_BYTES]
-    ensures spells { result ≡ spelling (open_message «module» extent.words extent.entry) }
-    ensures message { IsMessage (open_message «module» extent.words extent.entry) }
+    ensures spells { result ≡ spelling (open_message «module» extent) }
+    ensures message { IsMessage (open_message «module» extent) }
 {
     Header {
-        kind: 1,
+        kind: opening_kind(extent.profile()),
         second: 0,
         module: module.number(),
         a: extent.words().number(),

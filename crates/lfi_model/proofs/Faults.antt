@@ -1,5 +1,5 @@
 -- What has been placed up to a fault is the longest beginning without one.
-use Rattle.lfi_module.specs.declared.profile.Profile.TheVariants.{One}
+use Rattle.lfi_module.specs.Extents.{ExtentView}
 use Rattle.lfi_rules.specs.declared.rule.Rule.{Rule}
 use Rattle.std.proofs.Common.{◌≡◌, ℕ, ◌+◌, ◌<◌, ◌≤◌, List, [], ◌∷◌, ◌++◌, length, Some, None, refl, sym, ◌∙◌, ap, subst, inl, inr, arith, length-append, append_assoc}
 use Rattle.std.specs.List.{slice_get}
@@ -28,8 +28,8 @@ longer_begins (u ∷ us) (v ∷ vs) rest more x l e =
     let b1 = b.1 in (b.0, cc)
 
 -- what was placed before a page with a fault is the longest beginning without one
-pub placed_to_fault : (n : ℕ) (us rest : List (List ℕ)) (page : List ℕ) (fault : Fault) → FirstFault One (all_words us) n None → FirstFault One (all_words us ++ page) n (Some fault) → Placed n (us ++ page ∷ rest) us
-placed_to_fault n us rest page fault lawful first = record {
+pub placed_to_fault : (e : ExtentView) (us rest : List (List ℕ)) (page : List ℕ) (fault : Fault) → FirstFault e.profile (all_words us) e.words None → FirstFault e.profile (all_words us ++ page) e.words (Some fault) → Placed e (us ++ page ∷ rest) us
+placed_to_fault e us rest page fault lawful first = record {
   beginning = (page ∷ rest, refl);
   lawful = lawful;
   longest = λ vs begins lawful_vs. elim (cases_lt (length us) (length vs)) [
@@ -37,28 +37,28 @@ placed_to_fault n us rest page fault lawful first = record {
         let b = longer_begins us vs rest begins.0 page shorter begins.1 in
         let words : all_words vs ≡ (all_words us ++ page) ++ all_words b.0 =
         ap all_words b.1 ∙ all_words-append us (page ∷ b.0) ∙ sym (append_assoc (all_words us) page (all_words b.0)) in
-        absurd (lawful_vs fault.word fault.rule (subst (λ l. Breaks One l n fault.word fault.rule) (sym words) (breaks_more One (all_words us ++ page) (all_words b.0) n fault.word fault.rule first.breaks)))
+        absurd (lawful_vs fault.word fault.rule (subst (λ l. Breaks e.profile l e.words fault.word fault.rule) (sym words) (breaks_more e.profile (all_words us ++ page) (all_words b.0) e.words fault.word fault.rule first.breaks)))
     | inr enough ↦ enough
   ];
 }
 
-pub placed_whole : (n : ℕ) (pages : List (List ℕ)) → FirstFault One (all_words pages) n None → Placed n pages pages
-placed_whole n pages lawful = record {
+pub placed_whole : (e : ExtentView) (pages : List (List ℕ)) → FirstFault e.profile (all_words pages) e.words None → Placed e pages pages
+placed_whole e pages lawful = record {
   beginning = ([], sym (append-nil pages));
   lawful = lawful;
   longest = λ vs begins _. let l : length pages ≡ length vs + length begins.0 = ap length begins.1 ∙ length-append vs begins.0 in omega (arith, l);
 }
 
 -- where an earlier page has a fault, one more page places nothing
-pub placed_on : (n : ℕ) (pages us : List (List ℕ)) (page : List ℕ) (fault : Fault) → Placed n pages us → FirstFault One (all_words pages) n (Some fault) → Placed n (pages ++ page ∷ []) us
-placed_on n pages us page fault placed first = record {
+pub placed_on : (e : ExtentView) (pages us : List (List ℕ)) (page : List ℕ) (fault : Fault) → Placed e pages us → FirstFault e.profile (all_words pages) e.words (Some fault) → Placed e (pages ++ page ∷ []) us
+placed_on e pages us page fault placed first = record {
   beginning = (placed.beginning.0 ++ page ∷ [], ap (λ l. l ++ page ∷ []) placed.beginning.1 ∙ append_assoc us placed.beginning.0 (page ∷ []));
   lawful = placed.lawful;
   longest = λ vs begins lawful. elim (cases_lt (length pages) (length vs)) [
     | inl longer ↦
         let b = longer_begins pages vs [] begins.0 page longer begins.1 in
         let words : all_words vs ≡ all_words pages ++ all_words (page ∷ b.0) = ap all_words b.1 ∙ all_words-append pages (page ∷ b.0) in
-        absurd (lawful fault.word fault.rule (subst (λ l. Breaks One l n fault.word fault.rule) (sym words) (breaks_more One (all_words pages) (all_words (page ∷ b.0)) n fault.word fault.rule first.breaks)))
+        absurd (lawful fault.word fault.rule (subst (λ l. Breaks e.profile l e.words fault.word fault.rule) (sym words) (breaks_more e.profile (all_words pages) (all_words (page ∷ b.0)) e.words fault.word fault.rule first.breaks)))
     | inr enough ↦ placed.longest vs (shorter_begins vs pages begins.0 page enough begins.1) lawful
   ];
 }

@@ -20,6 +20,8 @@ use Rattle.lfi_frame.specs.Streams.{rest_of}
 use Rattle.lfi_model.specs.Items.{Share, after_header, after_message, after_page, after_rest, connection_fault, ends_of, fault_by_cause, fault_of, is_going, is_inside, is_of, item_of, items_of, modules, nothing_yet, reason_of, share_at, with_item, with_stray}
 use Rattle.lfi_module.specs.Numbers.{page_words}
 use Rattle.lfi_module.specs.Pages.{is_due}
+use Rattle.lfi_module.specs.Extents.{ExtentView}
+use Rattle.lfi_module.specs.declared.profile.Profile.TheVariants.{One}
 use Rattle.lfi_model.specs.Outcomes.{end_of, reason_at}
 use Rattle.lfi_model.specs.Modules.{Member, FitsAfter, OpensFirst, IsNext, IsModule}
 
@@ -46,7 +48,7 @@ numbered_more items x numbered next before after y e =
     ]
 
 end_step : (kind : KindView) (later more : Option Reason) → reason_at kind later ≡ None → (later ≡ None → more ≡ None) → reason_at kind more ≡ None
-end_step (Open entry) later more h goes = goes h
+end_step Open later more h goes = goes h
 end_step (Page bytes) later more h goes = goes h
 end_step (End reason) later more h goes = absurd (cc)
 
@@ -54,15 +56,15 @@ end_more : (items : List ItemView) (x : ItemView) → end_of items ≡ None → 
 end_more [] x e k = k
 end_more (i ∷ items) x e k = end_step i.kind (end_of items) (end_of (items ++ x ∷ [])) e (λ h. end_more items x h k)
 
-fits_more : (items : List ItemView) (x y : ItemView) → FitsAfter items y → y.words ≡ x.words → reason_at x.kind None ≡ None → FitsAfter (items ++ x ∷ []) y
+fits_more : (items : List ItemView) (x y : ItemView) → FitsAfter items y → y.extent ≡ x.extent → reason_at x.kind None ≡ None → FitsAfter (items ++ x ∷ []) y
 fits_more [] x y f w k = (w, k)
 fits_more (i ∷ items) x y f w k = (f.0, end_more (i ∷ items) x f.1 k)
 
 -- how the items stand at each stage
-pub record IsGoing (n p : ℕ) (items : List ItemView) : Type 0 where
+pub record IsGoing (n : ExtentView) (p : ℕ) (items : List ItemView) : Type 0 where
   pub numbered : IsModule items
   pub long : length items ≡ p + 1
-  pub fits : (x : ItemView) → x.words ≡ n → FitsAfter items x
+  pub fits : (x : ItemView) → x.extent ≡ n → FitsAfter items x
 
 pub record IsOver (items : List ItemView) : Type 0 where
   pub numbered : IsModule items
@@ -79,37 +81,37 @@ end_snoc [] x e = refl
 end_snoc (i ∷ items) x e = end_by i.kind (end_of items) (end_of (items ++ x ∷ [])) (reason_at x.kind None) e (λ h. end_snoc items x h)
   where
     end_by : (kind : KindView) (later more last : Option Reason) → reason_at kind later ≡ None → (later ≡ None → more ≡ last) → reason_at kind more ≡ last
-    end_by (Open entry) later more last e h = h e
+    end_by Open later more last e h = h e
     end_by (Page bytes) later more last e h = h e
     end_by (End reason) later more last e h = absurd (cc)
 
 -- some item
 nothing : ItemView
-nothing = item_of 0 0 0 (Open 0)
+nothing = item_of 0 0 (record { words = 0; entry = 0; profile = One }) Open
 
 -- a page or an End comes after the Open
 later : (p : ℕ) (items : List ItemView) (kind : KindView) → length items ≡ p + 1 → OpensFirst (nothing ∷ []) kind → OpensFirst items kind
 later p [] kind long h = absurd (omega arith)
-later p (i ∷ items) (Open entry) long h = h
+later p (i ∷ items) Open long h = h
 later p (i ∷ items) (Page bytes) long h = h
 later p (i ∷ items) (End reason) long h = h
 
-going_on : (m n p : ℕ) (items : List ItemView) (kind : KindView) → OpensFirst (nothing ∷ []) kind → IsGoing n p items → IsModule (items ++ item_of m (p + 1) n kind ∷ [])
+going_on : (m : ℕ) (n : ExtentView) (p : ℕ) (items : List ItemView) (kind : KindView) → OpensFirst (nothing ∷ []) kind → IsGoing n p items → IsModule (items ++ item_of m (p + 1) n kind ∷ [])
 going_on m n p items kind h g = numbered_more items (item_of m (p + 1) n kind) g.numbered (record { ordinal = sym g.long; opens = later p items kind g.long h; fits = g.fits (item_of m (p + 1) n kind) refl })
 
-no_end_yet : (n p : ℕ) (items : List ItemView) → length items ≡ p + 1 → ((x : ItemView) → x.words ≡ n → FitsAfter items x) → end_of items ≡ None
+no_end_yet : (n : ExtentView) (p : ℕ) (items : List ItemView) → length items ≡ p + 1 → ((x : ItemView) → x.extent ≡ n → FitsAfter items x) → end_of items ≡ None
 no_end_yet n p [] long fits = absurd (omega arith)
-no_end_yet n p (i ∷ items) long fits = (fits (item_of 0 0 n (Open 0)) refl).1
+no_end_yet n p (i ∷ items) long fits = (fits (item_of 0 0 n Open) refl).1
 
 -- the End comes
-over : (m n p : ℕ) (items : List ItemView) (reason : Reason) → IsGoing n p items → IsOver (items ++ item_of m (p + 1) n (End reason) ∷ [])
+over : (m : ℕ) (n : ExtentView) (p : ℕ) (items : List ItemView) (reason : Reason) → IsGoing n p items → IsOver (items ++ item_of m (p + 1) n (End reason) ∷ [])
 over m n p items reason g = record {
   numbered = going_on m n p items (End reason) tt g;
   reason = reason;
   ended = end_snoc items (item_of m (p + 1) n (End reason)) (no_end_yet n p items g.long g.fits);
 }
 
-page_more : (m n p : ℕ) (items : List ItemView) (bytes : List ℕ) → IsGoing n p items → IsGoing n (p + 1) (items ++ item_of m (p + 1) n (Page bytes) ∷ [])
+page_more : (m : ℕ) (n : ExtentView) (p : ℕ) (items : List ItemView) (bytes : List ℕ) → IsGoing n p items → IsGoing n (p + 1) (items ++ item_of m (p + 1) n (Page bytes) ∷ [])
 page_more m n p items bytes g =
     let x = item_of m (p + 1) n (Page bytes) in
     record {
@@ -125,10 +127,10 @@ nothing_before (b ∷ before) after x e = cc
 pub module_none : IsModule []
 module_none before after x e = absurd (nothing_before before after x e)
 
-opened : (m words entry : ℕ) (items : List ItemView) → items ≡ [] → IsGoing words 0 (items ++ item_of m 0 words (Open entry) ∷ [])
-opened m words entry items none =
-    let x = item_of m 0 words (Open entry) in
-    subst (λ l. IsGoing words 0 (l ++ x ∷ [])) (sym none) (record {
+opened : (m : ℕ) (extent : ExtentView) (items : List ItemView) → items ≡ [] → IsGoing extent 0 (items ++ item_of m 0 extent Open ∷ [])
+opened m extent items none =
+    let x = item_of m 0 extent Open in
+    subst (λ l. IsGoing extent 0 (l ++ x ∷ [])) (sym none) (record {
       numbered = numbered_more [] x module_none (record { ordinal = refl; opens = tt; fits = tt });
       long = omega arith;
       fits = λ y w. (w, refl);
@@ -141,22 +143,22 @@ either : (b : Bool) (s t : Share) → Stands s.progress s.items → Stands t.pro
 either true s t hs ht = hs
 either false s t hs ht = ht
 
-page_stands : (m n p : ℕ) (s : Share) (index len : ℕ) (due : Share) → IsGoing n p s.items → Stands due.progress due.items → Stands (after_page m n p s index len due).progress (after_page m n p s index len due).items
+page_stands : (m : ℕ) (n : ExtentView) (p : ℕ) (s : Share) (index len : ℕ) (due : Share) → IsGoing n p s.items → Stands due.progress due.items → Stands (after_page m n p s index len due).progress (after_page m n p s index len due).items
 page_stands m n p s index len due g d =
-    either (is_due page_words n p index len) due (with_item s (item_of m (p + 1) n (End (PageFault index))) Ended) d (over m n p s.items (PageFault index) g)
+    either (is_due page_words n.words p index len) due (with_item s (item_of m (p + 1) n (End (PageFault index))) Ended) d (over m n p s.items (PageFault index) g)
 
 same_stands : (s : Share) (progress : Progress) → s.progress ≡ progress → Stands progress s.items → Stands s.progress s.items
 same_stands s progress e h = subst (λ q. Stands q s.items) (sym e) h
 
 message_stands : (claimed : Bool) (m : ℕ) (s : Share) (progress : Progress) (message : Message) → s.progress ≡ progress → Stands progress s.items →
     Stands (after_message claimed m s progress message).progress (after_message claimed m s progress message).items
-message_stands claimed m s Unclaimed (open_message k words entry) e h = either claimed (with_item s (item_of m 0 words (Open entry)) (Going words 0)) (with_stray s) (opened m words entry s.items h) (same_stands s Unclaimed e h)
+message_stands claimed m s Unclaimed (open_message k extent) e h = either claimed (with_item s (item_of m 0 extent Open) (Going extent 0)) (with_stray s) (opened m extent s.items h) (same_stands s Unclaimed e h)
 message_stands claimed m s Unclaimed (page_message k index payload) e h = same_stands s Unclaimed e h
 message_stands claimed m s Unclaimed (close_message k) e h = same_stands s Unclaimed e h
-message_stands claimed m s (Going n p) (open_message k words entry) e h = same_stands s (Going n p) e h
+message_stands claimed m s (Going n p) (open_message k extent) e h = same_stands s (Going n p) e h
 message_stands claimed m s (Going n p) (page_message k index payload) e h = page_stands m n p s index (length payload) (with_item s (item_of m (p + 1) n (Page payload)) (Going n (p + 1))) h (page_more m n p s.items payload h)
 message_stands claimed m s (Going n p) (close_message k) e h = over m n p s.items Close h
-message_stands claimed m s Ended (open_message k words entry) e h = same_stands s Ended e h
+message_stands claimed m s Ended (open_message k extent) e h = same_stands s Ended e h
 message_stands claimed m s Ended (page_message k index payload) e h = same_stands s Ended e h
 message_stands claimed m s Ended (close_message k) e h = same_stands s Ended e h
 

@@ -3,6 +3,7 @@ use Rattle.std.specs.Prelude.{◌≡◌, ℕ, ◌+◌, ◌<◌, ◌==◌, Bool, 
 use Rattle.std.specs.List.{list_any}
 use Rattle.lfi_module.specs.Numbers.{module_count, page_words}
 use Rattle.lfi_module.specs.Pages.{is_due}
+use Rattle.lfi_module.specs.Extents.{ExtentView}
 use Rattle.lfi_frame.specs.declared.fault.FrameFault.{FrameFault}
 use Rattle.lfi_frame.specs.declared.fault.FrameFault.TheVariants as fault
 use Rattle.lfi_frame.specs.Streams.{Message, open_message, page_message, close_message, header_of, Rest, faulty, unfinished, rest_of, Cut}
@@ -30,27 +31,27 @@ with_stray s = record { items = s.items; strays = s.strays + 1; progress = s.pro
 abbrev pub with_item : Share → ItemView → Progress → Share
 with_item s item progress = record { items = s.items ++ item ∷ []; strays = s.strays; progress = progress }
 
-abbrev pub item_of : (m ordinal words : ℕ) → KindView → ItemView
-item_of m ordinal words kind = record { «module» = m; ordinal = ordinal; words = words; kind = kind }
+abbrev pub item_of : (m ordinal : ℕ) → ExtentView → KindView → ItemView
+item_of m ordinal extent kind = record { «module» = m; ordinal = ordinal; extent = extent; kind = kind }
 
--- a page of module m, where the first p of n words' pages have come: `then_due` where it is the one due, else the End
-abbrev pub after_page : (m n p : ℕ) → Share → (index len : ℕ) → Share → Share
-after_page m n p s index len then_due =
-    if is_due page_words n p index len then then_due
-    else with_item s (item_of m (p + 1) n (End (PageFault index))) Ended
+-- a page of module m, of whose extent the first p pages have come: `then_due` where it is the one due, else the End
+abbrev pub after_page : (m : ℕ) → ExtentView → (p : ℕ) → Share → (index len : ℕ) → Share → Share
+after_page m extent p s index len then_due =
+    if is_due page_words extent.words p index len then then_due
+    else with_item s (item_of m (p + 1) extent (End (PageFault index))) Ended
 
 -- one more message of module m, which is claimed or isn't
 abbrev pub after_message : Bool → ℕ → Share → Progress → Message → Share
-after_message claimed m s Unclaimed (open_message _ words entry) =
-    if claimed then with_item s (item_of m 0 words (Open entry)) (Going words 0) else with_stray s
-after_message claimed m s (Going n p) (page_message _ index payload) =
-    after_page m n p s index (length payload) (with_item s (item_of m (p + 1) n (Page payload)) (Going n (p + 1)))
-after_message claimed m s (Going n p) (close_message _) = with_item s (item_of m (p + 1) n (End Close)) Ended
+after_message claimed m s Unclaimed (open_message _ extent) =
+    if claimed then with_item s (item_of m 0 extent Open) (Going extent 0) else with_stray s
+after_message claimed m s (Going extent p) (page_message _ index payload) =
+    after_page m extent p s index (length payload) (with_item s (item_of m (p + 1) extent (Page payload)) (Going extent (p + 1)))
+after_message claimed m s (Going extent p) (close_message _) = with_item s (item_of m (p + 1) extent (End Close)) Ended
 after_message claimed m s progress message = with_stray s
 
 -- the header of a page whose payload isn't whole
 abbrev pub after_header : ℕ → Share → Progress → (index len : ℕ) → Share
-after_header m s (Going n p) index len = after_page m n p s index len s
+after_header m s (Going extent p) index len = after_page m extent p s index len s
 after_header m s progress index len = with_stray s
 
 abbrev pub is_of : ℕ → Message → Bool
@@ -66,7 +67,7 @@ share_of claimed m messages rest =
     after_rest m (fold (λ s message. after_message claimed m s s.progress message) nothing_yet (filter (is_of m) messages)) rest
 
 abbrev pub is_going : Progress → Bool
-is_going (Going n p) = true
+is_going (Going extent p) = true
 is_going progress = false
 
 -- the connection's fault: that of the rest's header, or else by what ended the input, where `inside` tells of a message or a module that is left open
@@ -85,7 +86,7 @@ reason_of fault.NoMemory = NoMemory
 reason_of found = Lost found
 
 abbrev pub ends_of : ℕ → Progress → Option FrameFault → List ItemView
-ends_of m (Going n p) (Some found) = item_of m (p + 1) n (End (reason_of found)) ∷ []
+ends_of m (Going extent p) (Some found) = item_of m (p + 1) extent (End (reason_of found)) ∷ []
 ends_of m progress found = []
 
 -- all modules

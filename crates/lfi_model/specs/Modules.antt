@@ -9,16 +9,16 @@ abbrev pub Member : {A : Type 0} → List A → A → Type 0
 Member [] x = ⊥
 Member (y ∷ ys) x = (y ≡ x) ⊎ Member ys x
 
--- x has the number of words of the Open, which is the first of the items before it, and none of these is an End
+-- x has the extent of the Open, which is the first of the items before it, and none of these is an End
 abbrev pub FitsAfter : List ItemView → ItemView → Type 0
 FitsAfter [] x = Unit {0}
-FitsAfter (first ∷ before) x = (x.words ≡ first.words) × (end_of (first ∷ before) ≡ None)
+FitsAfter (first ∷ before) x = (x.extent ≡ first.extent) × (end_of (first ∷ before) ≡ None)
 
 -- the first item is the Open, and no other is one
 abbrev pub OpensFirst : List ItemView → KindView → Type 0
-OpensFirst [] (Open entry) = Unit {0}
+OpensFirst [] Open = Unit {0}
 OpensFirst [] kind = ⊥
-OpensFirst (first ∷ before) (Open entry) = ⊥
+OpensFirst (first ∷ before) Open = ⊥
 OpensFirst (first ∷ before) kind = Unit {0}
 
 -- x is numbered by its place, and fits after those before it
@@ -27,7 +27,7 @@ pub record IsNext (before : List ItemView) (x : ItemView) : Type 0 where
   pub opens : OpensFirst before x.kind
   pub fits : FitsAfter before x
 
--- The items of one module as its connection makes them: numbered in order, of one number of words, and nothing after an End.
+-- The items of one module as its connection makes them: numbered in order, of one extent, and nothing after an End.
 abbrev pub IsModule : List ItemView → Type 0
 IsModule items = (before after : List ItemView) (x : ItemView) → items ≡ before ++ x ∷ after → IsNext before x
 

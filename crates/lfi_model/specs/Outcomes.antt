@@ -4,7 +4,7 @@ use Rattle.lfi_model.specs.Item.{ItemView, KindView}
 use Rattle.lfi_model.specs.declared.item.ItemKind.TheVariants.{Page, End}
 use Rattle.lfi_model.specs.declared.item.Reason.{Reason}
 use Rattle.lfi_model.specs.declared.item.Reason.TheVariants.{Close, Lost, PageFault, NoMemory}
-use Rattle.lfi_module.specs.declared.profile.Profile.TheVariants.{One}
+use Rattle.lfi_module.specs.Extents.{ExtentView}
 use Rattle.lfi_rules.specs.declared.fault.Fault.{Fault}
 use Rattle.lfi_rules.specs.Faults.{FirstFault}
 use Rattle.lfi_rules.specs.Verdicts.{all_words}
@@ -43,20 +43,20 @@ abbrev pub IsOutcome : ℕ → List ItemView → Option Fault → Outcome → Ty
 IsOutcome n items (Some fault) result = result ≡ outcome.Refused fault
 IsOutcome n items None result = (reason : Reason) × (end_of items ≡ Some reason) × (result ≡ by_end n items reason)
 
--- The outcome of a module of n words with these items.
-abbrev pub Load : ℕ → List ItemView → Outcome → Type 0
-Load n [] result = result ≡ outcome.Unused
-Load n (item ∷ items) result =
-    (fault : Option Fault) × FirstFault One (all_words (pages_of (item ∷ items))) n fault × IsOutcome n (item ∷ items) fault result
+-- The outcome of a module of this extent with these items.
+abbrev pub Load : ExtentView → List ItemView → Outcome → Type 0
+Load extent [] result = result ≡ outcome.Unused
+Load extent (item ∷ items) result =
+    (fault : Option Fault) × FirstFault extent.profile (all_words (pages_of (item ∷ items))) extent.words fault × IsOutcome extent.words (item ∷ items) fault result
 
 abbrev pub Begins : {A : Type 0} → List A → List A → Type 0
 Begins {A} us xs = (rest : List A) × (xs ≡ us ++ rest)
 
--- us is the longest beginning of these pages, of a module of n words, that has no fault.
-pub record Placed (n : ℕ) (pages us : List (List ℕ)) : Type 0 where
+-- us is the longest beginning of these pages, of a module of this extent, that has no fault.
+pub record Placed (extent : ExtentView) (pages us : List (List ℕ)) : Type 0 where
   pub beginning : Begins us pages
-  pub lawful : FirstFault One (all_words us) n None
-  pub longest : (vs : List (List ℕ)) → Begins vs pages → FirstFault One (all_words vs) n None → length vs ≤ length us
+  pub lawful : FirstFault extent.profile (all_words us) extent.words None
+  pub longest : (vs : List (List ℕ)) → Begins vs pages → FirstFault extent.profile (all_words vs) extent.words None → length vs ≤ length us
 
 -- the module is complete, or was not claimed
 abbrev pub is_well : Outcome → Bool

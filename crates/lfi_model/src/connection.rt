@@ -1,6 +1,6 @@
 //! What is known of one connection.
 
-use lfi_module::WordCount;
+use lfi_module::Extent;
 
 /// What ended the input of a connection.
 #[derive(Clone, Copy, Debug, PartialEq, Eq)]
@@ -18,8 +18,8 @@ pub enum Cause {
 pub enum Progress {
     /// The connection hasn't claimed it.
     Unclaimed,
-    /// It is open: so many words in all, and so many pages of it have come.
-    Going { words: WordCount, pages: u32 },
+    /// It is open: so large, and so many pages of it have come.
+    Going { extent: Extent, pages: u32 },
     /// It has ended.
     Ended,
 }

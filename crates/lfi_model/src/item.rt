@@ -3,7 +3,7 @@
 ghost use Rattle.std.specs.Prelude.{◌≡◌, ℕ, List};
 
 use lfi_frame::FrameFault;
-use lfi_module::{ModuleNumber, WordCount};
+use lfi_module::{Extent, ModuleNumber};
 use page_buf::SealedPage;
 use std::marker::Model;
 
@@ -22,32 +22,33 @@ pub enum Reason {
 
 /// What an item's page is: a sealed page, or one with the verdict on it.
 pub trait PageBody: Drop {
+    ghost use Rattle.lfi_module.specs.Extents.{ExtentView};
+
     /// Its bytes.
     ghost bytes: { Self → List ℕ };
 
-    /// What is so of it as the page with this ordinal of a module of so many words.
-    ghost IsAtPlace: { (ordinal words : ℕ) → Self → Type 0 };
+    /// What is so of it as the page with this ordinal of a module that is so large.
+    ghost IsAtPlace: { (ordinal : ℕ) → ExtentView → Self → Type 0 };
 }
 
 impl PageBody for SealedPage {
     ghost bytes = { λ page. page };
 
-    ghost IsAtPlace = { λ ordinal words page. Unit {0} };
+    ghost IsAtPlace = { λ ordinal extent page. Unit {0} };
 }
 
 /// What an item brings.
 #[derive(Drop)]
 pub enum ItemKind<P> {
-    /// The module's opening, with the word where its code is entered.
-    Open { entry: u32 },
+    /// The module's opening.
+    Open,
     /// The next page of its code.
     Page(P),
     /// Its end: nothing follows.
     End(Reason),
 }
 
-/// One of the numbered items of a module. Its type keeps that ordinal 0 is the Open alone, with an
-/// entry below the words, that no ordinal is above 4,097, and that a page has exactly the words due
+/// One of the numbered items of a module. Its type keeps that ordinal 0 is the Open alone, that no ordinal is above 4,097, and that a page has exactly the words due
 /// (specs/Item.antt).
 ///
 /// A contract sees it as its numbers and the bytes of its page, whether that was judged or not.
@@ -57,8 +58,8 @@ pub struct NumberedItem<P: PageBody> {
     pub module: ModuleNumber,
     /// The item's place among those of its module: 0 the Open, then the pages, then the End.
     pub ordinal: u32,
-    /// How many words the whole module has.
-    pub words: WordCount,
+    /// How large the whole module is, where it is entered, and the profile that it goes by.
+    pub extent: Extent,
     /// What it brings.
     pub kind: ItemKind<P>,
 }
@@ -68,9 +69,9 @@ impl<P: PageBody> Model for NumberedItem<P> {
 
     ghost Value = { ItemView };
 
-    ghost view = { λ i. record { «module» = i.«module»; ordinal = i.ordinal; words = i.words; kind = kind_seen P.bytes i.kind } };
+    ghost view = { λ i. record { «module» = i.«module»; ordinal = i.ordinal; extent = i.extent; kind = kind_seen P.bytes i.kind } };
 
-    ghost invariant = { λ i. KeepsItem P.bytes P.IsAtPlace i.«module» i.ordinal i.words i.kind };
+    ghost invariant = { λ i. KeepsItem P.bytes P.IsAtPlace i.«module» i.ordinal i.extent i.kind };
 }
 
 /// An item as a receiver makes it.

@@ -4,19 +4,18 @@ ghost use Rattle.std.specs.Prelude.{◌≡◌, ◌-◌, ◌*◌};
 
 use crate::item::{Item, ItemKind, NumberedItem, PageBody};
 use lfi_image::JudgedPage;
-use lfi_module::{PageSize, Profile};
+use lfi_module::PageSize;
 
 impl PageBody for JudgedPage {
     ghost use Rattle.lfi_module.specs.Numbers.{page_words};
-    ghost use Rattle.lfi_module.specs.declared.profile.Profile.TheVariants.{One};
 
     ghost bytes = { λ page. page.page };
 
-    ghost IsAtPlace = { λ ordinal words page. (page.first ≡ page_words * (ordinal - 1)) × (page.words ≡ words) × (page.profile ≡ One) };
+    ghost IsAtPlace = { λ ordinal extent page. (page.first ≡ page_words * (ordinal - 1)) × (page.words ≡ extent.words) × (page.profile ≡ extent.profile) };
 }
 
 /// One of the numbered items of a module, with the verdict on its page where it brings one: that
-/// page was judged by the first profile at its own place, the word 1,024 times (ordinal - 1) of its module.
+/// page was judged by its module's profile at its own place, the word 1,024 times (ordinal - 1) of its module.
 pub type Judged = NumberedItem<JudgedPage>;
 
 impl Item {
@@ -27,21 +26,21 @@ impl Item {
         let Item {
             module,
             ordinal,
-            words,
+            extent,
             kind,
         } = self;
         let kind = match kind {
-            ItemKind::Open { entry } => ItemKind::Open { entry },
+            ItemKind::Open => ItemKind::Open,
             ItemKind::Page(page) => {
                 let first = PageSize::PROFILE.words() * (ordinal - 1);
-                ItemKind::Page(JudgedPage::judge(page, first, words, Profile::One))
+                ItemKind::Page(JudgedPage::judge(page, first, extent.words(), extent.profile()))
             }
             ItemKind::End(reason) => ItemKind::End(reason),
         };
         Judged {
             module,
             ordinal,
-            words,
+            extent,
             kind,
         }
     }

@@ -6,7 +6,7 @@ ghost use Rattle.lfi_frame.specs.declared.fault.FrameFault.{FrameFault};
 ghost use Rattle.lfi_frame.specs.Streams.{Message, short};
 ghost use Rattle.lfi_model.specs.Item.{ItemView};
 ghost use Rattle.lfi_model.specs.declared.item.Reason.{Reason};
-ghost use Rattle.lfi_module.specs.declared.profile.Profile.TheVariants.{One};
+ghost use Rattle.lfi_module.specs.Extents.{ExtentView};
 ghost use Rattle.lfi_rules.specs.declared.fault.Fault.{Fault};
 ghost use Rattle.lfi_rules.specs.Faults.{FirstFault};
 ghost use Rattle.lfi_rules.specs.Verdicts.{all_words};
@@ -25,8 +25,9 @@ pub fn items_are_a_module()
 
 /// What was placed up to a page with a fault, or in all, is the longest lawful beginning.
 pub fn longest_beginning()
-    ensures refused { (n : ℕ) (us rest : List (List ℕ)) (page : List ℕ) (fault : Fault) → FirstFault One (all_words us) n None → FirstFault One (all_words us ++ page) n (Some fault) → Placed n (us ++ page ∷ rest) us }
-    ensures whole { (n : ℕ) (pages : List (List ℕ)) → FirstFault One (all_words pages) n None → Placed n pages pages }
+    ensures refused { (extent : ExtentView) (us rest : List (List ℕ)) (page : List ℕ) (fault : Fault) → FirstFault extent.profile (all_words us) extent.words None
+        → FirstFault extent.profile (all_words us ++ page) extent.words (Some fault) → Placed extent (us ++ page ∷ rest) us }
+    ensures whole { (extent : ExtentView) (pages : List (List ℕ)) → FirstFault extent.profile (all_words pages) extent.words None → Placed extent pages pages }
 {}
 
 /// One more message of a stream is one more step of its module's share, and of no other.
