@@ -12,4 +12,4 @@ judge-requires c =
     let count : length c.in-Page.page / 4 ≡ length (words_of c.in-Page.page) = words_count c.in-Page.page in
     let long : length c.in-Page.page ≡ 4 * min 1024 (i.extent.words - 1024 * (i.ordinal - 1)) = f.1 in
     let due : length (words_of c.in-Page.page) ≡ min 1024 (i.extent.words - 1024 * (i.ordinal - 1)) = omega arith in
-    record { due = due ∙ ap (λ size. min 1024 (i.extent.words - size * (i.ordinal - 1))) (sym c.words.ensures.value) }
+    record { due = due ∙ ap (λ size. min 1024 (i.extent.words - size * (i.ordinal - 1))) (sym c.words.ensures.value) ∙ ap (λ n. min 1024 (n - c.words.result * (i.ordinal - 1))) (sym c.words-in-Page.ensures) }
