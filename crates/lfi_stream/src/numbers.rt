@@ -151,10 +151,10 @@ fn extent_of(words: u32, entry: u32, profile: u32) -> Option<Extent>
 
 /// How far an open module is that is so large, of which so many pages came. Where its numbers are none of a module, it is
 /// as one that has ended.
-fn going(open: Option<Extent>, pages: u32) -> Progress
-    ensures { result ≡ going_by open pages }
+fn going(size: Option<Extent>, pages: u32) -> Progress
+    ensures { result ≡ going_by size pages }
 {
-    let Some(extent) = open else {
+    let Some(extent) = size else {
         return Progress::Ended;
     };
     if pages > extent.words().pages(PageSize::PROFILE) {
