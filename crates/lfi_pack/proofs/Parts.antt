@@ -113,9 +113,9 @@ any_pages n =
     let filled = fill_up n 0 (page_count page_words n) [] none in
     (filled.0, subst (λ j. AreFirst n j filled.0) (let e : 0 + page_count page_words n ≡ page_count page_words n = omega arith in e) filled.1)
 
-module _ (m : ℕ) (extent : ExtentView) (few : extent.words ≤ most_words) (open_is : IsMessage (open_message m extent.words extent.entry)) where
+module _ (m : ℕ) (extent : ExtentView) (few : extent.words ≤ most_words) (open_is : IsMessage (open_message m extent)) where
   abbrev first : List ℕ
-  first = spelling (open_message m extent.words extent.entry)
+  first = spelling (open_message m extent)
 
   abbrev last : List ℕ
   last = spelling (close_message m)

@@ -37,7 +37,7 @@ other m n k (page ∷ pages) apart =
 
 pub filter_mine : (m : ℕ) (extent : ExtentView) (pages : List (List ℕ)) → filter (is_of m) (messages_of m extent pages) ≡ messages_of m extent pages
 filter_mine m extent pages =
-    let open_first = open_message m extent.words extent.entry in
+    let open_first = open_message m extent in
     let close = close_message m in
     let body = numbered m 0 pages ++ close ∷ [] in
     let same : (m == m) ≡ true = eq-eqb m m refl in
@@ -49,7 +49,7 @@ pub filter_other : (m n : ℕ) (extent : ExtentView) (pages : List (List ℕ)) �
 filter_other m n extent pages differs = elim (eqb_tells n m) [
   | inl same ↦ absurd (differs same.1)
   | inr apart ↦
-      let open_first = open_message n extent.words extent.entry in
+      let open_first = open_message n extent in
       let close = close_message n in
       let body = numbered n 0 pages ++ close ∷ [] in
       let ends : filter (is_of m) (close ∷ []) ≡ [] = ap (λ b. cond b (close ∷ []) []) apart.0 in
@@ -58,19 +58,19 @@ filter_other m n extent pages differs = elim (eqb_tells n m) [
 ]
 
 -- the items of pages, the first of which is number `index`
-abbrev pub page_items : (m n index : ℕ) → List (List ℕ) → List ItemView
-page_items m n index [] = []
-page_items m n index (page ∷ pages) = item_of m (index + 1) n (Page page) ∷ page_items m n (index + 1) pages
+abbrev pub page_items : (m : ℕ) → ExtentView → (index : ℕ) → List (List ℕ) → List ItemView
+page_items m extent index [] = []
+page_items m extent index (page ∷ pages) = item_of m (index + 1) extent (Page page) ∷ page_items m extent (index + 1) pages
 
 -- the items of a whole module
 abbrev pub items_made : ℕ → ExtentView → List (List ℕ) → List ItemView
-items_made m extent pages = item_of m 0 extent.words (Open extent.entry) ∷ (page_items m extent.words 0 pages ++ item_of m (length pages + 1) extent.words (End Close) ∷ [])
+items_made m extent pages = item_of m 0 extent Open ∷ (page_items m extent 0 pages ++ item_of m (length pages + 1) extent (End Close) ∷ [])
 
 abbrev step : Bool → ℕ → Share → Message → Share
 step claimed m s message = after_message claimed m s s.progress message
 
-abbrev going : List ItemView → ℕ → ℕ → Share
-going items n p = record { items = items; strays = 0; progress = Going n p }
+abbrev going : List ItemView → ExtentView → ℕ → Share
+going items extent p = record { items = items; strays = 0; progress = Going extent p }
 
 due : (n p : ℕ) (page : List ℕ) → length page ≡ bytes_in_page page_words n p → p < page_count page_words n → is_due page_words n p p (length page) ≡ true
 due n p page size inside =
@@ -79,31 +79,32 @@ due n p page size inside =
     let c = eq-eqb (length page) (bytes_in_page page_words n p) size in
     λ i. a i && b i && c i
 
-pages_step : (m n p : ℕ) (items : List ItemView) (pages : List (List ℕ)) → Among n p pages → fold (step true m) (going items n p) (numbered m p pages) ≡ going (items ++ page_items m n p pages) n (p + length pages)
-pages_step m n p items [] among = let e : p ≡ p + 0 = omega arith in let same = sym (append-nil items) in λ i. going (same i) n (e i)
-pages_step m n p items (page ∷ pages) among =
+pages_step : (m : ℕ) (extent : ExtentView) (p : ℕ) (items : List ItemView) (pages : List (List ℕ)) → Among extent.words p pages →
+    fold (step true m) (going items extent p) (numbered m p pages) ≡ going (items ++ page_items m extent p pages) extent (p + length pages)
+pages_step m extent p items [] among = let e : p ≡ p + 0 = omega arith in let same = sym (append-nil items) in λ i. going (same i) extent (e i)
+pages_step m extent p items (page ∷ pages) among =
+    let n = extent.words in
     let is = first_is n p page pages among in
-    let item = item_of m (p + 1) n (Page page) in
-    let s = going items n p in
-    let next : Share = going (items ++ item ∷ []) n (p + 1) in
-    let bad : Share = with_item s (item_of m (p + 1) n (End (PageFault p))) Ended in
+    let item = item_of m (p + 1) extent (Page page) in
+    let s = going items extent p in
+    let next : Share = going (items ++ item ∷ []) extent (p + 1) in
+    let bad : Share = with_item s (item_of m (p + 1) extent (End (PageFault p))) Ended in
     let one : (if is_due page_words n p p (length page) then next else bad) ≡ next = ap (λ b. if b then next else bad) (due n p page is.0 is.1) in
     let end : (p + 1) + length pages ≡ p + suc (length pages) = omega arith in
     ap (λ t. fold (step true m) t (numbered m (p + 1) pages)) one
-    ∙ pages_step m n (p + 1) (items ++ item ∷ []) pages (later n p page pages among)
-    ∙ (λ i. going (append_assoc items (item ∷ []) (page_items m n (p + 1) pages) i) n (end i))
+    ∙ pages_step m extent (p + 1) (items ++ item ∷ []) pages (later n p page pages among)
+    ∙ (λ i. going (append_assoc items (item ∷ []) (page_items m extent (p + 1) pages) i) extent (end i))
 
 -- what the messages of a module make, where it is claimed
 pub share_made : (m : ℕ) (extent : ExtentView) (pages : List (List ℕ)) → Among extent.words 0 pages →
     fold (step true m) nothing_yet (messages_of m extent pages) ≡ record { items = items_made m extent pages; strays = 0; progress = Ended }
 share_made m extent pages among =
-    let n = extent.words in
-    let first = item_of m 0 n (Open extent.entry) in
+    let first = item_of m 0 extent Open in
     let close = close_message m in
-    let body = pages_step m n 0 (first ∷ []) pages among in
+    let body = pages_step m extent 0 (first ∷ []) pages among in
     let end : 0 + length pages ≡ length pages = omega arith in
-    fold-append (step true m) (going (first ∷ []) n 0) (numbered m 0 pages) (close ∷ [])
-    ∙ ap (λ t. fold (step true m) t (close ∷ [])) (body ∙ ap (λ k. going (first ∷ page_items m n 0 pages) n k) end)
+    fold-append (step true m) (going (first ∷ []) extent 0) (numbered m 0 pages) (close ∷ [])
+    ∙ ap (λ t. fold (step true m) t (close ∷ [])) (body ∙ ap (λ k. going (first ∷ page_items m extent 0 pages) extent k) end)
 
 -- the words of pages, and their End
 words_of-append : (xs ys : List ℕ) → length xs % 4 ≡ 0 → words_of (xs ++ ys) ≡ words_of xs ++ words_of ys
@@ -113,20 +114,21 @@ words_of-append (a ∷ b ∷ []) ys whole = absurd (omega (arith, whole))
 words_of-append (a ∷ []) ys whole = absurd (omega (arith, whole))
 words_of-append [] ys whole = refl
 
-words_from : (m n p : ℕ) (pages : List (List ℕ)) (last : ItemView) → pages_of (last ∷ []) ≡ [] → Among n p pages → all_words (pages_of (page_items m n p pages ++ last ∷ [])) ≡ words_of (joined pages)
-words_from m n p [] last none among = ap all_words none
-words_from m n p (page ∷ pages) last none among =
+words_from : (m : ℕ) (extent : ExtentView) (p : ℕ) (pages : List (List ℕ)) (last : ItemView) → pages_of (last ∷ []) ≡ [] → Among extent.words p pages → all_words (pages_of (page_items m extent p pages ++ last ∷ [])) ≡ words_of (joined pages)
+words_from m extent p [] last none among = ap all_words none
+words_from m extent p (page ∷ pages) last none among =
+    let n = extent.words in
     let is = first_is n p page pages among in
     let size : length page ≡ 4 * min 1024 (n - 1024 * p) = is.0 in
     let whole : length page % 4 ≡ 0 = omega arith in
-    ap (λ l. words_of page ++ l) (words_from m n (p + 1) pages last none (later n p page pages among)) ∙ sym (words_of-append page (joined pages) whole)
+    ap (λ l. words_of page ++ l) (words_from m extent (p + 1) pages last none (later n p page pages among)) ∙ sym (words_of-append page (joined pages) whole)
 
 pub words_made : (m : ℕ) (extent : ExtentView) (pages : List (List ℕ)) → Among extent.words 0 pages → all_words (pages_of (items_made m extent pages)) ≡ words_of (joined pages)
-words_made m extent pages among = words_from m extent.words 0 pages (item_of m (length pages + 1) extent.words (End Close)) refl among
+words_made m extent pages among = words_from m extent 0 pages (item_of m (length pages + 1) extent (End Close)) refl among
 
-end_from : (m n p : ℕ) (pages : List (List ℕ)) (last : ItemView) → end_of (page_items m n p pages ++ last ∷ []) ≡ end_of (last ∷ [])
-end_from m n p [] last = refl
-end_from m n p (page ∷ pages) last = end_from m n (p + 1) pages last
+end_from : (m : ℕ) (extent : ExtentView) (p : ℕ) (pages : List (List ℕ)) (last : ItemView) → end_of (page_items m extent p pages ++ last ∷ []) ≡ end_of (last ∷ [])
+end_from m extent p [] last = refl
+end_from m extent p (page ∷ pages) last = end_from m extent (p + 1) pages last
 
 pub end_made : (m : ℕ) (extent : ExtentView) (pages : List (List ℕ)) → end_of (items_made m extent pages) ≡ Some Close
-end_made m extent pages = end_from m extent.words 0 pages (item_of m (length pages + 1) extent.words (End Close))
+end_made m extent pages = end_from m extent 0 pages (item_of m (length pages + 1) extent (End Close))

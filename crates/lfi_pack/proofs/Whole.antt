@@ -16,40 +16,40 @@ use Rattle.lfi_pack.specs.inner.Copies.{CopiesPages}
 use Rattle.lfi_pack.proofs.Messages.{pages_are_messages, among_all, close_is_message}
 
 spelled_whole : (m : ℕ) (extent : ExtentView) (pages : List (List ℕ)) →
-    spelling (open_message m extent.words extent.entry) ++ (flat_map spelling (numbered m 0 pages) ++ spelling (close_message m)) ≡ flat_map spelling (messages_of m extent pages) ++ []
+    spelling (open_message m extent) ++ (flat_map spelling (numbered m 0 pages) ++ spelling (close_message m)) ≡ flat_map spelling (messages_of m extent pages) ++ []
 spelled_whole m extent pages =
-    let head = spelling (open_message m extent.words extent.entry) in
+    let head = spelling (open_message m extent) in
     let close = close_message m in
     let tail : flat_map spelling (numbered m 0 pages ++ close ∷ []) ≡ flat_map spelling (numbered m 0 pages) ++ spelling close =
     flat_map-append spelling (numbered m 0 pages) (close ∷ []) ∙ ap (λ l. flat_map spelling (numbered m 0 pages) ++ l) (append-nil (spelling close)) in
     ap (λ l. head ++ l) (sym tail) ∙ sym (append-nil (flat_map spelling (messages_of m extent pages)))
 
 -- what is written of a whole module
-pub packed_text : (m : ℕ) (extent : ExtentView) (pages : List (List ℕ)) → extent.words ≤ most_words → IsMessage (open_message m extent.words extent.entry) → AreFirst extent.words (page_count page_words extent.words) pages →
-    IsPacked m extent (joined pages) (spelling (open_message m extent.words extent.entry) ++ (flat_map spelling (numbered m 0 pages) ++ spelling (close_message m)))
+pub packed_text : (m : ℕ) (extent : ExtentView) (pages : List (List ℕ)) → extent.words ≤ most_words → IsMessage (open_message m extent) → AreFirst extent.words (page_count page_words extent.words) pages →
+    IsPacked m extent (joined pages) (spelling (open_message m extent) ++ (flat_map spelling (numbered m 0 pages) ++ spelling (close_message m)))
 packed_text m extent pages few open_is all =
-    let below : m < module_count = (sound (header_of (open_message m extent.words extent.entry)) open_is.faultless).m_below in
+    let below : m < module_count = (sound (header_of (open_message m extent)) open_is.faultless).m_below in
     record {
       pages = pages;
       all = all;
       bytes = refl;
       cut = record {
         spelled = spelled_whole m extent pages;
-        each = All-cons IsMessage (open_message m extent.words extent.entry) (numbered m 0 pages ++ close_message m ∷ []) open_is
+        each = All-cons IsMessage (open_message m extent) (numbered m 0 pages ++ close_message m ∷ []) open_is
             (All-append IsMessage (numbered m 0 pages) (close_message m ∷ []) (pages_are_messages m extent.words 0 pages below few (among_all extent.words pages all)) (All-cons IsMessage (close_message m) [] (close_is_message m below) (All-nil IsMessage)));
         stops = λ w. (let f : short ≡ whole = w in absurd (cc));
       };
     }
 
 pub packs_all : (m : ℕ) (extent : ExtentView) (left rest end old mid half new : Option (List ℕ)) (head tail : List ℕ) (r : Result (Unit {0}) PackFault) →
-    extent.words ≤ most_words → head ≡ spelling (open_message m extent.words extent.entry) → IsMessage (open_message m extent.words extent.entry) → Appends old mid head →
+    extent.words ≤ most_words → head ≡ spelling (open_message m extent) → IsMessage (open_message m extent) → Appends old mid head →
     CopiesPages m extent.words left rest mid half → Consumes rest end [] → IsAtEnd end →
     tail ≡ spelling (close_message m) → OnOk r (Appends half new tail) → OnOk r (Packs m extent left end old new)
 packs_all m extent left rest end old mid half new head tail (Err fault) few opens open_is opened copied none ended closes closed = tt
 packs_all m extent left rest end old mid half new head tail (Ok x) few opens open_is opened copied none ended closes closed =
     let pages = copied.pages in
     let code = joined pages in
-    let first = spelling (open_message m extent.words extent.entry) in
+    let first = spelling (open_message m extent) in
     let middle = flat_map spelling (numbered m 0 pages) in
     let close = spelling (close_message m) in
     record {

@@ -1,7 +1,7 @@
 -- What a receiver hears of packed modules. Source: this project's format, docs/PROFILE.md.
 use Rattle.std.specs.Prelude.{◌≡◌, ◌≢◌, ℕ, ◌+◌, Bool, true, List, [], ◌∷◌, ◌++◌, length, Some}
 use Rattle.a64_word.specs.Words.{words_of}
-use Rattle.lfi_module.specs.declared.profile.Profile.TheVariants.{One}
+use Rattle.lfi_module.specs.declared.profile.Profile.{Profile}
 use Rattle.lfi_module.specs.Extents.{ExtentView}
 use Rattle.lfi_rules.specs.Verdicts.{all_words}
 use Rattle.lfi_model.specs.Item.{ItemView}
@@ -12,18 +12,18 @@ use Rattle.lfi_model.specs.Modules.{Member}
 use Rattle.lfi_model.specs.Outcomes.{pages_of, end_of}
 use Rattle.lfi_pack.specs.Packs.{IsPacked}
 
--- a module's number, how large it is and where it is entered, and the bytes of its code
+-- a module's number, how large it is, where it is entered and by which profile it goes, and the bytes of its code
 pub record PackedView : Type 0 where
   pub number : ℕ
   pub extent : ExtentView
   pub code : List ℕ
 
--- the code of files, a module each: numbered from this number on, and all entered at the same word
-abbrev pub modules_from : (number entry : ℕ) → List (List ℕ) → List PackedView
-modules_from number entry [] = []
-modules_from number entry (code ∷ files) =
-    record { number = number; extent = record { words = length (words_of code); entry = entry; profile = One }; code = code }
-    ∷ modules_from (number + 1) entry files
+-- the code of files, a module each, all by one profile: numbered from this number on, and all entered at the same word
+abbrev pub modules_from : Profile → (number entry : ℕ) → List (List ℕ) → List PackedView
+modules_from profile number entry [] = []
+modules_from profile number entry (code ∷ files) =
+    record { number = number; extent = record { words = length (words_of code); entry = entry; profile = profile }; code = code }
+    ∷ modules_from profile (number + 1) entry files
 
 -- The text is these modules, packed one after another.
 abbrev pub IsStream : List PackedView → List ℕ → Type 0
@@ -43,8 +43,8 @@ AreDistinct (p ∷ ps) = NoneIs p.number ps × AreDistinct ps
 abbrev pub AreClaimed : (ℕ → Bool) → List PackedView → Type 0
 AreClaimed claimed ps = (p : PackedView) → Member ps p → claimed p.number ≡ true
 
--- The items are the whole module: its Open first, pages whose words are those of its code, and an End by its Close.
+-- The items are the whole module: its Open first, with its words, entry and profile, pages whose words are those of its code, and an End by its Close.
 pub record IsHeard (p : PackedView) (items : List ItemView) : Type 0 where
-  pub opened : (later : List ItemView) × (items ≡ item_of p.number 0 p.extent.words (Open p.extent.entry) ∷ later)
+  pub opened : (later : List ItemView) × (items ≡ item_of p.number 0 p.extent Open ∷ later)
   pub words : all_words (pages_of items) ≡ words_of p.code
   pub ended : end_of items ≡ Some Close

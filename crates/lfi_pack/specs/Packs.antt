@@ -23,7 +23,7 @@ numbered m index (page ∷ pages) = page_message m index page ∷ numbered m (in
 
 -- the messages of a module: an Open, its pages in order, a Close
 abbrev pub messages_of : ℕ → ExtentView → List (List ℕ) → List Message
-messages_of m extent pages = open_message m extent.words extent.entry ∷ (numbered m 0 pages ++ close_message m ∷ [])
+messages_of m extent pages = open_message m extent ∷ (numbered m 0 pages ++ close_message m ∷ [])
 
 -- The text is a module with this code, and nothing else: its messages are an Open, all its pages, whose bytes are the code's, and a Close.
 pub record IsPacked (m : ℕ) (extent : ExtentView) (code text : List ℕ) : Type 0 where

@@ -3,7 +3,7 @@ use Rattle.std.proofs.Common.{◌≡◌, ℕ, ◌+◌, ◌*◌, ◌<◌, ◌≤�
 use Rattle.std.specs.Prelude.{◌&&◌, nat_lt}
 use Rattle.std.proofs.lemmas.Bool.{and_parts, eqb-true, eq-eqb, ltb-true}
 use Rattle.std.proofs.lemmas.Bool.Decides.{eqb_tells}
-use Rattle.lfi_module.specs.declared.profile.Profile.{Profile}
+use Rattle.lfi_module.specs.Extents.{ExtentView}
 use Rattle.lfi_module.specs.Numbers.{page_words, page_bytes}
 use Rattle.lfi_module.specs.Pages.{is_due, page_count, bytes_in_page}
 use Rattle.lfi_frame.specs.Streams.{Message, open_message, page_message, close_message, short, unfinished, rest_of}
@@ -46,24 +46,24 @@ message_moves old new ms message F q none at to holds grows = record {
 }
 
 -- an Open of a module that wasn't opened
-pub opened : (old new : LfiStream) (ms : List Message) (payload : List ℕ) (k words entry : ℕ) (profile : Profile) → progress_at old.modules k ≡ Unclaimed → new.page ≡ old.page
-    → ((m : ℕ) → progress_at new.modules m ≡ (if m == k then Going words 0 else progress_at old.modules m)) → Holds old ms []
-    → let now = ms ++ open_message k words entry ∷ [] in Holds new now [] × Grows (Open k (record { words = words; entry = entry; profile = profile })) ms [] now [] payload
-opened old new ms payload k words entry profile was page at holds =
-    let message : Message = open_message k words entry in
-    let F : ℕ → Share → Share = (λ m s. with_item s (item_of m 0 words (item.Open entry)) (Going words 0)) in
+pub opened : (old new : LfiStream) (ms : List Message) (payload : List ℕ) (k : ℕ) (extent : ExtentView) → progress_at old.modules k ≡ Unclaimed → new.page ≡ old.page
+    → ((m : ℕ) → progress_at new.modules m ≡ (if m == k then Going extent 0 else progress_at old.modules m)) → Holds old ms []
+    → let now = ms ++ open_message k extent ∷ [] in Holds new now [] × Grows (Open k extent) ms [] now [] payload
+opened old new ms payload k extent was page at holds =
+    let message : Message = open_message k extent in
+    let F : ℕ → Share → Share = (λ m s. with_item s (item_of m 0 extent item.Open) (Going extent 0)) in
     let share : (made_of ms short k).progress ≡ Unclaimed = sym (holds.progress k) ∙ was in
     let grows = message_grows ms message F (ap (λ q. after_message true k (made_of ms short k) q message) share) in
-    (message_moves old new ms message F (Going words 0) (ap page_at page ∙ none_coming old ms holds) at (λ m s. refl) holds grows, grows)
+    (message_moves old new ms message F (Going extent 0) (ap page_at page ∙ none_coming old ms holds) at (λ m s. refl) holds grows, grows)
 
 -- the Close of an open module
-pub closed : (old new : LfiStream) (ms : List Message) (payload : List ℕ) (k n p : ℕ) → progress_at old.modules k ≡ Going n p → new.page ≡ old.page
+pub closed : (old new : LfiStream) (ms : List Message) (payload : List ℕ) (k : ℕ) (extent : ExtentView) (p : ℕ) → progress_at old.modules k ≡ Going extent p → new.page ≡ old.page
     → ((m : ℕ) → progress_at new.modules m ≡ (if m == k then Ended else progress_at old.modules m)) → Holds old ms []
-    → let now = ms ++ close_message k ∷ [] in Holds new now [] × Grows (End k n p Close) ms [] now [] payload
-closed old new ms payload k n p was page at holds =
+    → let now = ms ++ close_message k ∷ [] in Holds new now [] × Grows (End k extent p Close) ms [] now [] payload
+closed old new ms payload k extent p was page at holds =
     let message : Message = close_message k in
-    let F : ℕ → Share → Share = (λ m s. with_item s (item_of m (p + 1) n (item.End Close)) Ended) in
-    let share : (made_of ms short k).progress ≡ Going n p = sym (holds.progress k) ∙ was in
+    let F : ℕ → Share → Share = (λ m s. with_item s (item_of m (p + 1) extent (item.End Close)) Ended) in
+    let share : (made_of ms short k).progress ≡ Going extent p = sym (holds.progress k) ∙ was in
     let grows = message_grows ms message F (ap (λ q. after_message true k (made_of ms short k) q message) share) in
     (message_moves old new ms message F Ended (ap page_at page ∙ none_coming old ms holds) at (λ m s. refl) holds grows, grows)
 
@@ -102,13 +102,13 @@ header_strayed old ms rest payload k index len does over holds is =
     (record { progress = progress; awaits = over_awaits (page_at old.page) ms rest k index len (none_coming old ms holds) is (subst IsOver (progress k) over) }, grows)
 
 -- The header of a page that isn't the one due.
-pub header_undue : (old new : LfiStream) (ms : List Message) (rest payload : List ℕ) (k n p index len : ℕ) → progress_at old.modules k ≡ Going n p → is_due page_words n p index len ≡ false → new.page ≡ old.page
+pub header_undue : (old new : LfiStream) (ms : List Message) (rest payload : List ℕ) (k : ℕ) (extent : ExtentView) (p index len : ℕ) → progress_at old.modules k ≡ Going extent p → is_due page_words extent.words p index len ≡ false → new.page ≡ old.page
     → ((m : ℕ) → progress_at new.modules m ≡ (if m == k then Ended else progress_at old.modules m)) → Holds old ms [] → rest_of rest ≡ unfinished k index len
-    → Holds new ms rest × Grows (End k n p (PageFault index)) ms [] ms rest payload
-header_undue old new ms rest payload k n p index len was undue page at holds is =
-    let F : ℕ → Share → Share = (λ m s. with_item s (item_of m (p + 1) n (item.End (PageFault index))) Ended) in
-    let share : (made_of ms short k).progress ≡ Going n p = sym (holds.progress k) ∙ was in
-    let grown = header_grows ms k index len F (ap (λ q. after_header k (made_of ms short k) q index len) share ∙ by_false (is_due page_words n p index len) _ _ undue) in
+    → Holds new ms rest × Grows (End k extent p (PageFault index)) ms [] ms rest payload
+header_undue old new ms rest payload k extent p index len was undue page at holds is =
+    let F : ℕ → Share → Share = (λ m s. with_item s (item_of m (p + 1) extent (item.End (PageFault index))) Ended) in
+    let share : (made_of ms short k).progress ≡ Going extent p = sym (holds.progress k) ∙ was in
+    let grown = header_grows ms k index len F (ap (λ q. after_header k (made_of ms short k) q index len) share ∙ by_false (is_due page_words extent.words p index len) _ _ undue) in
     let grows : (m : ℕ) → made_of ms (rest_of rest) m ≡ (if m == k then F m (made_of ms short m) else made_of ms short m) = (λ m. ap (λ r. made_of ms r m) is ∙ grown m) in
     let progress : (m : ℕ) → progress_at new.modules m ≡ (made_of ms (rest_of rest) m).progress =
     (λ m. at m ∙ moves (m == k) (progress_at old.modules m) Ended (made_of ms short m) (F m (made_of ms short m)) (holds.progress m) refl ∙ ap (λ s. s.progress) (sym (grows m))) in
@@ -128,31 +128,31 @@ due_inside n p due =
     let first = and_parts (p == p) (nat_lt p (page_count page_words n)) last.0 in
     ltb-true p (page_count page_words n) first.1
 
-due_awaits : (o : Option Coming) (ms : List Message) (rest : List ℕ) (k n p index len : ℕ) → o ≡ Some (record { «module» = k; come = 0 }) → (made_of ms (rest_of rest) k).progress ≡ Going n p
-    → is_due page_words n p index len ≡ true → rest_of rest ≡ unfinished k index len → drop 12 rest ≡ [] → Awaits o (made_of ms (rest_of rest)) rest
-due_awaits None ms rest k n p index len e going due is bare = absurd (cc)
-due_awaits (Some page) ms rest k n p index len e going due is bare =
-    let says = due_says n p index len due in
+due_awaits : (o : Option Coming) (ms : List Message) (rest : List ℕ) (k : ℕ) (extent : ExtentView) (p index len : ℕ) → o ≡ Some (record { «module» = k; come = 0 }) → (made_of ms (rest_of rest) k).progress ≡ Going extent p
+    → is_due page_words extent.words p index len ≡ true → rest_of rest ≡ unfinished k index len → drop 12 rest ≡ [] → Awaits o (made_of ms (rest_of rest)) rest
+due_awaits None ms rest k extent p index len e going due is bare = absurd (cc)
+due_awaits (Some page) ms rest k extent p index len e going due is bare =
+    let says = due_says extent.words p index len due in
     let at_index = says.0 in
-    let of_len : len ≡ bytes_in_page page_words n p = says.1 ∙ ap (λ z. bytes_in_page page_words n z) says.0 in
+    let of_len : len ≡ bytes_in_page page_words extent.words p = says.1 ∙ ap (λ z. bytes_in_page page_words extent.words z) says.0 in
     let same : page ≡ record { «module» = k; come = 0 } = cc in
-    let there : unfinished k index len ≡ unfinished k p (bytes_in_page page_words n p) = (λ i. unfinished k (at_index i) (of_len i)) in
-    let here : is_due page_words n p index len ≡ is_due page_words n p p (bytes_in_page page_words n p) = (λ i. is_due page_words n p (at_index i) (of_len i)) in
+    let there : unfinished k index len ≡ unfinished k p (bytes_in_page page_words extent.words p) = (λ i. unfinished k (at_index i) (of_len i)) in
+    let here : is_due page_words extent.words p index len ≡ is_due page_words extent.words p p (bytes_in_page page_words extent.words p) = (λ i. is_due page_words extent.words p (at_index i) (of_len i)) in
     subst (λ (z : Coming). IsDue z (made_of ms (rest_of rest) z.«module»).progress rest) (sym same)
-    (record { words = n; pages = p; going = going; header = is ∙ there; is_next = sym here ∙ due; come = sym (ap length bare) })
+    (record { extent = extent; pages = p; going = going; header = is ∙ there; is_next = sym here ∙ due; come = sym (ap length bare) })
 
 -- The header of the page that is due.
-pub header_due : (old new : LfiStream) (ms : List Message) (rest payload : List ℕ) (k n p index len : ℕ) → progress_at old.modules k ≡ Going n p → is_due page_words n p index len ≡ true
+pub header_due : (old new : LfiStream) (ms : List Message) (rest payload : List ℕ) (k : ℕ) (extent : ExtentView) (p index len : ℕ) → progress_at old.modules k ≡ Going extent p → is_due page_words extent.words p index len ≡ true
     → page_at new.page ≡ Some (record { «module» = k; come = 0 }) → ((m : ℕ) → progress_at new.modules m ≡ progress_at old.modules m) → Holds old ms [] → rest_of rest ≡ unfinished k index len → drop 12 rest ≡ []
     → Holds new ms rest × Grows Nothing ms [] ms rest payload
-header_due old new ms rest payload k n p index len was due page at holds is bare =
+header_due old new ms rest payload k extent p index len was due page at holds is bare =
     let F : ℕ → Share → Share = (λ m s. s) in
-    let share : (made_of ms short k).progress ≡ Going n p = sym (holds.progress k) ∙ was in
-    let grown = header_grows ms k index len F (ap (λ q. after_header k (made_of ms short k) q index len) share ∙ by_true (is_due page_words n p index len) _ _ due) in
+    let share : (made_of ms short k).progress ≡ Going extent p = sym (holds.progress k) ∙ was in
+    let grown = header_grows ms k index len F (ap (λ q. after_header k (made_of ms short k) q index len) share ∙ by_true (is_due page_words extent.words p index len) _ _ due) in
     let grows : (m : ℕ) → made_of ms (rest_of rest) m ≡ made_of ms short m = (λ m. ap (λ r. made_of ms r m) is ∙ grown m ∙ both_same (m == k) (made_of ms short m)) in (
       record {
         progress = λ m. at m ∙ holds.progress m ∙ ap (λ s. s.progress) (sym (grows m));
-        awaits = due_awaits (page_at new.page) ms rest k n p index len page (ap (λ s. s.progress) (grows k) ∙ share) due is bare;
+        awaits = due_awaits (page_at new.page) ms rest k extent p index len page (ap (λ s. s.progress) (grows k) ∙ share) due is bare;
       },
       grows,
     )
@@ -205,16 +205,16 @@ pub is_due_now : (s : LfiStream) (ms : List Message) (rest : List ℕ) (page : C
 is_due_now s ms rest page some holds = subst (λ o. Awaits o (made_of ms (rest_of rest)) rest) some holds.awaits
 
 -- Payload bytes of the page that is due: they belong after those that came.
-pub code_at : (s : LfiStream) (ms : List Message) (rest : List ℕ) (page : Coming) (n p offset : ℕ) → page_at s.page ≡ Some page → progress_at s.modules page.«module» ≡ Going n p → Holds s ms rest
+pub code_at : (s : LfiStream) (ms : List Message) (rest : List ℕ) (page : Coming) (extent : ExtentView) (p offset : ℕ) → page_at s.page ≡ Some page → progress_at s.modules page.«module» ≡ Going extent p → Holds s ms rest
     → (page.come ≤ page_bytes → offset ≡ page_bytes * p + page.come) → IsCodeAt page.«module» offset ms rest
-code_at s ms rest page n p offset some was holds is =
+code_at s ms rest page extent p offset some was holds is =
     let d = is_due_now s ms rest page some holds in
-    let same : Going n p ≡ Going d.words d.pages = sym was ∙ holds.progress page.«module» ∙ d.going in
+    let same : Going extent p ≡ Going d.extent d.pages = sym was ∙ holds.progress page.«module» ∙ d.going in
     let pages : p ≡ d.pages = cc in
     let come = d.come in
-    let less = (unfinished_long rest page.«module» d.pages (bytes_in_page page_words d.words d.pages) d.header).1 in
+    let less = (unfinished_long rest page.«module» d.pages (bytes_in_page page_words d.extent.words d.pages) d.header).1 in
     let few : page.come ≤ page_bytes = omega arith in
-    record { words = d.words; pages = d.pages; len = bytes_in_page page_words d.words d.pages; going = d.going; header = d.header; offset_is = is few ∙ (λ i. page_bytes * pages i + come i) }
+    record { extent = d.extent; pages = d.pages; len = bytes_in_page page_words d.extent.words d.pages; going = d.going; header = d.header; offset_is = is few ∙ (λ i. page_bytes * pages i + come i) }
 
 -- more of them are to come
 pub coming_more : (old new : LfiStream) (ms : List Message) (rest used payload : List ℕ) (page : Coming) (m index len come : ℕ) → page_at old.page ≡ Some page
@@ -224,7 +224,7 @@ coming_more old new ms rest used payload page m index len come some some' is_com
     let d = is_due_now old ms rest page some holds in
     let same : rest_of rest ≡ rest_of (rest ++ used) = is ∙ sym is' in
     let before = unfinished_long rest m index len is in
-    let after = (unfinished_long (rest ++ used) page.«module» d.pages (bytes_in_page page_words d.words d.pages) (sym same ∙ d.header)).1 in
+    let after = (unfinished_long (rest ++ used) page.«module» d.pages (bytes_in_page page_words d.extent.words d.pages) (sym same ∙ d.header)).1 in
     let all : drop 12 (rest ++ used) ≡ drop 12 rest ++ used = drop_append_left 12 rest used before.0 in
     let size : length (drop 12 (rest ++ used)) ≡ length (drop 12 rest) + length used = ap length all ∙ length-append (drop 12 rest) used in
     let was = d.come in
@@ -233,43 +233,43 @@ coming_more old new ms rest used payload page m index len come some some' is_com
       record {
         progress = λ k. at k ∙ holds.progress k ∙ ap (λ r. (made_of ms r k).progress) same;
         awaits = subst (λ o. Awaits o (made_of ms (rest_of (rest ++ used))) (rest ++ used)) (sym some')
-            (record { words = d.words; pages = d.pages; going = ap (λ r. (made_of ms r page.«module»).progress) (sym same) ∙ d.going; header = sym same ∙ d.header; is_next = d.is_next; come = now });
+            (record { extent = d.extent; pages = d.pages; going = ap (λ r. (made_of ms r page.«module»).progress) (sym same) ∙ d.going; header = sym same ∙ d.header; is_next = d.is_next; come = now });
       },
       λ k. ap (λ r. made_of ms r k) (sym same),
     )
 
 -- the page is whole
-pub page_ended : (old new : LfiStream) (ms : List Message) (rest used : List ℕ) (page : Coming) (n p m index len : ℕ) → page_at old.page ≡ Some page → progress_at old.modules page.«module» ≡ Going n p
-    → page_at new.page ≡ None → ((k : ℕ) → progress_at new.modules k ≡ (if k == page.«module» then Going n (p + 1) else progress_at old.modules k))
+pub page_ended : (old new : LfiStream) (ms : List Message) (rest used : List ℕ) (page : Coming) (extent : ExtentView) (p m index len : ℕ) → page_at old.page ≡ Some page → progress_at old.modules page.«module» ≡ Going extent p
+    → page_at new.page ≡ None → ((k : ℕ) → progress_at new.modules k ≡ (if k == page.«module» then Going extent (p + 1) else progress_at old.modules k))
     → Holds old ms rest → rest_of rest ≡ unfinished m index len → length (drop 12 rest ++ used) ≡ len
     → let payload = drop 12 rest ++ used in let now = ms ++ page_message m index payload ∷ [] in
     Holds new now [] × ((k : ℕ) → made_of now short k ≡ (if k == page.«module» then with_page k (made_of ms (rest_of rest) k) (made_of ms (rest_of rest) k).progress payload else made_of ms (rest_of rest) k))
-page_ended old new ms rest used page n p m index len some was none at holds is long =
+page_ended old new ms rest used page extent p m index len some was none at holds is long =
     let d = is_due_now old ms rest page some holds in
     let k : ℕ = page.«module» in
     let payload : List ℕ = drop 12 rest ++ used in
-    let same_going : Going n p ≡ Going d.words d.pages = sym was ∙ holds.progress k ∙ d.going in
-    let words : n ≡ d.words = cc in
+    let same_going : Going extent p ≡ Going d.extent d.pages = sym was ∙ holds.progress k ∙ d.going in
+    let same_extent : extent ≡ d.extent = cc in
     let pages : p ≡ d.pages = cc in
-    let told : unfinished k d.pages (bytes_in_page page_words d.words d.pages) ≡ unfinished m index len = sym d.header ∙ is in
+    let told : unfinished k d.pages (bytes_in_page page_words d.extent.words d.pages) ≡ unfinished m index len = sym d.header ∙ is in
     let same_module : k ≡ m = cc in
     let same_index : d.pages ≡ index = cc in
-    let same_len : bytes_in_page page_words d.words d.pages ≡ len = cc in
+    let same_len : bytes_in_page page_words d.extent.words d.pages ≡ len = cc in
     let message : Message = page_message m index payload in
-    let due : is_due page_words n p index len ≡ true = (λ i. is_due page_words (words i) (pages i) (sym same_index i) (sym same_len i)) ∙ d.is_next in
+    let due : is_due page_words extent.words p index len ≡ true = (λ i. is_due page_words (same_extent i).words (pages i) (sym same_index i) (sym same_len i)) ∙ d.is_next in
     let base : Share = made_of ms short m in
     let here : made_of ms (rest_of rest) m ≡ after_header m base base.progress index len = ap (λ r. made_of ms r m) is ∙ unfinished_own m index len ms in
-    let going : base.progress ≡ Going n p =
-    open_before m n p index len base base.progress refl (ap (λ s. s.progress) (sym here) ∙ subst (λ z. (made_of ms (rest_of rest) z).progress ≡ Going n p) same_module (sym (holds.progress k) ∙ was)) in
-    let kept : made_of ms (rest_of rest) m ≡ base = here ∙ ap (λ q. after_header m base q index len) going ∙ by_true (is_due page_words n p index len) _ _ due in
-    let F : ℕ → Share → Share = (λ z s. with_item s (item_of z (p + 1) n (item.Page payload)) (Going n (p + 1))) in
+    let going : base.progress ≡ Going extent p =
+    open_before m extent p index len base base.progress refl (ap (λ s. s.progress) (sym here) ∙ subst (λ z. (made_of ms (rest_of rest) z).progress ≡ Going extent p) same_module (sym (holds.progress k) ∙ was)) in
+    let kept : made_of ms (rest_of rest) m ≡ base = here ∙ ap (λ q. after_header m base q index len) going ∙ by_true (is_due page_words extent.words p index len) _ _ due in
+    let F : ℕ → Share → Share = (λ z s. with_item s (item_of z (p + 1) extent (item.Page payload)) (Going extent (p + 1))) in
     let does : after_message true m base base.progress message ≡ F m base =
-    ap (λ q. after_message true m base q message) going ∙ by_true (is_due page_words n p index (length payload)) _ _ (ap (λ l. is_due page_words n p index l) long ∙ due) in
+    ap (λ q. after_message true m base q message) going ∙ by_true (is_due page_words extent.words p index (length payload)) _ _ (ap (λ l. is_due page_words extent.words p index l) long ∙ due) in
     let grown = message_grows ms message F does in
     let before : (z : ℕ) → made_of ms (rest_of rest) z ≡ made_of ms short z = (λ z. ap (λ r. made_of ms r z) is ∙ header_grows ms m index len (λ y s. s) (sym (unfinished_own m index len ms) ∙ ap (λ r. made_of ms r m) (sym is) ∙ kept) z ∙ both_same (z == m) (made_of ms short z)) in
-    let at' : (z : ℕ) → progress_at new.modules z ≡ (if z == m then Going n (p + 1) else progress_at old.modules z) = subst (λ y. (z : ℕ) → progress_at new.modules z ≡ (if z == y then Going n (p + 1) else progress_at old.modules z)) same_module at in
+    let at' : (z : ℕ) → progress_at new.modules z ≡ (if z == m then Going extent (p + 1) else progress_at old.modules z) = subst (λ y. (z : ℕ) → progress_at new.modules z ≡ (if z == y then Going extent (p + 1) else progress_at old.modules z)) same_module at in
     let progress : (z : ℕ) → progress_at new.modules z ≡ (made_of (ms ++ message ∷ []) short z).progress =
-    (λ z. at' z ∙ moves (z == m) (progress_at old.modules z) (Going n (p + 1)) (made_of ms short z) (F z (made_of ms short z)) (holds.progress z ∙ ap (λ s. s.progress) (before z)) refl ∙ ap (λ s. s.progress) (sym (grown z))) in
+    (λ z. at' z ∙ moves (z == m) (progress_at old.modules z) (Going extent (p + 1)) (made_of ms short z) (F z (made_of ms short z)) (holds.progress z ∙ ap (λ s. s.progress) (before z)) refl ∙ ap (λ s. s.progress) (sym (grown z))) in
     let own : with_page m (made_of ms (rest_of rest) m) (made_of ms (rest_of rest) m).progress payload ≡ F m base =
     ap (λ t. with_page m t t.progress payload) kept ∙ ap (λ q. with_page m base q payload) going in
     let pick : (z : ℕ) → (if z == m then F z (made_of ms short z) else made_of ms short z) ≡ (if z == m then with_page z (made_of ms (rest_of rest) z) (made_of ms (rest_of rest) z).progress payload else made_of ms (rest_of rest) z) =
@@ -285,10 +285,10 @@ page_ended old new ms rest used page n p m index len some was none at holds is l
     )
 
 -- the page that is coming is one of its module's
-pub inside : (s : LfiStream) (ms : List Message) (rest : List ℕ) (page : Coming) (n p : ℕ) → page_at s.page ≡ Some page → progress_at s.modules page.«module» ≡ Going n p → Holds s ms rest → p < page_count page_words n
-inside s ms rest page n p some was holds =
+pub inside : (s : LfiStream) (ms : List Message) (rest : List ℕ) (page : Coming) (extent : ExtentView) (p : ℕ) → page_at s.page ≡ Some page → progress_at s.modules page.«module» ≡ Going extent p → Holds s ms rest → p < page_count page_words extent.words
+inside s ms rest page extent p some was holds =
     let d = is_due_now s ms rest page some holds in
-    let same : Going n p ≡ Going d.words d.pages = sym was ∙ holds.progress page.«module» ∙ d.going in
-    let words : d.words ≡ n = cc in
+    let same : Going extent p ≡ Going d.extent d.pages = sym was ∙ holds.progress page.«module» ∙ d.going in
+    let same_extent : d.extent ≡ extent = cc in
     let pages : d.pages ≡ p = cc in
-    subst (λ z. p < page_count page_words z) words (subst (λ z. z < page_count page_words d.words) pages (due_inside d.words d.pages d.is_next))
+    subst (λ z. p < page_count page_words z.words) same_extent (subst (λ z. z < page_count page_words d.extent.words) pages (due_inside d.extent.words d.pages d.is_next))

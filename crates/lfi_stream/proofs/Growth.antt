@@ -8,6 +8,7 @@ use Rattle.lfi_model.specs.declared.item.Reason.TheVariants.{PageFault}
 use Rattle.lfi_model.specs.declared.connection.Progress.{Progress}
 use Rattle.lfi_model.specs.declared.connection.Progress.TheVariants.{Unclaimed, Going, Ended}
 use Rattle.lfi_model.specs.Items.{Share, after_message, after_header, item_of, with_item, with_stray}
+use Rattle.lfi_module.specs.Extents.{ExtentView}
 use Rattle.lfi_module.specs.Numbers.{page_words}
 use Rattle.lfi_module.specs.Pages.{is_due}
 use Rattle.lfi_model.proofs.Growing.{share_snoc}
@@ -83,35 +84,35 @@ stays true p s t was now = was ∙ sym now
 stays false p s t was now = was
 
 -- a message that is passed over
-pub open_stray : (k words entry : ℕ) (s : Share) (q : Progress) → (q ≡ Unclaimed → ⊥) → after_message true k s q (open_message k words entry) ≡ with_stray s
-open_stray k words entry s Unclaimed h = absurd (h refl)
-open_stray k words entry s (Going n p) h = refl
-open_stray k words entry s Ended h = refl
+pub open_stray : (k : ℕ) (extent : ExtentView) (s : Share) (q : Progress) → (q ≡ Unclaimed → ⊥) → after_message true k s q (open_message k extent) ≡ with_stray s
+open_stray k extent s Unclaimed h = absurd (h refl)
+open_stray k extent s (Going other p) h = refl
+open_stray k extent s Ended h = refl
 
 pub close_stray : (k : ℕ) (s : Share) (q : Progress) → IsOver q → after_message true k s q (close_message k) ≡ with_stray s
 close_stray k s Unclaimed h = refl
-close_stray k s (Going n p) h = absurd h
+close_stray k s (Going extent p) h = absurd h
 close_stray k s Ended h = refl
 
 pub header_stray : (k index len : ℕ) (s : Share) (q : Progress) → IsOver q → after_header k s q index len ≡ with_stray s
 header_stray k index len s Unclaimed h = refl
-header_stray k index len s (Going n p) h = absurd h
+header_stray k index len s (Going extent p) h = absurd h
 header_stray k index len s Ended h = refl
 
-pub over_by : (q : Progress) → ((words pages : ℕ) → q ≡ Going words pages → ⊥) → IsOver q
+pub over_by : (q : Progress) → ((extent : ExtentView) (pages : ℕ) → q ≡ Going extent pages → ⊥) → IsOver q
 over_by Unclaimed h = tt
-over_by (Going n p) h = absurd (h n p refl)
+over_by (Going extent p) h = absurd (h extent p refl)
 over_by Ended h = tt
 
 -- a page that is passed over has made what its header made
 pub page_passed : (k index len : ℕ) (s : Share) (q : Progress) (payload : List ℕ) → s.progress ≡ q → length payload ≡ len → IsOver (after_header k s q index len).progress
     → after_message true k s q (page_message k index payload) ≡ after_header k s q index len
 page_passed k index len s Unclaimed payload is long over = refl
-page_passed k index len s (Going n p) payload is long over = elim (tells (is_due page_words n p index len)) [
-  | inl t ↦ absurd (subst IsOver is (subst (λ z. IsOver z.progress) (by_true (is_due page_words n p index len) s (with_item s (item_of k (p + 1) n (End (PageFault index))) Ended) t) over))
+page_passed k index len s (Going extent p) payload is long over = elim (tells (is_due page_words extent.words p index len)) [
+  | inl t ↦ absurd (subst IsOver is (subst (λ z. IsOver z.progress) (by_true (is_due page_words extent.words p index len) s (with_item s (item_of k (p + 1) extent (End (PageFault index))) Ended) t) over))
   | inr f ↦
-      by_false (is_due page_words n p index (length payload)) _ _ (ap (λ l. is_due page_words n p index l) long ∙ f)
-      ∙ sym (by_false (is_due page_words n p index len) _ _ f)
+      by_false (is_due page_words extent.words p index (length payload)) _ _ (ap (λ l. is_due page_words extent.words p index l) long ∙ f)
+      ∙ sym (by_false (is_due page_words extent.words p index len) _ _ f)
 ]
   where
     tells : (b : Bool) → (b ≡ true) ⊎ (b ≡ false)
@@ -120,11 +121,11 @@ page_passed k index len s (Going n p) payload is long over = elim (tells (is_due
 page_passed k index len s Ended payload is long over = refl
 
 -- before its page's header a module that is open now was open just so
-pub open_before : (k n p index len : ℕ) (s : Share) (q : Progress) → s.progress ≡ q → (after_header k s q index len).progress ≡ Going n p → q ≡ Going n p
-open_before k n p index len s Unclaimed e h = absurd (cc)
-open_before k n p index len s (Going n' p') e h = by (is_due page_words n' p' index len) h
+pub open_before : (k : ℕ) (extent : ExtentView) (p index len : ℕ) (s : Share) (q : Progress) → s.progress ≡ q → (after_header k s q index len).progress ≡ Going extent p → q ≡ Going extent p
+open_before k extent p index len s Unclaimed e h = absurd (cc)
+open_before k extent p index len s (Going extent' p') e h = by (is_due page_words extent'.words p' index len) h
   where
-    by : (b : Bool) → (if b then s else with_item s (item_of k (p' + 1) n' (End (PageFault index))) Ended).progress ≡ Going n p → Going n' p' ≡ Going n p
+    by : (b : Bool) → (if b then s else with_item s (item_of k (p' + 1) extent' (End (PageFault index))) Ended).progress ≡ Going extent p → Going extent' p' ≡ Going extent p
     by true h = sym e ∙ h
     by false h = absurd (cc)
-open_before k n p index len s Ended e h = absurd (cc)
+open_before k extent p index len s Ended e h = absurd (cc)

@@ -127,14 +127,14 @@ end_tells [] (Err fault) h = absurd (h.0 refl)
 end_tells (x ∷ rest) (Err fault) h = ap not (sym (not_empty x rest))
 
 -- and the modules whether one of them is
-going_tells : (o : Option OpenModule) (places : List LfiStreamModule) → IfSome o (λ found. found.number < 16) → IfSome o (λ found. progress_at places found.number ≡ Going found.words found.pages) → IfNone o ((m : ℕ) → is_going (progress_at places m) ≡ false)
+going_tells : (o : Option OpenModule) (places : List LfiStreamModule) → IfSome o (λ found. found.number < 16) → IfSome o (λ found. progress_at places found.number ≡ Going found.extent found.pages) → IfNone o ((m : ℕ) → is_going (progress_at places m) ≡ false)
     → is_some o ≡ list_any (λ m. is_going (progress_at places m)) modules
 going_tells (Some found) places in_range going none = sym (some_passes (λ m. is_going (progress_at places m)) modules found.number (numbered found.number in_range) (ap is_going going))
 going_tells None places in_range going none = sym (none_pass (λ m. is_going (progress_at places m)) modules none)
 
 -- What the stream's fault is where its input ends.
 pub ends : (s : LfiStream) (feed : Feed) (ms : List Message) (rest : List ℕ) (r : Result Unit FrameFault) (o : Option OpenModule) → Holds s ms rest → FeedStands feed ms rest → feed_fault feed ≡ None → IsAtEnd (feed_fault feed) rest r
-    → IfSome o (λ found. found.number < 16) → IfSome o (λ found. progress_at s.modules found.number ≡ Going found.words found.pages) → IfNone o ((m : ℕ) → is_going (progress_at s.modules m) ≡ false)
+    → IfSome o (λ found. found.number < 16) → IfSome o (λ found. progress_at s.modules found.number ≡ Going found.extent found.pages) → IfNone o ((m : ℕ) → is_going (progress_at s.modules m) ≡ false)
     → (b : Bool) → (is_err r || is_some o) ≡ b → connection_fault ms rest End (λ _. true) ≡ fault_by_cause End b
 ends s feed ms rest r o holds stands faultless told in_range going none b is =
     let share : (λ m. is_going (progress_at s.modules m)) ≡ (λ m. is_going (made_of ms (rest_of rest) m).progress) = (λ i m. is_going (holds.progress m i)) in

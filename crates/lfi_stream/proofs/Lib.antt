@@ -1,5 +1,6 @@
 mod Texts
 mod Growth
+mod ProfileNumbers
 mod Books
 mod Told
 mod InputEnds

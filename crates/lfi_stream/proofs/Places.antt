@@ -5,6 +5,7 @@ use Rattle.std.specs.List.{filter, fold}
 use Rattle.std.proofs.lemmas.Grind.{flat_map-append}
 use Rattle.std.proofs.lemmas.List.{append-nil}
 use Rattle.std.proofs.lemmas.Bool.{and_parts, eqb-true}
+use Rattle.lfi_module.specs.Extents.{ExtentView}
 use Rattle.lfi_module.specs.Numbers.{page_words, page_bytes}
 use Rattle.lfi_module.specs.Pages.{is_due, page_count, bytes_in_page}
 use Rattle.lfi_frame.specs.Streams.{Message, open_message, page_message, close_message, Rest, short, faulty, unfinished, whole, rest_of}
@@ -20,7 +21,7 @@ use Rattle.lfi_stream.specs.Outcomes.{bytes_at, code_of}
 -- so many bytes by how far a module is
 abbrev Came : Progress → List ItemView → Type 0
 Came Unclaimed items = length (code_of items) ≡ 0
-Came (Going n p) items = length (code_of items) ≡ 4 * min (1024 * p) n
+Came (Going extent p) items = length (code_of items) ≡ 4 * min (1024 * p) extent.words
 Came Ended items = Unit {0}
 
 one_more : (items : List ItemView) (item : ItemView) → length (code_of (items ++ item ∷ [])) ≡ length (code_of items) + length (bytes_at item.kind)
@@ -44,25 +45,25 @@ tells : (b : Bool) → (b ≡ true) ⊎ (b ≡ false)
 tells true = inl refl
 tells false = inr refl
 
-page_came : (m n p : ℕ) (s : Share) (index : ℕ) (payload : List ℕ) (b : Bool) → is_due page_words n p index (length payload) ≡ b → Came (Going n p) s.items
-    → let t = (if b then with_item s (item_of m (p + 1) n (Page payload)) (Going n (p + 1)) else with_item s (item_of m (p + 1) n (End (PageFault index))) Ended) in Came t.progress t.items
-page_came m n p s index payload true due h =
-    let says = due_len n p index (length payload) due in
-    let len : length payload ≡ 4 * min 1024 (n - 1024 * p) = says.1 ∙ ap (λ z. bytes_in_page page_words n z) says.0 in
-    one_more s.items (item_of m (p + 1) n (Page payload)) ∙ grown n p (length (code_of s.items)) (length payload) h len
-page_came m n p s index payload false due h = tt
+page_came : (m : ℕ) (extent : ExtentView) (p : ℕ) (s : Share) (index : ℕ) (payload : List ℕ) (b : Bool) → is_due page_words extent.words p index (length payload) ≡ b → Came (Going extent p) s.items
+    → let t = (if b then with_item s (item_of m (p + 1) extent (Page payload)) (Going extent (p + 1)) else with_item s (item_of m (p + 1) extent (End (PageFault index))) Ended) in Came t.progress t.items
+page_came m extent p s index payload true due h =
+    let says = due_len extent.words p index (length payload) due in
+    let len : length payload ≡ 4 * min 1024 (extent.words - 1024 * p) = says.1 ∙ ap (λ z. bytes_in_page page_words extent.words z) says.0 in
+    one_more s.items (item_of m (p + 1) extent (Page payload)) ∙ grown extent.words p (length (code_of s.items)) (length payload) h len
+page_came m extent p s index payload false due h = tt
 
 message_came : (m : ℕ) (s : Share) (q : Progress) (message : Message) → s.progress ≡ q → Came q s.items → Came (after_message true m s q message).progress (after_message true m s q message).items
-message_came m s Unclaimed (open_message k words entry) e h =
-    let l = one_more s.items (item_of m 0 words (Open entry)) in
-    let none : min (1024 * 0) words ≡ 0 = omega arith in
+message_came m s Unclaimed (open_message k extent) e h =
+    let l = one_more s.items (item_of m 0 extent Open) in
+    let none : min (1024 * 0) extent.words ≡ 0 = omega arith in
     omega (arith, l, h, none)
 message_came m s Unclaimed (page_message k index payload) e h = same_came Unclaimed s e h
 message_came m s Unclaimed (close_message k) e h = same_came Unclaimed s e h
-message_came m s (Going n p) (open_message k words entry) e h = same_came (Going n p) s e h
-message_came m s (Going n p) (page_message k index payload) e h = page_came m n p s index payload (is_due page_words n p index (length payload)) refl h
-message_came m s (Going n p) (close_message k) e h = tt
-message_came m s Ended (open_message k words entry) e h = same_came Ended s e h
+message_came m s (Going extent p) (open_message k other) e h = same_came (Going extent p) s e h
+message_came m s (Going extent p) (page_message k index payload) e h = page_came m extent p s index payload (is_due page_words extent.words p index (length payload)) refl h
+message_came m s (Going extent p) (close_message k) e h = tt
+message_came m s Ended (open_message k extent) e h = same_came Ended s e h
 message_came m s Ended (page_message k index payload) e h = same_came Ended s e h
 message_came m s Ended (close_message k) e h = same_came Ended s e h
 
@@ -77,7 +78,7 @@ either false s t h k = k
 
 header_came : (m : ℕ) (s : Share) (q : Progress) (index len : ℕ) → s.progress ≡ q → Came q s.items → Came (after_header m s q index len).progress (after_header m s q index len).items
 header_came m s Unclaimed index len e h = same_came Unclaimed s e h
-header_came m s (Going n p) index len e h = either (is_due page_words n p index len) s _ (same_came (Going n p) s e h) tt
+header_came m s (Going extent p) index len e h = either (is_due page_words extent.words p index len) s _ (same_came (Going extent p) s e h) tt
 header_came m s Ended index len e h = same_came Ended s e h
 
 rest_came : (m : ℕ) (s : Share) (rest : Rest) → Came s.progress s.items → Came (after_rest m s rest).progress (after_rest m s rest).items
@@ -87,9 +88,9 @@ rest_came m s (unfinished k index len) h = either (k == m) (after_header m s s.p
 rest_came m s whole h = h
 
 -- The next page of an open module begins where the code that came ends.
-pub next_place : (ms : List Message) (rest : List ℕ) (m n p : ℕ) → (made_of ms (rest_of rest) m).progress ≡ Going n p → p < page_count page_words n
+pub next_place : (ms : List Message) (rest : List ℕ) (m : ℕ) (extent : ExtentView) (p : ℕ) → (made_of ms (rest_of rest) m).progress ≡ Going extent p → p < page_count page_words extent.words
     → length (code_of (made_of ms (rest_of rest) m).items) ≡ page_bytes * p
-next_place ms rest m n p going less =
+next_place ms rest m extent p going less =
     let s : Share = made_of ms (rest_of rest) m in
-    let h : Came (Going n p) s.items = subst (λ q. Came q s.items) going (rest_came m (fold (λ t message. after_message true m t t.progress message) nothing_yet (filter (is_of m) ms)) (rest_of rest) (fold_came m (filter (is_of m) ms) nothing_yet refl)) in
+    let h : Came (Going extent p) s.items = subst (λ q. Came q s.items) going (rest_came m (fold (λ t message. after_message true m t t.progress message) nothing_yet (filter (is_of m) ms)) (rest_of rest) (fold_came m (filter (is_of m) ms) nothing_yet refl)) in
     omega (arith, h, less)

@@ -38,7 +38,7 @@ plain_code Nothing ms rest used plain is = no_page ms rest used is
 plain_code (Open k extent) ms rest used plain is = no_page ms rest used is
 plain_code (Code k offset ended) ms rest used plain is = absurd plain
 plain_code (Stray k) ms rest used plain is = no_page ms rest used is
-plain_code (End k words pages reason) ms rest used plain is = no_page ms rest used is
+plain_code (End k extent pages reason) ms rest used plain is = no_page ms rest used is
 plain_code (Fault fault) ms rest used plain is = absurd plain
 
 plain_sound : (event : Event) → IsPlain event → (fault : FrameFault) → event ≢ Fault fault
@@ -46,7 +46,7 @@ plain_sound Nothing plain fault e = absurd (cc)
 plain_sound (Open k extent) plain fault e = absurd (cc)
 plain_sound (Code k offset ended) plain fault e = absurd plain
 plain_sound (Stray k) plain fault e = absurd (cc)
-plain_sound (End k words pages reason) plain fault e = absurd (cc)
+plain_sound (End k extent pages reason) plain fault e = absurd (cc)
 plain_sound (Fault f) plain fault e = absurd plain
 
 -- more bytes of a header, or none
@@ -121,7 +121,7 @@ told_by Nothing s ms rest used sound told = told
 told_by (Open k extent) s ms rest used sound told = told
 told_by (Code k offset ended) s ms rest used sound told = told
 told_by (Stray k) s ms rest used sound told = told
-told_by (End k words pages reason) s ms rest used sound told = told
+told_by (End k extent pages reason) s ms rest used sound told = told
 told_by (Fault fault) s ms rest used sound told = absurd (sound fault refl)
 
 -- the numbers of the feed are kept too

@@ -4,7 +4,7 @@ use Rattle.std.specs.Prelude.{All}
 use Rattle.std.specs.List.{filter, fold}
 use Rattle.std.proofs.lemmas.List.Elements.{All-nil, All-cons, All-head, All-tail, All-filter, All-append}
 use Rattle.a64_word.specs.Words.{words_of}
-use Rattle.lfi_module.specs.declared.profile.Profile.TheVariants.{One}
+use Rattle.lfi_module.specs.Extents.{ExtentView}
 use Rattle.lfi_rules.specs.Faults.{FirstFault}
 use Rattle.lfi_rules.specs.Verdicts.{all_words}
 use Rattle.lfi_rules.specs.declared.fault.Fault.{Fault}
@@ -32,7 +32,7 @@ abbrev Wholes : List ItemView → Type 0
 Wholes items = All (λ item. IsWhole item.kind) items
 
 item_words : (kind : KindView) (items : List ItemView) → IsWhole kind → words_of (code_of items) ≡ all_words (pages_of items) → words_of (bytes_at kind ++ code_of items) ≡ all_words (page_of kind ++ pages_of items)
-item_words (Open entry) items w rest = rest
+item_words Open items w rest = rest
 item_words (Page bytes) items w rest = words_append bytes (code_of items) (length bytes / 4) (omega arith) ∙ ap (λ l. words_of bytes ++ l) rest
 item_words (End reason) items w rest = rest
 
@@ -48,14 +48,14 @@ either true s t h k = h
 either false s t h k = k
 
 message_whole : (m : ℕ) (s : Share) (q : Progress) (message : Message) → IsMessage message → Wholes s.items → Wholes (after_message true m s q message).items
-message_whole m s Unclaimed (open_message k words entry) is h = more s.items (item_of m 0 words (Open entry)) h tt
+message_whole m s Unclaimed (open_message k extent) is h = more s.items (item_of m 0 extent Open) h tt
 message_whole m s Unclaimed (page_message k index payload) is h = h
 message_whole m s Unclaimed (close_message k) is h = h
-message_whole m s (Going n p) (open_message k words entry) is h = h
-message_whole m s (Going n p) (page_message k index payload) is h =
-    either (is_due page_words n p index (length payload)) _ _ (more s.items _ h ((sound (header_of (page_message k index payload)) is.faultless).whole refl)) (more s.items _ h tt)
-message_whole m s (Going n p) (close_message k) is h = more s.items _ h tt
-message_whole m s Ended (open_message k words entry) is h = h
+message_whole m s (Going extent p) (open_message k other) is h = h
+message_whole m s (Going extent p) (page_message k index payload) is h =
+    either (is_due page_words extent.words p index (length payload)) _ _ (more s.items _ h ((sound (header_of (page_message k index payload)) is.faultless).whole refl)) (more s.items _ h tt)
+message_whole m s (Going extent p) (close_message k) is h = more s.items _ h tt
+message_whole m s Ended (open_message k extent) is h = h
 message_whole m s Ended (page_message k index payload) is h = h
 message_whole m s Ended (close_message k) is h = h
 
@@ -66,7 +66,7 @@ fold_whole m (message ∷ ms) s each h =
 
 header_whole : (m : ℕ) (s : Share) (q : Progress) (index len : ℕ) → Wholes s.items → Wholes (after_header m s q index len).items
 header_whole m s Unclaimed index len h = h
-header_whole m s (Going n p) index len h = either (is_due page_words n p index len) s _ h (more s.items _ h tt)
+header_whole m s (Going extent p) index len h = either (is_due page_words extent.words p index len) s _ h (more s.items _ h tt)
 header_whole m s Ended index len h = h
 
 rest_whole : (m : ℕ) (s : Share) (rest : Rest) → Wholes s.items → Wholes (after_rest m s rest).items
@@ -77,8 +77,8 @@ rest_whole m s whole h = h
 
 ends_whole : (m : ℕ) (q : Progress) (fault : Option FrameFault) (items : List ItemView) → Wholes items → Wholes (items ++ ends_of m q fault)
 ends_whole m Unclaimed fault items h = All-append (λ i. IsWhole i.kind) items [] h (All-nil (λ i. IsWhole i.kind))
-ends_whole m (Going n p) (Some fault) items h = more items _ h tt
-ends_whole m (Going n p) None items h = All-append (λ i. IsWhole i.kind) items [] h (All-nil (λ i. IsWhole i.kind))
+ends_whole m (Going extent p) (Some fault) items h = more items _ h tt
+ends_whole m (Going extent p) None items h = All-append (λ i. IsWhole i.kind) items [] h (All-nil (λ i. IsWhole i.kind))
 ends_whole m Ended fault items h = All-append (λ i. IsWhole i.kind) items [] h (All-nil (λ i. IsWhole i.kind))
 
 items_whole : (ms : List Message) (rest : List ℕ) (cause : Cause) (m : ℕ) → All IsMessage ms → Wholes (items_of ms rest cause (λ _. true) m)
@@ -94,8 +94,8 @@ outcome_is n items (Some fault) reason e = refl
 outcome_is n items None reason e = (reason, e, refl)
 
 -- The first fault of the whole pages and the end tell what becomes of a module.
-pub loaded : (ms : List Message) (rest : List ℕ) (cause : Cause) (m n : ℕ) (item : ItemView) (items : List ItemView) (fault : Option Fault) (reason : Reason) → All IsMessage ms
-    → items_of ms rest cause (λ _. true) m ≡ item ∷ items → FirstFault One (words_of (code_of (item ∷ items))) n fault → end_of (item ∷ items) ≡ Some reason → Load n (item ∷ items) (outcome_by n (item ∷ items) fault reason)
-loaded ms rest cause m n item items fault reason each is first ended =
+pub loaded : (ms : List Message) (rest : List ℕ) (cause : Cause) (m : ℕ) (extent : ExtentView) (item : ItemView) (items : List ItemView) (fault : Option Fault) (reason : Reason) → All IsMessage ms
+    → items_of ms rest cause (λ _. true) m ≡ item ∷ items → FirstFault extent.profile (words_of (code_of (item ∷ items))) extent.words fault → end_of (item ∷ items) ≡ Some reason → Load extent (item ∷ items) (outcome_by extent.words (item ∷ items) fault reason)
+loaded ms rest cause m extent item items fault reason each is first ended =
     let wholes : Wholes (item ∷ items) = subst Wholes is (items_whole ms rest cause m each) in
-    (fault, subst (λ ws. FirstFault One ws n fault) (words_are (item ∷ items) wholes) first, outcome_is n (item ∷ items) fault reason ended)
+    (fault, subst (λ ws. FirstFault extent.profile ws extent.words fault) (words_are (item ∷ items) wholes) first, outcome_is extent.words (item ∷ items) fault reason ended)

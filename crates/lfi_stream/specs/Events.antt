@@ -1,5 +1,6 @@
 -- What the events of a stream tell of its text. Source: docs/PROFILE.md, "Streams".
 use Rattle.std.specs.Prelude.{◌≡◌, ◌≢◌, ℕ, ◌+◌, ◌*◌, ◌==◌, if◌then◌else◌, true, false, List, [], ◌++◌, length, drop, flat_map, ◌⊎◌, Some}
+use Rattle.lfi_module.specs.Extents.{ExtentView}
 use Rattle.lfi_module.specs.Numbers.{page_bytes}
 use Rattle.lfi_frame.specs.Streams.{Message, spelling, rest_of, unfinished, faulty}
 use Rattle.lfi_frame.specs.Feeds.{FeedStands}
@@ -18,16 +19,16 @@ use Rattle.lfi_stream.specs.Streams.{made_of, IsOver, Holds, StandsFor}
 
 -- an open module with its next page
 abbrev pub with_page : ℕ → Share → Progress → (payload : List ℕ) → Share
-with_page m s (Going words pages) payload = with_item s (item_of m (pages + 1) words (item.Page payload)) (Going words (pages + 1))
+with_page m s (Going extent pages) payload = with_item s (item_of m (pages + 1) extent (item.Page payload)) (Going extent (pages + 1))
 with_page m s progress payload = s
 
 -- What module m has got after an event, by what it had got before: the item that the event tells. `payload` is that of the page that ended.
 abbrev pub after_event : ℕ → Event → (payload : List ℕ) → Share → Share
-after_event m (Open k extent) payload s = if m == k then with_item s (item_of m 0 extent.words (item.Open extent.entry)) (Going extent.words 0) else s
+after_event m (Open k extent) payload s = if m == k then with_item s (item_of m 0 extent item.Open) (Going extent 0) else s
 after_event m (Code k offset true) payload s = if m == k then with_page m s s.progress payload else s
 after_event m (Code k offset false) payload s = s
 after_event m (Stray k) payload s = if m == k then with_stray s else s
-after_event m (End k words pages reason) payload s = if m == k then with_item s (item_of m (pages + 1) words (item.End reason)) Ended else s
+after_event m (End k extent pages reason) payload s = if m == k then with_item s (item_of m (pages + 1) extent (item.End reason)) Ended else s
 after_event m Nothing payload s = s
 after_event m (Fault fault) payload s = s
 
@@ -43,10 +44,10 @@ IsPlain event = Unit {0}
 
 -- The bytes after this text are payload of the page that is due of the open module k, and belong at this byte of its code.
 pub record IsCodeAt (k offset : ℕ) (messages : List Message) (rest : List ℕ) : Type 0 where
-  pub words : ℕ
+  pub extent : ExtentView
   pub pages : ℕ
   pub len : ℕ
-  pub going : (made_of messages (rest_of rest) k).progress ≡ Going words pages
+  pub going : (made_of messages (rest_of rest) k).progress ≡ Going extent pages
   pub header : rest_of rest ≡ unfinished k pages len
   pub offset_is : offset ≡ page_bytes * pages + length (drop 12 rest)
 

@@ -1,5 +1,6 @@
 -- What a stream whose numbers a caller keeps stands for. Source: docs/PROFILE.md, "Streams".
 use Rattle.std.specs.Prelude.{◌≡◌, ℕ, true, List, length, drop, ◌++◌, flat_map, Option, Some, None, All}
+use Rattle.lfi_module.specs.Extents.{ExtentView}
 use Rattle.lfi_module.specs.Numbers.{page_words}
 use Rattle.lfi_module.specs.Pages.{is_due, bytes_in_page}
 use Rattle.lfi_frame.specs.Streams.{Message, IsMessage, spelling, rest_of, unfinished, Rest}
@@ -26,17 +27,17 @@ pub record IsIn (feed : LfiStreamFeed) (rest : List ℕ) : Type 0 where
 
 -- The payload that is coming is that of the page which is due of an open module, and so many of its bytes came; or it is passed over.
 pub record IsDue (page : Coming) (progress : Progress) (rest : List ℕ) : Type 0 where
-  pub words : ℕ
+  pub extent : ExtentView
   pub pages : ℕ
-  pub going : progress ≡ Going words pages
-  pub header : rest_of rest ≡ unfinished page.«module» pages (bytes_in_page page_words words pages)
-  pub is_next : is_due page_words words pages pages (bytes_in_page page_words words pages) ≡ true
+  pub going : progress ≡ Going extent pages
+  pub header : rest_of rest ≡ unfinished page.«module» pages (bytes_in_page page_words extent.words pages)
+  pub is_next : is_due page_words extent.words pages pages (bytes_in_page page_words extent.words pages) ≡ true
   pub come : page.come ≡ length (drop 12 rest)
 
 -- no page of this module is due: it isn't open, or has ended at this very page's header
 abbrev pub IsOver : Progress → Type 0
 IsOver Unclaimed = Unit {0}
-IsOver (Going words pages) = ⊥
+IsOver (Going extent pages) = ⊥
 IsOver Ended = Unit {0}
 
 -- what is known of the page whose header came last

@@ -16,6 +16,8 @@ fn none_opened() -> [LfiStreamModule; ModuleNumber::COUNT]
     let untouched = LfiStreamModule {
         phase: 0,
         words: 0,
+        entry: 0,
+        profile: 0,
         pages: 0,
     };
     [untouched; ModuleNumber::COUNT]

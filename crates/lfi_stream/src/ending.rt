@@ -31,14 +31,14 @@ fn reason_of(fault: FrameFault) -> Reason
 /// The open module of the least number.
 fn first_going(stream: &LfiStream) -> Option<OpenModule>
     ensures in_range { IfSome result (λ found. found.number < module_count) }
-    ensures going { IfSome result (λ found. progress_at stream.now.modules found.number ≡ Going found.words found.pages) }
+    ensures going { IfSome result (λ found. progress_at stream.now.modules found.number ≡ Going found.extent found.pages) }
     ensures none { IfNone result ((m : ℕ) → is_going (progress_at stream.now.modules m) ≡ false) }
 {
     for (number, numbers) in stream.modules.iter().enumerate() {
-        if let Progress::Going { words, pages } = numbers.progress() {
+        if let Progress::Going { extent, pages } = numbers.progress() {
             return Some(OpenModule {
                 number: ModuleNumber::at(number),
-                words,
+                extent,
                 pages,
             });
         }
@@ -56,7 +56,7 @@ fn lose(stream: &mut LfiStream, fault: FrameFault) -> Event
     place(stream, open.number, Progress::Ended);
     Event::End {
         module: open.number,
-        words: open.words.number(),
+        extent: open.extent,
         pages: open.pages,
         reason: reason_of(fault),
     }

@@ -9,7 +9,7 @@ use lfi_module::{Extent, ModuleNumber};
 pub enum Event {
     /// Nothing that a host has to do.
     Nothing,
-    /// This module opens: so many words, entered at this one.
+    /// This module opens: so many words, entered at this one, by this profile.
     Open {
         module: ModuleNumber,
         extent: Extent,
@@ -25,10 +25,10 @@ pub enum Event {
     Stray {
         module: ModuleNumber,
     },
-    /// This module, of so many words, ended when so many of its pages had come.
+    /// This module, which is so large, ended when so many of its pages had come.
     End {
         module: ModuleNumber,
-        words: u32,
+        extent: Extent,
         pages: u32,
         reason: Reason,
     },

@@ -4,7 +4,7 @@ ghost use Rattle.std.specs.Prelude.{◌≡◌, ◌<◌, ◌*◌, ℕ, List, [], 
 ghost use Rattle.lfi_module.specs.Numbers.{page_words, page_bytes};
 ghost use Rattle.lfi_module.specs.Pages.{page_count};
 ghost use Rattle.a64_word.specs.Words.{words_of};
-ghost use Rattle.lfi_module.specs.declared.profile.Profile.TheVariants.{One};
+ghost use Rattle.lfi_module.specs.Extents.{ExtentView};
 ghost use Rattle.lfi_rules.specs.Faults.{FirstFault};
 ghost use Rattle.lfi_rules.specs.declared.fault.Fault.{Fault};
 ghost use Rattle.lfi_frame.specs.Streams.{Message, IsMessage, Cut, rest_of};
@@ -24,17 +24,17 @@ pub fn one_cut()
     ensures { (stream : LfiStream) (text : List ℕ) (messages : List Message) (rest : List ℕ) → StandsForText stream text → Cut text messages rest → StandsFor stream messages rest }
 {}
 
-/// A host that judges a module's whole pages as they come, as all their bytes, and hears its end, has what one plain pass
-/// over the module's items makes of it: the outcome that `lfiload load` tells.
+/// A host that judges a module's whole pages as they come, as all their bytes, by the module's own profile, and hears its
+/// end, has what one plain pass over the module's items makes of it: the outcome that `lfiload load` tells.
 pub fn one_outcome()
-    ensures { (messages : List Message) (rest : List ℕ) (cause : Cause) (m words : ℕ) (item : ItemView) (items : List ItemView) (fault : Option Fault) (reason : Reason) →
-        All IsMessage messages → items_of messages rest cause (λ _. true) m ≡ item ∷ items → FirstFault One (words_of (code_of (item ∷ items))) words fault →
-        end_of (item ∷ items) ≡ Some reason → Load words (item ∷ items) (outcome_by words (item ∷ items) fault reason) }
+    ensures { (messages : List Message) (rest : List ℕ) (cause : Cause) (m : ℕ) (extent : ExtentView) (item : ItemView) (items : List ItemView) (fault : Option Fault) (reason : Reason) →
+        All IsMessage messages → items_of messages rest cause (λ _. true) m ≡ item ∷ items → FirstFault extent.profile (words_of (code_of (item ∷ items))) extent.words fault →
+        end_of (item ∷ items) ≡ Some reason → Load extent (item ∷ items) (outcome_by extent.words (item ∷ items) fault reason) }
 {}
 
 /// The next page of an open module begins where the code of its whole pages ends: so bytes that are put where they belong
 /// are the module's code, one after the other.
 pub fn next_place()
-    ensures { (messages : List Message) (rest : List ℕ) (m words pages : ℕ) → (made_of messages (rest_of rest) m).progress ≡ Going words pages →
-        pages < page_count page_words words → length (code_of (made_of messages (rest_of rest) m).items) ≡ page_bytes * pages }
+    ensures { (messages : List Message) (rest : List ℕ) (m : ℕ) (extent : ExtentView) (pages : ℕ) → (made_of messages (rest_of rest) m).progress ≡ Going extent pages →
+        pages < page_count page_words extent.words → length (code_of (made_of messages (rest_of rest) m).items) ≡ page_bytes * pages }
 {}

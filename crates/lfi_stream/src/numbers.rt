@@ -1,12 +1,15 @@
 //! The numbers that a caller keeps of a stream between two pieces, and what they stand for.
 
-ghost use Rattle.std.specs.Prelude.{◌≡◌, ◌<◌, ◌==◌, ℕ, if◌then◌else◌, Some};
+ghost use Rattle.std.specs.Prelude.{◌≡◌, ◌<◌, ◌≤◌, ◌==◌, ℕ, if◌then◌else◌, Some};
+ghost use Rattle.lfi_module.specs.Numbers.{page_words};
+ghost use Rattle.lfi_module.specs.Pages.{page_count};
+ghost use Rattle.lfi_model.specs.declared.connection.Progress.TheVariants.{Going};
 ghost use Rattle.lfi_frame.specs.inner.Positions.{filled_at};
-ghost use Rattle.lfi_stream.specs.Numbers.{fault_at_number, position_at, going_by, progress_of, IsPossible, page_at};
+ghost use Rattle.lfi_stream.specs.Numbers.{fault_at_number, position_at, profile_at, extent_at, going_by, progress_of, untouched, IsPossible, page_at};
 
 use lfi_frame::{FrameFault, HEADER_BYTES, Position};
 use lfi_model::Progress;
-use lfi_module::{ModuleNumber, PageSize, WordCount};
+use lfi_module::{Extent, ModuleNumber, PageSize, Profile, WordCount};
 
 /// Where a stream is in its messages.
 #[repr(C)]
@@ -28,6 +31,10 @@ pub struct LfiStreamModule {
     pub phase: u32,
     /// Where it is open, how many words it has.
     pub words: u32,
+    /// Where it is open, the word at which it is entered.
+    pub entry: u32,
+    /// Where it is open, the number of its profile.
+    pub profile: u32,
     /// Where it is open, how many of its pages came.
     pub pages: u32,
 }
@@ -61,11 +68,11 @@ pub(crate) struct Coming {
     pub(crate) come: usize,
 }
 
-/// A module that is open: its number, its words in all, and how many of its pages came.
+/// A module that is open: its number, how large it is, and how many of its pages came.
 #[derive(Clone, Copy)]
 pub(crate) struct OpenModule {
     pub(crate) number: ModuleNumber,
-    pub(crate) words: WordCount,
+    pub(crate) extent: Extent,
     pub(crate) pages: u32,
 }
 
@@ -123,22 +130,37 @@ pub(crate) fn feed_at(held: [u8; HEADER_BYTES], position: Position) -> LfiStream
     }
 }
 
-/// How far an open module of so many words is, of which so many pages came. Where these numbers are none of a module, it is
-/// as one that has ended.
-fn going(words: u32, pages: u32) -> Progress
-    ensures { result ≡ going_by words pages }
+/// The profile with this number.
+fn profile_of(number: u32) -> Option<Profile>
+    ensures { result ≡ profile_at number }
 {
-    if words == 0 || words > WordCount::MOST.number() {
+    Profile::new(number)
+}
+
+/// How large a module of so many words is, entered at this one, by the profile with this number; `None` where these numbers
+/// are none of a module.
+fn extent_of(words: u32, entry: u32, profile: u32) -> Option<Extent>
+    ensures { result ≡ extent_at words entry profile }
+{
+    let by = profile_of(profile)?;
+    if words == 0 || words > WordCount::MOST.number() || entry >= words {
+        return None;
+    }
+    Some(Extent::of(WordCount::of(words), entry, by))
+}
+
+/// How far an open module is that is so large, of which so many pages came. Where its numbers are none of a module, it is
+/// as one that has ended.
+fn going(size: Option<Extent>, pages: u32) -> Progress
+    ensures { result ≡ going_by size pages }
+{
+    let Some(extent) = size else {
+        return Progress::Ended;
+    };
+    if pages > extent.words().pages(PageSize::PROFILE) {
         return Progress::Ended;
     }
-    let count = WordCount::of(words);
-    if pages > count.pages(PageSize::PROFILE) {
-        return Progress::Ended;
-    }
-    Progress::Going {
-        words: count,
-        pages,
-    }
+    Progress::Going { extent, pages }
 }
 
 impl LfiStreamModule {
@@ -149,8 +171,35 @@ impl LfiStreamModule {
     {
         match self.phase {
             0 => Progress::Unclaimed,
-            1 => going(self.words, self.pages),
+            1 => going(extent_of(self.words, self.entry, self.profile), self.pages),
             _ => Progress::Ended,
+        }
+    }
+
+    /// The numbers of a module that is open.
+    fn open(extent: Extent, pages: u32) -> LfiStreamModule
+        requires { pages ≤ page_count page_words extent.words }
+        ensures { progress_of result ≡ Going extent pages }
+    {
+        LfiStreamModule {
+            phase: 1,
+            words: extent.words().number(),
+            entry: extent.entry(),
+            profile: extent.profile().number(),
+            pages,
+        }
+    }
+
+    /// The numbers of a module that isn't open, in this phase.
+    fn closed(phase: u32) -> LfiStreamModule
+        ensures { result ≡ record untouched { phase = phase } }
+    {
+        LfiStreamModule {
+            phase,
+            words: 0,
+            entry: 0,
+            profile: 0,
+            pages: 0,
         }
     }
 
@@ -159,15 +208,10 @@ impl LfiStreamModule {
         requires { IsPossible progress }
         ensures { progress_of result ≡ progress }
     {
-        let (phase, words, pages) = match progress {
-            Progress::Unclaimed => (0, 0, 0),
-            Progress::Going { words, pages } => (1, words.number(), pages),
-            Progress::Ended => (2, 0, 0),
-        };
-        LfiStreamModule {
-            phase,
-            words,
-            pages,
+        match progress {
+            Progress::Unclaimed => LfiStreamModule::closed(0),
+            Progress::Going { extent, pages } => LfiStreamModule::open(extent, pages),
+            Progress::Ended => LfiStreamModule::closed(2),
         }
     }
 }

@@ -40,13 +40,12 @@ pub(crate) fn place(stream: &mut LfiStream, module: ModuleNumber, progress: Prog
 /// An Open: it opens its module, where that wasn't opened before; else it is passed over.
 fn open(stream: &mut LfiStream, module: ModuleNumber, extent: Extent) -> Event
     ensures holds { (messages : List Message) (payload : List ℕ) → Holds stream.old messages [] →
-        let now = messages ++ open_message «module» extent.words extent.entry ∷ [] in Holds stream.new now [] × Grows result messages [] now [] payload }
+        let now = messages ++ open_message «module» extent ∷ [] in Holds stream.new now [] × Grows result messages [] now [] payload }
     ensures plain { IsPlain result }
 {
     match progress_in(stream, module) {
         Progress::Unclaimed => {
-            let words = extent.words();
-            place(stream, module, Progress::Going { words, pages: 0 });
+            place(stream, module, Progress::Going { extent, pages: 0 });
             Event::Open { module, extent }
         }
         _ => Event::Stray { module },
@@ -60,11 +59,11 @@ fn close(stream: &mut LfiStream, module: ModuleNumber) -> Event
     ensures plain { IsPlain result }
 {
     match progress_in(stream, module) {
-        Progress::Going { words, pages } => {
+        Progress::Going { extent, pages } => {
             place(stream, module, Progress::Ended);
             Event::End {
                 module,
-                words: words.number(),
+                extent,
                 pages,
                 reason: Reason::Close,
             }
@@ -80,14 +79,15 @@ fn page(stream: &mut LfiStream, module: ModuleNumber, index: u32, len: u32) -> E
         drop 12 rest ≡ [] → Holds stream.new messages rest × Grows result messages [] messages rest payload }
     ensures plain { IsPlain result }
 {
-    let Progress::Going { words, pages } = progress_in(stream, module) else {
+    let Progress::Going { extent, pages } = progress_in(stream, module) else {
         return Event::Stray { module };
     };
+    let words = extent.words();
     if !words.is_due(PageSize::PROFILE, pages, index, len as usize) {
         place(stream, module, Progress::Ended);
         return Event::End {
             module,
-            words: words.number(),
+            extent,
             pages,
             reason: Reason::PageFault(index),
         };
@@ -138,9 +138,10 @@ fn payload_ended(stream: &mut LfiStream) -> Event
     let Some(page) = stream.page.coming() else {
         return Event::Nothing;
     };
-    let Progress::Going { words, pages } = progress_in(stream, page.module) else {
+    let Progress::Going { extent, pages } = progress_in(stream, page.module) else {
         return Event::Nothing;
     };
+    let words = extent.words();
     if pages >= words.pages(PageSize::PROFILE) {
         return Event::Nothing;
     }
@@ -148,7 +149,7 @@ fn payload_ended(stream: &mut LfiStream) -> Event
         stream,
         page.module,
         Progress::Going {
-            words,
+            extent,
             pages: pages + 1,
         },
     );

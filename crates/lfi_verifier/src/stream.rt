@@ -31,6 +31,8 @@ pub struct LfiEvent {
     pub words: u32,
     /// The word at which it is entered, of kind 1.
     pub entry: u32,
+    /// The number of the profile by which it is to be judged, of kind 1.
+    pub profile: u32,
     /// How many of its pages came, of kind 4.
     pub pages: u32,
     /// Why it ended, of kind 4: 1 a Close, 2 the stream's fault, 3 a page that isn't the one due, 4 no memory.
@@ -49,6 +51,7 @@ const NO_EVENT: LfiEvent = LfiEvent {
     module: 0,
     words: 0,
     entry: 0,
+    profile: 0,
     pages: 0,
     reason: 0,
     number: 0,
@@ -79,6 +82,7 @@ fn numbers_of(event: Event) -> LfiEvent
             module: u32::from(module.number()),
             words: extent.words().number(),
             entry: extent.entry(),
+            profile: extent.profile().number(),
             ..NO_EVENT
         },
         Event::Code {
@@ -99,7 +103,7 @@ fn numbers_of(event: Event) -> LfiEvent
         },
         Event::End {
             module,
-            words,
+            extent,
             pages,
             reason,
         } => {
@@ -107,7 +111,7 @@ fn numbers_of(event: Event) -> LfiEvent
             LfiEvent {
                 kind: 4,
                 module: u32::from(module.number()),
-                words,
+                words: extent.words().number(),
                 pages,
                 reason: why,
                 number,
@@ -122,7 +126,8 @@ fn numbers_of(event: Event) -> LfiEvent
     }
 }
 
-/// Begins a stream whose code is to be judged by a profile.
+/// Begins a stream. Each of its modules tells at its opening the profile by which its code is to be judged; the argument
+/// asks for one that is known.
 #[unsafe(no_mangle)]
 pub extern "C" fn lfi_stream_init(stream: &mut LfiStream, profile: u32) -> u32
     ensures begun { (by : Profile) → profile_number by ≡ profile → StandsFor stream.new [] [] × (result ≡ status_number Status.Lawful) }

@@ -15,7 +15,7 @@ returns-in-More c = λ feed ms rest used size some holds was.
 pub returns-in-Open : goal.returns-in-Open
 returns-in-Open c = λ feed ms rest used size some holds was.
     let told = subst (λ g. IsTold g feed ms rest used) c.in-Open.is was in
-    message_moves feed c.args.stream.now c.«open».new.stream ms rest used (open_message c.in-Open.«module» c.in-Open.extent.words c.in-Open.extent.entry) c.«open».result
+    message_moves feed c.args.stream.now c.«open».new.stream ms rest used (open_message c.in-Open.«module» c.in-Open.extent) c.«open».result
     (some (λ e. absurd (let is = c.in-Open.is in cc))) (omega arith) told.1 told.0 holds c.«open».ensures.plain (λ payload h. c.«open».ensures.holds ms payload h)
 
 pub returns-in-Close : goal.returns-in-Close

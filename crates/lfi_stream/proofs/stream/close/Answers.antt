@@ -1,11 +1,8 @@
-use Rattle.std.proofs.Common.{◌≡◌, ◌∷◌, [], ◌++◌, ◌∙◌, sym, ap, subst}
+use Rattle.std.proofs.Common.{◌≡◌, ◌∙◌, sym, ap, subst}
 use Rattle.lfi_frame.specs.Streams.{close_message}
 use Rattle.lfi_model.specs.declared.connection.Progress.TheVariants.{Going}
-use Rattle.lfi_model.specs.declared.item.Reason.TheVariants.{Close}
-use Rattle.lfi_stream.specs.declared.event.Event.TheVariants.{End}
 use Rattle.lfi_stream.specs.Numbers.{progress_at}
-use Rattle.lfi_stream.specs.Streams.{IsOver, Holds}
-use Rattle.lfi_stream.specs.Events.{Grows}
+use Rattle.lfi_stream.specs.Streams.{IsOver}
 use Rattle.lfi_stream.proofs.Growth.{close_stray, over_by}
 use Rattle.lfi_stream.proofs.Books.{closed, strayed}
 use Rattle.lfi_stream.proofs.stream.close.Goals as goal
@@ -15,10 +12,8 @@ returns-in-Going-clause-holds c = λ ms payload holds.
     let r = c.args.stream.now in
     let new = c.place.new.stream in
     let k = c.args.«module» in
-    let now = ms ++ close_message k ∷ [] in
-    let was : progress_at r.modules k ≡ Going c.in-Going.words c.in-Going.pages = sym c.progress_in.ensures.at ∙ c.in-Going.is in
-    subst (λ w. Holds new now [] × Grows (End k w c.in-Going.pages Close) ms [] now [] payload) (sym c.number.ensures.value)
-    (closed r new ms payload k c.in-Going.words c.in-Going.pages was (ap (λ z. z.page) c.place.ensures.rest) c.place.ensures.at holds)
+    let was : progress_at r.modules k ≡ Going c.in-Going.extent c.in-Going.pages = sym c.progress_in.ensures.at ∙ c.in-Going.is in
+    closed r new ms payload k c.in-Going.extent c.in-Going.pages was (ap (λ z. z.page) c.place.ensures.rest) c.place.ensures.at holds
 
 pub returns-in_default : goal.returns-in_default
 returns-in_default c = record {

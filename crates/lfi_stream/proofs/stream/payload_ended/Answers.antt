@@ -15,15 +15,15 @@ returns-then-pages-clause-holds c = λ ms rest used m index len holds is long.
     let r = c.args.stream.now in
     let page = c.in-Some.page in
     let some : page_at r.page ≡ Some page = sym c.coming.ensures ∙ c.in-Some.is in
-    let was : progress_at r.modules page.«module» ≡ Going c.in-Going.words c.in-Going.pages = sym c.progress_in.ensures.at ∙ c.in-Going.is in
-    let less : c.in-Going.pages < page_count page_words c.in-Going.words = inside r ms rest page c.in-Going.words c.in-Going.pages some was holds in
-    absurd (let count = c.pages.ensures in let most = c.if-pages.true in omega arith)
+    let was : progress_at r.modules page.«module» ≡ Going c.in-Going.extent c.in-Going.pages = sym c.progress_in.ensures.at ∙ c.in-Going.is in
+    let less : c.in-Going.pages < page_count page_words c.in-Going.extent.words = inside r ms rest page c.in-Going.extent c.in-Going.pages some was holds in
+    absurd (let count = c.pages.ensures in let same = c.words-words.ensures in let most = c.if-pages.true in omega arith)
 
 pub returns-clause-holds : goal.returns-clause-holds
 returns-clause-holds c = λ ms rest used m index len holds is long.
     let r = c.args.stream.now in
     let page = c.in-Some.page in
     let some : page_at r.page ≡ Some page = sym c.coming.ensures ∙ c.in-Some.is in
-    let was : progress_at r.modules page.«module» ≡ Going c.in-Going.words c.in-Going.pages = sym c.progress_in.ensures.at ∙ c.in-Going.is in
-    let ended = page_ended r (record c.place.new.stream { page = c.none-stream.result }) ms rest used page c.in-Going.words c.in-Going.pages m index len some was c.none-stream.ensures c.place.ensures.at holds is long in
-    (ended.0, ended.1, code_at r ms rest page c.in-Going.words c.in-Going.pages c.offset_of.result some was holds c.offset_of.ensures)
+    let was : progress_at r.modules page.«module» ≡ Going c.in-Going.extent c.in-Going.pages = sym c.progress_in.ensures.at ∙ c.in-Going.is in
+    let ended = page_ended r (record c.place.new.stream { page = c.none-stream.result }) ms rest used page c.in-Going.extent c.in-Going.pages m index len some was c.none-stream.ensures c.place.ensures.at holds is long in
+    (ended.0, ended.1, code_at r ms rest page c.in-Going.extent c.in-Going.pages c.offset_of.result some was holds c.offset_of.ensures)
