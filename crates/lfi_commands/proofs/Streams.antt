@@ -44,7 +44,7 @@ taken_length (y ∷ ys) (suc k) within = ap suc (taken_length ys k (omega (arith
 -- one module more was written
 pub written_more : (profile : Profile) (number entry : ℕ) (files : List (List ℕ)) (k : ℕ) (code : List ℕ) (old half new : Option (List ℕ)) → slice_get files k ≡ Some code
     → WritesStream profile number entry (take k files) old half → WritesModule profile (number + k) entry code half new → WritesStream profile number entry (take (k + 1) files) old new
-written_more number entry files k code old half new at before one =
+written_more profile number entry files k code old half new at before one =
     let within = slice_get_within files k code at in
     let size : length (take k files) ≡ k = taken_length files k within in
     let next : k + 1 ≡ suc k = omega arith in

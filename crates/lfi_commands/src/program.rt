@@ -317,7 +317,11 @@ fn run<
     ensures errors { OnErr result (errors.new ≡ errors.old) }
 {
     match line {
-        Line::Check { file, explain } => run_check(alloc, disk, file, explain, out),
+        Line::Check {
+            file,
+            explain,
+            profile,
+        } => run_check(alloc, disk, file, profile, explain, out),
         Line::Load {
             verifiers,
             out: folder,
@@ -348,12 +352,13 @@ fn run<
             errors,
         ),
         Line::Run { image, steps } => run_run(alloc, disk, image, steps, out, errors),
-        Line::Disassemble { file } => run_disassemble(alloc, disk, file, out),
+        Line::Disassemble { file, profile } => run_disassemble(alloc, disk, file, profile, out),
         Line::Pack {
             module,
             entry,
+            profile,
             codes,
-        } => run_pack(alloc, disk, module, entry, &codes, out, errors),
+        } => run_pack(alloc, disk, module, entry, profile, &codes, out, errors),
     }
 }
 
