@@ -11,8 +11,8 @@ returns-in_default-kind c =
     let small : AreBytes bytes = λ i. (let fits = c.type_inv.bytes i in search rules) in
     let w : rest_of bytes ≡ whole = search rules in
     let is : c.read-header.result ≡ header_at bytes = search rules in
-    subst (λ extent. Begins bytes (open_message c.read-header.result.«module» extent) _) (sym c.extent_of.ensures)
-    (begins_open bytes _ c.read-header.result small w is (search rules) (search rules) (take_all (length bytes - 12) (drop 12 bytes) (omega (arith, length-drop 12 bytes))))
+    subst (λ extent. Begins bytes (open_message c.read-header.result.«module» extent) (take (length bytes - 12) (drop 12 bytes))) (sym c.extent_of.ensures)
+    (begins_open bytes (take (length bytes - 12) (drop 12 bytes)) c.read-header.result small w is (search rules) (search rules) (take_all (length bytes - 12) (drop 12 bytes) (omega (arith, length-drop 12 bytes))))
 
 pub returns-in_ok-payload-in-2 : goal.returns-in_ok-payload-in-2
 returns-in_ok-payload-in-2 c =
