@@ -8,6 +8,7 @@ use lfi_commands::{
     CommandFault, DeviceCause, Ending, Errors, Failure, SystemDisk, Target, check, check_file, load,
 };
 use lfi_model::Outcome;
+use lfi_module::Profile;
 use lfi_receive::Input;
 use lfi_threads::NoNotices;
 use std::alloc::{AllocError, Global};
@@ -82,7 +83,7 @@ fn files_of_another_length(rt: HostRuntime) -> Result<(), Fail> {
             bytes: TWO_RETS.as_slice(),
             left: 100,
         };
-        let verdict = check_file(rt.alloc(), code, length, &mut out);
+        let verdict = check_file(rt.alloc(), code, length, Profile::One, &mut out);
         assert!(rt; verdict == expected, "{length:?}");
     }
     Ok(())
@@ -103,7 +104,7 @@ fn a_fault_in_a_later_piece(rt: HostRuntime) -> Result<(), Fail> {
         bytes: &code,
         left: 1_000_000,
     };
-    let verdict = check_file(rt.alloc(), reader, Some(160_000), &mut out);
+    let verdict = check_file(rt.alloc(), reader, Some(160_000), Profile::One, &mut out);
     assert!(rt; verdict.is_ok());
     assert!(rt; out.as_slice() == b"word 20000 rule 1\n".as_slice());
     Ok(())
@@ -125,7 +126,7 @@ fn a_byte_a_read(rt: HostRuntime) -> Result<(), Fail> {
         bytes: RET.as_slice(),
         left: 5,
     };
-    let verdict = check(rt.alloc(), code, &mut out);
+    let verdict = check(rt.alloc(), code, Profile::One, &mut out);
     assert!(rt; verdict == Ok(Verdict::Lawful { words: 1 }));
     let stream = SlowReader {
         bytes: ONE_RET.as_slice(),
@@ -157,7 +158,7 @@ fn reads_that_fail(rt: HostRuntime) -> Result<(), Fail> {
             bytes: RET.as_slice(),
             left,
         };
-        let verdict = check(rt.alloc(), code, &mut out);
+        let verdict = check(rt.alloc(), code, Profile::One, &mut out);
         assert!(rt;
             verdict == Err(CommandFault::NotRead(DeviceCause::Other)),
             "{left}"

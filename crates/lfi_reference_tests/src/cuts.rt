@@ -59,10 +59,14 @@ fn the_bytes_by_hand(rt: HostRuntime) -> Result<(), Fail> {
 
 #[test]
 fn header_faults(rt: HostRuntime) -> Result<(), Fail> {
-    let rows: [([u8; 12], &str); 9] = [
+    let rows: [([u8; 12], &str); 10] = [
+        (
+            [6, 1, 0, 0, 0, 0, 0, 0, 0, 0, 0, 0],
+            "connection 0: fault 1\nstrays 0\n",
+        ),
         (
             [4, 1, 0, 0, 0, 0, 0, 0, 0, 0, 0, 0],
-            "connection 0: fault 1\nstrays 0\n",
+            "connection 0: fault 2\nstrays 0\n",
         ),
         (
             [2, 1, 0x10, 0, 0, 0, 0, 0, 0, 0, 0, 0],

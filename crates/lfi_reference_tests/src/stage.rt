@@ -81,7 +81,7 @@ impl<'a> Read for FailsOnce<'a> {
 /// is an Open: its module is claimed.
 fn plainly(alloc: Global, bytes: &[u8]) -> Result<String, AllocError> {
     match bytes {
-        [1, _, module, ..] => told(alloc, bytes, Cause::End, &[u16::from(*module)]),
+        [1 | 4, _, module, ..] => told(alloc, bytes, Cause::End, &[u16::from(*module)]),
         _ => told(alloc, bytes, Cause::End, &[]),
     }
 }
