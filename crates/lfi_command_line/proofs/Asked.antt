@@ -1,5 +1,5 @@
 -- The subcommand that the parser met, by the words, and the fault that it told.
-use Rattle.std.proofs.Common.{◌≡◌, ◌∙◌, ◌⊎◌, ℕ, Bool, Result, Ok, Err, IfErr, IsErrAnd, true, false, suc, List, [], ◌∷◌, map, Option, Some, None, is_some, find, refl, sym, arith, ap, ap₂, subst, inl, inr, codes, option_map, unwrap_or, true≢false}
+use Rattle.std.proofs.Common.{◌≡◌, ◌≢◌, ◌∙◌, ◌⊎◌, ℕ, Bool, Result, Ok, Err, IfErr, IsErrAnd, true, false, suc, List, [], ◌∷◌, map, Option, Some, None, is_some, find, refl, sym, arith, ap, ap₂, subst, inl, inr, codes, option_map, unwrap_or, true≢false}
 use Rattle.std.specs.Prelude.{◌<◌, ◌≤◌, Box, length, option_and_then, slice_get}
 use Rattle.std.specs.Box.{box_value}
 use Rattle.std.specs.Str.{bytes_eq}
@@ -179,6 +179,11 @@ run_met words m taken check load serve disassemble pack =
 pub number_most : (default least most : ℕ) (o : Option Text) (n : ℕ) → default ≤ most → IsNumberOr default least most o n → n ≤ most
 number_most default least most None n fits is = omega (arith, fits, is)
 number_most default least most (Some text) n fits is = is.3
+
+-- of two numbers it is the first, where it isn't the second
+pub number_first : (o : Option Text) (n : ℕ) → (n ≡ 2 → ⊥) → IsNumberOr 1 1 2 o n → n ≡ 1
+number_first None n other is = is
+number_first (Some text) n other is = (let not_two : n ≢ 2 = other in let least = is.2 in let most = is.3 in omega arith)
 
 -- what is wrong with what is given to `load` is wrong with the words
 pub load_fault : (words : List Text) (given : List Row) (fault : LineFault) → AreTakenFor words (codes "load") given → IsFaultOfLoad given fault → IsLineFault words fault

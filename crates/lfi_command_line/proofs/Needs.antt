@@ -63,8 +63,8 @@ subcommand_asks (Some p) some none =
         → option_map_or (λ s. level_fault s [] nothing_held p.1 false []) (picked a b c d f g) [] ≡ [] → Asks (option_map (λ s. rows_at s p.1) (picked a b c d f g))
     go true b c d f g has e =
         level_gives check_shape p.1
-        (inr (inr (inl (refl, tt, refl))), (inr (inr (inl (refl, tt, refl))), (inl (refl, refl, tt), (inr (inr (inr (inl refl))), tt))))
-        (inr refl, (inr refl, (inl refl, (inl refl, tt)))) e
+        (inr (inr (inl (refl, tt, refl))), (inr (inr (inl (refl, tt, refl))), (inl (refl, refl, refl), (inl (refl, refl, tt), (inr (inr (inr (inl refl))), tt)))))
+        (inr refl, (inr refl, (inl refl, (inl refl, (inl refl, tt))))) e
     go false true c d f g has e =
         level_gives load_shape p.1
         (inl (refl, refl, refl), (inl (refl, refl, tt), (inr (inl (refl, refl, tt)), (inr (inr (inl (refl, tt, refl))), (inr (inr (inr (inl refl))), tt)))))
@@ -78,11 +78,11 @@ subcommand_asks (Some p) some none =
         (inl (refl, refl, refl), (inl (refl, refl, tt), (inr (inr (inr (inl refl))), tt)))
         (inl refl, (inl refl, (inl refl, tt))) e
     go false false false false true g has e =
-        level_gives disassemble_shape p.1 (inl (refl, refl, tt), (inr (inr (inr (inl refl))), tt)) (inl refl, (inl refl, tt)) e
+        level_gives disassemble_shape p.1 (inl (refl, refl, refl), (inl (refl, refl, tt), (inr (inr (inr (inl refl))), tt))) (inl refl, (inl refl, (inl refl, tt))) e
     go false false false false false true has e =
         level_gives pack_shape p.1
-        (inl (refl, refl, refl), (inl (refl, refl, refl), (inr (inl (refl, refl, tt)), (inr (inr (inr (inl refl))), tt))))
-        (inl refl, (inl refl, (inl refl, (inl refl, tt)))) e
+        (inl (refl, refl, refl), (inl (refl, refl, refl), (inl (refl, refl, refl), (inr (inl (refl, refl, tt)), (inr (inr (inr (inl refl))), tt)))))
+        (inl refl, (inl refl, (inl refl, (inl refl, (inl refl, tt))))) e
     go false false false false false false has e = absurd (true≢false (sym has))
 
 needed : (has : Bool) (rows : List Row) → check_fault whole.top rows has ≡ [] → has ≡ true

@@ -73,7 +73,8 @@ both_none (k ∷ ks) b e = absurd (not_none k ks e)
 abbrev pub range_of : Text → Option (ℕ × ℕ)
 range_of id = if bytes_eq id (codes "steps") then Some (0, 1000000000) else (if bytes_eq id (codes "verifiers") then Some (1, 8)
     else (if bytes_eq id (codes "connections") then Some (1, 8) else (if bytes_eq id (codes "seconds") then Some (1, 86400)
-    else (if bytes_eq id (codes "module") then Some (0, 15) else (if bytes_eq id (codes "entry") then Some (0, 4194303) else None)))))
+    else (if bytes_eq id (codes "module") then Some (0, 15) else (if bytes_eq id (codes "entry") then Some (0, 4194303)
+    else (if bytes_eq id (codes "profile") then Some (1, 2) else None))))))
 
 -- values, read so, suit such an argument
 abbrev Suit : Option (ℕ × ℕ) → List Text → Reading → Type 0

@@ -33,9 +33,13 @@ number_rule name parser = record (option_rule name) { parser = Some parser }
 abbrev pub flag_rule : Text → Rule
 flag_rule name = record (new_rule name) { long = Some name; action = Some SetTrue }
 
--- `check [--explain] [--all] FILE`
+-- `--profile P`
+abbrev pub profile_rule : Rule
+profile_rule = number_rule (codes "profile") (Unsigned 1 2)
+
+-- `check [--explain] [--all] [--profile P] FILE`
 abbrev pub check_app : App
-check_app = with_rule (with_rule (with_rule (new_app (codes "check")) (flag_rule (codes "explain"))) (flag_rule (codes "all"))) (required_rule (codes "FILE"))
+check_app = with_rule (with_rule (with_rule (with_rule (new_app (codes "check")) (flag_rule (codes "explain"))) (flag_rule (codes "all"))) profile_rule) (required_rule (codes "FILE"))
 
 -- `load [--verifiers V] [--out DIR] [--explain] STREAM..`
 abbrev pub load_app : App
@@ -53,13 +57,14 @@ serve_app = with_rule (with_rule (with_rule (with_rule (with_rule (with_rule (ne
 abbrev pub run_app : App
 run_app = with_rule (with_rule (new_app (codes "run")) (needed (number_rule (codes "steps") (Unsigned 0 1000000000)))) (required_rule (codes "IMAGE"))
 
--- `disassemble FILE`
+-- `disassemble [--profile P] FILE`
 abbrev pub disassemble_app : App
-disassemble_app = with_rule (new_app (codes "disassemble")) (required_rule (codes "FILE"))
+disassemble_app = with_rule (with_rule (new_app (codes "disassemble")) profile_rule) (required_rule (codes "FILE"))
 
--- `pack [--module M] [--entry WORD] CODE..`
+-- `pack [--module M] [--entry WORD] [--profile P] CODE..`
 abbrev pub pack_app : App
-pack_app = with_rule (with_rule (with_rule (new_app (codes "pack")) (number_rule (codes "module") (Unsigned 0 15))) (number_rule (codes "entry") (Unsigned 0 4194303))) (several_rule (codes "CODE"))
+pack_app = with_rule (with_rule (with_rule (with_rule (new_app (codes "pack")) (number_rule (codes "module") (Unsigned 0 15))) (number_rule (codes "entry") (Unsigned 0 4194303))) profile_rule)
+    (several_rule (codes "CODE"))
 
 -- the program without its subcommands: one has to be there, `help` is none, and it has a version
 abbrev pub bare_app : App

@@ -5,6 +5,8 @@ use Rattle.std.specs.Str.Parse.{IsNumeral, digits_value, without_leading_plus}
 use Rattle.clap.specs.declared.error.Error.{Error}
 use Rattle.clap.specs.declared.error.kind.ErrorKind.{ErrorKind}
 use Rattle.clap.specs.declared.error.kind.ErrorKind.TheVariants as kind
+use Rattle.lfi_module.specs.declared.profile.Profile.{Profile}
+use Rattle.lfi_module.specs.Profiles.{profile_number}
 use Rattle.lfi_command_line.specs.Apps.{lfiload_app}
 use Rattle.lfi_command_line.specs.declared.line.Line.{Line}
 use Rattle.lfi_command_line.specs.declared.line.Line.TheVariants.{Check, Load, Serve, Run, Disassemble, Pack}
@@ -43,9 +45,13 @@ abbrev pub IsExplain : List Row → Explain → Type 0
 IsExplain given explain =
     (first all : Bool) × IsFlag (one_of (codes "explain") given) first × IsFlag (one_of (codes "all") given) all × (explain ≡ explain_by first all)
 
+-- the profile has the number that was given, or it is the first where none was
+abbrev pub IsProfile : List Row → Profile → Type 0
+IsProfile given profile = IsNumberOr 1 1 2 (first_of (codes "profile") given) (profile_number profile)
+
 -- a subcommand of this name, with what was given to it, asks for this line
 abbrev pub IsAskedBy : (name : Text) → List Row → Line → Type 0
-IsAskedBy name given (Check file explain) = (name ≡ codes "check") × (first_of (codes "FILE") given ≡ Some file.now) × IsExplain given explain
+IsAskedBy name given (Check file explain profile) = (name ≡ codes "check") × (first_of (codes "FILE") given ≡ Some file.now) × IsExplain given explain × IsProfile given profile
 IsAskedBy name given (Load verifiers out explain streams) = (name ≡ codes "load") × IsFlag (one_of (codes "explain") given) explain × IsNumberOr 2 1 8 (first_of (codes "verifiers") given) verifiers
     × (first_of (codes "out") given ≡ option_map (λ s. s.now) out)
     × (all_of (codes "STREAM") given ≡ Some (map (λ s. s.now) streams.items)) × (1 ≤ length streams.items) × (length streams.items ≤ 8)
@@ -55,9 +61,9 @@ IsAskedBy name given (Serve socket connections verifiers seconds out explain) = 
     × (first_of (codes "out") given ≡ option_map (λ s. s.now) out)
 IsAskedBy name given (Run image steps) = (name ≡ codes "run") × (first_of (codes "IMAGE") given ≡ Some image.now)
     × ((text : Text) × (first_of (codes "steps") given ≡ Some text) × IsNumber 0 1000000000 text steps)
-IsAskedBy name given (Disassemble file) = (name ≡ codes "disassemble") × (first_of (codes "FILE") given ≡ Some file.now)
-IsAskedBy name given (Pack number entry files) = (name ≡ codes "pack") × IsNumberOr 0 0 15 (first_of (codes "module") given) number
-    × IsNumberOr 0 0 4194303 (first_of (codes "entry") given) entry × (all_of (codes "CODE") given ≡ Some (map (λ s. s.now) files.items))
+IsAskedBy name given (Disassemble file profile) = (name ≡ codes "disassemble") × (first_of (codes "FILE") given ≡ Some file.now) × IsProfile given profile
+IsAskedBy name given (Pack number entry profile files) = (name ≡ codes "pack") × IsNumberOr 0 0 15 (first_of (codes "module") given) number
+    × IsNumberOr 0 0 4194303 (first_of (codes "entry") given) entry × IsProfile given profile × (all_of (codes "CODE") given ≡ Some (map (λ s. s.now) files.items))
     × (1 ≤ length files.items) × (number + length files.items ≤ 16)
 
 -- Nothing is wrong with the words for the parser, which takes them for this subcommand, with what is given to it.

@@ -3,7 +3,7 @@
 ghost use Rattle.std.specs.Prelude.{◌≡◌, IfOk, false};
 ghost use Rattle.clap.specs.Words.{rule_of};
 ghost use Rattle.clap.specs.declared.builder.value_parser.ValueParser.TheVariants.{Unsigned};
-ghost use Rattle.lfi_command_line.specs.Apps.{Makes, required_rule, several_rule, option_rule, number_rule, flag_rule, check_app, load_app, serve_app, run_app, disassemble_app, pack_app, bare_app, lfiload_app};
+ghost use Rattle.lfi_command_line.specs.Apps.{Makes, required_rule, several_rule, option_rule, number_rule, profile_rule, flag_rule, check_app, load_app, serve_app, run_app, disassemble_app, pack_app, bare_app, lfiload_app};
 
 use crate::help;
 use clap::builder::ValueParser;
@@ -24,6 +24,9 @@ const MOST_SECONDS: u64 = 86_400;
 
 /// The last module's number.
 pub(crate) const LAST_MODULE: u64 = 15;
+
+/// The number of the last profile.
+const LAST_PROFILE: u64 = 2;
 
 /// The last word of the longest code.
 const LAST_WORD: u64 = 4_194_303;
@@ -72,6 +75,14 @@ fn number_argument<'a>(
     option_argument(alloc, name, value, text).value_parser(ValueParser::Unsigned(range.0, range.1))
 }
 
+/// The option by which a profile is named.
+fn profile_argument<'a>(alloc: Global) -> Arg<'a>
+    ensures rule { rule_of result ≡ profile_rule }
+    ensures local { result.global ≡ false }
+{
+    number_argument(alloc, "profile", "P", help::PROFILE, (1, LAST_PROFILE))
+}
+
 /// A flag, `--name`.
 fn flag<'a>(alloc: Global, name: &'a str, text: &'a str) -> Arg<'a>
     ensures rule { rule_of result ≡ flag_rule name.entry.now }
@@ -89,12 +100,14 @@ fn check_command<'a>(alloc: Global) -> Result<Command<'a>, AllocError>
 {
     let explain = flag(alloc, "explain", help::EXPLAIN);
     let all = flag(alloc, "all", help::ALL);
+    let profile = profile_argument(alloc);
     let file = required_argument(alloc, "FILE", help::FILE);
     Command::new(alloc, "check")
         .about("Tells whether the code in a file is lawful")
         .after_help(help::CHECK)
         .arg(explain)?
         .arg(all)?
+        .arg(profile)?
         .arg(file)
 }
 
@@ -172,10 +185,12 @@ fn run_command<'a>(alloc: Global) -> Result<Command<'a>, AllocError>
 fn disassemble_command<'a>(alloc: Global) -> Result<Command<'a>, AllocError>
     ensures { IfOk result (Makes disassemble_app) }
 {
+    let profile = profile_argument(alloc);
     let file = required_argument(alloc, "FILE", help::FILE);
     Command::new(alloc, "disassemble")
         .about("Lists the words of a file, each with its place and its text")
         .after_help(help::DISASSEMBLE)
+        .arg(profile)?
         .arg(file)
 }
 
@@ -185,12 +200,14 @@ fn pack_command<'a>(alloc: Global) -> Result<Command<'a>, AllocError>
 {
     let module = number_argument(alloc, "module", "M", help::MODULE, (0, LAST_MODULE));
     let entry = number_argument(alloc, "entry", "WORD", help::ENTRY, (0, LAST_WORD));
+    let profile = profile_argument(alloc);
     let codes = several_arguments(alloc, "CODE", help::CODE);
     Command::new(alloc, "pack")
         .about("Writes a stream of the code in files, a module each")
         .after_help(help::PACK)
         .arg(module)?
         .arg(entry)?
+        .arg(profile)?
         .arg(codes)
 }
 

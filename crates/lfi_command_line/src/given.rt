@@ -2,13 +2,14 @@
 
 ghost use Rattle.std.specs.Prelude.{◌≡◌, ℕ, IfOk, IfErr, true, is_some, codes};
 ghost use Rattle.clap.specs.Words.{first_of, one_of, rows_of, found_of};
-ghost use Rattle.lfi_command_line.specs.CommandLine.{IsAskedBy, IsFlag, IsNumberIfAny, IsNumberOr, explain_by};
+ghost use Rattle.lfi_command_line.specs.CommandLine.{IsAskedBy, IsFlag, IsProfile, IsNumberIfAny, IsNumberOr, explain_by};
 ghost use Rattle.lfi_command_line.specs.inner.Given.{IsNumberGiven, IsFaultOfLoad, IsFaultOfPack};
 
 use crate::commands::{LAST_MODULE, MOST_CONNECTIONS};
 use crate::fault::LineFault;
 use crate::line::{Explain, Line};
 use clap::ArgMatches;
+use lfi_module::Profile;
 use std::alloc::Global;
 
 /// How many verifiers there are where nothing is said of them.
@@ -43,11 +44,13 @@ fn explain_by(first: bool, all: bool) -> Explain
 /// What `check` asks for.
 pub(crate) fn check_line<'a>(check: &ArgMatches<'a>) -> Line<'a>
     requires file { is_some (first_of (codes "FILE") (rows_of (found_of check.now))) ≡ true }
+    requires profile { IsNumberGiven 1 2 (codes "profile") (rows_of (found_of check.now)) }
     ensures { IsAskedBy (codes "check") (rows_of (found_of check.now)) result }
 {
     Line::Check {
         file: check.get_str("FILE").unwrap(),
         explain: explain_by(is_given(check, "explain"), is_given(check, "all")),
+        profile: profile_of(check),
     }
 }
 
@@ -65,6 +68,18 @@ fn number_if_any(matches: &ArgMatches<'_>, id: &str) -> Option<u64>
         → IsNumberIfAny least most (first_of id.now (rows_of (found_of matches.now))) result }
 {
     matches.get_one::<u64>(id)
+}
+
+/// The profile whose number is given, or the first where none is.
+fn profile_of(matches: &ArgMatches<'_>) -> Profile
+    requires { IsNumberGiven 1 2 (codes "profile") (rows_of (found_of matches.now)) }
+    ensures { IsProfile (rows_of (found_of matches.now)) result }
+{
+    if number_or(matches, "profile", 1) == 2 {
+        Profile::Two
+    } else {
+        Profile::One
+    }
 }
 
 /// What `load` asks for.
@@ -126,10 +141,12 @@ pub(crate) fn run_line<'a>(run: &ArgMatches<'a>) -> Line<'a>
 /// What `disassemble` asks for.
 pub(crate) fn disassemble_line<'a>(disassemble: &ArgMatches<'a>) -> Line<'a>
     requires file { is_some (first_of (codes "FILE") (rows_of (found_of disassemble.now))) ≡ true }
+    requires profile { IsNumberGiven 1 2 (codes "profile") (rows_of (found_of disassemble.now)) }
     ensures { IsAskedBy (codes "disassemble") (rows_of (found_of disassemble.now)) result }
 {
     Line::Disassemble {
         file: disassemble.get_str("FILE").unwrap(),
+        profile: profile_of(disassemble),
     }
 }
 
@@ -142,6 +159,7 @@ pub(crate) fn pack_line<'a>(alloc: Global, pack: &ArgMatches<'a>) -> Result<Line
     requires codes { is_some (first_of (codes "CODE") (rows_of (found_of pack.now))) ≡ true }
     requires module { IsNumberGiven 0 15 (codes "module") (rows_of (found_of pack.now)) }
     requires entry { IsNumberGiven 0 4194303 (codes "entry") (rows_of (found_of pack.now)) }
+    requires profile { IsNumberGiven 1 2 (codes "profile") (rows_of (found_of pack.now)) }
     ensures line { IfOk result (IsAskedBy (codes "pack") (rows_of (found_of pack.now))) }
     ensures fault { IfErr result (IsFaultOfPack (rows_of (found_of pack.now))) }
 {
@@ -151,10 +169,12 @@ pub(crate) fn pack_line<'a>(alloc: Global, pack: &ArgMatches<'a>) -> Result<Line
     if module + paths.len() > MODULES {
         return Err(LineFault::TooManyModules);
     }
+    let profile = profile_of(pack);
     let codes = Vec::from_slice(alloc, paths)?;
     Ok(Line::Pack {
         module,
         entry,
+        profile,
         codes,
     })
 }

@@ -59,6 +59,9 @@ pub const MODULE: &str = "the number of the first file's module, 0 to 15; 0 wher
 /// Of `--entry`.
 pub const ENTRY: &str = "the word at which each module is entered; 0 where it isn't said";
 
+/// Of `--profile`.
+pub const PROFILE: &str = "the profile that the code goes by, 1 or 2; 1 where it isn't said";
+
 /// Of the files with code.
 pub const CODE: &str = "1 to 16 files, each with the plain code words of one module";
 

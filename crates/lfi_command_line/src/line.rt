@@ -8,6 +8,7 @@ use crate::commands::command;
 use crate::fault::LineFault;
 use crate::given::{check_line, disassemble_line, load_line, pack_line, run_line, serve_line};
 use clap::ArgMatches;
+use lfi_module::Profile;
 use std::alloc::Global;
 
 /// What `check` explains.
@@ -24,10 +25,11 @@ pub enum Explain {
 /// What the program is asked for.
 #[derive(PartialEq, Eq, Debug, Drop)]
 pub enum Line<'a> {
-    /// Whether the code in a file is lawful, and what is to be explained where it isn't.
+    /// Whether the code in a file is lawful by a profile, and what is to be explained where it isn't.
     Check {
         file: &'a str,
         explain: Explain,
+        profile: Profile,
     },
     /// To load the modules of the streams in 1 to 8 files, one connection each, with so many
     /// verifiers, 1 to 8, to explain why modules are refused, and to write the whole images into a
@@ -54,15 +56,17 @@ pub enum Line<'a> {
         image: &'a str,
         steps: u64,
     },
-    /// To list the words of the code in a file.
+    /// To list the words of the code in a file, by a profile.
     Disassemble {
         file: &'a str,
+        profile: Profile,
     },
     /// To write a stream of the code in 1 to 16 files, one module each, from this number on, up to 15 at the most, each of which
-    /// is entered at this word, 0 to 4,194,303.
+    /// is entered at this word, 0 to 4,194,303, and goes by this profile.
     Pack {
         module: usize,
         entry: u32,
+        profile: Profile,
         codes: Vec<&'a str>,
     },
 }

@@ -1,5 +1,6 @@
 -- What a command found, as what a run of the program did.
 use Rattle.std.proofs.Common.{◌≡◌, ℕ, List, Bool, Option, refl}
+use Rattle.lfi_module.specs.declared.profile.Profile.{Profile}
 use Rattle.lfi_command_line.specs.declared.line.Explain.{Explain}
 use Rattle.lfi_command_line.specs.declared.line.Explain.TheVariants.{Nothing, First, All}
 use Rattle.lfi_commands.specs.declared.ending.Ending.{Ending}
@@ -11,19 +12,19 @@ use Rattle.lfi_commands.specs.Runs.{ChecksFile}
 use Rattle.lfi_commands.specs.inner.Found.{FindsRun, FindsVerdict}
 
 module _ (out new : Option (List ℕ)) (put : Option (List (List ℕ × List ℕ))) (lost : Bool) (errors : Option (List ℕ)) (ending : Ending) where
-  pub checks_file : (explain : Explain) (bytes : Option (List ℕ)) → FindsVerdict explain bytes out new ending
-      → ChecksFile explain bytes (left out put lost errors) (left new put lost errors) ending
-  checks_file Nothing bytes finds = record { verdict = finds.verdict; checks = finds.checks; written = finds.written; put = refl; told = (refl, refl); ends = finds.ends }
-  checks_file First bytes finds = record { verdict = finds.verdict; checks = finds.checks; written = finds.written; put = refl; told = (refl, refl); ends = finds.ends }
-  checks_file All bytes finds = record { verdict = finds.verdict; checks = finds.checks; written = finds.written; put = refl; told = (refl, refl); ends = finds.ends }
+  pub checks_file : (profile : Profile) (explain : Explain) (bytes : Option (List ℕ)) → FindsVerdict profile explain bytes out new ending
+      → ChecksFile profile explain bytes (left out put lost errors) (left new put lost errors) ending
+  checks_file profile Nothing bytes finds = record { verdict = finds.verdict; checks = finds.checks; written = finds.written; put = refl; told = (refl, refl); ends = finds.ends }
+  checks_file profile First bytes finds = record { verdict = finds.verdict; checks = finds.checks; written = finds.written; put = refl; told = (refl, refl); ends = finds.ends }
+  checks_file profile All bytes finds = record { verdict = finds.verdict; checks = finds.checks; written = finds.written; put = refl; told = (refl, refl); ends = finds.ends }
 
-  pub lists_file : (bytes : Option (List ℕ)) → FindsListing bytes out new ending → HasListed bytes (left out put lost errors) (left new put lost errors) ending
-  lists_file bytes finds = record { found = finds; put = refl; told = (refl, refl) }
+  pub lists_file : (profile : Profile) (bytes : Option (List ℕ)) → FindsListing profile bytes out new ending → HasListed profile bytes (left out put lost errors) (left new put lost errors) ending
+  lists_file profile bytes finds = record { found = finds; put = refl; told = (refl, refl) }
 
 module _ (out new : Option (List ℕ)) (put : Option (List (List ℕ × List ℕ))) (was lost : Bool) (errors told : Option (List ℕ)) (ending : Ending) where
   pub runs_file : (bytes : Option (List ℕ)) (steps : ℕ) → FindsRun bytes steps out new lost errors told ending → HasRun bytes steps (left out put was errors) (left new put lost told) ending
   runs_file bytes steps finds = record { run = finds.run; came = finds.came; put = refl; told = finds.told; ends = finds.ends }
 
-  pub packs_files : (first entry : ℕ) (paths : List (List ℕ)) (file_at : List ℕ → Option (List ℕ)) → FindsPacked first entry paths file_at out new lost errors told ending
-      → HasPacked first entry paths file_at (left out put was errors) (left new put lost told) ending
-  packs_files first entry paths file_at finds = record { found = finds; put = refl }
+  pub packs_files : (profile : Profile) (first entry : ℕ) (paths : List (List ℕ)) (file_at : List ℕ → Option (List ℕ)) → FindsPacked profile first entry paths file_at out new lost errors told ending
+      → HasPacked profile first entry paths file_at (left out put was errors) (left new put lost told) ending
+  packs_files profile first entry paths file_at finds = record { found = finds; put = refl }

@@ -52,14 +52,14 @@ by_run false (image_run.Refused fault) ends = by_fault fault ends
 by_run false (image_run.Ended halt steps) ends = by_halt halt ends
 
 by_line : (line : Line) (file_at : List ℕ → Option (List ℕ)) (old new : Left) → CarriesOut line file_at old new WrongWords → ⊥
-by_line (Check file Nothing) file_at old new carried = by_verdict carried.verdict carried.ends
-by_line (Check file First) file_at old new carried = by_verdict carried.verdict carried.ends
-by_line (Check file All) file_at old new carried = by_verdict carried.verdict carried.ends
+by_line (Check file Nothing profile) file_at old new carried = by_verdict carried.verdict carried.ends
+by_line (Check file First profile) file_at old new carried = by_verdict carried.verdict carried.ends
+by_line (Check file All profile) file_at old new carried = by_verdict carried.verdict carried.ends
 by_line (Load verifiers folder explain streams) file_at old new carried = by_load carried.report true carried.all carried.ends
 by_line (Serve socket connections verifiers seconds folder explain) file_at old new carried = by_load carried.found.report carried.found.all_accepted carried.all carried.ends
 by_line (Run image steps) file_at old new carried = by_run new.is_lost carried.run carried.ends
-by_line (Disassemble file) file_at old new carried = carried.found
-by_line (Pack first entry files) file_at old new carried = carried.found
+by_line (Disassemble file profile) file_at old new carried = carried.found
+by_line (Pack first entry profile files) file_at old new carried = carried.found
 
 pub runs_line : (words : List (List ℕ)) (file_at : List ℕ → Option (List ℕ)) (old new : Left) (line : Line) (ending : Ending) → IsLine words line → CarriesOut line file_at old new ending
     → Runs words file_at old new ending

@@ -3,7 +3,7 @@
 use Rattle.std.specs.Prelude.{◌≡◌, ℕ, List, ◌++◌, Option, IfSome, codes}
 use Rattle.std.specs.Io.KnownBytes.{Appends}
 use Rattle.a64_word.specs.Words.{words_of}
-use Rattle.lfi_module.specs.declared.profile.Profile.TheVariants.{One}
+use Rattle.lfi_module.specs.declared.profile.Profile.{Profile}
 use Rattle.lfi_rules.specs.declared.fault.Fault.{Fault}
 use Rattle.lfi_rules.specs.Texts.{fault_text}
 use Rattle.lfi_explain.specs.declared.explanation.Explanation.{Explanation}
@@ -18,29 +18,29 @@ use Rattle.lfi_commands.specs.Checking.{ending_of}
 use Rattle.lfi_commands.specs.Left.{Left, TellsNothing}
 
 -- Of a fault of this code, told as that of module 0, its line was written; or its explanation; or what is told of all words that break a rule, and how many they are.
-abbrev pub WritesFault : Explain → (code : List ℕ) → Fault → (old new : Option (List ℕ)) → Type 0
-WritesFault Nothing code fault old new = Appends old new (fault_text fault ++ codes "\n")
-WritesFault First code fault old new = (e : Explanation) × Explains One (words_of code) 0 fault e × Appends old new (explanation_line e)
-WritesFault All code fault old new = (refused : ℕ) × WritesRefusals One (words_of code) 0 old new refused
+abbrev pub WritesFault : Profile → Explain → (code : List ℕ) → Fault → (old new : Option (List ℕ)) → Type 0
+WritesFault profile Nothing code fault old new = Appends old new (fault_text fault ++ codes "\n")
+WritesFault profile First code fault old new = (e : Explanation) × Explains profile (words_of code) 0 fault e × Appends old new (explanation_line e)
+WritesFault profile All code fault old new = (refused : ℕ) × WritesRefusals profile (words_of code) 0 old new refused
 
 -- The same of the code that was refused for this fault, whose bytes are these, where they are known.
-abbrev pub WritesRefused : Explain → (bytes : Option (List ℕ)) → Fault → (old new : Option (List ℕ)) → Type 0
-WritesRefused explain bytes fault old new =
-    (code : List ℕ) × IfSome bytes (λ all. all ≡ code) × Checks One code (Refused fault) × WritesFault explain code fault old new
+abbrev pub WritesRefused : Profile → Explain → (bytes : Option (List ℕ)) → Fault → (old new : Option (List ℕ)) → Type 0
+WritesRefused profile explain bytes fault old new =
+    (code : List ℕ) × IfSome bytes (λ all. all ≡ code) × Checks profile code (Refused fault) × WritesFault profile explain code fault old new
 
 -- What is written of a verdict: its line; where something is to be explained of code that is refused, that.
-abbrev pub WritesVerdict : Explain → (bytes : Option (List ℕ)) → Verdict → (old new : Option (List ℕ)) → Type 0
-WritesVerdict Nothing bytes verdict old new = Appends old new (verdict_text verdict ++ codes "\n")
-WritesVerdict First bytes (Refused fault) old new = WritesRefused First bytes fault old new
-WritesVerdict All bytes (Refused fault) old new = WritesRefused All bytes fault old new
-WritesVerdict explain bytes verdict old new = Appends old new (verdict_text verdict ++ codes "\n")
+abbrev pub WritesVerdict : Profile → Explain → (bytes : Option (List ℕ)) → Verdict → (old new : Option (List ℕ)) → Type 0
+WritesVerdict profile Nothing bytes verdict old new = Appends old new (verdict_text verdict ++ codes "\n")
+WritesVerdict profile First bytes (Refused fault) old new = WritesRefused profile First bytes fault old new
+WritesVerdict profile All bytes (Refused fault) old new = WritesRefused profile All bytes fault old new
+WritesVerdict profile explain bytes verdict old new = Appends old new (verdict_text verdict ++ codes "\n")
 
 -- What `lfiload check --explain FILE`, or `--all`, did, where the file has these bytes, as far as they are known: it found one
 -- verdict, wrote its line or what is to be explained, and nothing else, and ended by the verdict.
-pub record HasExplained (explain : Explain) (bytes : Option (List ℕ)) (old new : Left) (ending : Ending) : Type 0 where
+pub record HasExplained (profile : Profile) (explain : Explain) (bytes : Option (List ℕ)) (old new : Left) (ending : Ending) : Type 0 where
   pub verdict : Verdict
-  pub checks : IfSome bytes (λ xs. Checks One xs verdict)
-  pub written : WritesVerdict explain bytes verdict old.out new.out
+  pub checks : IfSome bytes (λ xs. Checks profile xs verdict)
+  pub written : WritesVerdict profile explain bytes verdict old.out new.out
   pub put : new.put ≡ old.put
   pub told : TellsNothing old new
   pub ends : ending ≡ ending_of verdict

@@ -1,5 +1,6 @@
 -- What a run of the program does, by its words and its ending. Source: this project's profile, docs/COMMANDS.md.
 use Rattle.std.specs.Prelude.{◌≡◌, ◌⊎◌, ⊤, ℕ, false, List, [], ◌∷◌, Option, codes, map, option_map}
+use Rattle.lfi_module.specs.declared.profile.Profile.{Profile}
 use Rattle.lfi_command_line.specs.declared.line.Line.{Line}
 use Rattle.lfi_command_line.specs.declared.line.Line.TheVariants.{Check, Load, Serve, Run, Disassemble, Pack}
 use Rattle.lfi_command_line.specs.declared.line.Explain.{Explain}
@@ -21,27 +22,27 @@ use Rattle.lfi_commands.specs.Running.{HasRun}
 use Rattle.lfi_commands.specs.Serving.{HasServedAll}
 
 -- What `check` did, by what is to be explained.
-abbrev pub ChecksFile : Explain → (bytes : Option (List ℕ)) → (old new : Left) → Ending → Type 0
-ChecksFile Nothing bytes old new ending = HasChecked bytes old new ending
-ChecksFile explain bytes old new ending = HasExplained explain bytes old new ending
+abbrev pub ChecksFile : Profile → Explain → (bytes : Option (List ℕ)) → (old new : Left) → Ending → Type 0
+ChecksFile profile Nothing bytes old new ending = HasChecked profile bytes old new ending
+ChecksFile profile explain bytes old new ending = HasExplained profile explain bytes old new ending
 
 -- What the line asks for was carried out, with this ending.
 abbrev pub CarriesOut : Line → (List ℕ → Option (List ℕ)) → (old new : Left) → Ending → Type 0
-CarriesOut (Check file explain) file_at = ChecksFile explain (file_at file.now)
+CarriesOut (Check file explain profile) file_at = ChecksFile profile explain (file_at file.now)
 CarriesOut (Load verifiers folder explain streams) file_at = HasLoaded verifiers (map (λ s. file_at s.now) streams.items) (option_map (λ s. s.now) folder) explain
 CarriesOut (Serve socket connections verifiers seconds folder explain) file_at = HasServedAll connections verifiers seconds (option_map (λ s. s.now) folder) explain
 CarriesOut (Run image steps) file_at = HasRun (file_at image.now) steps
-CarriesOut (Disassemble file) file_at = HasListed (file_at file.now)
-CarriesOut (Pack first entry files) file_at = HasPacked first entry (map (λ s. s.now) files.items) file_at
+CarriesOut (Disassemble file profile) file_at = HasListed profile (file_at file.now)
+CarriesOut (Pack first entry profile files) file_at = HasPacked profile first entry (map (λ s. s.now) files.items) file_at
 
 -- it tells of a fault of what the line asks for: of a file that it names, of the output, of the socket
 abbrev pub FailsAs : Line → Failure → Type 0
-FailsAs (Check file explain) = FailsOn (file.now ∷ [])
+FailsAs (Check file explain profile) = FailsOn (file.now ∷ [])
 FailsAs (Load verifiers folder explain streams) = FailsOn (map (λ s. s.now) streams.items)
 FailsAs (Serve socket connections verifiers seconds folder explain) = FailsServing
 FailsAs (Run image steps) = IsOfReading image.now
-FailsAs (Disassemble file) = FailsOn (file.now ∷ [])
-FailsAs (Pack first entry files) = FailsOn (map (λ s. s.now) files.items)
+FailsAs (Disassemble file profile) = FailsOn (file.now ∷ [])
+FailsAs (Pack first entry profile files) = FailsOn (map (λ s. s.now) files.items)
 
 -- The words ask for a line, and it was carried out.
 abbrev pub CarriesOutWords : List (List ℕ) → (List ℕ → Option (List ℕ)) → (old new : Left) → Ending → Type 0

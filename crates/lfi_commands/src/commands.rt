@@ -1,7 +1,6 @@
 //! The commands, over any reader and writer.
 
 ghost use Rattle.std.specs.Prelude.{◌≡◌, ℕ, List, Some, true, false, ◌≤◌, ◌++◌, IfOk, IfErr, IfSome, OnOk, codes, length, slice_get};
-ghost use Rattle.lfi_module.specs.declared.profile.Profile.TheVariants.{One};
 ghost use Rattle.lfi_module.specs.Numbers.{most_words};
 ghost use Rattle.std.specs.Io.KnownBytes.{Appends};
 ghost use Rattle.std.specs.IoError.{error_kind};
@@ -101,14 +100,15 @@ pub(crate) fn read_all<R: Read + Drop>(
 pub fn check<R: Read + Drop, W: Write>(
     alloc: Global,
     reader: R,
+    profile: Profile,
     writer: &mut W,
 ) -> Result<Verdict, CommandFault>
-    ensures verdict { IfOk result (λ verdict. IfSome (R.remaining reader) (λ bytes. Checks One bytes verdict)) }
+    ensures verdict { IfOk result (λ verdict. IfSome (R.remaining reader) (λ bytes. Checks profile bytes verdict)) }
     ensures written { IfOk result (λ verdict. Appends (W.contents writer.old) (W.contents writer.new) (verdict_text verdict ++ codes "\n")) }
     ensures unwritten { IfErr result (λ fault. is_of_a_write fault ≡ false → writer.new ≡ writer.old) }
 {
     let bytes = read_all(alloc, reader.take(MOST_BYTES as u64 + 1))?;
-    write_verdict(judge_code(&bytes, Profile::One), writer)
+    write_verdict(judge_code(&bytes, profile), writer)
 }
 
 /// Writes the line of a verdict.
@@ -147,18 +147,19 @@ pub fn check_file<R: Read + Drop, W: Write>(
     alloc: Global,
     reader: R,
     length: Option<u64>,
+    profile: Profile,
     writer: &mut W,
 ) -> Result<Verdict, CommandFault>
-    ensures verdict { IfOk result (λ verdict. IfSome (R.remaining reader) (λ bytes. Checks One bytes verdict)) }
+    ensures verdict { IfOk result (λ verdict. IfSome (R.remaining reader) (λ bytes. Checks profile bytes verdict)) }
     ensures written { IfOk result (λ verdict. Appends (W.contents writer.old) (W.contents writer.new) (verdict_text verdict ++ codes "\n")) }
     ensures unwritten { IfErr result (λ fault. is_of_a_write fault ≡ false → writer.new ≡ writer.old) }
 {
     match words_in(length) {
         Some(words) => {
-            let verdict = judge_pieces(alloc, reader, words)?;
+            let verdict = judge_pieces(alloc, reader, words, profile)?;
             write_verdict(verdict, writer)
         }
-        None => check(alloc, reader, writer),
+        None => check(alloc, reader, profile, writer),
     }
 }
 

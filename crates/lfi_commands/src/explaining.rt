@@ -3,7 +3,6 @@
 ghost use Rattle.std.specs.Prelude.{◌≡◌, ◌≤◌, Some, false, true, codes, length, IfOk, IfErr, IfSome, OnOk};
 ghost use Rattle.std.specs.Io.KnownBytes.{Appends};
 ghost use Rattle.a64_word.specs.Words.{words_of};
-ghost use Rattle.lfi_module.specs.declared.profile.Profile.TheVariants.{One};
 ghost use Rattle.lfi_module.specs.Numbers.{most_words};
 ghost use Rattle.lfi_rules.specs.Faults.{FirstFault};
 ghost use Rattle.lfi_code.specs.Checking.{Checks, IsCode};
@@ -35,21 +34,22 @@ fn write_fault<W: Write>(
     alloc: Global,
     code: &Code<'_>,
     fault: Fault,
+    profile: Profile,
     how: Explain,
     writer: &mut W,
 ) -> io::Result<()>
-    requires fault { FirstFault One (words_of code.now) (length (words_of code.now)) (Some fault) }
+    requires fault { FirstFault profile (words_of code.now) (length (words_of code.now)) (Some fault) }
     requires most { length (words_of code.now) ≤ most_words }
-    ensures { OnOk result (WritesFault how code.now fault (W.contents writer.old) (W.contents writer.new)) }
+    ensures { OnOk result (WritesFault profile how code.now fault (W.contents writer.old) (W.contents writer.new)) }
 {
     match how {
         Explain::Nothing => writeln!(writer, "{fault}"),
         Explain::First => {
-            let explanation = explain(code, slot(), fault, Profile::One);
+            let explanation = explain(code, slot(), fault, profile);
             writeln!(writer, "{explanation}")
         }
         Explain::All => {
-            write_refusals(alloc, code, slot(), Profile::One, writer)?;
+            write_refusals(alloc, code, slot(), profile, writer)?;
             Ok(())
         }
     }
@@ -59,19 +59,20 @@ fn write_fault<W: Write>(
 fn write_judged<W: Write>(
     alloc: Global,
     bytes: &[u8],
+    profile: Profile,
     how: Explain,
     writer: &mut W,
 ) -> Result<Verdict, CommandFault>
     requires { IsCode bytes.now }
-    ensures verdict { IfOk result (Checks One bytes.now) }
-    ensures written { IfOk result (λ verdict. WritesVerdict how (Some bytes.now) verdict (W.contents writer.old) (W.contents writer.new)) }
+    ensures verdict { IfOk result (Checks profile bytes.now) }
+    ensures written { IfOk result (λ verdict. WritesVerdict profile how (Some bytes.now) verdict (W.contents writer.old) (W.contents writer.new)) }
     ensures fault { IfErr result (λ fault. is_of_a_write fault ≡ true) }
 {
-    let verdict = judge_code(bytes, Profile::One);
+    let verdict = judge_code(bytes, profile);
     let Verdict::Refused(fault) = verdict else {
         return write_verdict(verdict, writer);
     };
-    match write_fault(alloc, &Code::of(bytes), fault, how, writer) {
+    match write_fault(alloc, &Code::of(bytes), fault, profile, how, writer) {
         Ok(()) => Ok(verdict),
         Err(error) => Err(CommandFault::NotWritten(DeviceCause::of(&error))),
     }
@@ -86,15 +87,16 @@ fn write_judged<W: Write>(
 pub fn check_explained<R: Read + Drop, W: Write>(
     alloc: Global,
     reader: R,
+    profile: Profile,
     how: Explain,
     writer: &mut W,
 ) -> Result<Verdict, CommandFault>
-    ensures verdict { IfOk result (λ verdict. IfSome (R.remaining reader) (λ bytes. Checks One bytes verdict)) }
-    ensures written { IfOk result (λ verdict. WritesVerdict how (R.remaining reader) verdict (W.contents writer.old) (W.contents writer.new)) }
+    ensures verdict { IfOk result (λ verdict. IfSome (R.remaining reader) (λ bytes. Checks profile bytes verdict)) }
+    ensures written { IfOk result (λ verdict. WritesVerdict profile how (R.remaining reader) verdict (W.contents writer.old) (W.contents writer.new)) }
     ensures unwritten { IfErr result (λ fault. is_of_a_write fault ≡ false → writer.new ≡ writer.old) }
 {
     match read_code(alloc, reader)? {
-        Some(bytes) => write_judged(alloc, &bytes, how, writer),
+        Some(bytes) => write_judged(alloc, &bytes, profile, how, writer),
         None => write_verdict(Verdict::BadLength, writer),
     }
 }
@@ -103,13 +105,14 @@ pub fn check_explained<R: Read + Drop, W: Write>(
 fn write_words<W: Write>(
     alloc: Global,
     bytes: &[u8],
+    profile: Profile,
     writer: &mut W,
 ) -> Result<Ending, CommandFault>
     requires { IsCode bytes.now }
-    ensures listed { IfOk result (FindsListing (Some bytes.now) (W.contents writer.old) (W.contents writer.new)) }
+    ensures listed { IfOk result (FindsListing profile (Some bytes.now) (W.contents writer.old) (W.contents writer.new)) }
     ensures fault { IfErr result (λ fault. is_of_a_write fault ≡ true) }
 {
-    match write_listing(alloc, &Code::of(bytes), slot(), Profile::One, writer) {
+    match write_listing(alloc, &Code::of(bytes), slot(), profile, writer) {
         Ok(()) => Ok(Ending::Well),
         Err(error) => Err(CommandFault::NotWritten(DeviceCause::of(&error))),
     }
@@ -135,13 +138,14 @@ fn write_bad_length<W: Write>(writer: &mut W) -> Result<Ending, CommandFault>
 pub fn disassemble<R: Read + Drop, W: Write>(
     alloc: Global,
     reader: R,
+    profile: Profile,
     writer: &mut W,
 ) -> Result<Ending, CommandFault>
-    ensures listed { IfOk result (FindsListing (R.remaining reader) (W.contents writer.old) (W.contents writer.new)) }
+    ensures listed { IfOk result (FindsListing profile (R.remaining reader) (W.contents writer.old) (W.contents writer.new)) }
     ensures unwritten { IfErr result (λ fault. is_of_a_write fault ≡ false → writer.new ≡ writer.old) }
 {
     match read_code(alloc, reader)? {
-        Some(bytes) => write_words(alloc, &bytes, writer),
+        Some(bytes) => write_words(alloc, &bytes, profile, writer),
         None => write_bad_length(writer),
     }
 }

@@ -108,16 +108,17 @@ fn code_at(files: &[Vec<u8>], place: usize) -> &[u8]
 fn write_module<W: Write>(
     number: usize,
     entry: u32,
+    profile: Profile,
     code: &[u8],
     writer: &mut W,
 ) -> Result<(), DeviceCause>
     requires number { number < 16 }
     requires code { IsCode code.now }
     requires entry { entry < length (words_of code.now) }
-    ensures { OnOk result (WritesModule number entry code.now (W.contents writer.old) (W.contents writer.new)) }
+    ensures { OnOk result (WritesModule profile number entry code.now (W.contents writer.old) (W.contents writer.new)) }
 {
     let words = Code::of(code).len_words() as u32;
-    let extent = Extent::of(WordCount::of(words), entry, Profile::One);
+    let extent = Extent::of(WordCount::of(words), entry, profile);
     let mut reader = code;
     match pack_module(ModuleNumber::at(number), extent, &mut reader, writer) {
         Ok(()) => Ok(()),
@@ -134,15 +135,16 @@ fn write_module<W: Write>(
 pub(crate) fn write_stream<W: Write>(
     first: usize,
     entry: u32,
+    profile: Profile,
     files: &[Vec<u8>],
     writer: &mut W,
 ) -> Result<(), DeviceCause>
     requires numbers { first + length files.now ≤ 16 }
     requires modules { spec.AreModules entry (map (λ file. file.items) files.now) }
-    ensures { OnOk result (spec.WritesStream first entry (map (λ file. file.items) files.now) (W.contents writer.old) (W.contents writer.new)) }
+    ensures { OnOk result (spec.WritesStream profile first entry (map (λ file. file.items) files.now) (W.contents writer.old) (W.contents writer.new)) }
 {
     for place in 0..files.len() {
-        write_module(first + place, entry, code_at(files, place), writer)?;
+        write_module(first + place, entry, profile, code_at(files, place), writer)?;
     }
     Ok(())
 }

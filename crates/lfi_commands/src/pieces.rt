@@ -2,7 +2,6 @@
 
 ghost use Rattle.std.specs.Prelude.{◌≡◌, ◌+◌, ◌*◌, ◌%◌, ◌<◌, ◌≤◌, ℕ, List, ◌++◌, length, IfOk, IfErr, IfSome, OnOk, IsTrue, false};
 ghost use Rattle.std.specs.Io.KnownBytes.{Consumes, IsAtEnd};
-ghost use Rattle.lfi_module.specs.declared.profile.Profile.TheVariants.{One};
 ghost use Rattle.lfi_module.specs.Numbers.{most_words};
 ghost use Rattle.lfi_code.specs.Begun.{Begins};
 ghost use Rattle.lfi_code.specs.Checking.{Checks};
@@ -59,15 +58,16 @@ fn judge_words<R: Read>(
     reader: &mut R,
     buffer: &mut [u8],
     words: u32,
+    profile: Profile,
 ) -> Result<Beginning, CommandFault>
     requires buffer { 4 ≤ length buffer.old }
     requires whole { length buffer.old % 4 ≡ 0 }
     requires some { 1 ≤ words }
     requires most { words ≤ most_words }
-    ensures begins { IfOk result (λ all. IsWholeModule (R.remaining reader.old) (R.remaining reader.new) all words) }
+    ensures begins { IfOk result (λ all. IsWholeModule profile (R.remaining reader.old) (R.remaining reader.new) all words) }
     ensures fault { IfErr result (λ fault. is_of_a_write fault ≡ false) }
 {
-    let mut beginning = Beginning::none(words, Profile::One);
+    let mut beginning = Beginning::none(words, profile);
     while beginning.judged < words {
         let left = (words - beginning.judged) as usize * WORD_BYTES;
         let count = left.min(buffer.len());
@@ -97,14 +97,15 @@ pub fn judge_pieces<R: Read + Drop>(
     alloc: Global,
     mut reader: R,
     words: u32,
+    profile: Profile,
 ) -> Result<Verdict, CommandFault>
     requires some { 1 ≤ words }
     requires most { words ≤ most_words }
-    ensures verdict { IfOk result (λ verdict. IfSome (R.remaining reader) (λ bytes. Checks One bytes verdict)) }
+    ensures verdict { IfOk result (λ verdict. IfSome (R.remaining reader) (λ bytes. Checks profile bytes verdict)) }
     ensures fault { IfErr result (λ fault. is_of_a_write fault ≡ false) }
 {
     let mut buffer = buffer(alloc, PIECE_BYTES)?;
-    let all = judge_words(&mut reader, &mut buffer, words)?;
+    let all = judge_words(&mut reader, &mut buffer, words, profile)?;
     if !is_at_end(alloc, reader)? {
         return Err(CommandFault::NotRead(DeviceCause::Other));
     }

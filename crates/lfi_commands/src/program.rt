@@ -1,7 +1,6 @@
 //! The program, from its words to its ending.
 
 ghost use Rattle.std.specs.Prelude.{◌≡◌, ◌≤◌, ℕ, List, [], ◌∷◌, Option, IfOk, IfErr, IfSome, OnErr, ◌+◌, false, length, map, option_map, string_bytes};
-ghost use Rattle.lfi_module.specs.declared.profile.Profile.TheVariants.{One};
 ghost use Rattle.lfi_command_line.specs.CommandLine.{IsLineFault};
 ghost use Rattle.lfi_commands.specs.Errors.{is_lost_of, writer_of};
 ghost use Rattle.lfi_code.specs.Checking.{Checks};
@@ -30,6 +29,7 @@ use crate::packing::{Stop, read_modules, write_stream};
 use crate::refused::write_asked_refused;
 use lfi_code::Verdict;
 use lfi_command_line::{Explain, Line, LineFault, read_line};
+use lfi_module::Profile;
 use lfi_place::ModuleReport;
 use lfi_run::run_image;
 use lfi_threads::Notices;
@@ -49,19 +49,20 @@ fn judge_file<D: Disk, O: Write>(
     alloc: Global,
     disk: &D,
     reader: D::Reader,
+    profile: Profile,
     how: Explain,
     out: &mut O,
 ) -> Result<Verdict, CommandFault>
-    ensures verdict { IfOk result (λ verdict. IfSome (D.Reader.remaining reader) (λ bytes. Checks One bytes verdict)) }
-    ensures written { IfOk result (λ verdict. WritesVerdict how (D.Reader.remaining reader) verdict (O.contents out.old) (O.contents out.new)) }
+    ensures verdict { IfOk result (λ verdict. IfSome (D.Reader.remaining reader) (λ bytes. Checks profile bytes verdict)) }
+    ensures written { IfOk result (λ verdict. WritesVerdict profile how (D.Reader.remaining reader) verdict (O.contents out.old) (O.contents out.new)) }
     ensures unwritten { IfErr result (λ fault. is_of_a_write fault ≡ false → out.new ≡ out.old) }
 {
     match how {
         Explain::Nothing => {
             let length = disk.length(&reader);
-            check_file(alloc, reader, length, out)
+            check_file(alloc, reader, length, profile, out)
         }
-        _ => check_explained(alloc, reader, how, out),
+        _ => check_explained(alloc, reader, profile, how, out),
     }
 }
 
@@ -70,15 +71,16 @@ fn run_check<'a, D: Disk, O: Write>(
     alloc: Global,
     disk: &D,
     path: &'a str,
+    profile: Profile,
     how: Explain,
     out: &mut O,
 ) -> Result<Ending, Failure<'a>>
-    ensures found { IfOk result (FindsVerdict how (D.file_at disk.now path.now) (O.contents out.old) (O.contents out.new)) }
+    ensures found { IfOk result (FindsVerdict profile how (D.file_at disk.now path.now) (O.contents out.old) (O.contents out.new)) }
     ensures failure { IfErr result (FailsOn (path.now ∷ [])) }
     ensures output { IfErr result (λ failure. is_of_output failure ≡ false → out.new ≡ out.old) }
 {
     let reader = open(disk, path)?;
-    match judge_file(alloc, disk, reader, how, out) {
+    match judge_file(alloc, disk, reader, profile, how, out) {
         Ok(verdict) => Ok(Ending::of_verdict(&verdict)),
         Err(fault) => Err(Failure::of(fault, path)),
     }
@@ -89,14 +91,15 @@ fn run_disassemble<'a, D: Disk, O: Write>(
     alloc: Global,
     disk: &D,
     path: &'a str,
+    profile: Profile,
     out: &mut O,
 ) -> Result<Ending, Failure<'a>>
-    ensures found { IfOk result (FindsListing (D.file_at disk.now path.now) (O.contents out.old) (O.contents out.new)) }
+    ensures found { IfOk result (FindsListing profile (D.file_at disk.now path.now) (O.contents out.old) (O.contents out.new)) }
     ensures failure { IfErr result (FailsOn (path.now ∷ [])) }
     ensures output { IfErr result (λ failure. is_of_output failure ≡ false → out.new ≡ out.old) }
 {
     let reader = open(disk, path)?;
-    match disassemble(alloc, reader, out) {
+    match disassemble(alloc, reader, profile, out) {
         Ok(ending) => Ok(ending),
         Err(fault) => Err(Failure::of(fault, path)),
     }
@@ -109,12 +112,13 @@ fn run_pack<'a, D: Disk, O: Write, E: Write>(
     disk: &D,
     first: usize,
     entry: u32,
+    profile: Profile,
     paths: &[&'a str],
     out: &mut O,
     errors: &mut Errors<E>,
 ) -> Result<Ending, Failure<'a>>
     requires numbers { first + length paths.now ≤ 16 }
-    ensures found { IfOk result (FindsPacked first entry (map (λ path. path.now) paths.now) (D.file_at disk.now)
+    ensures found { IfOk result (FindsPacked profile first entry (map (λ path. path.now) paths.now) (D.file_at disk.now)
         (O.contents out.old) (O.contents out.new) (is_lost_of errors.new) (E.contents (writer_of errors.old)) (E.contents (writer_of errors.new))) }
     ensures failure { IfErr result (FailsOn (map (λ path. path.now) paths.now)) }
     ensures output { IfErr result (λ failure. is_of_output failure ≡ false → out.new ≡ out.old) }
@@ -131,7 +135,7 @@ fn run_pack<'a, D: Disk, O: Write, E: Write>(
             return Ok(Ending::Failed);
         }
     };
-    match write_stream(first, entry, &files, out) {
+    match write_stream(first, entry, profile, &files, out) {
         Ok(()) => Ok(Ending::Well),
         Err(cause) => Err(Failure::of_output(cause)),
     }
@@ -313,7 +317,11 @@ fn run<
     ensures errors { OnErr result (errors.new ≡ errors.old) }
 {
     match line {
-        Line::Check { file, explain } => run_check(alloc, disk, file, explain, out),
+        Line::Check {
+            file,
+            explain,
+            profile,
+        } => run_check(alloc, disk, file, profile, explain, out),
         Line::Load {
             verifiers,
             out: folder,
@@ -344,12 +352,13 @@ fn run<
             errors,
         ),
         Line::Run { image, steps } => run_run(alloc, disk, image, steps, out, errors),
-        Line::Disassemble { file } => run_disassemble(alloc, disk, file, out),
+        Line::Disassemble { file, profile } => run_disassemble(alloc, disk, file, profile, out),
         Line::Pack {
             module,
             entry,
+            profile,
             codes,
-        } => run_pack(alloc, disk, module, entry, &codes, out, errors),
+        } => run_pack(alloc, disk, module, entry, profile, &codes, out, errors),
     }
 }
 

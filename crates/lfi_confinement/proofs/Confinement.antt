@@ -1,5 +1,5 @@
 -- Lawful code stays in its slot.
-use Rattle.std.proofs.Common.{◌≡◌, ℕ, zero, suc, ◌+◌, ◌-◌, ◌*◌, ◌%◌, ◌^◌, ◌<◌, ◌≤◌, Bool, true, false, cond, not, ◌&&◌, ◌||◌, ◌⊎◌, inl, inr, [], length, Option, Some, None, ℤ, pos, negsuc, nat_abs, ◌*ℤ◌, ◌+ℤ◌, refl, sym, ap, ◌∙◌, subst, arith, eqb, ltb, eqb-true, ltb-true, slice_get}
+use Rattle.std.proofs.Common.{◌≡◌, ℕ, zero, suc, ◌+◌, ◌-◌, ◌*◌, ◌%◌, ◌^◌, ◌<◌, ◌≤◌, Bool, true, false, cond, not, ◌&&◌, ◌||◌, ◌⊎◌, inl, inr, [], length, Option, Some, None, ℤ, pos, negsuc, nat_abs, ◌*ℤ◌, ◌+ℤ◌, refl, sym, ap, ◌∙◌, subst, arith, eqb, ltb, eqb-true, ltb-true}
 use Rattle.std.specs.List.{AllByRecursion}
 use Rattle.std.proofs.lemmas.Bool.{and_parts, cond_both, cond-true, cond-false}
 use Rattle.std.proofs.lemmas.Int.{ints}
@@ -33,21 +33,22 @@ use Rattle.a64_semantics.proofs.Told.{places_told}
 use Rattle.lfi_rules.specs.declared.needs.Need.{Need}
 use Rattle.lfi_rules.specs.declared.needs.Need.TheVariants.{Nothing, Call, Guard, Probe}
 use Rattle.lfi_rules.specs.Registers.{holds_address}
-use Rattle.lfi_rules.specs.Guard.{is_guard, sets_stack, is_guard_sum, sets_stack_sum, guards_link_sum}
-use Rattle.lfi_rules.specs.Needs.{is_load_64, loads_link, loads_entry, calls_link, is_offset, is_zero, moves_stack, window, opens_of, meets_of}
-use Rattle.lfi_rules.specs.Rules.{links, is_indexed, is_confined, is_inside, is_ret}
-use Rattle.lfi_rules.proofs.Lawful.{next_meets}
+use Rattle.lfi_rules.specs.Guard.{is_guard, sets_stack, is_guard_sum, sets_stack_sum, guards_link, guards_link_sum}
+use Rattle.lfi_module.specs.declared.profile.Profile.{Profile}
+use Rattle.lfi_rules.specs.Needs.{is_load_64, loads_link, loads_entry, calls_link, probes_stack, is_offset, is_zero, moves_stack, window, opens_of}
+use Rattle.lfi_rules.specs.Rules.{writes, links, is_indexed, is_confined, is_inside, is_ret}
+use Rattle.lfi_rules.specs.Calm.{branches, is_breakpoint, is_at_stack, is_nothing, is_calm}
 use Rattle.lfi_confinement.specs.Slots.{base, InSlot, word_address, entry_address, entry_at, memory_of}
 use Rattle.lfi_confinement.specs.Lawful.{Held}
 use Rattle.lfi_confinement.specs.Moves.{State, Fetches, Move, go, stop, ask, escape, first_denied, carried_out, unless_denied, accessed, called_entry, unless_called, performed, Moves, unfetched, fetched}
 use Rattle.lfi_confinement.specs.Runs.{Outcome, Running, Stopped, Escaped, Leads, Step, Reach, NeverEscapes}
 use Rattle.lfi_confinement.specs.inner.Kept.{IsKept, IsFollowed}
-use Rattle.lfi_confinement.specs.inner.Invariant.{IsLinkFor, IsStackFor, HeldFor, IsSafe}
+use Rattle.lfi_confinement.specs.inner.Invariant.{IsLinkFor, IsStackFor, HeldFor, Awaits, IsMet, IsSafe}
 use Rattle.lfi_confinement.proofs.Places.{Bounds, bounds, in_slot_test, guarded_test, Stands, stands, touched_in_slot, loaded_entry, entry_is}
-use Rattle.lfi_confinement.proofs.Needed.{kept_at, followed_by}
-use Rattle.lfi_confinement.proofs.Uses.{Avoids, Narrow, base_avoided, addresses_avoided, link_avoided, offset_narrowed, stack_avoided, either}
-use Rattle.lfi_confinement.proofs.Held.{AllFine, keeps_all, kept_sp, stack_in_slot, narrow_below, weaker, relinked, from_held, flags_below, goes_on, IsTame, AnyLink, no_link, any_link, tame, fine, no_stack}
-use Rattle.lfi_confinement.proofs.Results.{IsShort, short, Near, access_near, access_stack, linked_fine, extended_sum, immediate_sum, guards, guard_in, sets, sets_in, moves, moved_in}
+use Rattle.lfi_confinement.proofs.Needed.{kept_at, followed_at}
+use Rattle.lfi_confinement.proofs.Uses.{Avoids, Narrow, base_avoided, addresses_avoided, link_avoided, offset_narrowed, stack_avoided, not_written, either}
+use Rattle.lfi_confinement.proofs.Held.{AllFine, keeps_all, kept_sp, stack_in_slot, narrow_below, later, weaker, relinked, from_held, flags_below, goes_on, IsTame, AnyLink, no_link, any_link, tame, fine, no_stack}
+use Rattle.lfi_confinement.proofs.Results.{IsShort, short, not_true, Near, access_near, access_stack, linked_fine, extended_sum, immediate_sum, guards, guard_in, sets, sets_in, moves, moved_in}
 use Rattle.lfi_image.specs.Image.{Image, IsImage}
 
 -- ---- moves that are safe
@@ -59,7 +60,7 @@ SafeMove c (ask entry given) = Unit {0}
 SafeMove c escape = ⊥
 
 pub safe_start : (c : Image) (r : Registers) → Held (base c) r → IsSafe c r
-safe_start c r h = record { need = Nothing; held = from_held (base c) r h; met = λ i e. refl }
+safe_start c r h = record { need = Nothing; held = from_held (base c) r h; met = tt }
 
 -- what an instruction leaves in registers
 abbrev pub left : Image → Instruction → State → Registers
@@ -67,8 +68,7 @@ left c i s = put_all (results_of i s.registers (memory_of c s.data_at)) s.regist
 
 -- an instruction that leaves registers lawful but for a need, and goes on in the slot at a word that meets it
 carries_out : (c : Image) (i : Instruction) (s : State) (offset : ℕ) (need : Need) → s.registers.nzcv < 16 → HeldFor (base c) need (left c i s)
-    → InSlot (base c) (next_pc i s.registers) → ((j : Instruction) → Fetches c (next_pc i s.registers) j → meets_of j need ≡ true)
-    → SafeMove c (carried_out c i s offset)
+    → InSlot (base c) (next_pc i s.registers) → IsMet c need (next_pc i s.registers) → SafeMove c (carried_out c i s offset)
 carries_out c i s offset need flags h within met =
     rw (in_slot_test (base c) (next_pc i s.registers) within)
     (record {
@@ -83,9 +83,9 @@ carries_out c i s offset need flags h within met =
 record Rules (c : Image) (r : Registers) (i : Instruction) : Type 0 where
   k : ℕ
   keep : IsKept i k (length c.words)
-  -- the next word lies in the slot, and meets what this one opens
+  -- the next word lies in the slot, and from there on what this one opens is met
   within : InSlot (base c) (following r)
-  met : (j : Instruction) → Fetches c (following r) j → IsFollowed c.profile i j
+  met : IsFollowed c i (following r)
 
 rules_at : (c : Image) (r : Registers) (i : Instruction) → IsImage c → Stands c r.pc i → Rules c r i
 rules_at c r i l st =
@@ -94,10 +94,7 @@ rules_at c r i l st =
       k = st.k;
       keep = kept_at c r i l st;
       within = record { low = omega (arith, st.at, st.within, b.low, b.high, b.words); high = omega (arith, st.at, st.within, b.low, b.high, b.words) };
-      met = λ j f.
-          let n = stands c (following r) j f in
-          let e : n.k ≡ st.k + 1 = omega (arith, st.at, st.within, b.low, b.high, b.words, n.at, n.within) in
-          followed_by c.profile i j (next_meets c.profile c.words (length c.words) st.k st.word n.word i j l.lawful.faultless st.is (subst (λ k. slice_get c.words k ≡ Some n.word) e n.is) st.spelled n.spelled);
+      met = followed_at c r i l st;
     }
 
 -- ---- results that go to no reserved register
@@ -111,26 +108,31 @@ record IsPlain (i : Instruction) : Type 0 where
   moves : moves_stack i ≡ false
   indexed : is_indexed (address_of i) ≡ false
 
-plain_fine : (c : Image) (i : Instruction) (s : State) (k : ℕ) → IsKept i k (length c.words) → IsPlain i
-    → AllFine (base c) Nothing (results_of i s.registers (memory_of c s.data_at))
-plain_fine c i s k keep p =
+-- results that go neither to sp nor to the reserved registers in their own way, whatever need is open
+apart_fine : (c : Image) (i : Instruction) (s : State) (k : ℕ) (need : Need) → IsKept i k (length c.words) → is_guard i ≡ false → links i ≡ false → loads_link i ≡ false
+    → Avoids 31 (writes_of i) → AllFine (base c) need (results_of i s.registers (memory_of c s.data_at))
+apart_fine c i s k need keep guard links loads stack =
     let n = length c.words in
     let from = base c in
     let told = places_told i s.registers (memory_of c s.data_at) in
-    let a = addresses_avoided i k n keep p.guard in
-    let t = tame from Nothing (writes_of i) (base_avoided i k n keep) (offset_narrowed i k n keep) a.first a.second a.third
-    (no_link from Nothing (writes_of i) (link_avoided i k n keep p.guard p.links p.loads)) in
-    fine from Nothing (results_of i s.registers (memory_of c s.data_at))
-    (subst (λ uses. AllByRecursion (IsTame from Nothing) uses) (sym told) t)
-    (no_stack from Nothing (results_of i s.registers (memory_of c s.data_at))
-    (subst (λ uses. Avoids 31 uses) (sym told) (stack_avoided i k n keep p.guard p.sets p.moves p.indexed)))
+    let a = addresses_avoided i k n keep guard in
+    let t = tame from need (writes_of i) (base_avoided i k n keep) (offset_narrowed i k n keep) a.first a.second a.third
+    (no_link from need (writes_of i) (link_avoided i k n keep guard links loads)) in
+    fine from need (results_of i s.registers (memory_of c s.data_at))
+    (subst (λ uses. AllByRecursion (IsTame from need) uses) (sym told) t)
+    (no_stack from need (results_of i s.registers (memory_of c s.data_at)) (subst (λ uses. Avoids 31 uses) (sym told) stack))
+
+plain_fine : (c : Image) (i : Instruction) (s : State) (k : ℕ) → IsKept i k (length c.words) → IsPlain i
+    → AllFine (base c) Nothing (results_of i s.registers (memory_of c s.data_at))
+plain_fine c i s k keep p =
+    apart_fine c i s k Nothing keep p.guard p.links p.loads (stack_avoided i k (length c.words) keep p.guard p.sets p.moves p.indexed)
 
 -- a plain instruction that goes on in the slot
 plain : (c : Image) (i : Instruction) (s : State) → HeldFor (base c) Nothing s.registers → Rules c s.registers i → IsPlain i
     → InSlot (base c) (next_pc i s.registers) → SafeMove c (carried_out c i s 0)
 plain c i s h r p within =
     carries_out c i s 0 Nothing h.flags
-    (keeps_all (base c) Nothing (results_of i s.registers (memory_of c s.data_at)) s.registers h (plain_fine c i s r.k r.keep p)) within (λ j e. refl)
+    (keeps_all (base c) Nothing (results_of i s.registers (memory_of c s.data_at)) s.registers h (plain_fine c i s r.k r.keep p)) within tt
 
 -- ---- branches
 
@@ -179,7 +181,7 @@ linked_carried : (c : Image) (i : Instruction) (s : State) (links : Bool) → He
 linked_carried c i s links h r e within =
     carries_out c i s 0 Nothing h.flags
     (subst (λ ws. HeldFor (base c) Nothing (put_all ws s.registers)) (sym e)
-    (keeps_all (base c) Nothing (linked links s.registers) s.registers h (linked_fine (base c) links s.registers r.within))) within (λ j e. refl)
+    (keeps_all (base c) Nothing (linked links s.registers) s.registers h (linked_fine (base c) links s.registers r.within))) within tt
 
 -- ---- accesses
 
@@ -191,10 +193,9 @@ record IsAccess (i : Instruction) : Type 0 where
 
 -- an instruction that goes on with the next word
 falls : (c : Image) (i : Instruction) (s : State) (offset : ℕ) (need : Need) → s.registers.nzcv < 16 → HeldFor (base c) need (left c i s)
-    → Rules c s.registers i → next_pc i s.registers ≡ following s.registers
-    → ((j : Instruction) → Fetches c (following s.registers) j → meets_of j need ≡ true) → SafeMove c (carried_out c i s offset)
+    → Rules c s.registers i → next_pc i s.registers ≡ following s.registers → IsMet c need (following s.registers) → SafeMove c (carried_out c i s offset)
 falls c i s offset need flags h r next met =
-    carries_out c i s offset need flags h (subst (InSlot (base c)) (sym next) r.within) (λ j f. met j (subst (λ a. Fetches c a j) next f))
+    carries_out c i s offset need flags h (subst (InSlot (base c)) (sym next) r.within) (subst (IsMet c need) (sym next) met)
 
 -- an access leaves registers lawful but for a need
 access_left : (c : Image) (i : Instruction) (s : State) (a : Address) (need : Need) → IsImage c → HeldFor (base c) Nothing s.registers → Rules c s.registers i → IsAccess i
@@ -224,19 +225,18 @@ access_carried : (c : Image) (i : Instruction) (s : State) (a : Address) (offset
 access_carried c i s a offset l h r x e short at within entry = elim (both (loads_entry i)) [
   | inl t ↦ (
       let opens : opens_of c.profile i ≡ Call = cond-true (loads_entry i) Call (cond (loads_link i) Guard (cond (moves_stack i) (Probe (window c.profile)) Nothing)) t in
-      falls c i s offset Call h.flags (entry t) r (x.next s.registers) (λ j f. (let m = r.met j f in m.call opens)))
+      falls c i s offset Call h.flags (entry t) r (x.next s.registers) (r.met.call opens))
   | inr t ↦ (elim (both (loads_link i)) [
     | inl d ↦ (
         let opens : opens_of c.profile i ≡ Guard =
         cond-false (loads_entry i) Call (cond (loads_link i) Guard (cond (moves_stack i) (Probe (window c.profile)) Nothing)) t
         ∙ cond-true (loads_link i) Guard (cond (moves_stack i) (Probe (window c.profile)) Nothing) d in
-        falls c i s offset Guard h.flags (access_left c i s a Guard l h r x e short at within tt (any_link (base c) (writes_of i))) r (x.next s.registers)
-        (λ j f. (let m = r.met j f in m.guard opens)))
+        falls c i s offset Guard h.flags (access_left c i s a Guard l h r x e short at within tt (any_link (base c) (writes_of i))) r (x.next s.registers) (r.met.guard opens))
     | inr d ↦
         falls c i s offset Nothing h.flags
         (access_left c i s a Nothing l h r x e short at within h.link
         (no_link (base c) Nothing (writes_of i) (link_avoided i r.k (length c.words) r.keep x.guard x.links d)))
-        r (x.next s.registers) (λ j f. refl)
+        r (x.next s.registers) tt
   ])
 ]
 
@@ -259,7 +259,7 @@ from_access : (c : Image) (s : State) (i : Instruction) (a : Address) → IsImag
     → SafeMove c (accessed c i s (Some (touch_at i s.registers a)))
 from_access c s i a l h r x e short at entry =
     let b = bounds c l in
-    access_tried c s i (touch_at i s.registers a) l short.some (access_near (base c) a s.registers b.low b.high h short at)
+    access_tried c s i (touch_at i s.registers a) l short.some (access_near (base c) a Nothing s.registers b.low b.high h (λ _. h.stack) short at)
     (λ offset within. access_carried c i s a offset l h r x e short at within entry)
 
 -- ---- sums into sp, and the guard
@@ -269,19 +269,20 @@ sp_moved : (from : ℕ) (need : Need) (flags : Bool) (rd : ℕ) (width : Width) 
 sp_moved from need true rd width v r f e h l s = cc
 sp_moved from need false rd width v r f e h l s = rw e (kept_sp from need (low_bits width v) r (weaker from need r h l) s)
 
-guarded_fine : (from : ℕ) (flags : Bool) (rd : ℕ) (width : Width) (v : ℕ) → flags ≡ false → InSlot from (low_bits width v)
+guarded_fine : (from : ℕ) (need : Need) (flags : Bool) (rd : ℕ) (width : Width) (v : ℕ) → flags ≡ false → (InSlot from (low_bits width v) → IsLinkFor from need (low_bits width v))
+    → InSlot from (low_bits width v)
     → Avoids 21 (cond flags (general rd width []) (or_sp rd width [])) → Narrow 22 (cond flags (general rd width []) (or_sp rd width []))
-    → AllFine from Nothing (to_sp_unless flags rd width v)
-guarded_fine from true rd width v f within a n = cc
-guarded_fine from false rd width v f within a n = (
+    → AllFine from need (to_sp_unless flags rd width v)
+guarded_fine from need true rd width v f link within a n = cc
+guarded_fine from need false rd width v f link within a n = (
   record {
     base = a.0;
     offset = λ e. narrow_below width v (n.0 e);
     first = λ _. within;
     second = λ _. within;
     third = λ _. within;
-    link = λ _. within;
-    stack = λ _. stack_in_slot from Nothing (low_bits width v) within;
+    link = λ _. link within;
+    stack = λ _. stack_in_slot from need (low_bits width v) within;
   },
   tt,
 )
@@ -328,7 +329,7 @@ from_free c s (instruction.AddSubImmediate i) l st h =
       | inl t ↦ (let m = moves i t in falls c (instruction.AddSubImmediate i) s 0 (Probe (window c.profile)) h.flags
           (sp_moved (base c) (Probe (window c.profile)) i.set_flags i.rd i.width (immediate_sum i s.registers) s.registers m.flags m.place h h.link
           (moved_in (base c) (window c.profile) i s.registers b.low b.high imm h.stack m))
-          r refl (λ j f. (let m = r.met j f in m.probe (cond-true (moves_stack (instruction.AddSubImmediate i)) (Probe (window c.profile)) Nothing t))))
+          r refl (r.met.probe (window c.profile) (cond-true (moves_stack (instruction.AddSubImmediate i)) (Probe (window c.profile)) Nothing t)))
       | inr t ↦ plain c (instruction.AddSubImmediate i) s h r (record { guard = refl; links = refl; loads = refl; sets = refl; moves = t; indexed = refl }) r.within
     ]
 from_free c s (instruction.LogicalImmediate i) l st h =
@@ -355,15 +356,15 @@ from_free c s (instruction.AddSubExtended i) l st h =
     elim (both (is_guard_sum i)) [
       | inl t ↦ (let g = guards i t in carries_out c (instruction.AddSubExtended i) s 0 Nothing h.flags
           (keeps_all (base c) Nothing (results_of (instruction.AddSubExtended i) s.registers (memory_of c s.data_at)) s.registers h
-          (guarded_fine (base c) i.set_flags i.rd i.width (extended_sum i s.registers) g.sum.flags
+          (guarded_fine (base c) Nothing i.set_flags i.rd i.width (extended_sum i s.registers) g.sum.flags (λ h. h)
           (guard_in (base c) i s.registers b.high h.base g) (base_avoided (instruction.AddSubExtended i) r.k (length c.words) r.keep)
           (offset_narrowed (instruction.AddSubExtended i) r.k (length c.words) r.keep)))
-          r.within (λ j e. refl))
+          r.within tt)
       | inr t ↦ (elim (both (sets_stack_sum i)) [
         | inl u ↦ (let g = sets i u in carries_out c (instruction.AddSubExtended i) s 0 Nothing h.flags
             (sp_moved (base c) Nothing i.set_flags i.rd i.width (extended_sum i s.registers) s.registers g.sum.flags g.place h h.link
             (stack_in_slot (base c) Nothing (low_bits i.width (extended_sum i s.registers)) (sets_in (base c) i s.registers b.high h.base h.offset g)))
-            r.within (λ j e. refl))
+            r.within tt)
         | inr u ↦ plain c (instruction.AddSubExtended i) s h r (record { guard = t; links = refl; loads = refl; sets = u; moves = refl; indexed = refl }) r.within
       ])
     ]
@@ -424,14 +425,14 @@ from_free c s (instruction.RegisterOffset i) l st h =
     let r = rules_at c s.registers (instruction.RegisterOffset i) l st in
     from_access c s (instruction.RegisterOffset i) _ l h r (record { guard = refl; links = refl; moves = refl; next = λ r. refl }) refl
     (short (instruction.RegisterOffset i) st.word st.spelled.spells) (r.keep.access) (λ e. cc)
-from_free c s (instruction.Ordered i) l st h =
-    let r = rules_at c s.registers (instruction.Ordered i) l st in
-    from_access c s (instruction.Ordered i) _ l h r (record { guard = refl; links = refl; moves = refl; next = λ r. refl }) refl
-    (short (instruction.Ordered i) st.word st.spelled.spells) (r.keep.access) (λ e. cc)
 from_free c s (instruction.Pair i) l st h =
     let r = rules_at c s.registers (instruction.Pair i) l st in
     from_access c s (instruction.Pair i) _ l h r (record { guard = refl; links = refl; moves = refl; next = λ r. refl }) refl
     (short (instruction.Pair i) st.word st.spelled.spells) (r.keep.access) (λ e. cc)
+from_free c s (instruction.Ordered i) l st h =
+    let r = rules_at c s.registers (instruction.Ordered i) l st in
+    from_access c s (instruction.Ordered i) _ l h r (record { guard = refl; links = refl; moves = refl; next = λ r. refl }) refl
+    (short (instruction.Ordered i) st.word st.spelled.spells) (r.keep.access) (λ e. cc)
 
 -- ---- each instruction that meets a need
 
@@ -452,7 +453,7 @@ from_guard c s i l st h t =
     let g = guards i q.0 in
     carries_out c (instruction.AddSubExtended i) s 0 Nothing h.flags
     (guard_left (base c) i.set_flags i.rd i.width (extended_sum i s.registers) s.registers g.sum.flags (eqb-true i.rd 30 p.1) g.sum.width h (guard_in (base c) i s.registers b.high h.base g))
-    r.within (λ j e. refl)
+    r.within tt
 
 -- at an entry the runtime is called
 from_call : (c : Image) (s : State) (i : BranchRegister) → HeldFor (base c) Call s.registers → calls_link (instruction.BranchRegister i) ≡ true
@@ -478,11 +479,11 @@ from_sp from count r h i = record {
   flags = h.flags;
 }
 
-from_probe : (c : Image) (s : State) (count : ℕ) (i : Instruction) (a : Address) → IsImage c → HeldFor (base c) (Probe count) s.registers → Rules c s.registers i → IsAccess i
+from_probe : (c : Image) (s : State) (i : Instruction) (a : Address) (count : ℕ) → IsImage c → HeldFor (base c) (Probe count) s.registers → Rules c s.registers i → IsAccess i
     → address_of i ≡ Some a → IsShort a → is_confined (Some a) ≡ true → first_byte a s.registers ≡ s.registers.sp
     → (HeldFor (base c) Nothing s.registers → loads_entry i ≡ true → HeldFor (base c) Call (left c i s))
     → SafeMove c (accessed c i s (Some (touch_at i s.registers a)))
-from_probe c s count i a l h r x e short at is entry =
+from_probe c s i a count l h r x e short at is entry =
     let few = short.few in
     access_tried c s i (touch_at i s.registers a) l short.some
     (record { low = omega (arith, is, h.stack.low); high = omega (arith, is, h.stack.high, few) })
@@ -509,32 +510,153 @@ offset_mode pair_modes.Offset h = refl
 offset_mode pair_modes.PostIndex h = cc
 offset_mode pair_modes.PreIndex h = cc
 
-met_safe : (c : Image) (s : State) (i : Instruction) (need : Need) → IsImage c → Stands c s.registers.pc i → HeldFor (base c) need s.registers → meets_of i need ≡ true
+-- a load or store at sp
+probes_safe : (c : Image) (s : State) (i : Instruction) (count : ℕ) → IsImage c → Stands c s.registers.pc i → HeldFor (base c) (Probe count) s.registers → probes_stack i ≡ true
     → SafeMove c (performed c s i)
-met_safe c s i Nothing l st h t = from_free c s i l st h
-met_safe c s (instruction.BranchRegister i) Call l st h t = from_call c s i h t
-met_safe c s (instruction.AddSubExtended i) Guard l st h t = from_guard c s i l st h t
-met_safe c s (instruction.UnsignedOffset i) (Probe count) l st h t =
+probes_safe c s (instruction.UnsignedOffset i) count l st h t =
     let r = rules_at c s.registers (instruction.UnsignedOffset i) l st in
     let b = bounds c l in
     let p = and_parts (eqb i.rn 31) (eqb i.imm12 0) t in
     let zero : pos (i.imm12 * 2 ^ size_code i.size) ≡ pos 0 = ap pos (zero_scaled i.imm12 i.size (eqb-true i.imm12 0 p.1)) in
-    from_probe c s count (instruction.UnsignedOffset i) _ l h r (record { guard = refl; links = refl; moves = refl; next = λ r. refl }) refl
+    from_probe c s (instruction.UnsignedOffset i) _ count l h r (record { guard = refl; links = refl; moves = refl; next = λ r. refl }) refl
     (short (instruction.UnsignedOffset i) st.word st.spelled.spells) (r.keep.access)
     (zero_offset (base c) count i.rn (pos (i.imm12 * 2 ^ size_code i.size)) s.registers b.high (eqb-true i.rn 31 p.0) zero h)
     (λ free e. entry_held c s i l free e)
-met_safe c s (instruction.Pair i) (Probe count) l st h t =
+probes_safe c s (instruction.Pair i) count l st h t =
     let r = rules_at c s.registers (instruction.Pair i) l st in
     let b = bounds c l in
     let p = and_parts (is_offset i.mode && eqb i.rn 31) (is_zero i.imm7) t in
     let q = and_parts (is_offset i.mode) (eqb i.rn 31) p.0 in
     let mode = offset_mode i.mode q.0 in
     let a : Form → Address = λ form. record { base = i.rn; form = form; offset = pair_offset i.width i.imm7; bytes = pair_bytes i.width } in
-    from_probe c s count (instruction.Pair i) _ l h r (record { guard = refl; links = refl; moves = refl; next = λ r. refl }) refl
+    from_probe c s (instruction.Pair i) _ count l h r (record { guard = refl; links = refl; moves = refl; next = λ r. refl }) refl
     (short (instruction.Pair i) st.word st.spelled.spells) (r.keep.access)
     (ap (λ form. first_byte (a form) s.registers) mode ∙ zero_offset (base c) count i.rn (pair_offset i.width i.imm7) s.registers b.high (eqb-true i.rn 31 q.1) (zero_pair i.width i.imm7 p.1) h)
     (λ free e. cc)
-met_safe c s i need l st h t = cc
+probes_safe c s i count l st h t = cc
+
+-- ---- each calm instruction, between the move of sp and its probe
+
+-- what is needed of it
+pub record LeavesStack (p : Profile) (i : Instruction) : Type 0 where
+  pub branch : branches i ≡ false
+  pub stack : Avoids 31 (writes_of i)
+  pub base : is_at_stack (address_of i) ≡ false
+  pub link : loads_link i ≡ false
+
+opens_no_link : (p : Profile) (entry link moves : Bool) → is_nothing (cond entry Call (cond link Guard (cond moves (Probe (window p)) Nothing))) ≡ true → link ≡ false
+opens_no_link p true link moves h = cc
+opens_no_link p false true moves h = cc
+opens_no_link p false false moves h = refl
+
+pub leaves_stack : (p : Profile) (i : Instruction) → is_calm p i ≡ true → LeavesStack p i
+leaves_stack p i h =
+    let a = and_parts (not (branches i) && not (is_breakpoint i) && not (writes i 31) && not (is_at_stack (address_of i)))
+    (is_nothing (cond (loads_entry i) Call (cond (loads_link i) Guard (cond (moves_stack i) (Probe (window p)) Nothing)))) h in
+    let b = and_parts (not (branches i) && not (is_breakpoint i) && not (writes i 31)) (not (is_at_stack (address_of i))) a.0 in
+    let d = and_parts (not (branches i) && not (is_breakpoint i)) (not (writes i 31)) b.0 in
+    let e = and_parts (not (branches i)) (not (is_breakpoint i)) d.0 in
+    record {
+      branch = not_true (branches i) e.0;
+      stack = not_written i d.1;
+      base = not_true (is_at_stack (address_of i)) b.1;
+      link = opens_no_link p (loads_entry i) (loads_link i) (moves_stack i) a.1;
+    }
+
+falls_through : (i : Instruction) (r : Registers) → branches i ≡ false → next_pc i r ≡ following r
+falls_through (instruction.Branch i) r h = cc
+falls_through (instruction.ConditionalBranch i) r h = cc
+falls_through (instruction.CompareBranch i) r h = cc
+falls_through (instruction.TestBranch i) r h = cc
+falls_through (instruction.BranchRegister i) r h = cc
+falls_through i r h = refl
+
+no_links : (i : Instruction) → branches i ≡ false → links i ≡ false
+no_links (instruction.Branch i) h = cc
+no_links (instruction.BranchRegister i) h = cc
+no_links i h = refl
+
+-- one that isn't the guard
+apart_carried : (c : Image) (i : Instruction) (s : State) (offset count : ℕ) → HeldFor (base c) (Probe count) s.registers → Rules c s.registers i → LeavesStack c.profile i → is_guard i ≡ false
+    → Awaits c (following s.registers) count → SafeMove c (carried_out c i s offset)
+apart_carried c i s offset count h r q guard on =
+    falls c i s offset (Probe count) h.flags
+    (keeps_all (base c) (Probe count) (results_of i s.registers (memory_of c s.data_at)) s.registers h
+    (apart_fine c i s r.k (Probe count) r.keep guard (no_links i q.branch) q.link q.stack))
+    r (falls_through i s.registers q.branch) on
+
+-- an access that doesn't go through sp
+apart_access : (c : Image) (s : State) (i : Instruction) (a : Address) (count : ℕ) → IsImage c → HeldFor (base c) (Probe count) s.registers → Rules c s.registers i → LeavesStack c.profile i
+    → is_guard i ≡ false → address_of i ≡ Some a → IsShort a → is_confined (Some a) ≡ true → Awaits c (following s.registers) count
+    → SafeMove c (accessed c i s (Some (touch_at i s.registers a)))
+apart_access c s i a count l h r q guard e short at on =
+    let b = bounds c l in
+    access_tried c s i (touch_at i s.registers a) l short.some
+    (access_near (base c) a (Probe count) s.registers b.low b.high h (λ x. absurd (not_31 a.base (subst (λ o. is_at_stack o ≡ false) e q.base) x)) short at)
+    (λ offset within. apart_carried c i s offset count h r q guard on)
+  where
+    not_31 : (n : ℕ) → eqb n 31 ≡ false → n ≡ 31 → ⊥
+    not_31 n f e = let t : eqb n 31 ≡ true = ap (λ k. eqb k 31) e in cc
+
+from_calm : (c : Image) (s : State) (i : Instruction) (count : ℕ) → IsImage c → Stands c s.registers.pc i → HeldFor (base c) (Probe count) s.registers → LeavesStack c.profile i
+    → Awaits c (following s.registers) count → SafeMove c (performed c s i)
+from_calm c s (instruction.UnsignedOffset i) count l st h q on =
+    let r = rules_at c s.registers (instruction.UnsignedOffset i) l st in
+    apart_access c s (instruction.UnsignedOffset i) _ count l h r q refl refl (short (instruction.UnsignedOffset i) st.word st.spelled.spells) (r.keep.access) on
+from_calm c s (instruction.SignedOffset i) count l st h q on =
+    let r = rules_at c s.registers (instruction.SignedOffset i) l st in
+    apart_access c s (instruction.SignedOffset i) _ count l h r q refl refl (short (instruction.SignedOffset i) st.word st.spelled.spells) (r.keep.access) on
+from_calm c s (instruction.RegisterOffset i) count l st h q on =
+    let r = rules_at c s.registers (instruction.RegisterOffset i) l st in
+    apart_access c s (instruction.RegisterOffset i) _ count l h r q refl refl (short (instruction.RegisterOffset i) st.word st.spelled.spells) (r.keep.access) on
+from_calm c s (instruction.Pair i) count l st h q on =
+    let r = rules_at c s.registers (instruction.Pair i) l st in
+    apart_access c s (instruction.Pair i) _ count l h r q refl refl (short (instruction.Pair i) st.word st.spelled.spells) (r.keep.access) on
+from_calm c s (instruction.Ordered i) count l st h q on =
+    let r = rules_at c s.registers (instruction.Ordered i) l st in
+    apart_access c s (instruction.Ordered i) _ count l h r q refl refl (short (instruction.Ordered i) st.word st.spelled.spells) (r.keep.access) on
+from_calm c s (instruction.AddSubExtended i) count l st h q on =
+    let r = rules_at c s.registers (instruction.AddSubExtended i) l st in
+    let b = bounds c l in
+    elim (both (is_guard_sum i)) [
+      | inl t ↦ (let g = guards i t in falls c (instruction.AddSubExtended i) s 0 (Probe count) h.flags
+          (keeps_all (base c) (Probe count) (results_of (instruction.AddSubExtended i) s.registers (memory_of c s.data_at)) s.registers h
+          (guarded_fine (base c) (Probe count) i.set_flags i.rd i.width (extended_sum i s.registers) g.sum.flags (λ h. h)
+          (guard_in (base c) i s.registers b.high h.base g) (base_avoided (instruction.AddSubExtended i) r.k (length c.words) r.keep)
+          (offset_narrowed (instruction.AddSubExtended i) r.k (length c.words) r.keep)))
+          r refl on)
+      | inr t ↦ apart_carried c (instruction.AddSubExtended i) s 0 count h r q t on
+    ]
+from_calm c s (instruction.BranchRegister i) count l st h q on = let e = q.branch in cc
+from_calm c s (instruction.Breakpoint i) count l st h q on = tt
+from_calm c s i count l st h q on =
+    let r = rules_at c s.registers i l st in
+    apart_carried c i s 0 count h r q refl on
+
+-- ---- each instruction where a need is met
+
+-- by what the instruction at pc is, where a probe is awaited
+awaited_safe : (c : Image) (s : State) (i : Instruction) (count : ℕ) → IsImage c → Stands c s.registers.pc i → HeldFor (base c) (Probe (suc count)) s.registers
+    → (probes_stack i ≡ true) ⊎ ((is_calm c.profile i ≡ true) × Awaits c (following s.registers) count) → SafeMove c (performed c s i)
+awaited_safe c s i count l st h (inl t) = probes_safe c s i (suc count) l st h t
+awaited_safe c s i count l st h (inr (q, on)) = from_calm c s i count l st (later (base c) (suc count) count s.registers h) (leaves_stack c.profile i q) on
+
+called_safe : (c : Image) (s : State) (i : Instruction) → HeldFor (base c) Call s.registers → calls_link i ≡ true → SafeMove c (performed c s i)
+called_safe c s (instruction.BranchRegister i) h t = from_call c s i h t
+called_safe c s i h t = cc
+
+link_guarded_safe : (c : Image) (s : State) (i : Instruction) → IsImage c → Stands c s.registers.pc i → HeldFor (base c) Guard s.registers → guards_link i ≡ true
+    → SafeMove c (performed c s i)
+link_guarded_safe c s (instruction.AddSubExtended i) l st h t = from_guard c s i l st h t
+link_guarded_safe c s i l st h t = cc
+
+met_safe : (c : Image) (s : State) (i : Instruction) (need : Need) → IsImage c → Fetches c s.registers.pc i → HeldFor (base c) need s.registers → IsMet c need s.registers.pc
+    → SafeMove c (performed c s i)
+met_safe c s i Nothing l f h met = from_free c s i l (stands c s.registers.pc i f) h
+met_safe c s i Call l f h met = called_safe c s i h (met i f)
+met_safe c s i Guard l f h met = link_guarded_safe c s i l (stands c s.registers.pc i f) h (met i f)
+met_safe c s i (Probe zero) l f h met = absurd met
+met_safe c s i (Probe (suc count)) l f h met = awaited_safe c s i count l (stands c s.registers.pc i f) h (met i f)
 
 -- ---- every move and step
 
@@ -542,7 +664,7 @@ met_safe c s i need l st h t = cc
 pub safe_moves : (c : Image) (s : State) (move : Move) → IsImage c → IsSafe c s.registers → Moves c s move → SafeMove c move
 safe_moves c s move l h (unfetched none e) = subst (SafeMove c) (sym e) tt
 safe_moves c s move l h (fetched i f e) =
-    subst (SafeMove c) (sym e) (met_safe c s i h.need l (stands c s.registers.pc i f) h.held (h.met i f))
+    subst (SafeMove c) (sym e) (met_safe c s i h.need l f h.held h.met)
 
 abbrev pub SafeOutcome : Image → Outcome → Type 0
 SafeOutcome c (Running t) = IsSafe c t.registers

@@ -111,6 +111,21 @@ weaker from need r h l = record {
   flags = h.flags;
 }
 
+-- what is lawful but for a probe is so however late the probe may come
+pub later : (from count other : ℕ) (r : Registers) → HeldFor from (Probe count) r → HeldFor from (Probe other) r
+later from count other r h = record {
+  count = h.count;
+  base = h.base;
+  first_address = h.first_address;
+  second_address = h.second_address;
+  third_address = h.third_address;
+  link = h.link;
+  offset = h.offset;
+  stack = record { low = h.stack.low; high = h.stack.high };
+  pc = h.pc;
+  flags = h.flags;
+}
+
 -- x30 is written alone, for another need
 pub relinked : (from : ℕ) (need next : Need) (v : ℕ) (r : Registers) → HeldFor from need r → IsStackFor from next r.sp → IsLinkFor from next (low_bits widths.X v)
     → HeldFor from next (put (record { place = record { register = 30; width = widths.X }; value = v }) r)

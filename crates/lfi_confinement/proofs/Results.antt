@@ -196,13 +196,13 @@ short (instruction.SignedOffset i) word s =
 short (instruction.RegisterOffset i) word s =
     let b = size_bytes i.size in
     record { some = b.0; few = omega (arith, b.1); offset = omega arith; change = λ e. cc }
-short (instruction.Ordered i) word s =
-    let b = size_bytes i.size in
-    record { some = b.0; few = omega (arith, b.1); offset = omega arith; change = λ e. cc }
 short (instruction.Pair i) word s =
     let b = pair_size i.width in
     let o = pair_bound i.width i.imm7 s.legal.0 in
     record { some = b.0; few = b.1; offset = omega (arith, o); change = λ _. o }
+short (instruction.Ordered i) word s =
+    let b = size_bytes i.size in
+    record { some = b.0; few = omega (arith, b.1); offset = omega arith; change = λ e. cc }
 short _ word s = tt
 
 -- ---- where accesses go
@@ -228,15 +228,15 @@ base_cases n h = elim (either (eqb n 18 || eqb n 23 || eqb n 24 || eqb n 21) (eq
 ]
 
 -- a base holds an address in the slot, or close to it
-base_value : (from n : ℕ) (r : Registers) → HeldFor from Nothing r → is_base n ≡ true → (from ≤ x_or_sp_at r n + 512) × (x_or_sp_at r n < from + slot_size + 512)
-base_value from n r h t = by_case (base_cases n t)
+base_value : (from n : ℕ) (need : Need) (r : Registers) → HeldFor from need r → (n ≡ 31 → IsStackFor from Nothing r.sp) → is_base n ≡ true → (from ≤ x_or_sp_at r n + 512) × (x_or_sp_at r n < from + slot_size + 512)
+base_value from n need r h s t = by_case (base_cases n t)
   where
     by_case : (n ≡ 18) ⊎ ((n ≡ 23) ⊎ ((n ≡ 24) ⊎ ((n ≡ 21) ⊎ (n ≡ 31)))) → (from ≤ x_or_sp_at r n + 512) × (x_or_sp_at r n < from + slot_size + 512)
     by_case (inl e) = rw e (omega (arith, h.first_address.low), omega (arith, h.first_address.high))
     by_case (inr (inl e)) = rw e (omega (arith, h.second_address.low), omega (arith, h.second_address.high))
     by_case (inr (inr (inl e))) = rw e (omega (arith, h.third_address.low), omega (arith, h.third_address.high))
     by_case (inr (inr (inr (inl e)))) = rw e (omega (arith, h.base), omega (arith, h.base))
-    by_case (inr (inr (inr (inr e)))) = rw e (h.stack.low, h.stack.high)
+    by_case (inr (inr (inr (inr e)))) = let k = s e in rw e (k.low, k.high)
 
 stack_base : (n : ℕ) → eqb n 31 ≡ true → is_base n ≡ true
 stack_base n e = rw (eqb-true n 31 e) refl
@@ -247,28 +247,29 @@ uxtw_index indexes.Lsl h = cc
 uxtw_index indexes.Sxtw h = cc
 uxtw_index indexes.Sxtx h = cc
 
-reaches : (from : ℕ) (form : Form) (n : ℕ) (offset : ℤ) (bytes : ℕ) (r : Registers) → 2 ^ 32 ≤ from → from < 2 ^ 40 → HeldFor from Nothing r
+reaches : (from : ℕ) (form : Form) (n : ℕ) (offset : ℤ) (bytes : ℕ) (need : Need) (r : Registers) → 2 ^ 32 ≤ from → from < 2 ^ 40 → HeldFor from need r
+    → (n ≡ 31 → IsStackFor from Nothing r.sp)
     → nat_abs offset ≤ 32760 → bytes ≤ 16 → is_confined (Some (record { base = n; form = form; offset = offset; bytes = bytes })) ≡ true
     → Near from (first_byte (record { base = n; form = form; offset = offset; bytes = bytes }) r) bytes
-reaches from forms.Offset n offset bytes r b c h o k at =
-    let v = base_value from n r h at in
+reaches from forms.Offset n offset bytes need r b c h s o k at =
+    let v = base_value from n need r h s at in
     let d = displaced_near (x_or_sp_at r n) offset 32760 o (omega (arith, v.0)) (omega (arith, v.1)) in
     record { low = omega (arith, v.0, d.0); high = omega (arith, v.1, d.1) }
-reaches from forms.PreIndex n offset bytes r b c h o k at =
-    let v = base_value from n r h (stack_base n at) in
+reaches from forms.PreIndex n offset bytes need r b c h s o k at =
+    let v = base_value from n need r h s (stack_base n at) in
     let d = displaced_near (x_or_sp_at r n) offset 32760 o (omega (arith, v.0)) (omega (arith, v.1)) in
     record { low = omega (arith, v.0, d.0); high = omega (arith, v.1, d.1) }
-reaches from forms.PostIndex n offset bytes r b c h o k at =
-    let v = base_value from n r h (stack_base n at) in
+reaches from forms.PostIndex n offset bytes need r b c h s o k at =
+    let v = base_value from n need r h s (stack_base n at) in
     record { low = omega (arith, v.0); high = omega (arith, v.1) }
-reaches from (forms.Index register extend scaled) n offset bytes r b c h o k at =
+reaches from (forms.Index register extend scaled) n offset bytes need r b c h s o k at =
     let p = and_parts (eqb n 21 && Rattle.lfi_rules.specs.Rules.is_uxtw_index extend) (not scaled) at in
     let q = and_parts (eqb n 21) (Rattle.lfi_rules.specs.Rules.is_uxtw_index extend) p.0 in
     rw (eqb-true n 21 q.0, uxtw_index extend q.1, not_true scaled p.1) (record { low = omega (arith, h.base); high = omega (arith, h.base) })
 
-pub access_near : (from : ℕ) (a : Address) (r : Registers) → 2 ^ 32 ≤ from → from < 2 ^ 40 → HeldFor from Nothing r → IsShort a → is_confined (Some a) ≡ true
+pub access_near : (from : ℕ) (a : Address) (need : Need) (r : Registers) → 2 ^ 32 ≤ from → from < 2 ^ 40 → HeldFor from need r → (a.base ≡ 31 → IsStackFor from Nothing r.sp) → IsShort a → is_confined (Some a) ≡ true
     → Near from (first_byte a r) a.bytes
-access_near from a r b c h s at = reaches from a.form a.base a.offset a.bytes r b c h s.offset s.few at
+access_near from a need r b c h k s at = reaches from a.form a.base a.offset a.bytes need r b c h k s.offset s.few at
 
 -- ---- what accesses write
 
@@ -299,7 +300,6 @@ single_stack from need size transfer rt memory address ws h =
 
 loaded_stack : (from : ℕ) (need : Need) (i : Instruction) (memory : ℕ → ℕ) (address : ℕ) (ws : List Write) → AllStack from need ws → AllStack from need (with_loaded i memory address ws)
 loaded_stack from need (instruction.UnsignedOffset i) memory address ws h = single_stack from need i.size i.transfer i.rt memory address ws h
-loaded_stack from need (instruction.Ordered i) memory address ws h = single_stack from need i.size (ordered_transfer i.load) i.rt memory address ws h
 loaded_stack from need (instruction.SignedOffset i) memory address ws h = single_stack from need i.size i.transfer i.rt memory address ws h
 loaded_stack from need (instruction.RegisterOffset i) memory address ws h = single_stack from need i.size i.transfer i.rt memory address ws h
 loaded_stack from need (instruction.Pair i) memory address ws h =
@@ -309,6 +309,7 @@ loaded_stack from need (instruction.Pair i) memory address ws h =
     (λ _. to_general_stack from need i.rt i.width (number_at memory bytes address) second
     (to_general_stack from need i.rt2 i.width (number_at memory bytes (address + bytes)) ws h))
     (λ _. h)
+loaded_stack from need (instruction.Ordered i) memory address ws h = single_stack from need i.size (ordered_transfer i.load) i.rt memory address ws h
 loaded_stack from need _ memory address ws h = h
 
 -- an access writes sp only where it changes its base, and to a lawful address

@@ -7,9 +7,10 @@ use Rattle.lfi_rules.specs.declared.rule.Rule.TheVariants.{NeedMet}
 use Rattle.lfi_rules.specs.declared.fault.Fault.{Fault}
 use Rattle.lfi_rules.specs.Texts.{fault_text}
 use Rattle.lfi_rules.specs.Faults.{IsLeastAt}
-use Rattle.lfi_explain.specs.declared.spelling.Spelling.{Spelling}
+use Rattle.lfi_explain.specs.declared.opener.Opener.{Opener}
 use Rattle.lfi_explain.specs.declared.explanation.Explanation.{Explanation}
 use Rattle.lfi_explain.specs.Spellings.{IsSpelling, located_text, is_nothing}
+use Rattle.lfi_explain.specs.Openers.{IsOpenerIf, IsNextOpener}
 use Rattle.lfi_explain.specs.Sentences.{unmet_in, sentence_text}
 use Rattle.lfi_explain.specs.Mendings.{mending_text}
 
@@ -17,20 +18,20 @@ abbrev pub is_need_met : Rule → Bool
 is_need_met NeedMet = true
 is_need_met _ = false
 
--- the fault is that the word doesn't meet what the word before opens
+-- the fault is that the word doesn't meet what one before opens
 abbrev pub is_unmet : Explanation → Bool
 is_unmet e = is_need_met e.fault.rule && not (is_nothing (unmet_in e))
 
--- the line of the word before, where its need isn't met
+-- the line of the word whose need isn't met
 abbrev pub opener_text : Explanation → List ℕ
-opener_text e = by_before e.before
+opener_text e = by_opener e.opener
   where
-    by_before : Option Spelling → List ℕ
-    by_before (Some before) =
-        if is_unmet e then codes "  " ++ located_text e.slot (e.fault.word - 1) before ++ codes "\n" else []
-    by_before None = []
+    by_opener : Option Opener → List ℕ
+    by_opener (Some opener) =
+        if is_unmet e then codes "  " ++ located_text e.slot (e.fault.word - 1 - opener.gone) opener.spelling ++ codes "\n" else []
+    by_opener None = []
 
--- three or four lines: the fault; the word before, where its need isn't met; the word; what the rule asks
+-- three or four lines: the fault; the word whose need isn't met; the word; what the rule asks
 abbrev pub told_text : Explanation → List ℕ
 told_text e =
     fault_text e.fault ++ codes "\n" ++ opener_text e ++ codes "  " ++ located_text e.slot e.fault.word e.at ++ codes "\n  "
@@ -40,30 +41,23 @@ told_text e =
 abbrev pub explanation_text : Explanation → List ℕ
 explanation_text e = told_text e ++ codes "\n  mend: " ++ mending_text e
 
--- the word before place k, if there is one
-abbrev pub word_before : List ℕ → (k : ℕ) → Option ℕ
-word_before ws zero = None
-word_before ws (suc j) = slice_get ws j
-
--- the word with what spells it, if there is a word
-abbrev pub IsSpellingIf : Profile → Option ℕ → Option Spelling → Type 0
-IsSpellingIf profile None None = Unit {0}
-IsSpellingIf profile (Some word) (Some spelling) = IsSpelling profile word spelling
-IsSpellingIf profile _ _ = ⊥
-
 -- It tells this fault of a module of n words in a slot, which goes by a profile and has this word at the fault's place, and this one before it.
 pub record ExplainsWord (profile : Profile) (slot n : ℕ) (fault : Fault) (word : ℕ) (earlier : Option ℕ) (e : Explanation) : Type 0 where
   pub same_fault : e.fault ≡ fault
   pub same_slot : e.slot ≡ slot
   pub count : e.words ≡ n
   pub at : IsSpelling profile word e.at
-  pub before : IsSpellingIf profile earlier e.before
+  pub before : IsNextOpener profile earlier e.opener
 
--- It tells this fault of the words of a module in a slot.
+-- It tells this fault of the words of a module in a slot, and names the word that opens what is open at the fault's place.
 pub record Explains (profile : Profile) (ws : List ℕ) (slot : ℕ) (fault : Fault) (e : Explanation) : Type 0 where
+  pub same_fault : e.fault ≡ fault
+  pub same_slot : e.slot ≡ slot
+  pub count : e.words ≡ length ws
   pub word : ℕ
   pub here : slice_get ws fault.word ≡ Some word
-  pub tells : ExplainsWord profile slot (length ws) fault word (word_before ws fault.word) e
+  pub at : IsSpelling profile word e.at
+  pub opener : IsOpenerIf profile ws fault.word e.opener
 
 -- Of place k the least rule that its word breaks is told; nothing, where it breaks none.
 abbrev pub IsToldAt : Profile → List ℕ → (slot k : ℕ) → Option Explanation → Type 0

@@ -1,3 +1,4 @@
+pub mod Openers
 pub mod Spellings
 pub mod Sentences
 pub mod Mendings

@@ -1,10 +1,10 @@
 -- The lines of a listing.
-use Rattle.std.specs.Prelude.{◌≡◌, ℕ, zero, suc, ◌-◌, ℤ, List, [], ◌∷◌, ◌++◌, length, flat_map, replicate, slice_get, codes, decimal, Option, Some, None, if◌then◌else◌}
+use Rattle.std.specs.Prelude.{◌≡◌, ℕ, zero, suc, ◌-◌, nat_lt, ℤ, List, [], ◌∷◌, ◌++◌, length, flat_map, replicate, slice_get, codes, decimal, Option, Some, None, if◌then◌else◌}
 use Rattle.std.specs.Fmt.{signed_decimal}
 use Rattle.std.specs.Io.KnownBytes.{Appends}
 use Rattle.lfi_module.specs.declared.profile.Profile.{Profile}
 use Rattle.lfi_rules.specs.declared.needs.Need.{Need}
-use Rattle.lfi_rules.specs.declared.needs.Need.TheVariants.{Nothing}
+use Rattle.lfi_rules.specs.declared.needs.Need.TheVariants.{Nothing, Probe}
 use Rattle.lfi_rules.specs.Rules.{is_inside}
 use Rattle.lfi_explain.specs.declared.listing.ListedWord.{ListedWord}
 use Rattle.lfi_explain.specs.Spellings.{IsSpelling, located_text, opened_by, target_by}
@@ -16,10 +16,15 @@ arrow_text n (Some place) =
     if is_inside n (Some place) then codes "  -> word " ++ signed_decimal place else codes "  -> outside, word " ++ signed_decimal place
 arrow_text n None = []
 
--- what a word asks of the next one
+-- among which words the one is that meets a need
+abbrev pub among_text : Need → List ℕ
+among_text (Probe count) = if nat_lt 1 count then codes "one of the next " ++ decimal count else codes "next"
+among_text need = codes "next"
+
+-- what a word asks of those after it
 abbrev pub opened_text : Need → List ℕ
 opened_text Nothing = []
-opened_text need = codes "  ; opens: next is " ++ meeting_text need
+opened_text need = codes "  ; opens: " ++ among_text need ++ codes " is " ++ meeting_text need
 
 -- a place in a column of seven, with spaces before it
 abbrev pub column : ℕ → List ℕ

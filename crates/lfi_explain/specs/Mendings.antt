@@ -75,13 +75,14 @@ bounded_text (Some register) =
     codes "put add x30, x21, " ++ general W register ++ codes ", uxtw before it, and let it go through x30; but for ret, x18, x23 and x24 serve too"
 bounded_text None = codes "let it go through x30"
 
--- the need that isn't met: that of the word before, or else that of the last word
+-- the need that isn't met: that of a word before, or that of the last word, or else a probe, which comes late alone
 abbrev pub asked_in : Explanation → Need
-asked_in e = by_unmet (unmet_in e)
+asked_in e = by_unmet (unmet_in e) (opened_by e.at)
   where
-    by_unmet : Need → Need
-    by_unmet Nothing = opened_by e.at
-    by_unmet need = need
+    by_unmet : Need → Need → Need
+    by_unmet Nothing Nothing = Probe 1
+    by_unmet Nothing opened = opened
+    by_unmet need opened = need
 
 -- what meets a need
 abbrev pub met_text : Need → List ℕ

@@ -1,5 +1,5 @@
 -- What is told of a rule and of a word that breaks it. Source: this project's profile, docs/PROFILE.md.
-use Rattle.std.specs.Prelude.{ℕ, ℤ, Bool, true, false, List, [], ◌++◌, if◌then◌else◌, codes, decimal, Option, Some, None}
+use Rattle.std.specs.Prelude.{ℕ, ℤ, ◌-◌, ◌&&◌, nat_lt, Bool, true, false, List, [], ◌++◌, if◌then◌else◌, codes, decimal, Option, Some, None}
 use Rattle.std.specs.Fmt.{signed_decimal}
 use Rattle.a64_word.specs.declared.instruction.Instruction.{Instruction}
 use Rattle.a64_word.specs.declared.instruction.Instruction.TheVariants.{Ordered}
@@ -17,7 +17,9 @@ use Rattle.lfi_rules.specs.declared.rule.Rule.{Rule}
 use Rattle.lfi_rules.specs.declared.rule.Rule.TheVariants as rules
 use Rattle.lfi_explain.specs.declared.spelling.Spelling.{Spelling}
 use Rattle.lfi_explain.specs.declared.explanation.Explanation.{Explanation}
-use Rattle.lfi_explain.specs.Spellings.{opened_by, is_met_by, address_by, target_by, branch_register_by, written_address_by}
+use Rattle.lfi_explain.specs.declared.opener.Opener.{Opener}
+use Rattle.lfi_explain.specs.Openers.{asked_if}
+use Rattle.lfi_explain.specs.Spellings.{opened_by, is_met_by, is_calm_by, address_by, target_by, branch_register_by, written_address_by}
 
 -- the word that meets a need
 abbrev pub meeting_text : Need → List ℕ
@@ -58,19 +60,43 @@ abbrev pub branch_text : Option ℕ → List ℕ
 branch_text (Some register) = codes "; this one goes through " ++ general X register
 branch_text None = []
 
--- a need that isn't met: that of the word before, or else that of the last word
-abbrev pub unmet_text : (need opened : Need) → List ℕ
-unmet_text Nothing opened = codes "the last word asks nothing of a next one; this one asks for " ++ meeting_text opened
-unmet_text need opened = opening_text need ++ codes " is followed by " ++ meeting_text need ++ codes "; this word isn't that"
+-- how many of the words that may meet a need are left
+abbrev pub left_text : (left count : ℕ) → List ℕ
+left_text left count = decimal left ++ codes " of the " ++ decimal count ++ codes " left"
 
--- what the word before asks
-abbrev pub asked_before : Option Spelling → Need
-asked_before (Some before) = opened_by before
-asked_before None = Nothing
+-- how a word behind calm ones misses a need: where it is calm itself, and not the last that may be, since it is the last of the module
+abbrev pub missed_text : (count left : ℕ) → (calm : Bool) → List ℕ
+missed_text count left calm =
+    if calm && nat_lt 1 left then codes "the module ends with " ++ left_text (left - 1) count
+    else codes "this word, with " ++ left_text left count ++ codes ", isn't that"
 
--- what the word before asks, where it isn't met; else Nothing
+-- within how many words a probe comes, and how this one misses it
+abbrev pub late_text : (count left : ℕ) → (calm : Bool) → List ℕ
+late_text count left calm = codes " within " ++ decimal count ++ codes " words, with only calm words before it; " ++ missed_text count left calm
+
+-- within how many words a need is met, where it isn't the next one, and how this one misses it
+abbrev pub within_text : Need → (gone : ℕ) → (calm : Bool) → List ℕ
+within_text (Probe count) gone calm = if nat_lt 1 count then late_text count (count - gone) calm else codes "; this word isn't that"
+within_text need gone calm = codes "; this word isn't that"
+
+-- what the last word asks; where it asks nothing, one before it does, which isn't known here
+abbrev pub last_text : Need → List ℕ
+last_text Nothing = codes "a move of sp by an immediate is followed by a load or store at [sp] within 4 words, with only calm words before it; this word isn't that"
+last_text opened = codes "the last word asks nothing of a next one; this one asks for " ++ meeting_text opened
+
+-- a need that isn't met, of a word before, behind which so many calm words stand; or else that of the last word
+abbrev pub unmet_text : (need opened : Need) → (gone : ℕ) → (calm : Bool) → List ℕ
+unmet_text Nothing opened gone calm = last_text opened
+unmet_text need opened gone calm = opening_text need ++ codes " is followed by " ++ meeting_text need ++ within_text need gone calm
+
+-- behind how many calm words the word is that has to meet what one before opens
+abbrev pub gone_before : Option Opener → ℕ
+gone_before (Some opener) = opener.gone
+gone_before None = 0
+
+-- what a word before asks, where it isn't met; else Nothing
 abbrev pub unmet_in : Explanation → Need
-unmet_in e = if is_met_by e.at (asked_before e.before) then Nothing else asked_before e.before
+unmet_in e = if is_met_by e.at (asked_if e.opener) then Nothing else asked_if e.opener
 
 -- what a rule asks of a word; of the last rule, nothing, since its need says it
 abbrev pub asks_text : Rule → List ℕ
@@ -110,7 +136,7 @@ does_text rules.OffsetNarrow e = codes "; this one writes all of it"
 does_text rules.StackBounded e = codes "; this one writes it otherwise"
 does_text rules.TargetInside e = codes "; it has " ++ decimal e.words ++ goes_text (target_by e.at e.fault.word)
 does_text rules.BranchBounded e = branch_text (branch_register_by e.at)
-does_text rules.NeedMet e = unmet_text (unmet_in e) (opened_by e.at)
+does_text rules.NeedMet e = unmet_text (unmet_in e) (opened_by e.at) (gone_before e.opener) (is_calm_by e.at)
 
 abbrev pub sentence_text : Explanation → List ℕ
 sentence_text e = asks_text e.fault.rule ++ does_text e.fault.rule e

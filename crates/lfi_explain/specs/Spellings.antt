@@ -13,6 +13,7 @@ use Rattle.lfi_module.specs.Numbers.{base_of}
 use Rattle.lfi_rules.specs.declared.needs.Need.{Need}
 use Rattle.lfi_rules.specs.declared.needs.Need.TheVariants.{Nothing}
 use Rattle.lfi_rules.specs.Needs.{opens_of, meets_of}
+use Rattle.lfi_rules.specs.Calm.{is_calm}
 use Rattle.lfi_rules.specs.Rules.{writes}
 use Rattle.lfi_rules.specs.Registers.{first_address, second_address, third_address}
 use Rattle.lfi_explain.specs.declared.spelling.Spelling.{Spelling}
@@ -26,7 +27,7 @@ pub record IsSpelling (profile : Profile) (word : ℕ) (spelling : Spelling) : T
   pub found_in_second : IfSome spelling.in_second (λ i. SpellsIn Two i word)
   pub only_in_second : (i : Instruction) → SpellsIn Two i word → spelling.in_second ≡ Some i
 
--- what it asks of the next word
+-- what it asks of the words after it
 abbrev pub opened_by : Spelling → Need
 opened_by spelling = of spelling.instruction
   where
@@ -44,6 +45,14 @@ is_met_by spelling need = of spelling.instruction
     of : Option Instruction → Bool
     of (Some i) = meets_of i need
     of None = is_nothing need
+
+-- whether it may stand between a move of sp and its probe
+abbrev pub is_calm_by : Spelling → Bool
+is_calm_by spelling = of spelling.instruction
+  where
+    of : Option Instruction → Bool
+    of (Some i) = is_calm spelling.profile i
+    of None = false
 
 -- where it accesses memory
 abbrev pub address_by : Spelling → Option Address

@@ -3,10 +3,12 @@
 ghost use Rattle.std.specs.Prelude.{◌≡◌, ◌<◌, ◌≤◌, length, Some};
 ghost use Rattle.lfi_module.specs.Numbers.{most_words};
 ghost use Rattle.lfi_explain.specs.Explanations as spec;
-ghost use Rattle.lfi_explain.specs.Sentences.{unmet_in};
+ghost use Rattle.lfi_explain.specs.Openers.{IsNextOpener};
+ghost use Rattle.lfi_explain.specs.Sentences.{unmet_in, gone_before};
 
 use crate::located::Located;
 use crate::mending::Mending;
+use crate::opener::{Opener, opener_before};
 use crate::sentence::Sentence;
 use crate::spelling::Spelling;
 use a64_word::Words;
@@ -25,17 +27,17 @@ pub struct Explanation {
     pub words: u32,
     /// The word at the place.
     pub at: Spelling,
-    /// The word before it, if there is one.
-    pub before: Option<Spelling>,
+    /// The word before it that opens a need, or that before it, if there is one.
+    pub opener: Option<Opener>,
 }
 
 impl Explanation {
-    /// What the word before asks of the one at the place, where that doesn't meet it; else Nothing.
+    /// What a word before asks of the one at the place, where that doesn't meet it; else Nothing.
     pub fn unmet(&self) -> Need
         ensures { result ≡ unmet_in self.now }
     {
-        let need = match &self.before {
-            Some(before) => before.opens(),
+        let need = match &self.opener {
+            Some(opener) => opener.asks(),
             None => Need::Nothing,
         };
         if self.at.meets(need) {
@@ -45,7 +47,17 @@ impl Explanation {
         }
     }
 
-    /// Whether the fault is that the word doesn't meet what the word before opens.
+    /// Behind how many calm words the word is that has to meet what one before opens.
+    pub(crate) fn gone(&self) -> u8
+        ensures { result ≡ gone_before self.now.opener }
+    {
+        match &self.opener {
+            Some(opener) => opener.gone,
+            None => 0,
+        }
+    }
+
+    /// Whether the fault is that the word doesn't meet what one before opens.
     fn is_unmet(&self) -> bool
         ensures { result ≡ spec.is_unmet self.now }
     {
@@ -53,21 +65,21 @@ impl Explanation {
     }
 }
 
-/// The line of the word before the place, where the fault is that its need isn't met.
+/// The line of the word that opens the need, where the fault is that this isn't met.
 #[derive(Clone, Copy)]
-struct Opener(Explanation);
+struct OpenerLine(Explanation);
 
-impl fmt::Display for Opener {
-    ghost output = { λ opener. Some (spec.opener_text opener.0) };
+impl fmt::Display for OpenerLine {
+    ghost output = { λ line. Some (spec.opener_text line.0) };
 
     fn fmt<W: fmt::Write>(&self, f: &mut fmt::Formatter<W>) -> fmt::Result {
-        match self.0.before {
-            Some(spelling) if self.0.is_unmet() => {
+        match self.0.opener {
+            Some(opener) if self.0.is_unmet() => {
                 let place = self.0.fault.word.saturating_sub(1);
                 let located = Located {
                     slot: self.0.slot,
-                    place,
-                    spelling,
+                    place: place.saturating_sub(u32::from(opener.gone)),
+                    spelling: opener.spelling,
                 };
                 write!(f, "  {located}\n")
             }
@@ -94,7 +106,7 @@ impl fmt::Display for Told {
             f,
             "{}\n{}  {located}\n  {}",
             told.fault,
-            Opener(*told),
+            OpenerLine(*told),
             Sentence(*told)
         )
     }
@@ -104,24 +116,27 @@ impl fmt::Display for Explanation {
     ghost output = { λ explanation. Some (spec.explanation_text explanation) };
 
     /// Writes four lines, without the end of the last: the fault, as `word 16 rule 2`; the word at its address, after that of
-    /// the word before where its need isn't met; what the rule asks; and how the word is mended.
+    /// the word whose need isn't met; what the rule asks; and how the word is mended.
     fn fmt<W: fmt::Write>(&self, f: &mut fmt::Formatter<W>) -> fmt::Result {
         write!(f, "{}\n  mend: {}", Told(*self), Mending(*self))
     }
 }
 
-/// A word with what spells it, if there is a word.
-fn spelling_of(word: Option<u32>, profile: Profile) -> Option<Spelling>
-    ensures { spec.IsSpellingIf profile word result }
+/// A word as the opener of what the next one has to meet, if there is a word.
+fn next_opener(before: Option<u32>, profile: Profile) -> Option<Opener>
+    ensures { IsNextOpener profile before result }
 {
-    match word {
-        Some(word) => Some(Spelling::of(word, profile)),
+    match before {
+        Some(word) => Some(Opener {
+            gone: 0,
+            spelling: Spelling::of(word, profile),
+        }),
         None => None,
     }
 }
 
 /// What is told of a fault of a module of so many words in a slot, by a profile: of the word at its place, and of the one
-/// before it, if there is one.
+/// before it, if there is one. A need that was opened before that is told without its word.
 pub fn explain_word(
     slot: ModuleNumber,
     words: WordCount,
@@ -137,19 +152,7 @@ pub fn explain_word(
         slot,
         words: words.number(),
         at: Spelling::of(word, profile),
-        before: spelling_of(before, profile),
-    }
-}
-
-/// The word before a place, if there is one.
-fn word_before<W: Words>(words: &W, place: usize) -> Option<u32>
-    requires { place < length (W.words words.now) }
-    ensures { result ≡ spec.word_before (W.words words.now) place }
-{
-    if place == 0 {
-        None
-    } else {
-        Some(words.word(place - 1))
+        opener: next_opener(before, profile),
     }
 }
 
@@ -165,14 +168,11 @@ pub fn explain<W: Words>(
     ensures { spec.Explains profile (W.words words.now) slot fault result }
 {
     let place = fault.word as usize;
-    let count = WordCount::of(words.count() as u32);
-    let word = words.word(place);
-    explain_word(
-        slot,
-        count,
+    Explanation {
         fault,
-        word,
-        word_before(words, place),
-        profile,
-    )
+        slot,
+        words: words.count() as u32,
+        at: Spelling::of(words.word(place), profile),
+        opener: opener_before(words, place, profile),
+    }
 }

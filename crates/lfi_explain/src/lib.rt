@@ -26,7 +26,7 @@
 //!   `Spelling::of`, `explain` and `explain_word` are the ways in; the last for words that are known alone, as those of
 //!   a module that came in pages.
 //! - **What a word breaks, by its place, is asked of lfi_rules** (`broken_at`), which has the order of the rules;
-//!   lfi_explain tells it. It decodes the word before anew at each place: explanations are asked for by hand.
+//!   lfi_explain tells it. It decodes the words before anew at each place: explanations are asked for by hand.
 //! - **All refusals are told, not only the first of each cause**: a word after one that opens a need may be told for
 //!   that need alone.
 //! - **The number of refusals is a line of its own form** (`words refused: 1`), which needs no plural.
@@ -45,6 +45,7 @@ mod kept;
 mod listing;
 mod located;
 mod mending;
+mod opener;
 mod refusals;
 mod sentence;
 mod spelling;
@@ -52,5 +53,6 @@ mod spelling;
 pub use explanation::{Explanation, explain, explain_word};
 pub use listing::{ListedWord, write_listing};
 pub use located::Located;
+pub use opener::Opener;
 pub use refusals::write_refusals;
 pub use spelling::Spelling;

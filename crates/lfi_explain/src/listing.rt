@@ -47,7 +47,22 @@ impl fmt::Display for Arrow {
     }
 }
 
-/// What a word asks of the next one.
+/// Among which words the one is that meets a need.
+#[derive(Clone, Copy)]
+struct Among(Need);
+
+impl fmt::Display for Among {
+    ghost output = { λ among. Some (spec.among_text among.0) };
+
+    fn fmt<W: fmt::Write>(&self, f: &mut fmt::Formatter<W>) -> fmt::Result {
+        match self.0 {
+            Need::Probe(count) if count > 1 => write!(f, "one of the next {count}"),
+            _ => write!(f, "next"),
+        }
+    }
+}
+
+/// What a word asks of those after it.
 #[derive(Clone, Copy)]
 struct Opened(Need);
 
@@ -57,7 +72,7 @@ impl fmt::Display for Opened {
     fn fmt<W: fmt::Write>(&self, f: &mut fmt::Formatter<W>) -> fmt::Result {
         match self.0 {
             Need::Nothing => Ok(()),
-            need => write!(f, "  ; opens: next is {}", Meeting(need)),
+            need => write!(f, "  ; opens: {} is {}", Among(need), Meeting(need)),
         }
     }
 }
@@ -84,12 +99,7 @@ impl fmt::Display for ListedWord {
 }
 
 /// The word at a place of a module in a slot, as it is listed.
-fn listed_at<L: Words>(
-    words: &L,
-    slot: ModuleNumber,
-    place: usize,
-    profile: Profile,
-) -> ListedWord
+fn listed_at<L: Words>(words: &L, slot: ModuleNumber, place: usize, profile: Profile) -> ListedWord
     requires inside { place < length (L.words words.now) }
     requires most { length (L.words words.now) ≤ most_words }
     ensures { spec.IsListed profile (L.words words.now) slot place result }

@@ -234,13 +234,14 @@ impl fmt::Display for Met {
     }
 }
 
-/// The need that isn't met: that of the word before, or else that of the last word.
+/// The need that isn't met: that of a word before, or that of the last word, or else a probe, which comes late alone.
 fn asked_in(told: &Explanation) -> Need
     ensures { result ≡ spec.asked_in told.now }
 {
-    match told.unmet() {
-        Need::Nothing => told.at.opens(),
-        need => need,
+    match (told.unmet(), told.at.opens()) {
+        (Need::Nothing, Need::Nothing) => Need::Probe(1),
+        (Need::Nothing, opened) => opened,
+        (need, _) => need,
     }
 }
 

@@ -1,13 +1,11 @@
 //! What a rule asks, and what a word does that breaks it.
 
-ghost use Rattle.std.specs.Prelude.{◌≡◌, Some};
+ghost use Rattle.std.specs.Prelude.{◌≡◌, ◌-◌, ◌&&◌, nat_lt, Some};
 ghost use Rattle.lfi_explain.specs.Sentences as spec;
 
 use crate::explanation::Explanation;
 use a64_effects::{Address, Form};
-use a64_word::{
-    GeneralRegister, IndexExtend, Instruction, Register, RegisterOrStack, Size, Width,
-};
+use a64_word::{GeneralRegister, IndexExtend, Instruction, Register, RegisterOrStack, Size, Width};
 use lfi_rules::{Need, Rule};
 use std::fmt;
 
@@ -145,29 +143,161 @@ impl fmt::Display for BranchesThrough {
     }
 }
 
-/// What is told of a need that isn't met: that of the word before, or else that of the last word.
+/// Whether a word misses a need of which so many words are left only since it is the module's last.
+fn runs_out(left: u8, calm: bool) -> bool
+    ensures { result ≡ (calm && nat_lt 1 left) }
+{
+    calm && left > 1
+}
+
+/// How many words of a need are left behind so many calm ones.
+fn left_behind(count: u8, gone: u8) -> u8
+    ensures { result ≡ count - gone }
+{
+    count.saturating_sub(gone)
+}
+
+/// How many words of a need are left.
+#[derive(Clone, Copy)]
+struct Left {
+    left: u8,
+    count: u8,
+}
+
+impl fmt::Display for Left {
+    ghost output = { λ left. Some (spec.left_text left.left left.count) };
+
+    fn fmt<W: fmt::Write>(&self, f: &mut fmt::Formatter<W>) -> fmt::Result {
+        write!(f, "{} of the {} left", self.left, self.count)
+    }
+}
+
+/// How a word behind calm ones misses a need of so many words: by itself, or since it is the module's last.
+#[derive(Clone, Copy)]
+struct Missed {
+    count: u8,
+    left: u8,
+    calm: bool,
+}
+
+impl fmt::Display for Missed {
+    ghost output = { λ missed. Some (spec.missed_text missed.count missed.left missed.calm) };
+
+    fn fmt<W: fmt::Write>(&self, f: &mut fmt::Formatter<W>) -> fmt::Result {
+        let count = self.count;
+        if runs_out(self.left, self.calm) {
+            let left = Left {
+                left: left_behind(self.left, 1),
+                count,
+            };
+            write!(f, "the module ends with {left}")
+        } else {
+            let left = Left {
+                left: self.left,
+                count,
+            };
+            write!(f, "this word, with {left}, isn't that")
+        }
+    }
+}
+
+/// Within how many words a probe comes, and how this one misses it.
+#[derive(Clone, Copy)]
+struct Late {
+    count: u8,
+    left: u8,
+    calm: bool,
+}
+
+impl fmt::Display for Late {
+    ghost output = { λ late. Some (spec.late_text late.count late.left late.calm) };
+
+    fn fmt<W: fmt::Write>(&self, f: &mut fmt::Formatter<W>) -> fmt::Result {
+        let count = self.count;
+        let missed = Missed {
+            count,
+            left: self.left,
+            calm: self.calm,
+        };
+        write!(
+            f,
+            " within {count} words, with only calm words before it; {missed}"
+        )
+    }
+}
+
+/// Within how many words a need is met, where it isn't the next one, and how this one misses it.
+#[derive(Clone, Copy)]
+struct Within {
+    need: Need,
+    gone: u8,
+    calm: bool,
+}
+
+impl fmt::Display for Within {
+    ghost output = { λ within. Some (spec.within_text within.need within.gone within.calm) };
+
+    fn fmt<W: fmt::Write>(&self, f: &mut fmt::Formatter<W>) -> fmt::Result {
+        match self.need {
+            Need::Probe(count) if count > 1 => {
+                let late = Late {
+                    count,
+                    left: left_behind(count, self.gone),
+                    calm: self.calm,
+                };
+                write!(f, "{late}")
+            }
+            _ => write!(f, "; this word isn't that"),
+        }
+    }
+}
+
+/// What the last word asks; where it asks nothing, one before it does, which isn't known here.
+#[derive(Clone, Copy)]
+struct Last(Need);
+
+impl fmt::Display for Last {
+    ghost output = { λ last. Some (spec.last_text last.0) };
+
+    fn fmt<W: fmt::Write>(&self, f: &mut fmt::Formatter<W>) -> fmt::Result {
+        match self.0 {
+            Need::Nothing => write!(
+                f,
+                "a move of sp by an immediate is followed by a load or store at [sp] within 4 words, with only calm words before it; this word isn't that"
+            ),
+            opened => write!(
+                f,
+                "the last word asks nothing of a next one; this one asks for {}",
+                Meeting(opened)
+            ),
+        }
+    }
+}
+
+/// What is told of a need that isn't met: that of a word before, or else that of the last word.
 #[derive(Clone, Copy)]
 struct Unmet {
     need: Need,
     opened: Need,
+    gone: u8,
+    calm: bool,
 }
 
 impl fmt::Display for Unmet {
-    ghost output = { λ unmet. Some (spec.unmet_text unmet.need unmet.opened) };
+    ghost output = { λ unmet. Some (spec.unmet_text unmet.need unmet.opened unmet.gone unmet.calm) };
 
     fn fmt<W: fmt::Write>(&self, f: &mut fmt::Formatter<W>) -> fmt::Result {
         match self.need {
-            Need::Nothing => {
-                let asked = Meeting(self.opened);
-                write!(
-                    f,
-                    "the last word asks nothing of a next one; this one asks for {asked}"
-                )
-            }
+            Need::Nothing => write!(f, "{}", Last(self.opened)),
             need => {
+                let within = Within {
+                    need,
+                    gone: self.gone,
+                    calm: self.calm,
+                };
                 write!(
                     f,
-                    "{} is followed by {}; this word isn't that",
+                    "{} is followed by {}{within}",
                     Opening(need),
                     Meeting(need)
                 )
@@ -261,6 +391,8 @@ impl fmt::Display for Does {
                 let unmet = Unmet {
                     need: told.unmet(),
                     opened: told.at.opens(),
+                    gone: told.gone(),
+                    calm: told.at.is_calm(),
                 };
                 write!(f, "{unmet}")
             }

@@ -9,7 +9,7 @@ use a64_effects::{Address, address_of, target, writes};
 use a64_word::{Instruction, Register, decode};
 use lfi_module::Profile;
 use lfi_rules::registers::{FIRST_ADDRESS, SECOND_ADDRESS, THIRD_ADDRESS};
-use lfi_rules::{Need, meets, opens};
+use lfi_rules::{Need, is_calm, meets, opens};
 use std::fmt;
 
 /// Whether an instruction writes a register, by its number.
@@ -62,7 +62,7 @@ impl Spelling {
         }
     }
 
-    /// What the word asks of the next one.
+    /// What the word asks of those after it.
     pub fn opens(&self) -> Need
         ensures { result ≡ spec.opened_by self.now }
     {
@@ -79,6 +79,16 @@ impl Spelling {
         match &self.instruction {
             Some(instruction) => meets(instruction, need),
             None => need == Need::Nothing,
+        }
+    }
+
+    /// Whether the word may stand between a move of sp and its probe.
+    pub fn is_calm(&self) -> bool
+        ensures { result ≡ spec.is_calm_by self.now }
+    {
+        match &self.instruction {
+            Some(instruction) => is_calm(instruction, self.profile),
+            None => false,
         }
     }
 

@@ -20,11 +20,13 @@ pub fn header(kind: u8, second: u8, module: u16, a: u32, b: u32) -> [u8; 12] {
 fn each_fault_alone(rt: HostRuntime) {
     for (kind, second, module, a, b, fault) in [
         (0, 0, 0, 1, 0, FrameFault::Kind),
-        (4, 0, 0, 1, 0, FrameFault::Kind),
+        (5, 0, 0, 1, 0, FrameFault::Kind),
         (255, 0, 0, 1, 0, FrameFault::Kind),
         (1, 1, 0, 1, 0, FrameFault::SecondByte),
+        (4, 1, 0, 1, 0, FrameFault::SecondByte),
         (2, 255, 0, 0, 4, FrameFault::SecondByte),
         (1, 0, 16, 1, 0, FrameFault::Module),
+        (4, 0, 16, 1, 0, FrameFault::Module),
         (3, 0, 256, 0, 0, FrameFault::Module),
         (2, 0, 65_535, 0, 4, FrameFault::Module),
         (2, 0, 0, 0, 0, FrameFault::PageLength),
@@ -38,7 +40,9 @@ fn each_fault_alone(rt: HostRuntime) {
         (3, 0, 0, 0, 16_777_216, FrameFault::CloseNumbers),
         (1, 0, 0, 4_194_305, 0, FrameFault::WordCount),
         (1, 0, 0, 4_294_967_295, 0, FrameFault::WordCount),
+        (4, 0, 0, 4_194_305, 0, FrameFault::WordCount),
         (1, 0, 0, 1, 1, FrameFault::Entry),
+        (4, 0, 0, 1, 1, FrameFault::Entry),
         (1, 0, 0, 4_194_304, 4_194_304, FrameFault::Entry),
         (1, 0, 0, 2, 4_294_967_295, FrameFault::Entry),
     ] {
@@ -55,7 +59,8 @@ fn each_fault_alone(rt: HostRuntime) {
 #[test]
 fn first_of_several_faults(rt: HostRuntime) {
     for (kind, second, module, a, b, fault) in [
-        (4, 1, 0, 0, 0, FrameFault::Kind),
+        (5, 1, 0, 0, 0, FrameFault::Kind),
+        (4, 1, 0, 0, 0, FrameFault::SecondByte),
         (0, 1, 16, 0, 0, FrameFault::Kind),
         (2, 1, 16, 0, 0, FrameFault::SecondByte),
         (3, 1, 16, 1, 1, FrameFault::SecondByte),
@@ -64,6 +69,7 @@ fn first_of_several_faults(rt: HostRuntime) {
         (3, 0, 16, 1, 0, FrameFault::Module),
         (1, 0, 16, 1, 1, FrameFault::Module),
         (1, 0, 0, 0, 0, FrameFault::WordCount),
+        (4, 0, 0, 0, 0, FrameFault::WordCount),
         (1, 0, 0, 4_194_305, 4_194_305, FrameFault::WordCount),
     ] {
         let bytes = header(kind, second, module, a, b);
@@ -85,6 +91,18 @@ pub fn open(module: usize, words: u32, entry: u32) -> Got
     Got::Open {
         module: ModuleNumber::at(module),
         extent: Extent::of(WordCount::of(words), entry, Profile::One),
+    }
+}
+
+/// The same of a module of the second profile.
+fn open_second(module: usize, words: u32, entry: u32) -> Got
+    requires module { «module» < module_count }
+    requires words { (1 ≤ words) × (words ≤ most_words) }
+    requires entry { entry < words }
+{
+    Got::Open {
+        module: ModuleNumber::at(module),
+        extent: Extent::of(WordCount::of(words), entry, Profile::Two),
     }
 }
 
@@ -112,6 +130,7 @@ pub fn close(module: usize) -> Got
 fn ends_of_the_ranges(rt: HostRuntime) {
     for (kind, module, a, b, got) in [
         (1, 0, 1, 0, open(0, 1, 0)),
+        (4, 3, 2, 1, open_second(3, 2, 1)),
         (1, 15, 4_194_304, 4_194_303, open(15, 4_194_304, 4_194_303)),
         (2, 0, 0, 4, page(0, 0, 4)),
         (2, 2, 4_294_967_295, 4_096, page(2, 4_294_967_295, 4_096)),

@@ -8,6 +8,7 @@ use Rattle.lfi_model.specs.declared.item.Reason.{Reason}
 use Rattle.lfi_model.specs.Modules.{Member, FitsAfter, IsModule}
 use Rattle.lfi_model.specs.Outcomes.{end_of}
 use Rattle.lfi_model.proofs.Numbered.{split_push, nothing_before}
+use Rattle.lfi_place.proofs.SameExtent.{same_or}
 use Rattle.lfi_place.specs.Come.{first_of, Comes, Coming, Come}
 
 append-nil' : {A : Type 0} (xs : List A) → xs ++ [] ≡ xs
@@ -123,14 +124,14 @@ coming_stays taken more xs coming before after x is =
     let c = coming before after x is in
     record { first = found_stays (λ item. item.ordinal == length before) taken more x c.first; fits = c.fits }
 
-fits_or_by : (o : Option Reason) (first : ItemView) (before : List ItemView) (x : ItemView) → end_of (first ∷ before) ≡ o → x.words ≡ first.words → FitsAfter (first ∷ before) x ⊎ (FitsAfter (first ∷ before) x → ⊥)
+fits_or_by : (o : Option Reason) (first : ItemView) (before : List ItemView) (x : ItemView) → end_of (first ∷ before) ≡ o → x.extent ≡ first.extent → FitsAfter (first ∷ before) x ⊎ (FitsAfter (first ∷ before) x → ⊥)
 fits_or_by None first before x is words = inl (words, is)
 fits_or_by (Some reason) first before x is words = inr (λ h. let none = h.1 in cc)
 
 -- an item fits, or doesn't
 pub fits_or : (before : List ItemView) (x : ItemView) → FitsAfter before x ⊎ (FitsAfter before x → ⊥)
 fits_or [] x = inl tt
-fits_or (first ∷ before) x = elim (eqb_tells x.words first.words) [ inl e ↦ fits_or_by (end_of (first ∷ before)) first before x refl e.1 | inr n ↦ inr (λ h. n.1 h.0) ]
+fits_or (first ∷ before) x = elim (same_or x.extent first.extent) [ inl e ↦ fits_or_by (end_of (first ∷ before)) first before x refl e | inr n ↦ inr (λ h. n h.0) ]
 
 -- above all ordinals
 abbrev top : List ItemView → ℕ

@@ -17,7 +17,7 @@ use Rattle.lfi_place.proofs.Chain.{arrives, nothing_arrives, permuted_come}
 
 -- a module that isn't claimed stays so, and makes nothing
 idle_step : (m : ℕ) (s : Share) (message : Message) → ((after_message false m s Unclaimed message).progress ≡ s.progress) × ((after_message false m s Unclaimed message).items ≡ s.items)
-idle_step m s (open_message k words entry) = (refl, refl)
+idle_step m s (open_message k extent) = (refl, refl)
 idle_step m s (page_message k index payload) = (refl, refl)
 idle_step m s (close_message k) = (refl, refl)
 

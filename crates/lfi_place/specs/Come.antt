@@ -7,7 +7,7 @@ use Rattle.lfi_model.specs.Modules.{FitsAfter}
 abbrev pub first_of : List ItemView → ℕ → Option ItemView
 first_of taken ordinal = find (λ item. item.ordinal == ordinal) taken
 
--- After those before it x comes next: it is the first of its ordinal, it has the Open's words, and no End stands before it.
+-- After those before it x comes next: it is the first of its ordinal, it has the Open's extent, and no End stands before it.
 pub record Comes (taken before : List ItemView) (x : ItemView) : Type 0 where
   pub first : first_of taken (length before) ≡ Some x
   pub fits : FitsAfter before x

@@ -52,7 +52,8 @@ fn code(alloc: Global, words: WordCount, index: u32, last: u32) -> Result<Vec<u8
 }
 
 /// A page's item.
-fn page(words: WordCount, index: u32, page: SealedPage) -> Result<Item, Fail> {
+fn page(extent: Extent, index: u32, page: SealedPage) -> Result<Item, Fail> {
+    let words = extent.words();
     let bytes = page.bytes().len();
     if index > 4095 || !words.is_due(PageSize::PROFILE, index, index, bytes) {
         return Err(Fail::from("no page of the module"));
@@ -60,51 +61,53 @@ fn page(words: WordCount, index: u32, page: SealedPage) -> Result<Item, Fail> {
     Ok(Item {
         module: module(),
         ordinal: index + 1,
-        words,
+        extent,
         kind: ItemKind::Page(page),
     })
 }
 
 /// An End's item.
-fn end(words: WordCount, pages: u32, reason: Reason) -> Result<Item, Fail> {
+fn end(extent: Extent, pages: u32, reason: Reason) -> Result<Item, Fail> {
     if pages > 4096 {
         return Err(Fail::from("no module has so many pages"));
     }
     Ok(Item {
         module: module(),
         ordinal: pages + 1,
-        words,
+        extent,
         kind: ItemKind::End(reason),
     })
 }
 
-/// The item of this part, in a module of so many words.
-pub fn item_of(alloc: Global, words: WordCount, part: Part) -> Result<Item, Fail> {
+/// A module of so many words, entered at word 7, or its last one, that goes by a profile.
+pub fn extent_of(words: WordCount, profile: Profile) -> Result<Extent, Fail> {
+    let entry = 7.min(words.number() - 1);
+    let extent = Extent::new(words, entry, profile).ok_or("no such word")?;
+    Ok(extent)
+}
+
+/// The item of this part, in such a module.
+pub fn item_of(alloc: Global, extent: Extent, part: Part) -> Result<Item, Fail> {
     match part {
-        Part::Open => {
-            let entry = 7.min(words.number() - 1);
-            let extent = Extent::new(words, entry, Profile::One).ok_or("no such word")?;
-            Ok(Item {
-                module: module(),
-                ordinal: 0,
-                words: extent.words(),
-                kind: ItemKind::Open {
-                    entry: extent.entry(),
-                },
-            })
-        }
+        Part::Open => Ok(Item {
+            module: module(),
+            ordinal: 0,
+            extent,
+            kind: ItemKind::Open,
+        }),
         Part::Page(index, last) => {
-            let code = code(alloc, words, index, last)?;
+            let code = code(alloc, extent.words(), index, last)?;
             if code.is_empty() || code.len() > 4096 || code.len() % 4 != 0 {
                 return Err(Fail::from("the code is no page"));
             }
-            page(words, index, SealedPage::of(alloc, code.as_slice())?)
+            page(extent, index, SealedPage::of(alloc, code.as_slice())?)
         }
-        Part::End(pages, reason) => end(words, pages, reason),
+        Part::End(pages, reason) => end(extent, pages, reason),
     }
 }
 
 /// The judged item of this part.
 pub fn judged(alloc: Global, part: Part) -> Result<Judged, Fail> {
-    Ok(item_of(alloc, WordCount::of(WORDS), part)?.judge())
+    let extent = extent_of(WordCount::of(WORDS), Profile::One)?;
+    Ok(item_of(alloc, extent, part)?.judge())
 }

@@ -1,9 +1,9 @@
 //! Sequences: the items of a module in every order, twice, past an End, and of other words.
 
-use crate::items::{NOP, Part, UNKNOWN, WORDS, item_of, judged, mark, module};
+use crate::items::{NOP, Part, UNKNOWN, WORDS, extent_of, item_of, judged, mark, module};
 use lfi_image::CompleteImage;
 use lfi_model::{Outcome, Reason};
-use lfi_module::WordCount;
+use lfi_module::{Extent, Profile, WordCount};
 use lfi_place::{ImageState, ModuleReport, RefusedWord, Sequence};
 use lfi_rules::{Fault, Rule};
 use page_buf::PoolMember;
@@ -163,14 +163,14 @@ fn a_need_is_unmet_by_the_next_page(rt: HostRuntime) -> Result<(), Fail> {
 
 #[test]
 fn nothing_is_before_the_first_word(rt: HostRuntime) -> Result<(), Fail> {
-    let words = WordCount::of(1);
+    let extent = extent_of(WordCount::of(1), Profile::One)?;
     let mut sequence = Sequence::new(rt.alloc(), module(), PoolMember::new(rt.alloc())?)?;
     for part in [
         Part::Open,
         Part::Page(0, UNKNOWN),
         Part::End(1, Reason::Close),
     ] {
-        sequence.handle(item_of(rt.alloc(), words, part)?.judge());
+        sequence.handle(item_of(rt.alloc(), extent, part)?.judge());
     }
     let report = sequence.into_report();
     let (placed, word) = refused(report)?;
@@ -242,15 +242,20 @@ fn nothing_follows_an_end(rt: HostRuntime) -> Result<(), Fail> {
 }
 
 #[test]
-fn items_of_other_words_never_come(rt: HostRuntime) -> Result<(), Fail> {
-    let mut sequence = Sequence::new(rt.alloc(), module(), PoolMember::new(rt.alloc())?)?;
-    let other = item_of(rt.alloc(), WordCount::of(1030), Part::Page(0, mark(99)))?;
-    sequence.handle(other.judge());
-    sequence.handle(judged(rt.alloc(), Part::Open)?);
-    sequence.handle(judged(rt.alloc(), Part::Page(1, mark(1)))?);
-    let report = sequence.into_report();
-    assert_eq!(rt; part(report)?, 0);
-    assert!(rt; WORDS == 2049);
+fn items_of_other_extents_never_come(rt: HostRuntime) -> Result<(), Fail> {
+    for other in [
+        extent_of(WordCount::of(1030), Profile::One)?,
+        extent_of(WordCount::of(WORDS), Profile::Two)?,
+        Extent::new(WordCount::of(WORDS), 8, Profile::One).ok_or("no such word")?,
+    ] {
+        let mut sequence = Sequence::new(rt.alloc(), module(), PoolMember::new(rt.alloc())?)?;
+        let first = item_of(rt.alloc(), other, Part::Page(0, mark(99)))?;
+        sequence.handle(first.judge());
+        sequence.handle(judged(rt.alloc(), Part::Open)?);
+        sequence.handle(judged(rt.alloc(), Part::Page(1, mark(1)))?);
+        let report = sequence.into_report();
+        assert_eq!(rt; part(report)?, 0);
+    }
     Ok(())
 }
 

@@ -3,9 +3,9 @@
 ghost use Rattle.std.specs.Prelude.{◌≡◌, Some, slice_get};
 ghost use Rattle.lfi_place.specs.Handed.{AreLanes, lane_puts_of, take_pass_of};
 
-use crate::items::{Part, UNKNOWN, WORDS, item_of, mark};
+use crate::items::{Part, UNKNOWN, WORDS, extent_of, item_of, mark};
 use lfi_model::{Item, ItemKind, Judged, Reason};
-use lfi_module::WordCount;
+use lfi_module::{Profile, WordCount};
 use lfi_place::{Lanes, OpenGate, Verifier, VerifierTurn};
 use lfi_queues::{Intake, Lane, LaneTake, PutPass};
 use std::alloc::Global;
@@ -45,7 +45,8 @@ impl Row {
 
     /// Puts an item to the intake.
     fn put<R: AllocGlobal>(&mut self, rt: &R, part: Part) -> Result<(), Fail> {
-        let item = item_of(rt.alloc(), WordCount::of(WORDS), part)?;
+        let extent = extent_of(WordCount::of(WORDS), Profile::One)?;
+        let item = item_of(rt.alloc(), extent, part)?;
         if self.intake.put(&mut self.put, item).is_err() {
             return Err(Fail::from("the intake refused it"));
         }
@@ -66,7 +67,7 @@ impl Row {
 fn has_fault(item: &Judged) -> bool {
     match &item.kind {
         ItemKind::Page(page) => page.verdict().inner.is_some(),
-        ItemKind::Open { .. } => false,
+        ItemKind::Open => false,
         ItemKind::End(_) => false,
     }
 }

@@ -147,8 +147,8 @@ impl Receiver {
     /// The End of an open module comes into the hand.
     fn end_module(&mut self, ended: OpenModule, reason: Reason)
         requires free { self.old.hand ≡ None }
-        requires possible { IsPossible (Going ended.words ended.pages) }
-        ensures hand { self.new.hand ≡ Some (item_of ended.number (ended.pages + 1) ended.words (End reason)) }
+        requires possible { IsPossible (Going ended.extent ended.pages) }
+        ensures hand { self.new.hand ≡ Some (item_of ended.number (ended.pages + 1) ended.extent (End reason)) }
         ensures modules { (m : ℕ) → progress_at self.new.modules m ≡ (if m == ended.number then Ended else progress_at self.old.modules m) }
         ensures rest { self.new ≡ record self.old { modules = self.new.modules; hand = self.new.hand } }
     {
@@ -156,7 +156,7 @@ impl Receiver {
         self.hand = Some(Item {
             module: ended.number,
             ordinal: ended.pages + 1,
-            words: ended.words,
+            extent: ended.extent,
             kind: ItemKind::End(reason),
         });
     }
@@ -166,7 +166,7 @@ impl Receiver {
     fn open(&mut self, board: &Board, module: ModuleNumber, extent: Extent) -> bool
         requires free { self.old.hand ≡ None }
         requires board { board_of self.old.seat.seat ≡ board_id board.now }
-        ensures holds { (messages : List Message) → Holds self.old messages [] → Holds self.new (messages ++ open_message «module» extent.words extent.entry ∷ []) [] }
+        ensures holds { (messages : List Message) → Holds self.old messages [] → Holds self.new (messages ++ open_message «module» extent ∷ []) [] }
         ensures hand { IsTrue result → self.new.hand ≡ None }
         ensures board { board_of self.new.seat.seat ≡ board_of self.old.seat.seat }
         ensures ended { (knows self.new).ended ≡ (knows self.old).ended }
@@ -179,16 +179,13 @@ impl Receiver {
                 true
             }
             Claim::Mine => {
-                let words = extent.words();
                 self.modules
-                    .set(module, Progress::Going { words, pages: 0 });
+                    .set(module, Progress::Going { extent, pages: 0 });
                 self.hand = Some(Item {
                     module,
                     ordinal: 0,
-                    words,
-                    kind: ItemKind::Open {
-                        entry: extent.entry(),
-                    },
+                    extent,
+                    kind: ItemKind::Open,
                 });
                 false
             }
@@ -204,10 +201,10 @@ impl Receiver {
         ensures rest { self.new ≡ record self.old { modules = self.new.modules; hand = self.new.hand; strays = self.new.strays } }
     {
         match self.modules.at(module) {
-            Progress::Going { words, pages } => {
+            Progress::Going { extent, pages } => {
                 let open = OpenModule {
                     number: module,
-                    words,
+                    extent,
                     pages,
                 };
                 self.end_module(open, Reason::Close);
@@ -234,16 +231,19 @@ impl Receiver {
         ensures strays { result ≢ begun.Stray → self.new.strays ≡ self.old.strays }
         ensures rest { self.new ≡ record self.old { memory = self.new.memory; modules = self.new.modules; coming = self.new.coming; hand = self.new.hand; strays = self.new.strays } }
     {
-        let Progress::Going { words, pages } = self.modules.at(module) else {
+        let Progress::Going { extent, pages } = self.modules.at(module) else {
             self.stray();
             return Begun::Stray;
         };
         let ended = OpenModule {
             number: module,
-            words,
+            extent,
             pages,
         };
-        if !words.is_due(PageSize::PROFILE, pages, index, len as usize) {
+        if !extent
+            .words()
+            .is_due(PageSize::PROFILE, pages, index, len as usize)
+        {
             self.end_module(ended, Reason::PageFault(index));
             return Begun::Awaited;
         }
@@ -251,7 +251,7 @@ impl Receiver {
             Ok(page) => {
                 self.coming = Some(Coming {
                     module,
-                    words,
+                    extent,
                     pages,
                     left: len,
                     page,
@@ -276,7 +276,7 @@ impl Receiver {
         };
         let module = coming.module;
         let progress = Progress::Going {
-            words: coming.words,
+            extent: coming.extent,
             pages: coming.pages + 1,
         };
         match coming.add(bytes) {

@@ -4,7 +4,7 @@ use Rattle.std.specs.Prelude.{IsSome}
 use Rattle.lfi_model.specs.Item.{ItemView}
 use Rattle.lfi_model.specs.declared.item.Reason.{Reason}
 use Rattle.lfi_model.specs.declared.item.Reason.TheVariants.{Close, Lost, PageFault, NoMemory}
-use Rattle.lfi_module.specs.declared.profile.Profile.TheVariants.{One}
+use Rattle.lfi_module.specs.Extents.{ExtentView}
 use Rattle.lfi_rules.specs.declared.fault.Fault.{Fault}
 use Rattle.lfi_rules.specs.Faults.{FirstFault}
 use Rattle.lfi_rules.specs.Verdicts.{all_words}
@@ -29,9 +29,9 @@ ended : (n : ℕ) (items : List ItemView) (result : Outcome) (o : Option Reason)
 ended n items result (Some reason) is some so = (reason, is, so ∙ same_end n items reason)
 ended n items result None is some so = absurd (cc)
 
-pub load_is : (n : ℕ) (items : List ItemView) (fault : Option Fault) (result : Outcome) → FirstFault One (all_words (pages_of items)) n fault → IsEnded items →
-    result ≡ told_by n fault (end_of items) (words_in items) (pages_in items) → Load n items result
-load_is n [] (Some fault) result first is so = let w : fault.word < 0 = breaks_within One [] n fault.word fault.rule first.breaks in absurd (omega arith)
+pub load_is : (n : ExtentView) (items : List ItemView) (fault : Option Fault) (result : Outcome) → FirstFault n.profile (all_words (pages_of items)) n.words fault → IsEnded items →
+    result ≡ told_by n.words fault (end_of items) (words_in items) (pages_in items) → Load n items result
+load_is n [] (Some fault) result first is so = let w : fault.word < 0 = breaks_within n.profile [] n.words fault.word fault.rule first.breaks in absurd (omega arith)
 load_is n [] None result first is so = so
 load_is n (item ∷ items) (Some fault) result first is so = (Some fault, first, so)
-load_is n (item ∷ items) None result first is so = (None, first, ended n (item ∷ items) result (end_of (item ∷ items)) refl is so)
+load_is n (item ∷ items) None result first is so = (None, first, ended n.words (item ∷ items) result (end_of (item ∷ items)) refl is so)

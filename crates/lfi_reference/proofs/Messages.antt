@@ -1,12 +1,12 @@
 -- The message with which a text begins.
-use Rattle.std.proofs.Common.{◌≡◌, ◌≢◌, ℕ, ◌+◌, ◌<◌, ◌≤◌, ◌^◌, List, [], ◌∷◌, ◌++◌, length, take, drop, refl, sym, ◌∙◌, ap, subst, inl, inr, arith, length-append, append_assoc, flat_map}
+use Rattle.std.proofs.Common.{◌≡◌, ◌≢◌, ℕ, ◌+◌, ◌<◌, ◌≤◌, ◌^◌, List, [], ◌∷◌, ◌++◌, length, take, drop, refl, sym, ◌∙◌, ap, subst, inl, inr, arith, length-append, append_assoc, flat_map, ◌⊎◌}
 use Rattle.std.specs.Prelude.{Option, Some, None, Bool, true, false, ◌&&◌, ◌==◌, nat_lt, if◌then◌else◌}
 use Rattle.std.proofs.lemmas.List.{length-take, length-drop, take-append-drop}
 use Rattle.std.proofs.lemmas.List.Concat.{flat_map-append}
 use Rattle.std.proofs.lemmas.Bool.{cases_lt, eq-eqb, ltb-false}
 use Rattle.lfi_frame.specs.declared.header.Header.{Header}
 use Rattle.lfi_frame.specs.declared.fault.FrameFault.{FrameFault}
-use Rattle.lfi_frame.specs.Feeds.{page_header}
+use Rattle.lfi_frame.specs.Feeds.{page_header, opened}
 use Rattle.lfi_frame.specs.Streams.{AreBytes, Message, open_message, page_message, close_message, header_of, payload_of, spelling, header_at, header_fault, short, unfinished, whole, rest_after, rest_of}
 use Rattle.lfi_frame.proofs.Headers.{header_fits, sound}
 use Rattle.lfi_frame.proofs.Cuts.{rest_long, rest_short, long_by, page_is, open_is, close_is, message_is, comes_by}
@@ -47,14 +47,18 @@ page_fits bytes h small w is two =
     let long = at.long in
     omega (arith, length-drop 12 bytes)
 
-pub begins_open : (bytes more : List ℕ) (h : Header) → AreBytes bytes → rest_of bytes ≡ whole → h ≡ header_at bytes → h.kind ≡ 1 → more ≡ drop 12 bytes → Begins bytes (open_message h.«module» h.a h.b) more
-begins_open bytes more h small w is one goes =
+pub begins_open : (bytes more : List ℕ) (h : Header) → AreBytes bytes → rest_of bytes ≡ whole → h ≡ header_at bytes → h.kind ≢ 2 → h.kind ≢ 3 → more ≡ drop 12 bytes → Begins bytes (open_message h.«module» (opened h)) more
+begins_open bytes more h small w is not_two not_three goes =
     let at = whole_at bytes small w in
     let none : header_fault h ≡ None = ap header_fault is ∙ at.none in
     let a_fits : h.a < 2 ^ 32 = subst (λ g. g.a < 2 ^ 32) (sym is) at.fits.0 in
     let b_fits : h.b < 2 ^ 32 = subst (λ g. g.b < 2 ^ 32) (sym is) at.fits.1 in
-    let message = open_message h.«module» h.a h.b in
-    record { is = message_is message h (open_is h none one) none a_fits b_fits; spelled = sym (comes_by message more bytes at.long small (open_is h none one ∙ is) goes) }
+    let kind : (h.kind ≡ 1) ⊎ (h.kind ≡ 4) = elim (sound h none).kind [
+      | inl two ↦ absurd (not_two two)
+      | inr other ↦ elim other [ inl one ↦ inl one | inr last ↦ elim last [ inl three ↦ absurd (not_three three) | inr four ↦ inr four ] ]
+    ] in
+    let message = open_message h.«module» (opened h) in
+    record { is = message_is message h (open_is h none kind) none a_fits b_fits; spelled = sym (comes_by message more bytes at.long small (open_is h none kind ∙ is) goes) }
 
 pub begins_page : (bytes payload more : List ℕ) (h : Header) → AreBytes bytes → rest_of bytes ≡ whole → h ≡ header_at bytes → h.kind ≡ 2 → payload ≡ take h.b (drop 12 bytes) → more ≡ drop h.b (drop 12 bytes) → Begins bytes (page_message h.«module» h.a payload) more
 begins_page bytes payload more h small w is two front goes =
@@ -69,11 +73,10 @@ begins_page bytes payload more h small w is two front goes =
     let joined : payload ++ more ≡ drop 12 bytes = ap (λ l. l ++ more) front ∙ ap (λ l. take h.b (drop 12 bytes) ++ l) goes ∙ take-append-drop h.b (drop 12 bytes) in
     record { is = message_is message h same none a_fits b_fits; spelled = sym (comes_by message more bytes at.long small (same ∙ is) joined) }
 
-pub begins_close : (bytes more : List ℕ) (h : Header) → AreBytes bytes → rest_of bytes ≡ whole → h ≡ header_at bytes → h.kind ≢ 1 → h.kind ≢ 2 → more ≡ drop 12 bytes → Begins bytes (close_message h.«module») more
-begins_close bytes more h small w is not_one not_two goes =
+pub begins_close : (bytes more : List ℕ) (h : Header) → AreBytes bytes → rest_of bytes ≡ whole → h ≡ header_at bytes → h.kind ≡ 3 → more ≡ drop 12 bytes → Begins bytes (close_message h.«module») more
+begins_close bytes more h small w is three goes =
     let at = whole_at bytes small w in
     let none : header_fault h ≡ None = ap header_fault is ∙ at.none in
-    let three : h.kind ≡ 3 = elim (sound h none).kind [ inl two ↦ absurd (not_two two) | inr other ↦ elim other [ inl one ↦ absurd (not_one one) | inr three ↦ three ] ] in
     let a_fits : h.a < 2 ^ 32 = subst (λ g. g.a < 2 ^ 32) (sym is) at.fits.0 in
     let b_fits : h.b < 2 ^ 32 = subst (λ g. g.b < 2 ^ 32) (sym is) at.fits.1 in
     let message = close_message h.«module» in

@@ -18,13 +18,16 @@ use Rattle.lfi_model.specs.declared.connection.Cause.{Cause}
 use Rattle.lfi_model.specs.declared.connection.Progress.{Progress}
 use Rattle.lfi_model.specs.declared.connection.Progress.TheVariants.{Unclaimed, Going, Ended}
 use Rattle.lfi_model.specs.Items.{Share, nothing_yet, with_stray, with_item, item_of, after_page, after_message, after_header, after_rest, is_of, ends_of, reason_of, items_of, share_at, connection_fault}
+use Rattle.lfi_module.specs.Extents.{ExtentView}
+use Rattle.lfi_module.specs.declared.profile.Profile.{Profile}
+use Rattle.lfi_module.specs.declared.profile.Profile.TheVariants.{One, Two}
 use Rattle.lfi_module.specs.Numbers.{page_words}
 use Rattle.lfi_module.specs.Pages.{page_count, bytes_in_page, is_due}
 use Rattle.lfi_model.specs.Outcomes.{page_of, pages_of}
 use Rattle.lfi_model.proofs.Faults.{all_words-append}
 use Rattle.a64_word.specs.Words.{words_of}
 use Rattle.a64_word.proofs.WordLaws.{words_fit}
-use Rattle.lfi_reference.specs.Reports.{count_of, IsSized}
+use Rattle.lfi_reference.specs.Reports.{extent_of, IsSized}
 
 abbrev words_in : List ItemView → ℕ
 words_in items = length (all_words (pages_of items))
@@ -32,40 +35,40 @@ words_in items = length (all_words (pages_of items))
 abbrev pages_in : List ItemView → ℕ
 pages_in items = length (pages_of items)
 
--- what the items of a module of n words bring, of which p pages have come
-record Grows (items : List ItemView) (n p : ℕ) : Type 0 where
-  most : n ≤ 4194304
-  fits : words_in items ≤ n
+-- what the items of a module of this extent bring, of which p pages have come
+record Grows (items : List ItemView) (n : ExtentView) (p : ℕ) : Type 0 where
+  most : n.words ≤ 4194304
+  fits : words_in items ≤ n.words
   few : words_in items ≤ 1024 * p
   pages : pages_in items ≤ p
-  within : 1024 * p ≤ n + 1023
-  count : (more : List ItemView) → count_of (items ++ more) ≡ n
+  within : 1024 * p ≤ n.words + 1023
+  count : (more : List ItemView) → extent_of (items ++ more) ≡ n
 
 abbrev Stands : Progress → List ItemView → Type 0
 Stands Unclaimed items = items ≡ []
 Stands (Going n p) items = Grows items n p
-Stands Ended items = (n : ℕ) × (p : ℕ) × Grows items n p
+Stands Ended items = (n : ExtentView) × (p : ℕ) × Grows items n p
 
 added : (items : List ItemView) (x : ItemView) → pages_of (items ++ x ∷ []) ≡ pages_of items ++ page_of x.kind
 added items x = flat_map-append (λ item. page_of item.kind) items (x ∷ []) ∙ ap (λ l. pages_of items ++ l) (append-nil (page_of x.kind))
 
-counted : (items : List ItemView) (x : ItemView) (n : ℕ) → ((more : List ItemView) → count_of (items ++ more) ≡ n) → (more : List ItemView) → count_of ((items ++ x ∷ []) ++ more) ≡ n
-counted items x n count more = ap count_of (append_assoc items (x ∷ []) more) ∙ count (x ∷ more)
+counted : (items : List ItemView) (x : ItemView) (n : ExtentView) → ((more : List ItemView) → extent_of (items ++ more) ≡ n) → (more : List ItemView) → extent_of ((items ++ x ∷ []) ++ more) ≡ n
+counted items x n count more = ap extent_of (append_assoc items (x ∷ []) more) ∙ count (x ∷ more)
 
-end_more : (m k n p : ℕ) (items : List ItemView) (reason : Reason) → Grows items n p → Grows (items ++ item_of m k n (End reason) ∷ []) n p
+end_more : (m k : ℕ) (n : ExtentView) (p : ℕ) (items : List ItemView) (reason : Reason) → Grows items n p → Grows (items ++ item_of m k n (End reason) ∷ []) n p
 end_more m k n p items reason g =
     let x = item_of m k n (End reason) in
     let same : pages_of (items ++ x ∷ []) ≡ pages_of items = added items x ∙ append-nil (pages_of items) in
     record {
       most = g.most;
-      fits = subst (λ l. length (all_words l) ≤ n) (sym same) g.fits;
+      fits = subst (λ l. length (all_words l) ≤ n.words) (sym same) g.fits;
       few = subst (λ l. length (all_words l) ≤ 1024 * p) (sym same) g.few;
       pages = subst (λ l. length l ≤ p) (sym same) g.pages;
       within = g.within;
       count = counted items x n g.count;
     }
 
-page_more : (m k n p : ℕ) (items : List ItemView) (bytes : List ℕ) → p < page_count page_words n → length bytes ≡ bytes_in_page page_words n p → Grows items n p → Grows (items ++ item_of m k n (Page bytes) ∷ []) n (p + 1)
+page_more : (m k : ℕ) (n : ExtentView) (p : ℕ) (items : List ItemView) (bytes : List ℕ) → p < page_count page_words n.words → length bytes ≡ bytes_in_page page_words n.words p → Grows items n p → Grows (items ++ item_of m k n (Page bytes) ∷ []) n (p + 1)
 page_more m k n p items bytes below len g =
     let x = item_of m k n (Page bytes) in
     let pages : pages_of (items ++ x ∷ []) ≡ pages_of items ++ words_of bytes ∷ [] = added items x in
@@ -76,7 +79,7 @@ page_more m k n p items bytes below len g =
     let fit = words_fit bytes in
     let fits = g.fits in let few = g.few in let some = g.pages in let within = g.within in
     let small : length (words_of bytes) ≤ 1024 = omega arith in
-    let left : length (words_of bytes) + 1024 * p ≤ n = omega arith in
+    let left : length (words_of bytes) + 1024 * p ≤ n.words = omega arith in
     record {
       most = g.most;
       fits = omega arith;
@@ -94,16 +97,20 @@ second : (b c : Bool) → (b || c) ≡ false → c ≡ false
 second true c e = absurd (cc)
 second false c e = e
 
-words_most : (m words entry : ℕ) → IsMessage (open_message m words entry) → words ≤ 4194304
-words_most m words entry is =
+words_most : (profile : Profile) (m words entry : ℕ) → IsMessage (open_message m (record { words = words; entry = entry; profile = profile })) → words ≤ 4194304
+words_most One m words entry is =
+    let one = passed (nat_le 16 m) fault.Module (if words == 0 || nat_lt 4194304 words then Some fault.WordCount else if nat_le words entry then Some fault.Entry else None) is.faultless in
+    let two = passed (words == 0 || nat_lt 4194304 words) fault.WordCount (if nat_le words entry then Some fault.Entry else None) one.1 in
+    ltb-false 4194304 words (second (words == 0) (nat_lt 4194304 words) two.0)
+words_most Two m words entry is =
     let one = passed (nat_le 16 m) fault.Module (if words == 0 || nat_lt 4194304 words then Some fault.WordCount else if nat_le words entry then Some fault.Entry else None) is.faultless in
     let two = passed (words == 0 || nat_lt 4194304 words) fault.WordCount (if nat_le words entry then Some fault.Entry else None) one.1 in
     ltb-false 4194304 words (second (words == 0) (nat_lt 4194304 words) two.0)
 
-opened : (m words entry : ℕ) (items : List ItemView) → words ≤ 4194304 → items ≡ [] → Grows (items ++ item_of m 0 words (Open entry) ∷ []) words 0
-opened m words entry items most none =
-    let x = item_of m 0 words (Open entry) in
-    subst (λ l. Grows (l ++ x ∷ []) words 0) (sym none) (record { most = most; fits = omega arith; few = omega arith; pages = omega arith; within = omega arith; count = λ more. refl })
+opened : (m : ℕ) (extent : ExtentView) (items : List ItemView) → extent.words ≤ 4194304 → items ≡ [] → Grows (items ++ item_of m 0 extent Open ∷ []) extent 0
+opened m extent items most none =
+    let x = item_of m 0 extent Open in
+    subst (λ l. Grows (l ++ x ∷ []) extent 0) (sym none) (record { most = most; fits = omega arith; few = omega arith; pages = omega arith; within = omega arith; count = λ more. refl })
 
 either : (b : Bool) (s t : Share) → (b ≡ true → Stands s.progress s.items) → Stands t.progress t.items → Stands (cond b s t).progress (cond b s t).items
 either true s t hs ht = hs refl
@@ -113,32 +120,32 @@ both : (b c : Bool) → (b && c) ≡ true → (b ≡ true) × (c ≡ true)
 both true c e = (refl, e)
 both false c e = absurd (cc)
 
-due_says : (n p index len : ℕ) → is_due page_words n p index len ≡ true → (index ≡ p) × ((p < page_count page_words n) × (len ≡ bytes_in_page page_words n p))
+due_says : (n : ExtentView) (p index len : ℕ) → is_due page_words n.words p index len ≡ true → (index ≡ p) × ((p < page_count page_words n.words) × (len ≡ bytes_in_page page_words n.words p))
 due_says n p index len e =
-    let one = both (index == p && nat_lt index (page_count page_words n)) (len == bytes_in_page page_words n index) e in
-    let two = both (index == p) (nat_lt index (page_count page_words n)) one.0 in
+    let one = both (index == p && nat_lt index (page_count page_words n.words)) (len == bytes_in_page page_words n.words index) e in
+    let two = both (index == p) (nat_lt index (page_count page_words n.words)) one.0 in
     let same : index ≡ p = eqb-true index p two.0 in
-    (same, (subst (λ i. i < page_count page_words n) same (ltb-true index (page_count page_words n) two.1), subst (λ i. len ≡ bytes_in_page page_words n i) same (eqb-true len (bytes_in_page page_words n index) one.1)))
+    (same, (subst (λ i. i < page_count page_words n.words) same (ltb-true index (page_count page_words n.words) two.1), subst (λ i. len ≡ bytes_in_page page_words n.words i) same (eqb-true len (bytes_in_page page_words n.words index) one.1)))
 
 same_stands : (s : Share) (progress : Progress) → s.progress ≡ progress → Stands progress s.items → Stands s.progress s.items
 same_stands s progress e h = subst (λ q. Stands q s.items) (sym e) h
 
-page_stands : (m n p : ℕ) (s : Share) (index len : ℕ) (due : Share) → Grows s.items n p → (is_due page_words n p index len ≡ true → Stands due.progress due.items) →
+page_stands : (m : ℕ) (n : ExtentView) (p : ℕ) (s : Share) (index len : ℕ) (due : Share) → Grows s.items n p → (is_due page_words n.words p index len ≡ true → Stands due.progress due.items) →
     Stands (after_page m n p s index len due).progress (after_page m n p s index len due).items
-page_stands m n p s index len due g d = either (is_due page_words n p index len) due (with_item s (item_of m (p + 1) n (End (PageFault index))) Ended) d (n, p, end_more m (p + 1) n p s.items (PageFault index) g)
+page_stands m n p s index len due g d = either (is_due page_words n.words p index len) due (with_item s (item_of m (p + 1) n (End (PageFault index))) Ended) d (n, p, end_more m (p + 1) n p s.items (PageFault index) g)
 
 message_stands : (claimed : Bool) (m : ℕ) (s : Share) (progress : Progress) (message : Message) → IsMessage message → s.progress ≡ progress → Stands progress s.items →
     Stands (after_message claimed m s progress message).progress (after_message claimed m s progress message).items
-message_stands claimed m s Unclaimed (open_message k words entry) is e h =
-    either claimed (with_item s (item_of m 0 words (Open entry)) (Going words 0)) (with_stray s) (λ _. opened m words entry s.items (words_most k words entry is) h) (same_stands s Unclaimed e h)
+message_stands claimed m s Unclaimed (open_message k extent) is e h =
+    either claimed (with_item s (item_of m 0 extent Open) (Going extent 0)) (with_stray s) (λ _. opened m extent s.items (words_most extent.profile k extent.words extent.entry is) h) (same_stands s Unclaimed e h)
 message_stands claimed m s Unclaimed (page_message k index payload) is e h = same_stands s Unclaimed e h
 message_stands claimed m s Unclaimed (close_message k) is e h = same_stands s Unclaimed e h
-message_stands claimed m s (Going n p) (open_message k words entry) is e h = same_stands s (Going n p) e h
+message_stands claimed m s (Going n p) (open_message k extent) is e h = same_stands s (Going n p) e h
 message_stands claimed m s (Going n p) (page_message k index payload) is e h =
     page_stands m n p s index (length payload) (with_item s (item_of m (p + 1) n (Page payload)) (Going n (p + 1))) h
     (λ due. (let says = due_says n p index (length payload) due in page_more m (p + 1) n p s.items payload says.1.0 says.1.1 h))
 message_stands claimed m s (Going n p) (close_message k) is e h = (n, p, end_more m (p + 1) n p s.items Close h)
-message_stands claimed m s Ended (open_message k words entry) is e h = same_stands s Ended e h
+message_stands claimed m s Ended (open_message k extent) is e h = same_stands s Ended e h
 message_stands claimed m s Ended (page_message k index payload) is e h = same_stands s Ended e h
 message_stands claimed m s Ended (close_message k) is e h = same_stands s Ended e h
 
@@ -170,9 +177,9 @@ rest_stands m s (faulty found) h = h
 rest_stands m s (unfinished k index len) h = either (k == m) (after_header m s s.progress index len) s (λ _. header_stands m s s.progress index len refl h) h
 rest_stands m s whole h = h
 
-sized : (items : List ItemView) (n p : ℕ) → Grows items n p → IsSized items
+sized : (items : List ItemView) (n : ExtentView) (p : ℕ) → Grows items n p → IsSized items
 sized items n p g =
-    let is : count_of items ≡ n = ap count_of (sym (append-nil items)) ∙ g.count [] in
+    let is : (extent_of items).words ≡ n.words = ap (λ l. (extent_of l).words) (sym (append-nil items)) ∙ ap (λ z. z.words) (g.count []) in
     let most = g.most in let fits = g.fits in let pages = g.pages in let within = g.within in
     record { most = omega arith; room = omega arith; pages = omega arith }
 

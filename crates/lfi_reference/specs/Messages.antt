@@ -1,13 +1,19 @@
 -- What the plain program's messages and rests stand for. Source: this project's format, docs/PROFILE.md.
 use Rattle.std.specs.Prelude.{◌≡◌, ℕ, List, ◌++◌}
 use Rattle.lfi_frame.specs.Streams.{Message, open_message, page_message, close_message, spelling, IsMessage, Rest, short, faulty, unfinished, whole}
+use Rattle.lfi_module.specs.Extents.{ExtentView}
+use Rattle.lfi_reference.specs.declared.message.PlainExtent.{PlainExtent}
 use Rattle.lfi_reference.specs.declared.message.PlainMessage.{PlainMessage}
 use Rattle.lfi_reference.specs.declared.message.PlainMessage.TheVariants.{Open, Page, Close}
 use Rattle.lfi_reference.specs.declared.rest.PlainRest.{PlainRest}
 use Rattle.lfi_reference.specs.declared.rest.PlainRest.TheVariants.{Short, Faulty, Unfinished, Whole}
 
+-- the extent of a module
+abbrev pub extent_by : PlainExtent → ExtentView
+extent_by extent = record { words = extent.words; entry = extent.entry; profile = extent.profile }
+
 abbrev pub message_of : PlainMessage → Message
-message_of (Open m words entry) = open_message m words entry
+message_of (Open m extent) = open_message m (extent_by extent)
 message_of (Page m index payload) = page_message m index payload.items
 message_of (Close m) = close_message m
 

@@ -1,6 +1,8 @@
 -- What the plain program reports of several streams.
 use Rattle.std.specs.Prelude.{◌≡◌, ℕ, ◌+◌, ◌≤◌, List, [], ◌∷◌, length, Option, Some, None, position, slice_get}
 use Rattle.lfi_module.specs.Numbers.{module_count, most_words}
+use Rattle.lfi_module.specs.Extents.{ExtentView}
+use Rattle.lfi_module.specs.declared.profile.Profile.TheVariants.{One}
 use Rattle.lfi_model.specs.Item.{ItemView}
 use Rattle.lfi_rules.specs.Verdicts.{all_words}
 use Rattle.lfi_model.specs.declared.outcome.Outcome.TheVariants as outcome
@@ -13,15 +15,15 @@ use Rattle.lfi_reference.specs.Shares.{items_at}
 use Rattle.lfi_reference.specs.Connections.{claims}
 use Rattle.lfi_reference.specs.Pages.{pages_by}
 
--- how many words the module with these items has
-abbrev pub count_of : List ItemView → ℕ
-count_of [] = 0
-count_of (item ∷ items) = item.words
+-- the extent of the module with these items; where there are none, that of no words
+abbrev pub extent_of : List ItemView → ExtentView
+extent_of [] = record { words = 0; entry = 0; profile = One }
+extent_of (item ∷ items) = item.extent
 
 -- no more words than the module has, and no more than a module may have
 pub record IsSized (items : List ItemView) : Type 0 where
-  pub most : count_of items ≤ most_words
-  pub room : length (all_words (pages_of items)) ≤ count_of items
+  pub most : (extent_of items).words ≤ most_words
+  pub room : length (all_words (pages_of items)) ≤ (extent_of items).words
   pub pages : length (pages_of items) ≤ most_words
 
 -- a connection is what a stream makes
@@ -41,8 +43,8 @@ owner_of streams m = position (λ stream. claims stream.claimed m) streams
 
 -- what became of a module with these items, and its longest beginning of pages without a fault
 pub record IsLoaded (items : List ItemView) (loaded : Loaded) : Type 0 where
-  pub outcome : Load (count_of items) items loaded.outcome
-  pub placed : Placed (count_of items) (pages_of items) (pages_by loaded.placed.items)
+  pub outcome : Load (extent_of items) items loaded.outcome
+  pub placed : Placed (extent_of items) (pages_of items) (pages_by loaded.placed.items)
 
 abbrev pub IsReportedBy : Option ℕ → List Connection → ℕ → Loaded → Type 0
 IsReportedBy None made m loaded = (loaded.outcome ≡ outcome.Unused) × (loaded.placed.items ≡ [])

@@ -10,23 +10,24 @@ use Rattle.lfi_model.specs.declared.connection.Progress.{Progress}
 use Rattle.lfi_model.specs.declared.connection.Progress.TheVariants as progress
 use Rattle.lfi_reference.specs.declared.share.PlainProgress.{PlainProgress}
 use Rattle.lfi_reference.specs.declared.share.PlainProgress.TheVariants.{Unclaimed, Going, Ended}
+use Rattle.lfi_reference.specs.Messages.{extent_by}
 use Rattle.lfi_reference.specs.declared.share.PlainItem.{PlainItem}
 use Rattle.lfi_reference.specs.declared.share.PlainShare.{PlainShare}
 
 abbrev pub kind_by : PlainKind → KindView
-kind_by (Open entry) = kind.Open entry
+kind_by Open = kind.Open
 kind_by (Page bytes) = kind.Page bytes.items
 kind_by (End reason) = kind.End reason
 
 abbrev pub item_by : PlainItem → ItemView
-item_by item = record { «module» = item.«module»; ordinal = item.ordinal; words = item.words; kind = kind_by item.kind }
+item_by item = record { «module» = item.«module»; ordinal = item.ordinal; extent = extent_by item.extent; kind = kind_by item.kind }
 
 abbrev pub items_by : List PlainItem → List ItemView
 items_by items = map item_by items
 
 abbrev pub progress_by : PlainProgress → Progress
 progress_by Unclaimed = progress.Unclaimed
-progress_by (Going words pages) = progress.Going words pages
+progress_by (Going extent pages) = progress.Going (extent_by extent) pages
 progress_by Ended = progress.Ended
 
 abbrev pub share_by : PlainShare → Share

@@ -4,9 +4,11 @@ ghost use Rattle.std.specs.Prelude.{◌≡◌, ◌≤◌, ◌⊎◌, [], map, ta
 ghost use Rattle.lfi_module.specs.Numbers.{most_words};
 ghost use Rattle.lfi_rules.specs.Verdicts.{all_words};
 ghost use Rattle.lfi_model.specs.Outcomes.{Load, Placed, pages_of, end_of, by_end};
+ghost use Rattle.lfi_reference.specs.Messages.{extent_by};
 ghost use Rattle.lfi_reference.specs.Shares.{items_by};
 ghost use Rattle.lfi_reference.specs.Pages.{pages_by, outcome_by, told_by, IsEnded};
 
+use crate::message::PlainExtent;
 use crate::share::{PlainItem, PlainKind, page_count};
 use crate::words::{all_words, first_fault, pages_of, placed};
 use lfi_model::{Outcome, Reason};
@@ -64,24 +66,24 @@ fn outcome(n: u32, fault: Option<Fault>, end: Option<Reason>, words: usize, page
     }
 }
 
-/// What becomes of a module of n words with these items.
+/// What becomes of a module of this extent with these items.
 ///
 /// # Errors
 ///
 /// Where memory was refused.
-pub fn load_module(alloc: Global, n: u32, items: &[PlainItem]) -> Result<Loaded, AllocError>
-    requires most { n ≤ most_words }
-    requires room { length (all_words (pages_of (items_by items.now))) ≤ n }
+pub fn load_module(alloc: Global, extent: PlainExtent, items: &[PlainItem]) -> Result<Loaded, AllocError>
+    requires most { extent.words ≤ most_words }
+    requires room { length (all_words (pages_of (items_by items.now))) ≤ extent.words }
     requires pages { length (pages_of (items_by items.now)) ≤ most_words }
     requires ended { IsEnded (items_by items.now) }
-    ensures outcome { IfOk result (λ loaded. Load n (items_by items.now) loaded.outcome) }
-    ensures placed { IfOk result (λ loaded. Placed n (pages_of (items_by items.now)) (pages_by loaded.placed.items)) }
+    ensures outcome { IfOk result (λ loaded. Load (extent_by extent) (items_by items.now) loaded.outcome) }
+    ensures placed { IfOk result (λ loaded. Placed (extent_by extent) (pages_of (items_by items.now)) (pages_by loaded.placed.items)) }
 {
     let mut pages = pages_of(alloc, items)?;
     let words = all_words(alloc, pages.as_slice())?;
-    let fault = first_fault(&words, n);
-    let outcome = outcome(n, fault, end_of(items), words.len(), pages.len());
-    let count = placed(alloc, n, pages.as_slice())?;
+    let fault = first_fault(&words, extent.words, extent.profile);
+    let outcome = outcome(extent.words, fault, end_of(items), words.len(), pages.len());
+    let count = placed(alloc, extent, pages.as_slice())?;
     pages.truncate(count);
     Ok(Loaded {
         outcome,

@@ -2,11 +2,24 @@
 
 ghost use Rattle.std.specs.Prelude.{◌≡◌, ◌≢◌, map, IfOk, MatchOption};
 ghost use Rattle.lfi_frame.specs.Streams.{Cut, rest_of, whole, header_of};
-ghost use Rattle.lfi_reference.specs.Messages.{message_of, Begins};
+ghost use Rattle.lfi_frame.specs.Feeds.{opened};
+ghost use Rattle.lfi_reference.specs.Messages.{extent_by, message_of, Begins};
 
 use crate::rest::{PlainRest, rest_at};
 use lfi_frame::{HEADER_BYTES, Header};
+use lfi_module::Profile;
 use std::alloc::{AllocError, Global};
+
+/// How large a module is, the word at which it is entered, and the profile that it goes by.
+#[derive(Clone, Copy, PartialEq, Eq, Debug)]
+pub struct PlainExtent {
+    /// How many words it has.
+    pub words: u32,
+    /// The word at which it is entered.
+    pub entry: u32,
+    /// The profile that it goes by.
+    pub profile: Profile,
+}
 
 /// A whole message.
 #[derive(Drop)]
@@ -14,8 +27,7 @@ pub enum PlainMessage {
     /// A module begins: its number of words, and the word where it is entered.
     Open {
         module: u16,
-        words: u32,
-        entry: u32,
+        extent: PlainExtent,
     },
     /// A page of a module.
     Page {
@@ -42,6 +54,21 @@ impl PlainMessage {
     }
 }
 
+/// The extent that the header of an Open tells: kind 4 opens a module of the second profile.
+fn extent_of(header: &Header) -> PlainExtent
+    ensures { extent_by result ≡ opened header.now }
+{
+    PlainExtent {
+        words: header.a,
+        entry: header.b,
+        profile: if header.kind == 4 {
+            Profile::Two
+        } else {
+            Profile::One
+        },
+    }
+}
+
 /// The message with which a text begins, and what follows it; `None` where no whole message
 /// stands there.
 ///
@@ -65,14 +92,6 @@ pub fn first_message(
     let module = header.module;
     let after = &bytes[HEADER_BYTES..];
     match header.kind {
-        1 => Ok(Some((
-            PlainMessage::Open {
-                module,
-                words: header.a,
-                entry: header.b,
-            },
-            after,
-        ))),
         2 => {
             let (front, more) = after.split_at(header.b as usize);
             let payload = Vec::from_slice(alloc, front)?;
@@ -85,7 +104,14 @@ pub fn first_message(
                 more,
             )))
         }
-        _ => Ok(Some((PlainMessage::Close { module }, after))),
+        3 => Ok(Some((PlainMessage::Close { module }, after))),
+        _ => Ok(Some((
+            PlainMessage::Open {
+                module,
+                extent: extent_of(&header),
+            },
+            after,
+        ))),
     }
 }
 

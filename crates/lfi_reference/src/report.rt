@@ -2,15 +2,17 @@
 
 ghost use Rattle.std.specs.Prelude.{◌≡◌, ℕ, ◌<◌, ◌≤◌, ◌^◌, ◌-◌, None, IfOk, length, map, take, get_or, min, sum_by};
 ghost use Rattle.lfi_module.specs.Numbers.{module_count};
+ghost use Rattle.lfi_reference.specs.Messages.{extent_by};
 ghost use Rattle.lfi_reference.specs.Shares.{items_by};
-ghost use Rattle.lfi_reference.specs.Reports.{count_of, owner_of, AreMade, IsReported, AreReported};
+ghost use Rattle.lfi_reference.specs.Reports.{extent_of, owner_of, AreMade, IsReported, AreReported};
 
 use crate::connection::{Connection, connection_of};
 use crate::load::{Loaded, load_module};
+use crate::message::PlainExtent;
 use crate::share::PlainItem;
 use lfi_frame::FrameFault;
 use lfi_model::{CONNECTIONS, Cause, Outcome, Summary};
-use lfi_module::ModuleNumber;
+use lfi_module::{ModuleNumber, Profile};
 use std::alloc::{AllocError, Global};
 
 /// A whole stream: its bytes, what ended it, and which of the 16 modules are claimed for it.
@@ -75,13 +77,17 @@ fn faults_of(connections: &[Connection]) -> [Option<FrameFault>; CONNECTIONS]
     faults
 }
 
-/// How many words the module with these items has; 0 where there are none.
-pub fn words_of_module(items: &[PlainItem]) -> u32
-    ensures { result ≡ count_of (items_by items.now) }
+/// The extent of the module with these items; that of no words where there are none.
+pub fn extent_of(items: &[PlainItem]) -> PlainExtent
+    ensures { extent_by result ≡ extent_of (items_by items.now) }
 {
     match items {
-        [first, ..] => first.words,
-        [] => 0,
+        [first, ..] => first.extent,
+        [] => PlainExtent {
+            words: 0,
+            entry: 0,
+            profile: Profile::One,
+        },
     }
 }
 
@@ -134,7 +140,7 @@ fn report_module(
     let connection = &made[place];
     let list = &connection.items[m as usize];
     let items = list.as_slice();
-    let loaded = load_module(alloc, words_of_module(items), items)?;
+    let loaded = load_module(alloc, extent_of(items), items)?;
     Ok(loaded)
 }
 

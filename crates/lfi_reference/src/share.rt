@@ -7,9 +7,9 @@ ghost use Rattle.lfi_module.specs.Pages.{page_count, is_due};
 ghost use Rattle.lfi_model.specs.declared.item.ItemKind.TheVariants as kind;
 ghost use Rattle.lfi_model.specs.declared.connection.Progress.TheVariants.{Unclaimed, Going, Ended};
 ghost use Rattle.lfi_reference.specs.Shares.{progress_by, share_by, item_by, items_by};
-ghost use Rattle.lfi_reference.specs.Messages.{message_of, rest_by};
+ghost use Rattle.lfi_reference.specs.Messages.{extent_by, message_of, rest_by};
 
-use crate::message::PlainMessage;
+use crate::message::{PlainExtent, PlainMessage};
 use crate::rest::PlainRest;
 use lfi_frame::FrameFault;
 use lfi_model::Reason;
@@ -19,7 +19,7 @@ use std::alloc::{AllocError, Global};
 #[derive(Drop)]
 pub enum PlainKind {
     /// The module's opening, with the word where it is entered.
-    Open { entry: u32 },
+    Open,
     /// A page, as its bytes.
     Page(Vec<u8>),
     /// The end.
@@ -34,7 +34,7 @@ pub struct PlainItem {
     /// The item's place among those of its module.
     pub ordinal: u64,
     /// How many words the module has.
-    pub words: u32,
+    pub extent: PlainExtent,
     /// What it brings.
     pub kind: PlainKind,
 }
@@ -45,7 +45,7 @@ pub enum PlainProgress {
     /// The connection hasn't claimed it.
     Unclaimed,
     /// It is open: so many words in all, and so many pages of it have come.
-    Going { words: u32, pages: u32 },
+    Going { extent: PlainExtent, pages: u32 },
     /// It has ended.
     Ended,
 }
@@ -118,16 +118,16 @@ impl PlainShare {
     fn with_end(
         self,
         module: u16,
-        words: u32,
+        extent: PlainExtent,
         pages: u32,
         reason: Reason,
     ) -> Result<PlainShare, AllocError>
-        ensures { IfOk result (λ share. share_by share ≡ with_item (share_by self) (item_of «module» (pages + 1) words (kind.End reason)) Ended) }
+        ensures { IfOk result (λ share. share_by share ≡ with_item (share_by self) (item_of «module» (pages + 1) (extent_by extent) (kind.End reason)) Ended) }
     {
         let item = PlainItem {
             module,
             ordinal: u64::from(pages) + 1,
-            words,
+            extent,
             kind: PlainKind::End(reason),
         };
         self.with(item, PlainProgress::Ended)
@@ -144,15 +144,15 @@ impl PlainShare {
         ensures { IfOk result (λ share. share_by share ≡ after_message claimed «module» (share_by self) Unclaimed (message_of message.now)) }
     {
         match message {
-            PlainMessage::Open { words, entry, .. } if claimed => {
-                let (words, entry) = (*words, *entry);
+            PlainMessage::Open { extent, .. } if claimed => {
+                let extent = *extent;
                 let item = PlainItem {
                     module,
                     ordinal: 0,
-                    words,
-                    kind: PlainKind::Open { entry },
+                    extent,
+                    kind: PlainKind::Open,
                 };
-                self.with(item, PlainProgress::Going { words, pages: 0 })
+                self.with(item, PlainProgress::Going { extent, pages: 0 })
             }
             _ => Ok(self.stray()),
         }
@@ -163,32 +163,32 @@ impl PlainShare {
         self,
         alloc: Global,
         module: u16,
-        words: u32,
+        extent: PlainExtent,
         pages: u32,
         message: &PlainMessage,
     ) -> Result<PlainShare, AllocError>
         requires { self.strays < 2 ^ 64 }
         ensures { IfOk result (λ share. share_by share
-            ≡ after_message true «module» (share_by self) (Going words pages) (message_of message.now)) }
+            ≡ after_message true «module» (share_by self) (Going (extent_by extent) pages) (message_of message.now)) }
     {
         match message {
             PlainMessage::Open { .. } => Ok(self.stray()),
             PlainMessage::Page { index, payload, .. } => {
                 let index = *index;
-                if !is_due(words, pages, index, payload.len()) {
-                    return self.with_end(module, words, pages, Reason::PageFault(index));
+                if !is_due(extent.words, pages, index, payload.len()) {
+                    return self.with_end(module, extent, pages, Reason::PageFault(index));
                 }
                 let page = Vec::from_slice(alloc, payload.as_slice())?;
                 let item = PlainItem {
                     module,
                     ordinal: u64::from(pages) + 1,
-                    words,
+                    extent,
                     kind: PlainKind::Page(page),
                 };
                 let pages = pages + 1;
-                self.with(item, PlainProgress::Going { words, pages })
+                self.with(item, PlainProgress::Going { extent, pages })
             }
-            PlainMessage::Close { .. } => self.with_end(module, words, pages, Reason::Close),
+            PlainMessage::Close { .. } => self.with_end(module, extent, pages, Reason::Close),
         }
     }
 
@@ -206,8 +206,8 @@ impl PlainShare {
     {
         match self.progress {
             PlainProgress::Unclaimed => self.opened(claimed, module, message),
-            PlainProgress::Going { words, pages } => self.going(
-                alloc, module, words, pages, message,
+            PlainProgress::Going { extent, pages } => self.going(
+                alloc, module, extent, pages, message,
             ),
             PlainProgress::Ended => Ok(self.stray()),
         }
@@ -230,11 +230,11 @@ impl PlainShare {
             return Ok(self);
         }
         match self.progress {
-            PlainProgress::Going { words, pages } => {
-                if is_due(words, pages, index, len as usize) {
+            PlainProgress::Going { extent, pages } => {
+                if is_due(extent.words, pages, index, len as usize) {
                     Ok(self)
                 } else {
-                    self.with_end(module, words, pages, Reason::PageFault(index))
+                    self.with_end(module, extent, pages, Reason::PageFault(index))
                 }
             }
             _ => Ok(self.stray()),
@@ -261,8 +261,8 @@ impl PlainShare {
             ≡ (share_by self).items ++ ends_of «module» (progress_by self.progress) fault) }
     {
         match (self.progress, fault) {
-            (PlainProgress::Going { words, pages }, Some(fault)) => {
-                let share = self.with_end(module, words, pages, reason_of(fault))?;
+            (PlainProgress::Going { extent, pages }, Some(fault)) => {
+                let share = self.with_end(module, extent, pages, reason_of(fault))?;
                 Ok(share.items)
             }
             _ => Ok(self.items),

@@ -2,14 +2,15 @@
 
 ghost use Rattle.std.specs.Prelude.{◌≡◌, ◌≤◌, ◌<◌, map, take, length, IfOk};
 ghost use Rattle.lfi_module.specs.Numbers.{most_words};
-ghost use Rattle.lfi_module.specs.declared.profile.Profile.TheVariants.{One};
 ghost use Rattle.lfi_rules.specs.Faults.{FirstFault};
 ghost use Rattle.lfi_rules.specs.Verdicts.{all_words};
 ghost use Rattle.a64_word.specs.Words.{words_of};
 ghost use Rattle.lfi_model.specs.Outcomes.{Placed, pages_of};
+ghost use Rattle.lfi_reference.specs.Messages.{extent_by};
 ghost use Rattle.lfi_reference.specs.Shares.{items_by};
 ghost use Rattle.lfi_reference.specs.Pages.{pages_by};
 
+use crate::message::PlainExtent;
 use crate::share::{PlainItem, PlainKind};
 use lfi_module::Profile;
 use lfi_rules::{Fault, Need, fault_after, judge};
@@ -63,34 +64,38 @@ pub fn all_words(alloc: Global, pages: &[Vec<u32>]) -> Result<Vec<u32>, AllocErr
     Ok(words)
 }
 
-/// The first fault of words, the beginning of a module of n words.
-pub fn first_fault(words: &Vec<u32>, n: u32) -> Option<Fault>
+/// The first fault of words, the beginning of a module of n words, by a profile.
+pub fn first_fault(words: &Vec<u32>, n: u32, profile: Profile) -> Option<Fault>
     requires room { length words.now.items ≤ n }
     requires most { n ≤ most_words }
-    ensures { FirstFault One words.now.items n result }
+    ensures { FirstFault profile words.now.items n result }
 {
     if words.is_empty() {
         return None;
     }
-    let verdict = judge(words, 0, n, Profile::One);
+    let verdict = judge(words, 0, n, profile);
     fault_after(n, Need::Nothing, &verdict, words.len())
 }
 
-/// How many of the pages of a module of n words make their longest beginning without a fault.
+/// How many of the pages of a module of this extent make their longest beginning without a fault.
 ///
 /// # Errors
 ///
 /// Where memory was refused.
-pub fn placed(alloc: Global, n: u32, pages: &[Vec<u32>]) -> Result<usize, AllocError>
-    requires room { length (all_words (pages_by pages.now)) ≤ n }
-    requires most { n ≤ most_words }
+pub fn placed(
+    alloc: Global,
+    extent: PlainExtent,
+    pages: &[Vec<u32>],
+) -> Result<usize, AllocError>
+    requires room { length (all_words (pages_by pages.now)) ≤ extent.words }
+    requires most { extent.words ≤ most_words }
     ensures within { IfOk result (λ count. count ≤ length pages.now) }
-    ensures longest { IfOk result (λ count. Placed n (pages_by pages.now) (take count (pages_by pages.now))) }
+    ensures longest { IfOk result (λ count. Placed (extent_by extent) (pages_by pages.now) (take count (pages_by pages.now))) }
 {
     for count in 0..pages.len() {
         let (front, _) = pages.split_at(count + 1);
         let words = all_words(alloc, front)?;
-        if first_fault(&words, n).is_some() {
+        if first_fault(&words, extent.words, extent.profile).is_some() {
             return Ok(count);
         }
     }

@@ -47,7 +47,7 @@ due_less p ws i d need due =
     record { opening = due.opening; at = due.at; opens = due.opens; calm = λ j w low high. due.calm j w low (omega arith); within = omega arith; term = omega arith }
 
 -- one calm word more
-due_more : (p : Profile) (ws : List ℕ) (i d word : ℕ) (need : Need) → IsDue p ws i d need → slice_get ws (i + d + 1) ≡ Some word → IsCalm p word → d + 1 < term_of need
+pub due_more : (p : Profile) (ws : List ℕ) (i d word : ℕ) (need : Need) → IsDue p ws i d need → slice_get ws (i + d + 1) ≡ Some word → IsCalm p word → d + 1 < term_of need
     → IsDue p ws i (d + 1) need
 due_more p ws i d word need due at calm term = record {
   opening = due.opening;

@@ -10,15 +10,15 @@ use Rattle.lfi_rules.specs.declared.rule.Rule.{Rule}
 use Rattle.lfi_rules.specs.Rules.{rule_number}
 use Rattle.lfi_rules.specs.Needs.{term_of}
 use Rattle.lfi_rules.specs.Calm.{IsCalm}
-use Rattle.lfi_rules.specs.Faults.{Opens, opens_by, Meets, meets_nothing, Allowed, IsDue, BreaksInside, by_itself, IsOpenAt, some_due, Leaves, opening, waiting, IsFirstInside}
+use Rattle.lfi_rules.specs.Faults.{Opens, opens_by, Meets, meets_nothing, Allowed, IsDue, BreaksInside, by_itself, Leaves, opening, waiting, IsFirstInside}
 use Rattle.lfi_rules.specs.Faults.{unmet as unmet_inside}
 use Rattle.lfi_rules.specs.inner.Quiet.{IsToldWord}
-use Rattle.lfi_rules.specs.inner.Least.{Keeps, met, gone_by, BreaksAfter, itself, unmet, IsLeastBroken, NoneBefore}
+use Rattle.lfi_rules.specs.inner.Least.{met, BreaksAfter, itself, unmet, IsLeastBroken, NoneBefore}
 use Rattle.lfi_rules.specs.inner.Passing.{in_profile, IsMetAfter, IsFine, AreFine}
-use Rattle.lfi_rules.proofs.Broken.{Opens-same, quiet_keeps, opens_in, opens_term, calm_opens, window_is_one}
-use Rattle.lfi_rules.proofs.Due.{same_at, rest_none}
+use Rattle.lfi_rules.proofs.Broken.{Opens-same, quiet_keeps, opens_in, calm_opens}
+use Rattle.lfi_rules.proofs.Due.{same_at}
 use Rattle.lfi_rules.proofs.Probes.{probe_not_calm, in_profile_met}
-use Rattle.lfi_rules.proofs.Inside.{fault_here, none_at_end}
+use Rattle.lfi_rules.proofs.Inside.{none_at_end}
 
 -- a calm word doesn't meet a need that still has a later word
 not_over : (p : Profile) (w d : ℕ) (need : Need) → 1 ≤ d → d < term_of need → Meets p w need → IsCalm p w → ⊥
@@ -55,23 +55,17 @@ pub leaves_opens : (p : Profile) (word : ℕ) (opened : Need) → Leaves p word 
 leaves_opens p word opened (opening o other) = o
 leaves_opens p word opened (waiting calm e) = subst (λ x. Opens p word x) (sym e) (calm_opens p word calm)
 
--- a word that was looked at, where the next one keeps what it opens
+-- a word that was looked at, which opens nothing
 pub fine_alone : (p : Profile) (ws : List ℕ) (first n i word : ℕ) (opened : Need) → slice_get ws i ≡ Some word → IsLeastBroken p word Nothing (first + i) n None → Opens p word opened
-    → ((next : ℕ) → slice_get ws (i + 1) ≡ Some next → 1 ≤ term_of opened → (Keeps p next opened → ⊥) → ⊥) → IsFine p ws first n i
-fine_alone p ws first n i word opened at kept o next_keeps = record {
+    → opened ≡ Nothing → IsFine p ws first n i
+fine_alone p ws first n i word opened at kept o nothing = record {
   alone = λ w e. subst (λ x. IsLeastBroken p x Nothing (first + i) n None) (same_at ws i word w at e) kept;
   after = λ d next nd due e misses last.
       let here : due.opening ≡ word = same_at ws i due.opening word due.at at in
-      let same : nd ≡ opened = Opens-same p word nd opened (subst (λ x. Opens p x nd) here due.opens) o in
-      let most : term_of opened ≤ 1 = subst (λ x. term_of opened ≤ x) (window_is_one p) (opens_term p word opened o) in
-      let term : d < term_of opened = subst (λ x. d < term_of x) same due.term in
-      let place : i + d + 1 ≡ i + 1 = omega arith in
-      next_keeps next (subst (λ x. slice_get ws x ≡ Some next) place e) (omega arith) (λ keeps. by_keeps next keeps most (λ m. misses (subst (λ x. Meets p next x) (sym same) m)));
+      let none : term_of nd ≡ 0 = ap term_of (Opens-same p word nd opened (subst (λ x. Opens p x nd) here due.opens) o ∙ nothing) in
+      let term : d < term_of nd = due.term in
+      omega arith;
 }
-  where
-    by_keeps : (next : ℕ) → Keeps p next opened → term_of opened ≤ 1 → (Meets p next opened → ⊥) → ⊥
-    by_keeps next (met m) most misses = misses m
-    by_keeps next (gone_by calm more) most misses = omega arith
 
 -- nothing of fine words breaks a rule before the word after them
 pub none_of_fine : (p : Profile) (ws : List ℕ) (first n i : ℕ) → AreFine p ws first n 0 i → NoneBefore p ws first n i
@@ -113,40 +107,6 @@ fault_alone p ws first n i word rule at fine broken = record { breaks = breaks r
     | inl early ↦ absurd ((fine.each j (omega arith) early).after d w nd due f misses last)
     | inr late ↦ inl (omega arith)
   ]
-
--- what the next word breaks, where a word breaks nothing by itself
-pub fault_next : (p : Profile) (ws : List ℕ) (first n i word next : ℕ) (opened : Need) (rule : Rule) → slice_get ws i ≡ Some word → slice_get ws (i + 1) ≡ Some next → AreFine p ws first n 0 i
-    → IsLeastBroken p word Nothing (first + i) n None → Opens p word opened → 1 ≤ term_of opened → IsLeastBroken p next opened (first + (i + 1)) n (Some rule)
-    → IsFirstInside p ws first n (Some (record { word = first + (i + 1); rule = rule }))
-fault_next p ws first n i word next opened rule at at_next fine kept o some broken =
-    fault_here p ws first n (i + 1) next rule opened at_next (record { later = at_least }) open_next broken
-  where
-    open_next : IsOpenAt p ws (i + 1) opened
-    open_next = some_due i 0 opened (omega arith) (record {
-      opening = word;
-      at = at;
-      opens = o;
-      calm = λ j w low high. absurd (omega arith);
-      within = let l : i < length ws = slice_get_within ws i word at in omega arith;
-      term = some;
-    }) (sym (rest_none opened))
-
-    at_least : (k : ℕ) (r : Rule) → BreaksInside p ws first n k r → first + (i + 1) ≤ k
-    at_least k r (by_itself j w e f b) = elim (cases_lt j i) [
-      | inl early ↦ absurd ((fine.each j (omega arith) early).alone w f r (itself (subst (λ x. Allowed p w x n r → ⊥) e b)))
-      | inr late ↦ elim (cases_lt i j) [
-        | inl later ↦ omega arith
-        | inr not_later ↦
-            let here : j ≡ i = omega arith in
-            let place : k ≡ first + i = omega arith in
-            let same : w ≡ word = same_at ws i w word (subst (λ x. slice_get ws x ≡ Some w) here f) at in
-            absurd (kept r (itself (subst (λ x. Allowed p word x n r → ⊥) place (subst (λ x. Allowed p x k n r → ⊥) same b))))
-      ]
-    ]
-    at_least k r (unmet_inside j d w nd e f ten due misses last) = elim (cases_lt j i) [
-      | inl early ↦ absurd ((fine.each j (omega arith) early).after d w nd due f misses last)
-      | inr late ↦ omega arith
-    ]
 
 pub joined_fine : (p : Profile) (ws : List ℕ) (first n start middle stop : ℕ) → AreFine p ws first n start middle → AreFine p ws first n middle stop → AreFine p ws first n start stop
 joined_fine p ws first n start middle stop a b = record {

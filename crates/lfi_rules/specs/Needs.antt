@@ -54,7 +54,7 @@ moves_stack _ = false
 -- among how many words after an instruction that moves sp the probe has to come
 abbrev pub window : Profile → ℕ
 window One = 1
-window Two = 1
+window Two = 4
 
 -- the need that an instruction opens
 abbrev pub opens_of : Profile → Instruction → Need

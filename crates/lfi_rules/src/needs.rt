@@ -28,7 +28,7 @@ pub fn window(profile: Profile) -> u8
 {
     match profile {
         Profile::One => 1,
-        Profile::Two => 1,
+        Profile::Two => 4,
     }
 }
 

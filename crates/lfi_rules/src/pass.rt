@@ -14,6 +14,7 @@ ghost use Rattle.lfi_rules.specs.inner.Passing.{AreFarFromEnds, IsMetAfter, IsFi
 use crate::direct::stays_inside;
 use crate::fault::Fault;
 use crate::inspect::inspect;
+use crate::late::{fault_behind, is_told_late};
 use crate::met::is_met;
 use crate::needs::Need;
 use a64_word::Words;
@@ -204,8 +205,8 @@ fn are_told<W: Words>(words: &W, marked: &[u32], first: u32, n: u32, profile: Pr
     told
 }
 
-/// The first fault of the words from the place `first + i` on, where it is at that place or the next: what the word breaks by
-/// itself; else what the next one breaks after it, where it opens a need.
+/// The first fault of the words from the place `first + i` on, up to the one that meets what the first opens: what that breaks
+/// by itself; else what those after it break.
 fn fault_at<W: Words>(words: &W, i: usize, first: u32, n: u32, profile: Profile) -> Option<Fault>
     requires within { i < length (W.words words.now) }
     requires room { first + length (W.words words.now) ≤ n }
@@ -218,17 +219,10 @@ fn fault_at<W: Words>(words: &W, i: usize, first: u32, n: u32, profile: Profile)
     if let Some(rule) = rule {
         return Some(Fault { word: place, rule });
     }
-    if opened == Need::Nothing || i + 1 == words.count() {
+    if opened == Need::Nothing {
         return None;
     }
-    let (rule, _) = inspect(words.word(i + 1), opened, place + 1, n, profile);
-    match rule {
-        Some(rule) => Some(Fault {
-            word: place + 1,
-            rule,
-        }),
-        None => None,
-    }
+    fault_behind(words, i, opened, first, n, profile)
 }
 
 /// The first fault that a closer look at marked words finds.
@@ -248,7 +242,7 @@ fn first_by_look<W: Words>(
 {
     for place in marked {
         let i = *place as usize;
-        if !is_told(words, i, first, n, profile) {
+        if !is_told(words, i, first, n, profile) && !is_told_late(words, i, first, n, profile) {
             let fault = fault_at(words, i, first, n, profile);
             if fault.is_some() {
                 return fault;

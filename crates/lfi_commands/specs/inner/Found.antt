@@ -1,6 +1,6 @@
 -- What `check` and `run` find. Only private clauses and proofs use it.
 use Rattle.std.specs.Prelude.{◌≡◌, ℕ, Bool, List, ◌++◌, Option, IfSome, codes}
-use Rattle.lfi_module.specs.declared.profile.Profile.TheVariants.{One}
+use Rattle.lfi_module.specs.declared.profile.Profile.{Profile}
 use Rattle.lfi_command_line.specs.declared.line.Explain.{Explain}
 use Rattle.lfi_run.specs.declared.image_run.ImageRun.{ImageRun}
 use Rattle.lfi_run.specs.Runs.{CameOf}
@@ -14,10 +14,10 @@ use Rattle.lfi_commands.specs.Failures.{Told}
 use Rattle.lfi_commands.specs.Running.{EndsRun}
 
 -- one verdict; it was written, with what is to be explained, and it gives the ending
-pub record FindsVerdict (explain : Explain) (bytes old new : Option (List ℕ)) (ending : Ending) : Type 0 where
+pub record FindsVerdict (profile : Profile) (explain : Explain) (bytes old new : Option (List ℕ)) (ending : Ending) : Type 0 where
   pub verdict : Verdict
-  pub checks : IfSome bytes (λ xs. Checks One xs verdict)
-  pub written : WritesVerdict explain bytes verdict old new
+  pub checks : IfSome bytes (λ xs. Checks profile xs verdict)
+  pub written : WritesVerdict profile explain bytes verdict old new
   pub ends : ending ≡ ending_of verdict
 
 -- what came of an image's file; its line was told, and it gives the ending

@@ -16,9 +16,9 @@ pub record AreInputsOf {R : Type 0} (remaining : R → Option (List ℕ)) (texts
 
 -- a line for 1 to 8 streams and verifiers, where it is one for streams, and for modules up to the last one, where it packs
 abbrev pub IsInRange : Line → Type 0
-IsInRange (Check file explain) = ⊤
+IsInRange (Check file explain profile) = ⊤
 IsInRange (Load verifiers out explain streams) = ((1 ≤ verifiers) × (verifiers ≤ 8)) × ((1 ≤ length streams.items) × (length streams.items ≤ 8))
 IsInRange (Serve socket connections verifiers seconds out explain) = ((1 ≤ verifiers) × (verifiers ≤ 8)) × ((1 ≤ connections) × (connections ≤ 8))
 IsInRange (Run image steps) = ⊤
-IsInRange (Disassemble file) = ⊤
-IsInRange (Pack first entry files) = first + length files.items ≤ 16
+IsInRange (Disassemble file profile) = ⊤
+IsInRange (Pack first entry profile files) = first + length files.items ≤ 16

@@ -3,7 +3,7 @@ use Rattle.std.specs.Prelude.{◌≡◌, ℕ, List, length, Option, Some, None, 
 use Rattle.std.specs.Global.{Vec}
 use Rattle.std.specs.Io.KnownBytes.{Appends}
 use Rattle.a64_word.specs.Words.{words_of}
-use Rattle.lfi_module.specs.declared.profile.Profile.TheVariants.{One}
+use Rattle.lfi_module.specs.declared.profile.Profile.{Profile}
 use Rattle.lfi_pack.specs.Packs.{IsPacked}
 use Rattle.lfi_commands.specs.declared.packing.Stop.{Stop}
 use Rattle.lfi_commands.specs.declared.packing.Stop.TheVariants.{NoModule, Failed}
@@ -26,6 +26,6 @@ abbrev pub StopsAtOne : (entry : ℕ) → (paths : List (List ℕ)) → (List �
 StopsAtOne entry paths file_at stop = (c : ℕ) × (path : List ℕ) × (slice_get paths c ≡ Some path) × StopsAt entry path file_at stop
 
 -- one module was written
-abbrev pub WritesModule : (number entry : ℕ) → (code : List ℕ) → (old new : Option (List ℕ)) → Type 0
-WritesModule number entry code old new =
-    (text : List ℕ) × IsPacked number (record { words = length (words_of code); entry = entry; profile = One }) code text × Appends old new text
+abbrev pub WritesModule : Profile → (number entry : ℕ) → (code : List ℕ) → (old new : Option (List ℕ)) → Type 0
+WritesModule profile number entry code old new =
+    (text : List ℕ) × IsPacked number (record { words = length (words_of code); entry = entry; profile = profile }) code text × Appends old new text

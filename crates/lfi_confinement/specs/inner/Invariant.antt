@@ -1,10 +1,11 @@
--- What holds of the registers at each word of lawful code: they are lawful, but that the word before it may have left one need
--- open, which the word at pc meets.
-use Rattle.std.specs.Prelude.{◌≡◌, ℕ, ◌+◌, ◌<◌, ◌≤◌, ◌^◌, length, IsTrue, ⊤}
+-- What holds of the registers at each word of lawful code: they are lawful, but that a word before it may have left one need
+-- open, which the word at pc meets; or that one is calm, and a probe comes after it.
+use Rattle.std.specs.Prelude.{◌≡◌, ℕ, zero, suc, ◌+◌, ◌%◌, ◌<◌, ◌≤◌, ◌^◌, ◌⊎◌, length, IsTrue, ⊤}
 use Rattle.a64_word.specs.declared.instruction.Instruction.{Instruction}
 use Rattle.lfi_rules.specs.declared.needs.Need.{Need}
 use Rattle.lfi_rules.specs.declared.needs.Need.TheVariants.{Nothing, Call, Guard, Probe}
-use Rattle.lfi_rules.specs.Needs.{meets_of}
+use Rattle.lfi_rules.specs.Needs.{probes_stack, meets_of}
+use Rattle.lfi_rules.specs.Calm.{is_calm}
 use Rattle.lfi_rules.specs.Registers as registers
 use Rattle.a64_semantics.specs.declared.registers.Registers.{Registers}
 use Rattle.a64_semantics.specs.Registers.{x_at}
@@ -42,8 +43,22 @@ pub record HeldFor (from : ℕ) (need : Need) (r : Registers) : Type 0 where
   pub pc : InSlot from r.pc
   pub flags : r.nzcv < 16
 
--- The registers are lawful but for one need, and the instruction at pc, if there is one, meets it.
+-- From an address on a probe comes among so many instructions, and those before it are calm; or the code ends before it.
+abbrev pub Awaits : Image → (address count : ℕ) → Type 0
+Awaits c address zero = ⊥
+Awaits c address (suc count) =
+    (i : Instruction) → Fetches c address i
+    → IsTrue (probes_stack i) ⊎ (IsTrue (is_calm c.profile i) × Awaits c ((address + 4) % 2 ^ 64) count)
+
+-- The instruction at an address, if there is one, meets a need; for a probe, it or a later one.
+abbrev pub IsMet : Image → Need → (address : ℕ) → Type 0
+IsMet c Nothing address = ⊤
+IsMet c Call address = (i : Instruction) → Fetches c address i → IsTrue (meets_of i Call)
+IsMet c Guard address = (i : Instruction) → Fetches c address i → IsTrue (meets_of i Guard)
+IsMet c (Probe count) address = Awaits c address count
+
+-- The registers are lawful but for one need, which is met from pc on.
 pub record IsSafe (c : Image) (r : Registers) : Type 0 where
   pub need : Need
   pub held : HeldFor (base c) need r
-  pub met : (i : Instruction) → Fetches c r.pc i → IsTrue (meets_of i need)
+  pub met : IsMet c need r.pc

@@ -1,12 +1,13 @@
--- What the law needs of lawful code: of each instruction by itself, and of the one that follows it. A rule that is left out here
+-- What the law needs of lawful code: of each instruction by itself, and of those that follow it. A rule that is left out here
 -- leaves the law unproved.
 use Rattle.std.specs.Prelude.{◌≡◌, ℕ, IsTrue}
 use Rattle.a64_word.specs.declared.instruction.Instruction.{Instruction}
-use Rattle.lfi_module.specs.declared.profile.Profile.{Profile}
 use Rattle.lfi_rules.specs.declared.needs.Need.TheVariants.{Call, Guard, Probe}
 use Rattle.lfi_rules.specs.declared.rule.Rule.TheVariants as rules
-use Rattle.lfi_rules.specs.Needs.{window, opens_of, meets_of}
+use Rattle.lfi_rules.specs.Needs.{opens_of}
 use Rattle.lfi_rules.specs.Rules.{keeps}
+use Rattle.lfi_image.specs.Image.{Image}
+use Rattle.lfi_confinement.specs.inner.Invariant.{IsMet, Awaits}
 
 -- the rules that an instruction keeps by itself, at place k of a module of n words
 pub record IsKept (i : Instruction) (k n : ℕ) : Type 0 where
@@ -19,8 +20,8 @@ pub record IsKept (i : Instruction) (k n : ℕ) : Type 0 where
   pub target : IsTrue (keeps i k n rules.TargetInside)
   pub branch : IsTrue (keeps i k n rules.BranchBounded)
 
--- An instruction meets what the one before it opens in a profile.
-pub record IsFollowed (p : Profile) (i next : Instruction) : Type 0 where
-  pub call : opens_of p i ≡ Call → IsTrue (meets_of next Call)
-  pub guard : opens_of p i ≡ Guard → IsTrue (meets_of next Guard)
-  pub probe : opens_of p i ≡ Probe (window p) → IsTrue (meets_of next (Probe (window p)))
+-- What an instruction opens is met from the address of the next one on.
+pub record IsFollowed (c : Image) (i : Instruction) (address : ℕ) : Type 0 where
+  pub call : opens_of c.profile i ≡ Call → IsMet c Call address
+  pub guard : opens_of c.profile i ≡ Guard → IsMet c Guard address
+  pub probe : (count : ℕ) → opens_of c.profile i ≡ Probe count → Awaits c address count

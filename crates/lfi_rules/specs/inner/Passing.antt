@@ -7,8 +7,8 @@ use Rattle.lfi_rules.specs.declared.needs.Need.TheVariants.{Nothing, Call, Guard
 use Rattle.lfi_rules.specs.declared.fault.Fault.{Fault}
 use Rattle.lfi_rules.specs.Needs.{term_of, window}
 use Rattle.lfi_rules.specs.Calm.{IsCalm}
-use Rattle.lfi_rules.specs.Faults.{Meets, IsDue, IsFirstInside}
-use Rattle.lfi_rules.specs.inner.Least.{IsLeastBroken}
+use Rattle.lfi_rules.specs.Faults.{Opens, Meets, IsDue, IsOpenAt, IsFirstInside}
+use Rattle.lfi_rules.specs.inner.Least.{IsLeastBroken, NoneBefore}
 
 -- a need that an instruction opens in the first profile, as it does in a profile
 abbrev pub in_profile : Profile → Need → Need
@@ -55,6 +55,25 @@ pub record IsFine (profile : Profile) (ws : List ℕ) (first n i : ℕ) : Type 0
 -- The words from a place on, up to another, are fine.
 pub record AreFine (profile : Profile) (ws : List ℕ) (first n start stop : ℕ) : Type 0 where
   pub each : (i : ℕ) → start ≤ i → i < stop → IsFine profile ws first n i
+
+-- So many words after place i of ws are calm.
+pub record AreCalmAfter (profile : Profile) (ws : List ℕ) (i gone : ℕ) : Type 0 where
+  pub calm : (j word : ℕ) → i < j → j ≤ i + gone → slice_get ws j ≡ Some word → IsCalm profile word
+
+-- The words ws stand in a module of n words from the place `first` on. The word at place i of them breaks no rule by itself, and
+-- opens a need.
+pub record OpensAt (profile : Profile) (ws : List ℕ) (first n i : ℕ) (need : Need) : Type 0 where
+  pub word : ℕ
+  pub at : slice_get ws i ≡ Some word
+  pub alone : IsLeastBroken profile word Nothing (first + i) n None
+  pub opens : Opens profile word need
+
+-- So many words after place i, whose word opens a need, break no rule, and don't fail that need; and what is open after them.
+pub record AreKeptAfter (profile : Profile) (ws : List ℕ) (first n i gone : ℕ) (need : Need) : Type 0 where
+  pub left : IsOpenAt profile ws (i + gone + 1) need
+  pub none : AreFine profile ws first n 0 i → NoneBefore profile ws first n (i + gone + 1)
+  pub kept : (d word : ℕ) (opened : Need) → d < gone → IsDue profile ws i d opened → slice_get ws (i + d + 1) ≡ Some word
+      → (Meets profile word opened → ⊥) → (IsCalm profile word → d + 1 ≡ term_of opened) → ⊥
 
 -- a number is one of the first of a list
 abbrev pub IsAmong : List ℕ → (count i : ℕ) → Type 0

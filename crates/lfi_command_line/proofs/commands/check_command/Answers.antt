@@ -10,4 +10,5 @@ returns c =
     let new_is : Makes (new_app (codes "check")) c.after_help.result = search rules in
     let first = with_argument new_is c.flag-explain.ensures.rule c.flag-explain.ensures.local c.in_ok-arg.ensures in
     let second = with_argument first c.flag-all.ensures.rule c.flag-all.ensures.local c.in_ok-arg-2.ensures in
-    IfOk-weaker c.arg-3.result _ _ (λ made added. with_argument second c.required_argument-file.ensures.rule c.required_argument-file.ensures.local added) c.arg-3.ensures
+    let third = with_argument second c.profile_argument-profile.ensures.rule c.profile_argument-profile.ensures.local c.in_ok-arg-3.ensures in
+    IfOk-weaker c.arg-4.result _ _ (λ made added. with_argument third c.required_argument-file.ensures.rule c.required_argument-file.ensures.local added) c.arg-4.ensures

@@ -12,4 +12,5 @@ returns c = (
   refl,
   sym (first_value-rows (found_of c.args.check.now) (codes "FILE")) ∙ sym c.get_str.ensures ∙ ap (option_map (λ s. s.now)) c.unwrap.ensures,
   (c.is_given.result, c.is_given-2.result, c.is_given.ensures, c.is_given-2.ensures, c.explain_by.ensures),
+  c.profile_of.ensures,
 )

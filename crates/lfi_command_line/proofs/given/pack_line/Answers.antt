@@ -43,6 +43,7 @@ returns-clause-line c =
       refl,
       c.number_or-module.ensures 0 15 c.requires.«module»,
       c.number_or-entry.ensures 0 4194303 c.requires.entry,
+      c.profile_of-profile.ensures,
       same ∙ ap (λ xs. Some (map (λ s. s.now) xs)) (sym items),
       rw items (omega (count, all.2, arith)),
       rw items (omega (c.if-module-paths-gt-MODULES.false, arith)),

@@ -7,7 +7,7 @@ use Rattle.lfi_command_line.proofs.line.read_line.Goals as goal
 pub check_line-requires : goal.check_line-requires
 check_line-requires c =
     let given = given_for (map string_bytes c.args.words.now) c.in_ok-matches.matches (codes "check") _ c.in_ok-matches.ensures.taken (c.in-Some.ensures.found.0 refl) c.in-Some.ensures.rows in
-    record { file = given.1.1.0.0 refl }
+    record { file = given.1.1.1.0.0 refl; profile = given.1.1.0.1 }
 
 pub returns-in-Some-clause-line : goal.returns-in-Some-clause-line
 returns-in-Some-clause-line c =
@@ -67,7 +67,7 @@ returns-in-Some-subcommand_matches-2-clause-line c =
 pub disassemble_line-requires : goal.disassemble_line-requires
 disassemble_line-requires c =
     let given = given_for (map string_bytes c.args.words.now) c.in_ok-matches.matches (codes "disassemble") _ c.in_ok-matches.ensures.taken (c.in-Some-subcommand_matches-3.ensures.found.0 refl) c.in-Some-subcommand_matches-3.ensures.rows in
-    record { file = given.0.0 refl }
+    record { file = given.1.0.0 refl; profile = given.0.1 }
 
 pub returns-in-Some-subcommand_matches-3-clause-line : goal.returns-in-Some-subcommand_matches-3-clause-line
 returns-in-Some-subcommand_matches-3-clause-line c =
@@ -77,7 +77,7 @@ returns-in-Some-subcommand_matches-3-clause-line c =
 pub pack_line-requires-clause-codes : goal.pack_line-requires-clause-codes
 pack_line-requires-clause-codes c =
     let given = given_for (map string_bytes c.args.words.now) c.in_ok-matches.matches (codes "pack") _ c.in_ok-matches.ensures.taken (c.in-Some-subcommand_matches-4.ensures.found.0 refl) c.in-Some-subcommand_matches-4.ensures.rows in
-    given.1.1.0.0 refl
+    given.1.1.1.0.0 refl
 
 pub pack_line-requires-clause-module : goal.pack_line-requires-clause-module
 pack_line-requires-clause-module c =
@@ -88,6 +88,11 @@ pub pack_line-requires-clause-entry : goal.pack_line-requires-clause-entry
 pack_line-requires-clause-entry c =
     let given = given_for (map string_bytes c.args.words.now) c.in_ok-matches.matches (codes "pack") _ c.in_ok-matches.ensures.taken (c.in-Some-subcommand_matches-4.ensures.found.0 refl) c.in-Some-subcommand_matches-4.ensures.rows in
     given.1.0.1
+
+pub pack_line-requires-clause-profile : goal.pack_line-requires-clause-profile
+pack_line-requires-clause-profile c =
+    let given = given_for (map string_bytes c.args.words.now) c.in_ok-matches.matches (codes "pack") _ c.in_ok-matches.ensures.taken (c.in-Some-subcommand_matches-4.ensures.found.0 refl) c.in-Some-subcommand_matches-4.ensures.rows in
+    given.1.1.0.1
 
 pub returns-in-Some-subcommand_matches-4-clause-line : goal.returns-in-Some-subcommand_matches-4-clause-line
 returns-in-Some-subcommand_matches-4-clause-line c =

@@ -9,4 +9,4 @@ returns-in-Some-clause-written g c =
     let left = g.R.Read.remaining c.args.reader in
     let read = subst (IsReadAs left) c.in-Some.is c.in_ok-bytes.ensures.code in
     let known = subst (λ xs. Knows (Some xs) left) (sym c.deref.ensures.value) (known_as left c.in-Some.bytes.items read.0) in
-    IfOk-weaker c.write_judged.result _ _ (λ verdict writes. verdict_known c.args.how (Some c.deref.result.now) left verdict _ _ known writes) c.write_judged.ensures.written
+    IfOk-weaker c.write_judged.result _ _ (λ verdict writes. verdict_known c.args.profile c.args.how (Some c.deref.result.now) left verdict _ _ known writes) c.write_judged.ensures.written

@@ -15,4 +15,4 @@ returns-in-Ok-clause-written g c =
     let fault = c.in-Refused.fault in
     let old = g.W.Write.contents c.args.writer.now in
     let new = g.W.Write.contents c.write_fault.new.writer in
-    refused_now c.args.how code fault old new c.in-Refused.ensures (subst (λ bytes. WritesFault c.args.how bytes fault old new) c.of.ensures c.in-Ok.ensures)
+    refused_now c.args.profile c.args.how code fault old new c.in-Refused.ensures (subst (λ bytes. WritesFault c.args.profile c.args.how bytes fault old new) c.of.ensures c.in-Ok.ensures)

@@ -1,4 +1,3 @@
-use Rattle.lfi_module.specs.declared.profile.Profile.TheVariants.{One}
 use Rattle.std.proofs.Common.{◌≡◌, ◌≤◌, ℕ, ◌-◌, List, length}
 use Rattle.std.specs.Io.KnownBytes.{Consumes}
 use Rattle.lfi_code.specs.Begun.{Begins}
@@ -8,7 +7,7 @@ abbrev pub invariant-loop-beginning : goal.invariant-loop-beginning
 invariant-loop-beginning g l = record {
   size : length l.buffer ≡ length l.initial.buffer;
   words : l.beginning.words ≡ l.words;
-  profile : l.beginning.profile ≡ One;
+  profile : l.beginning.profile ≡ l.profile;
   room : l.beginning.judged ≤ l.words;
   bytes : List ℕ;
   read : Consumes (g.R.Read.remaining l.initial.reader) (g.R.Read.remaining l.reader) bytes;

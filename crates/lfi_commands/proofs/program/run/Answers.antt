@@ -18,7 +18,7 @@ returns-in-Check-clause-found g c =
     let out = g.O.Write.contents c.args.out.now in
     let new = g.O.Write.contents c.run_check.new.out in
     IfOk-weaker c.run_check.result _ _ (λ ending finds. subst (λ line. CarriesOut line at (left out put was errors) (left new put was errors) ending) (sym c.in-Check.is)
-    (checks_file out new put was errors ending c.in-Check.explain (at c.in-Check.file.now) finds)) c.run_check.ensures.found
+    (checks_file out new put was errors ending c.in-Check.profile c.in-Check.explain (at c.in-Check.file.now) finds)) c.run_check.ensures.found
 
 pub returns-in-Disassemble-clause-found : goal.returns-in-Disassemble-clause-found
 returns-in-Disassemble-clause-found g c =
@@ -29,7 +29,7 @@ returns-in-Disassemble-clause-found g c =
     let out = g.O.Write.contents c.args.out.now in
     let new = g.O.Write.contents c.run_disassemble.new.out in
     IfOk-weaker c.run_disassemble.result _ _ (λ ending finds. subst (λ line. CarriesOut line at (left out put was errors) (left new put was errors) ending) (sym c.in-Disassemble.is)
-    (lists_file out new put was errors ending (at c.in-Disassemble.file.now) finds)) c.run_disassemble.ensures.found
+    (lists_file out new put was errors ending c.in-Disassemble.profile (at c.in-Disassemble.file.now) finds)) c.run_disassemble.ensures.found
 
 pub returns-in-Run-clause-found : goal.returns-in-Run-clause-found
 returns-in-Run-clause-found g c =
@@ -55,8 +55,8 @@ returns-in-Pack-clause-found g c =
     let lost = is_lost_of c.run_pack.new.errors in
     let told = g.E.Write.contents (writer_of c.run_pack.new.errors) in
     IfOk-weaker c.run_pack.result _ _ (λ ending finds. subst (λ line. CarriesOut line at (left out put was errors) (left new put lost told) ending) (sym c.in-Pack.is)
-    (subst (λ (paths : List (Bor (List ℕ))). HasPacked c.in-Pack.module c.in-Pack.entry (map (λ p. p.now) paths) at (left out put was errors) (left new put lost told) ending) c.deref-in-Pack.ensures.value
-    (packs_files out new put was lost errors told ending c.in-Pack.module c.in-Pack.entry (map (λ p. p.now) c.deref-in-Pack.result.now) at finds))) c.run_pack.ensures.found
+    (subst (λ (paths : List (Bor (List ℕ))). HasPacked c.in-Pack.profile c.in-Pack.module c.in-Pack.entry (map (λ p. p.now) paths) at (left out put was errors) (left new put lost told) ending) c.deref-in-Pack.ensures.value
+    (packs_files out new put was lost errors told ending c.in-Pack.profile c.in-Pack.module c.in-Pack.entry (map (λ p. p.now) c.deref-in-Pack.result.now) at finds))) c.run_pack.ensures.found
 
 pub returns-in-Load-clause-found : goal.returns-in-Load-clause-found
 returns-in-Load-clause-found g c =

@@ -1,4 +1,3 @@
-use Rattle.lfi_module.specs.declared.profile.Profile.TheVariants.{One}
 use Rattle.lfi_commands.proofs.Explained.{carried, verdict_known}
 use Rattle.lfi_code.specs.Checking.{Checks}
 use Rattle.lfi_commands.proofs.program.run_check.Goals as goal
@@ -9,7 +8,7 @@ returns-in-Ok-clause-found g c =
     let file = g.D.Disk.file_at c.args.disk.now c.args.path.now in
     record {
       verdict = c.in-Ok.verdict;
-      checks = carried (λ bytes. Checks One bytes c.in-Ok.verdict) left file c.in_ok-reader.ensures.reader c.in-Ok.ensures.verdict;
-      written = verdict_known c.args.how left file c.in-Ok.verdict _ _ c.in_ok-reader.ensures.reader c.in-Ok.ensures.written;
+      checks = carried (λ bytes. Checks c.args.profile bytes c.in-Ok.verdict) left file c.in_ok-reader.ensures.reader c.in-Ok.ensures.verdict;
+      written = verdict_known c.args.profile c.args.how left file c.in-Ok.verdict _ _ c.in_ok-reader.ensures.reader c.in-Ok.ensures.written;
       ends = c.of_verdict.ensures;
     }

@@ -40,7 +40,7 @@ load_module-requires c =
     list_at connection.items.items c.args.m c.index-list.result.now (omega arith) c.index-list.ensures ∙ ap items_by (sym c.as_slice-items.ensures.value) in
     let sized : IsSized (items_by c.as_slice-items.result.now) = subst IsSized same fit.0 in
     let ended : IsEnded (items_by c.as_slice-items.result.now) = subst IsEnded same fit.1 in
-    let n = c.words_of_module.ensures in
+    let n = ap (λ z. z.words) c.extent_of.ensures in
     record {
       most = (let most = sized.most in omega arith);
       room = (let room = sized.room in omega arith);
@@ -63,8 +63,8 @@ returns c =
     let same : items_at connection.items.items c.args.m ≡ slice =
     list_at connection.items.items c.args.m c.index-list.result.now (omega arith) c.index-list.ensures ∙ ap items_by (sym c.as_slice-items.ensures.value) in
     let here : IsLoaded slice loaded = record {
-      outcome = subst (λ n. Load n slice loaded.outcome) c.words_of_module.ensures c.in_ok-loaded.ensures.outcome;
-      placed = subst (λ n. Placed n (pages_of slice) (pages_by loaded.placed.items)) c.words_of_module.ensures c.in_ok-loaded.ensures.placed;
+      outcome = subst (λ n. Load n slice loaded.outcome) c.extent_of.ensures c.in_ok-loaded.ensures.outcome;
+      placed = subst (λ n. Placed n (pages_of slice) (pages_by loaded.placed.items)) c.extent_of.ensures c.in_ok-loaded.ensures.placed;
     } in
     subst (λ o. IsReportedBy o c.args.made.now c.args.m loaded) (sym c.in-Some.is ∙ c.owner.ensures)
     (connection, slice_get-get_or c.args.made.now c.in-Some.place connection lt ∙ ap Some (sym c.index-made-place.is), subst (λ l. IsLoaded l loaded) (sym same) here)
