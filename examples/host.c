@@ -4,7 +4,7 @@
  *   cc -I include examples/host.c crates/lfi_verifier/out/liblfi_verifier.a -o host
  *   ./host 1 124 < examples/checksums.code
  *
- * The first word is the module, 0 to 15, the second one how many words it has; a third one is its profile, 1 where there is none. */
+ * The first word is the module, 0 to 15, the second one how many words it has; a third one is its profile, which is 1 without. */
 #define _GNU_SOURCE
 #include "lfi_verifier.h"
 #include <stdio.h>
