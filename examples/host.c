@@ -4,7 +4,7 @@
  *   cc -I include examples/host.c crates/lfi_verifier/out/liblfi_verifier.a -o host
  *   ./host 1 124 < examples/checksums.code
  *
- * The first word is the module, 0 to 15, the second one how many words it has. */
+ * The first word is the module, 0 to 15, the second one how many words it has; a third one is its profile, which is 1 without. */
 #define _GNU_SOURCE
 #include "lfi_verifier.h"
 #include <stdio.h>
@@ -28,10 +28,10 @@ static int write_table(const lfi_map *map, uint8_t *slot) {
 }
 
 /* Reads the code to its place, and judges each piece there. */
-static lfi_status take_code(uint8_t *code, uint32_t words, lfi_fault *fault) {
+static lfi_status take_code(uint8_t *code, uint32_t words, uint32_t profile, lfi_fault *fault) {
     lfi_state state;
     size_t come = 0, size = 4 * (size_t)words;
-    lfi_status status = lfi_verify_init(&state, words, LFI_PROFILE_1);
+    lfi_status status = lfi_verify_init(&state, words, profile);
     while (status == LFI_LAWFUL && come < size) {
         ssize_t got = read(0, code + come, size - come < 4096 ? size - come : 4096);
         if (got <= 0) break;
@@ -48,11 +48,11 @@ static uint32_t word_at(const uint8_t *code, uint32_t place) {
 }
 
 /* Tells why the code is refused. */
-static void tell(const uint8_t *code, uint32_t module, uint32_t words, lfi_fault fault) {
+static void tell(const uint8_t *code, uint32_t module, uint32_t words, uint32_t profile, lfi_fault fault) {
     uint8_t text[1024];
     size_t size = 0;
     uint32_t before = fault.word ? word_at(code, fault.word - 1) : 0;
-    lfi_explain(LFI_PROFILE_1, module, words, &fault, word_at(code, fault.word), before, text, sizeof text, &size);
+    lfi_explain(profile, module, words, &fault, word_at(code, fault.word), before, text, sizeof text, &size);
     printf("%.*s\n", (int)(size < sizeof text ? size : sizeof text), (const char *)text);
 }
 
@@ -60,17 +60,18 @@ int main(int count, char **given) {
     lfi_map map;
     lfi_fault fault;
     uint32_t module = count > 2 ? (uint32_t)atol(given[1]) : LFI_MODULES, words = count > 2 ? (uint32_t)atol(given[2]) : 0;
-    if (words == 0 || words > LFI_MAX_WORDS || lfi_profile_map(LFI_PROFILE_1, module, &map)) return 2;
+    uint32_t profile = count > 3 ? (uint32_t)atol(given[3]) : LFI_PROFILE_1;
+    if (words == 0 || words > LFI_MAX_WORDS || lfi_profile_map(profile, module, &map)) return 2;
     size_t end = (map.code + 4 * (size_t)words + 4095) / 4096 * 4096;
     uint8_t *slot = reserve(&map);
     if (!slot || !write_table(&map, slot) || mprotect(slot + map.code, end - map.code, PROT_READ | PROT_WRITE)) return 3;
-    lfi_status status = take_code(slot + map.code, words, &fault);
+    lfi_status status = take_code(slot + map.code, words, profile, &fault);
     /* Nobody writes the code from here on: on AArch64 it would be PROT_READ | PROT_EXEC. Behind it lies what it may write. */
     if (mprotect(slot + map.code, end - map.code, PROT_READ) || mprotect(slot + end, map.size - end, PROT_READ | PROT_WRITE)) return 3;
     if (status == LFI_LAWFUL)
         printf("lawful, %u words\n", words);
     else if (status == LFI_REFUSED)
-        tell(slot + map.code, module, words, fault);
+        tell(slot + map.code, module, words, profile, fault);
     else
         printf("words are missing\n");
     return status == LFI_LAWFUL ? 0 : 1;

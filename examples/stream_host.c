@@ -10,7 +10,7 @@
 #include <sys/mman.h>
 #include <unistd.h>
 
-/* A module that was opened: its code in its slot, and how far that is judged. */
+/* A module that was opened: its code in its slot, and how far that is judged, by the profile that its opening told. */
 typedef struct module {
     uint8_t *code;
     size_t bytes;
@@ -25,7 +25,7 @@ static uint32_t strays, fault;
 static int open_module(const lfi_event *event) {
     lfi_map map;
     module *it = &modules[event->module];
-    if (lfi_profile_map(LFI_PROFILE_1, event->module, &map) || lfi_verify_init(&it->state, event->words, LFI_PROFILE_1)) return 0;
+    if (lfi_profile_map(event->profile, event->module, &map) || lfi_verify_init(&it->state, event->words, event->profile)) return 0;
     void *at = (void *)(uintptr_t)(map.base + map.code);
     it->bytes = 4 * (size_t)event->words;
     it->code = mmap(at, it->bytes, PROT_READ | PROT_WRITE, MAP_PRIVATE | MAP_ANONYMOUS | MAP_FIXED_NOREPLACE, -1, 0);

@@ -21,7 +21,7 @@ extern "C" {
 #endif
 
 /* The number of this interface; lfi_version() answers that of the library that is linked. */
-#define LFI_VERSION 2u
+#define LFI_VERSION 3u
 
 /* The profiles: the rules, registers and map of slots of docs/DEFINITIONS.md. The second has the instructions of the first,
  * and LDAR and STLR. Calls with another number answer LFI_UNKNOWN_PROFILE. */
@@ -74,9 +74,11 @@ typedef struct lfi_stream_page {
 } lfi_stream_page;
 
 typedef struct lfi_stream_module {
-    uint32_t phase; /* 0: it wasn't opened; 1: it is open; 2: it has ended */
-    uint32_t words; /* of an open one, its words in all */
-    uint32_t pages; /* of an open one, how many of its pages came */
+    uint32_t phase;   /* 0: it wasn't opened; 1: it is open; 2: it has ended */
+    uint32_t words;   /* of an open one, its words in all */
+    uint32_t entry;   /* of an open one, the word at which it is entered */
+    uint32_t profile; /* of an open one, the profile by which it is to be judged */
+    uint32_t pages;   /* of an open one, how many of its pages came */
 } lfi_stream_module;
 
 typedef struct lfi_stream {
@@ -87,19 +89,20 @@ typedef struct lfi_stream {
 
 /* What bytes of a stream brought. What a kind doesn't tell is 0. */
 typedef struct lfi_event {
-    uint32_t kind;   /* LFI_NOTHING and the others below */
-    uint32_t module; /* of LFI_OPEN, LFI_CODE, LFI_STRAY and LFI_END */
-    uint32_t words;  /* the module's words in all, of LFI_OPEN and LFI_END */
-    uint32_t entry;  /* the word at which it is entered, of LFI_OPEN */
-    uint32_t pages;  /* how many of its pages came, of LFI_END; a page has 4,096 bytes, the last one what is left */
-    uint32_t reason; /* of LFI_END: LFI_CLOSED and the others below */
-    uint32_t number; /* of LFI_FAULT and LFI_LOST the fault, 1 to 10; of LFI_PAGE_FAULT the index of the page */
-    uint32_t ended;  /* of LFI_CODE: 1 where its last byte is a page's last one, else 0 */
-    size_t offset;   /* of LFI_CODE: where in the module's code the first of these bytes belongs */
+    uint32_t kind;    /* LFI_NOTHING and the others below */
+    uint32_t module;  /* of LFI_OPEN, LFI_CODE, LFI_STRAY and LFI_END */
+    uint32_t words;   /* the module's words in all, of LFI_OPEN and LFI_END */
+    uint32_t entry;   /* the word at which it is entered, of LFI_OPEN */
+    uint32_t profile; /* the profile by which its code is to be judged, of LFI_OPEN: LFI_PROFILE_1 or LFI_PROFILE_2 */
+    uint32_t pages;   /* how many of its pages came, of LFI_END; a page has 4,096 bytes, the last one what is left */
+    uint32_t reason;  /* of LFI_END: LFI_CLOSED and the others below */
+    uint32_t number;  /* of LFI_FAULT and LFI_LOST the fault, 1 to 10; of LFI_PAGE_FAULT the index of the page */
+    uint32_t ended;   /* of LFI_CODE: 1 where its last byte is a page's last one, else 0 */
+    size_t offset;    /* of LFI_CODE: where in the module's code the first of these bytes belongs */
 } lfi_event;
 
 #define LFI_NOTHING 0u   /* nothing that a host has to do */
-#define LFI_OPEN 1u      /* the module opens */
+#define LFI_OPEN 1u      /* the module opens, and tells its profile */
 #define LFI_CODE 2u      /* the bytes used are code of the module */
 #define LFI_STRAY 3u     /* a message of the module that is passed over */
 #define LFI_END 4u       /* the module has ended */
@@ -159,8 +162,9 @@ lfi_status lfi_verify_final(const lfi_state *LFI_RESTRICT state, lfi_fault *LFI_
 lfi_status lfi_explain(uint32_t profile, uint32_t module, uint32_t words, const lfi_fault *LFI_RESTRICT fault, uint32_t word,
                        uint32_t before, uint8_t *LFI_RESTRICT text, size_t room, size_t *LFI_RESTRICT size);
 
-/* Begins a stream (docs/PROFILE.md, "Streams") whose code is to be judged by a profile. Ensures: LFI_LAWFUL, and *stream
- * stands for a stream of which no byte came; or LFI_UNKNOWN_PROFILE, and *stream is as it was. */
+/* Begins a stream (docs/PROFILE.md, "Streams"). Ensures: LFI_LAWFUL, and *stream stands for a stream of which no byte came; or
+ * LFI_UNKNOWN_PROFILE, where there is no such profile, and *stream is as it was. What modules the stream may have doesn't rest
+ * on `profile`: each tells its own, by LFI_OPEN. */
 lfi_status lfi_stream_init(lfi_stream *stream, uint32_t profile);
 
 /* Goes on in the next bytes of a stream, up to the end of a header or of a payload, and answers how many it used: 0 to
@@ -172,7 +176,8 @@ lfi_status lfi_stream_init(lfi_stream *stream, uint32_t profile);
  *    or a page that isn't due;
  *  - LFI_FAULT: the bytes used end a header with this fault.
  * At the stream's fault every call answers 0 and tells it. LFI_NO_STREAM: *stream can't stand for any stream, and is as it
- * was. Bytes of a module are lawful where lfi_verify says so: judge them where they lie. */
+ * was. Bytes of a module are lawful where lfi_verify says so, by the profile that its LFI_OPEN told: judge them where they
+ * lie. */
 size_t lfi_stream_next(lfi_stream *LFI_RESTRICT stream, const uint8_t *LFI_RESTRICT bytes, size_t size, lfi_event *LFI_RESTRICT event);
 
 /* Tells the end of the input. Ensures, where *stream stood for a stream of which certain bytes came: LFI_LAWFUL, and

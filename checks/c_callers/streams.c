@@ -70,7 +70,7 @@ static void make(void) {
         if (what == 0 || words_of[module] == 0) {
             words_of[module] = 1 + number(number(2) ? 4000 : 100);
             pages_of[module] = 0;
-            header(1, module, words_of[module], number(words_of[module]));
+            header(number(3) ? 1 : 4, module, words_of[module], number(words_of[module]));
         } else if (what == 1 || 1024 * pages_of[module] >= words_of[module]) {
             header(3, module, 0, 0);
         } else {
@@ -90,13 +90,14 @@ static uint32_t at(size_t place, int bytes) {
 }
 
 static uint32_t fault_of(uint32_t kind, uint32_t second, uint32_t module, uint32_t a, uint32_t b) {
-    if (kind < 1 || kind > 3) return 1;
+    int opens = kind == 1 || kind == 4;
+    if (kind < 1 || kind > 4) return 1;
     if (second) return 2;
     if (module > 15) return 3;
     if (kind == 2 && (b == 0 || b > 4096 || b % 4)) return 4;
     if (kind == 3 && (a || b)) return 5;
-    if (kind == 1 && (a == 0 || a > LFI_MAX_WORDS)) return 6;
-    return kind == 1 && b >= a ? 7 : 0;
+    if (opens && (a == 0 || a > LFI_MAX_WORDS)) return 6;
+    return opens && b >= a ? 7 : 0;
 }
 
 static void pass(told *to) {
@@ -105,8 +106,8 @@ static void pass(told *to) {
     while (!fault && length - place >= 12) {
         uint32_t kind = at(place, 1), m = at(place + 2, 2), a = at(place + 4, 4), b = at(place + 8, 4);
         if ((fault = fault_of(kind, at(place + 1, 1), m, a, b))) break;
-        if (kind == 1 && phase[m] == 0) {
-            line(to, "open", m, a, b, 0);
+        if ((kind == 1 || kind == 4) && phase[m] == 0) {
+            line(to, "open", m, a, b, kind == 4 ? LFI_PROFILE_2 : LFI_PROFILE_1);
             phase[m] = 1, words[m] = a;
         } else if (kind == 3 && phase[m] == 1) {
             line(to, "end", m, words[m], pages[m], LFI_CLOSED);
@@ -139,7 +140,7 @@ static void pass(told *to) {
 /* ---- the same in pieces */
 
 static void tell(told *to, const lfi_event *event, const uint8_t *bytes, size_t used) {
-    if (event->kind == LFI_OPEN) line(to, "open", event->module, event->words, event->entry, 0);
+    if (event->kind == LFI_OPEN) line(to, "open", event->module, event->words, event->entry, event->profile);
     if (event->kind == LFI_STRAY) line(to, "stray", event->module, 0, 0, 0);
     if (event->kind == LFI_CODE) {
         if (event->offset + used <= ROOM) memcpy(to->code[event->module] + event->offset, bytes, used);
@@ -149,6 +150,12 @@ static void tell(told *to, const lfi_event *event, const uint8_t *bytes, size_t 
     if (event->kind == LFI_END && event->reason == LFI_PAGE_FAULT) line(to, "page fault", event->module, event->words, event->pages, event->number);
     if (event->kind == LFI_END && event->reason == LFI_LOST) line(to, "lost", event->module, event->words, event->pages, event->number);
     if (event->kind == LFI_FAULT) line(to, "fault", event->number, 0, 0, 0);
+}
+
+/* Whether two events are the same, field by field: what lies between the fields is nobody's. */
+static int same(const lfi_event *a, const lfi_event *b) {
+    return a->kind == b->kind && a->module == b->module && a->words == b->words && a->entry == b->entry && a->profile == b->profile &&
+           a->pages == b->pages && a->reason == b->reason && a->number == b->number && a->ended == b->ended && a->offset == b->offset;
 }
 
 static int in_pieces(told *to, uint32_t longest) {
@@ -162,7 +169,7 @@ static int in_pieces(told *to, uint32_t longest) {
         if (size > length - place) size = length - place;
         copy = stream;
         size_t used = lfi_stream_next(&stream, text + place, size, &event);
-        if (used != lfi_stream_next(&copy, text + place, size, &again) || used > size || memcmp(&event, &again, sizeof event)) return 2;
+        if (used != lfi_stream_next(&copy, text + place, size, &again) || used > size || !same(&event, &again)) return 2;
         if (event.kind == LFI_NO_STREAM || (used == 0 && event.kind != LFI_FAULT)) return 3;
         tell(to, &event, text + place, used);
         place += used;

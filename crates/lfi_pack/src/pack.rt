@@ -53,8 +53,8 @@ fn pack_pages<R: Read, W: Write>(
     Ok(())
 }
 
-/// Writes the module whose code the reader has left, four bytes a word, a page at a time. It takes
-/// no memory.
+/// Writes the module whose code the reader has left, four bytes a word, a page at a time; its Open
+/// tells the profile of the extent. It takes no memory.
 ///
 /// # Errors
 ///

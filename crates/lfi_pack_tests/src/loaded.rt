@@ -12,12 +12,21 @@ use std::test::Fail;
 fn three_files(rt: HostRuntime) -> Result<(), Fail> {
     let alloc = rt.alloc();
     let mut stream = StreamWriter::new(alloc, 100_000, 4096);
-    for (number, words) in [(5u16, 2u32), (6, 1025), (7, 3072)] {
+    for (number, words, profile) in [
+        (5u16, 2u32, Profile::One),
+        (6, 1025, Profile::Two),
+        (7, 3072, Profile::One),
+    ] {
         let file = code(alloc, words as usize)?;
         let mut code = CodeReader::new(file.as_slice(), 700);
         let count = WordCount::new(words).ok_or("no such number of words")?;
         let module = ModuleNumber::new(number).ok_or("no such module")?;
-        let packed = pack_module(module, Extent::of(count, 0, Profile::One), &mut code, &mut stream);
+        let packed = pack_module(
+            module,
+            Extent::of(count, 0, profile),
+            &mut code,
+            &mut stream,
+        );
         assert!(rt; packed == Ok(()), "{words} words");
     }
     let mut inputs = Vec::new(alloc);

@@ -52,6 +52,21 @@ fn a_write_fails_after_each_length(rt: HostRuntime) -> Result<(), Fail> {
     Ok(())
 }
 
+#[test]
+fn a_module_of_the_second_profile(rt: HostRuntime) -> Result<(), Fail> {
+    let bytes: &[u8] = &[0xC0, 0x03, 0x5F, 0xD6];
+    let mut code = CodeReader::new(bytes, 4);
+    let mut stream = StreamWriter::new(rt.alloc(), 1000, 4096);
+    let extent = Extent::of(WordCount::of(1), 0, Profile::Two);
+    let packed = pack_module(ModuleNumber::at(0), extent, &mut code, &mut stream);
+    assert!(rt; packed == Ok(()));
+    let taken = stream.taken.as_slice();
+    assert_eq!(rt; taken.len(), 40);
+    assert!(rt; stands(taken, 0, &[4, 0, 0, 0, 1, 0, 0, 0, 0, 0, 0, 0]));
+    assert!(rt; stands(taken, 12, &ONE_RET[12..]));
+    Ok(())
+}
+
 /// Whether these bytes stand there.
 fn stands(text: &[u8], at: usize, bytes: &[u8]) -> bool {
     at <= text.len() && text[at..].starts_with(bytes)

@@ -1,5 +1,5 @@
-//! A connection's stream as it comes, in plain numbers that a caller keeps: which module opens, where the bytes of its
-//! code belong, how it ends.
+//! A connection's stream as it comes, in plain numbers that a caller keeps: which module opens and by which profile, where
+//! the bytes of its code belong, how it ends.
 //!
 //! # How data flows
 //!
