@@ -184,7 +184,7 @@ const ROWS: [Row; 24] = [
         words: [0xD10043FF, 0xC89FFFE0],
         place: 1,
         rule: Rule::NeedMet,
-        told: "word 1 rule 10\n  0x0000000100010000  d10043ff  sub sp, sp, #16\n  0x0000000100010004  c89fffe0  stlr x0, [sp]\n  a move of sp by an immediate is followed by a load or store at [sp]; this word isn't that\n  mend: put ldr xzr, [sp] right after the move, or let a pre- or post-indexed access move sp",
+        told: "word 1 rule 10\n  0x0000000100010000  d10043ff  sub sp, sp, #16\n  0x0000000100010004  c89fffe0  stlr x0, [sp]\n  a move of sp by an immediate is followed by a load or store at [sp] within 4 words, with only calm words before it; this word, with 4 of the 4 left, isn't that\n  mend: put ldr xzr, [sp] right after the move, or let a pre- or post-indexed access move sp",
     },
 ];
 

@@ -2,6 +2,12 @@
 #![tactic(auto)]
 
 #[cfg(test)]
+mod cuttings;
+#[cfg(test)]
+mod late;
+#[cfg(test)]
+mod letter;
+#[cfg(test)]
 mod modules;
 #[cfg(test)]
 mod needs;

@@ -4,7 +4,7 @@ use lfi_module::Profile;
 use lfi_rules::{Need, meets, opens};
 use std::test::Fail;
 
-/// Words, and what they open.
+/// Words, and what they open in the second profile.
 const OPENINGS: [(u32, Need); 37] = [
     (0xF94002BE, Need::Call), // LDR X30, [X21]
     (0xF947FEBE, Need::Call), // LDR X30, [X21, #4088]
@@ -26,9 +26,9 @@ const OPENINGS: [(u32, Need); 37] = [
     (0x294003FE, Need::Nothing), // LDP W30, W0, [SP]
     (0xA90003FE, Need::Nothing), // STP X30, X0, [SP]
     (0xA94077FC, Need::Nothing), // LDP X28, X29, [SP]
-    (0xD10043FF, Need::Probe(1)), // SUB SP, SP, #16
-    (0x910043FF, Need::Probe(1)), // ADD SP, SP, #16
-    (0x910003FF, Need::Probe(1)), // ADD SP, SP, #0
+    (0xD10043FF, Need::Probe(4)), // SUB SP, SP, #16
+    (0x910043FF, Need::Probe(4)), // ADD SP, SP, #16
+    (0x910003FF, Need::Probe(4)), // ADD SP, SP, #0
     (0x510043FF, Need::Nothing), // SUB WSP, WSP, #16
     (0xD14043FF, Need::Nothing), // SUB SP, SP, #16, LSL #12
     (0xF10043FF, Need::Nothing), // SUBS XZR, SP, #16
@@ -91,9 +91,10 @@ const MEETINGS: [(u32, bool, bool, bool); 42] = [
     (0xC89FFFE0, false, false, false), // STLR X0, [SP]
 ];
 
-fn is_opened(word: u32, need: Need) -> bool {
-    match decode(word, Profile::Two) {
-        Some(instruction) => opens(&instruction, Profile::Two) == need,
+/// Whether a word is an instruction of a profile that opens a need.
+fn is_opened(word: u32, need: Need, profile: Profile) -> bool {
+    match decode(word, profile) {
+        Some(instruction) => opens(&instruction, profile) == need,
         None => false,
     }
 }
@@ -109,7 +110,19 @@ fn is_met(word: u32, need: Need) -> bool {
 #[test]
 fn needs_opened(rt: HostRuntime) {
     for (word, need) in OPENINGS {
-        assert!(rt; is_opened(word, need), "{word:#x}");
+        assert!(rt; is_opened(word, need, Profile::Two), "{word:#x}");
+    }
+}
+
+/// The first profile asks for a probe at once, and the second for one of four words; all else is the same.
+#[test]
+fn needs_opened_in_the_first_profile(rt: HostRuntime) {
+    for (word, need) in &OPENINGS[..32] {
+        let first = match need {
+            Need::Probe(_) => Need::Probe(1),
+            other => *other,
+        };
+        assert!(rt; is_opened(*word, first, Profile::One), "{word:#x}");
     }
 }
 

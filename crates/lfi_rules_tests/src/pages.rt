@@ -26,7 +26,7 @@ pub fn verdict_of(
 }
 
 /// The first fault once a page of `count` words comes after words that leave `tail` open.
-fn fault_with(
+pub fn fault_with(
     n: u32,
     tail: Need,
     verdict: &PageVerdict,
@@ -172,7 +172,7 @@ const HEADS_AND_TAILS: [(u32, bool, bool, bool, Need); 9] = [
     (0xF94006BE, false, false, false, Need::Call),
     (0xF9400A5E, false, false, false, Need::Guard),
     (0xF94003FE, false, false, true, Need::Guard),
-    (0xD10043FF, false, false, false, Need::Probe(1)),
+    (0xD10043FF, false, false, false, Need::Probe(4)),
 ];
 
 #[test]

@@ -104,7 +104,41 @@ fn keeps(word: u32, instruction: &Instruction, rule: Rule, place: u32, n: u32) -
     }
 }
 
-/// The rule with the least number that a word breaks at a place of n words, where `need` is to be met; and what it opens.
+/// Whether a word may stand between a move of sp and its probe, asked plainly.
+pub fn is_calm_word(word: u32, profile: Profile) -> bool {
+    let Some(instruction) = decode(word, profile) else {
+        return false;
+    };
+    let through_stack = match address_of(&instruction) {
+        Some(address) => address.base.number() == 31,
+        None => false,
+    };
+    let leaves_line = matches!(
+        instruction,
+        Instruction::Branch(_)
+            | Instruction::ConditionalBranch(_)
+            | Instruction::CompareBranch(_)
+            | Instruction::TestBranch(_)
+            | Instruction::BranchRegister(_)
+            | Instruction::Breakpoint(_)
+    );
+    !leaves_line
+        && !through_stack
+        && writes(&instruction).sp() == None
+        && opens(&instruction, profile) == Need::Nothing
+}
+
+/// What is left of a need after a word, where it may go by before the need is met.
+fn left_after(word: u32, need: Need, profile: Profile) -> Option<Need> {
+    match need {
+        Need::Probe(count) if count > 1 && is_calm_word(word, profile) => {
+            Some(Need::Probe(count.saturating_sub(1)))
+        }
+        _ => None,
+    }
+}
+
+/// The rule with the least number that a word breaks at a place of n words, where `need` is open; and what it leaves open.
 pub fn rule_of(
     word: u32,
     need: Need,
@@ -115,16 +149,17 @@ pub fn rule_of(
     let Some(instruction) = decode(word, profile) else {
         return (Some(Rule::Spelled), Need::Nothing);
     };
-    let opened = opens(&instruction, profile);
+    let gone_by = left_after(word, need, profile);
+    let left = gone_by.unwrap_or(opens(&instruction, profile));
     for rule in RULES {
         if !keeps(word, &instruction, rule, place, n) {
-            return (Some(rule), opened);
+            return (Some(rule), left);
         }
     }
-    if meets(&instruction, need) {
-        (None, opened)
+    if gone_by.is_some() || meets(&instruction, need) {
+        (None, left)
     } else {
-        (Some(Rule::NeedMet), opened)
+        (Some(Rule::NeedMet), left)
     }
 }
 
@@ -134,11 +169,11 @@ pub fn fault_word_by_word(words: &[u32], profile: Profile) -> Option<Fault> {
     let mut need = Need::Nothing;
     let mut place = 0u32;
     for word in words {
-        let (rule, opened) = rule_of(*word, need, place, n, profile);
+        let (rule, left) = rule_of(*word, need, place, n, profile);
         if let Some(rule) = rule {
             return Some(Fault { word: place, rule });
         }
-        need = opened;
+        need = left;
         place = place.saturating_add(1);
     }
     if need == Need::Nothing {

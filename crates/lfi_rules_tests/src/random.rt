@@ -22,8 +22,8 @@ const NEXT: [u32; 4] = [0xD63F03C0, 0x8B3E42BE, 0xF90003E0, 0xD503201F];
 
 /// Random numbers, always the same.
 #[derive(Clone, Copy)]
-struct Draws {
-    state: u64,
+pub struct Draws {
+    pub state: u64,
 }
 
 impl Draws {
@@ -36,7 +36,7 @@ impl Draws {
     }
 
     /// A number at random below another.
-    fn below(&mut self, most: u32) -> u32
+    pub fn below(&mut self, most: u32) -> u32
         requires { 0 < most }
         ensures { result < most }
     {
@@ -120,10 +120,10 @@ fn lawful_module(
             Need::Nothing => draws.word(),
             _ => NEXT[draws.below(4) as usize],
         };
-        let (rule, opened) = rule_of(word, need, place as u32, n as u32, profile);
-        if rule == None && (opened == Need::Nothing || place + 1 < n) {
+        let (rule, left) = rule_of(word, need, place as u32, n as u32, profile);
+        if rule == None && (left == Need::Nothing || place + 1 < n) {
             words.push(word)?;
-            need = opened;
+            need = left;
         }
     }
     for _i in words.len()..n {
