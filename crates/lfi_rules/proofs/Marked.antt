@@ -8,6 +8,9 @@ use Rattle.std.proofs.lemmas.Nat.{pow_pos, or_comm, or_lt, or_shifted, shl_below
 use Rattle.std.proofs.lemmas.Nat.Bits.{bit_at-zero, bit_at-lt, bit_at_above, bit_at_cat_low, bit_at_cat_high, bit_at-trailing_zeros, bit_at_clear_same, bit_at_clear_other}
 use Rattle.std.proofs.Math.Pow.{pow_mono}
 use Rattle.lfi_module.specs.declared.profile.Profile.{Profile}
+use Rattle.lfi_classes.specs.Classes.{least_of}
+use Rattle.lfi_classes.specs.declared.classes.Reach.{Reach}
+use Rattle.lfi_classes.specs.declared.classes.Reach.TheVariants.{Quiet, Near, Ordered}
 use Rattle.lfi_rules.specs.declared.fault.Fault.{Fault}
 use Rattle.lfi_rules.specs.Faults.{IsFirstInside}
 use Rattle.lfi_rules.specs.inner.Passing.{IsFine, AreFine, AreMarked, AreMarkedFine, AreAmong, AreWithin, IsFoundIn}
@@ -182,3 +185,9 @@ one_mark profile ws first n i false fine = record {
   fits = let one : i + 1 - i ≡ 1 = omega arith in subst (λ x. 1 < 2 ^ x) (sym one) (lit≤ tt);
   fine = λ k within clear. let e : k ≡ 0 = omega arith in let set : bit_at 1 k ≡ 1 = subst (λ x. bit_at 1 x ≡ 1) (sym e) refl in absurd (omega arith);
 }
+
+-- only where ordered words count is their number the least
+pub ordered_by_least : (reach : Reach) → least_of reach ≡ least_of Ordered → reach ≡ Ordered
+ordered_by_least Quiet e = absurd (omega arith)
+ordered_by_least Near e = absurd (omega arith)
+ordered_by_least Ordered e = refl

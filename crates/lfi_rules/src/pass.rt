@@ -5,6 +5,7 @@ ghost use Rattle.lfi_module.specs.Numbers.{most_words};
 ghost use Rattle.lfi_module.specs.Profiles.{is_two};
 ghost use Rattle.lfi_module.specs.declared.profile.Profile.{Profile};
 ghost use Rattle.lfi_module.specs.declared.profile.Profile.TheVariants.{Two};
+ghost use Rattle.lfi_classes.specs.Classes.{least_of};
 ghost use Rattle.lfi_classes.specs.declared.classes.Reach.TheVariants.{Quiet, Ordered};
 ghost use Rattle.lfi_rules.specs.declared.needs.Need.TheVariants.{Nothing, Call, Guard, Probe};
 ghost use Rattle.lfi_rules.specs.Faults.{IsFirstInside};
@@ -60,47 +61,64 @@ fn reach_between(start: u32, stop: u32, n: u32, profile: Profile) -> Reach
     }
 }
 
-/// The marks of the words from a place on, up to another: bit k is set where the k-th of them isn't quiet. Without a branch by
-/// what a word is.
+/// The marks of so many words from a place on: bit k is set where the k-th of them isn't quiet. Without a branch by what a word
+/// is. `least` is the number of the reach.
 #[inline(always)]
-fn marks_of<W: Words>(words: &W, from: usize, stop: usize, reach: Reach, first: u32, n: u32) -> u64
-    requires from { from ≤ stop }
-    requires block { stop ≤ from + 64 }
-    requires stop { stop ≤ length (W.words words.now) }
+fn marks_of<W: Words>(
+    words: &W,
+    from: usize,
+    count: usize,
+    reach: Reach,
+    least: u64,
+    first: u32,
+    n: u32,
+) -> u64
+    requires block { count ≤ 64 }
+    requires within { from + count ≤ length (W.words words.now) }
     requires room { first + length (W.words words.now) ≤ n }
     requires most { n ≤ most_words }
-    requires far { reach ≢ Quiet → AreFarFromEnds (first + from) (first + stop) n }
-    ensures { (profile : Profile) → (reach ≡ Ordered → profile ≡ Two) → AreMarked profile (W.words words.now) first n from stop result }
+    requires least { least ≡ least_of reach }
+    requires far { reach ≢ Quiet → AreFarFromEnds (first + from) (first + from + count) n }
+    ensures { (profile : Profile) → (reach ≡ Ordered → profile ≡ Two) → AreMarked profile (W.words words.now) first n from (from + count) result }
 {
     let mut marks = 0;
-    for i in from..stop {
-        let loud = !classes_of(words.word(i)).is_quiet(reach);
-        marks |= u64::from(loud) << (i - from);
+    for k in 0..count {
+        let loud = !classes_of(words.word(from + k)).is_quiet_from(least);
+        marks |= u64::from(loud) << k;
     }
     marks
 }
 
 /// The marks of a block: those of eight words a turn, then those of the words that are left.
-#[inline(always)]
-fn marks_of_block<W: Words>(words: &W, from: usize, stop: usize, reach: Reach, first: u32, n: u32) -> u64
+#[inline(never)]
+fn marks_of_block<W: Words>(
+    words: &W,
+    from: usize,
+    stop: usize,
+    reach: Reach,
+    least: u64,
+    first: u32,
+    n: u32,
+) -> u64
     requires from { from ≤ stop }
     requires block { stop ≤ from + 64 }
     requires stop { stop ≤ length (W.words words.now) }
     requires room { first + length (W.words words.now) ≤ n }
     requires most { n ≤ most_words }
+    requires least { least ≡ least_of reach }
     requires far { reach ≢ Quiet → AreFarFromEnds (first + from) (first + stop) n }
     ensures { (profile : Profile) → (reach ≡ Ordered → profile ≡ Two) → AreMarked profile (W.words words.now) first n from stop result }
 {
     let mut marks = 0;
     let mut i = from;
     while stop - i >= 8 {
-        marks |= marks_of(words, i, i + 8, reach, first, n) << (i - from);
+        marks |= marks_of(words, i, 8, reach, least, first, n) << (i - from);
         i += 8;
     }
     if i == stop {
         return marks;
     }
-    marks | marks_of(words, i, stop, reach, first, n) << (i - from)
+    marks | marks_of(words, i, stop - i, reach, least, first, n) << (i - from)
 }
 
 /// Which needs a word meets.
@@ -263,7 +281,7 @@ fn first_in_block<W: Words>(
     ensures none { IfNone result (AreFine profile (W.words words.now) first n from stop) }
 {
     let reach = reach_between(first + from as u32, first + stop as u32, n, profile);
-    let marks = marks_of_block(words, from, stop, reach, first, n);
+    let marks = marks_of_block(words, from, stop, reach, reach.least(), first, n);
     if are_told(words, from, marks, first, n, profile) {
         None
     } else {

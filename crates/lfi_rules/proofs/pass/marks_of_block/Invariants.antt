@@ -1,6 +1,7 @@
 use Rattle.std.proofs.Common.{◌≡◌, ◌-◌, ◌≤◌}
 use Rattle.lfi_module.specs.declared.profile.Profile.{Profile}
 use Rattle.lfi_module.specs.declared.profile.Profile.TheVariants.{Two}
+use Rattle.lfi_classes.specs.Classes.{least_of}
 use Rattle.lfi_classes.specs.declared.classes.Reach.TheVariants.{Ordered}
 use Rattle.lfi_rules.specs.inner.Passing.{AreMarked}
 use Rattle.lfi_rules.proofs.pass.marks_of_block.Given as goal
@@ -9,7 +10,7 @@ abbrev pub invariant-loop-i : goal.invariant-loop-i
 invariant-loop-i g l = record {
   low : l.from ≤ l.i;
   high : l.i ≤ l.stop;
-  marked : (profile : Profile) → (l.reach ≡ Ordered → profile ≡ Two) → AreMarked profile (g.W.Words.words l.words) l.first l.n l.from l.i l.marks;
+  marked : (profile : Profile) → (l.least ≡ least_of Ordered → profile ≡ Two) → AreMarked profile (g.W.Words.words l.words) l.first l.n l.from l.i l.marks;
 }
 
 abbrev pub decreases-loop-i : goal.decreases-loop-i
