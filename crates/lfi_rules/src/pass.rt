@@ -1,6 +1,6 @@
 //! The first fault of words by themselves: nearly all are told by their classes, and a closer look is taken at the others alone.
 
-ghost use Rattle.std.specs.Prelude.{◌≡◌, ◌≢◌, ◌+◌, ◌<◌, ◌≤◌, IsTrue, IfSome, IfNone, ℕ, length};
+ghost use Rattle.std.specs.Prelude.{◌≡◌, ◌≢◌, ◌+◌, ◌<◌, ◌≤◌, IsTrue, IfSome, IfNone, ℕ, length, slice_index};
 ghost use Rattle.lfi_module.specs.Numbers.{most_words};
 ghost use Rattle.lfi_module.specs.Profiles.{is_two};
 ghost use Rattle.lfi_module.specs.declared.profile.Profile.{Profile};
@@ -24,8 +24,8 @@ use lfi_module::Profile;
 /// How many words a near branch goes at most, either way.
 const REACH: u32 = 2048;
 
-/// How many words are marked at once: one a bit.
-const BLOCK: usize = 64;
+/// How many words are marked at once.
+const SPAN: usize = 512;
 
 /// Whether the places from one on, up to another, are so far from both ends of a module that each near branch stays in it.
 fn are_far_from_ends(start: u32, stop: u32, n: u32) -> bool
@@ -61,10 +61,11 @@ fn reach_between(start: u32, stop: u32, n: u32, profile: Profile) -> Reach
     }
 }
 
-/// The marks of so many words from a place on: bit k is set where the k-th of them isn't quiet. Without a branch by what a word
-/// is. `least` is the number of the reach.
+/// Marks the places of so many words from one on, those of words that aren't quiet, behind `marked` places that are marked: writes
+/// them down in order, and answers how many are marked then. Without a branch by what a word is. `least` is the number of the
+/// reach.
 #[inline(always)]
-fn marks_of<W: Words>(
+fn mark_loud<W: Words>(
     words: &W,
     from: usize,
     count: usize,
@@ -72,53 +73,59 @@ fn marks_of<W: Words>(
     least: u64,
     first: u32,
     n: u32,
-) -> u64
-    requires block { count ≤ 64 }
+    places: &mut [u32],
+    marked: usize,
+) -> usize
     requires within { from + count ≤ length (W.words words.now) }
     requires room { first + length (W.words words.now) ≤ n }
     requires most { n ≤ most_words }
+    requires space { marked + count ≤ length places.old }
     requires least { least ≡ least_of reach }
     requires far { reach ≢ Quiet → AreFarFromEnds (first + from) (first + from + count) n }
-    ensures { (profile : Profile) → (reach ≡ Ordered → profile ≡ Two) → AreMarked profile (W.words words.now) first n from (from + count) result }
+    ensures count { result ≤ marked + count }
+    ensures marked { (profile : Profile) (start : ℕ) → (reach ≡ Ordered → profile ≡ Two) → start ≤ from
+        → AreMarked profile (W.words words.now) first n start from places.old marked
+        → AreMarked profile (W.words words.now) first n start (from + count) places.new result }
 {
-    let mut marks = 0;
+    let mut all = marked;
     for k in 0..count {
-        let loud = !classes_of(words.word(from + k)).is_quiet_from(least);
-        marks |= u64::from(loud) << k;
+        places[all] = (from + k) as u32;
+        if !classes_of(words.word(from + k)).is_quiet_from(least) {
+            all += 1;
+        }
     }
-    marks
+    all
 }
 
-/// The marks of a block: those of eight words a turn, then those of the words that are left.
-#[inline(never)]
-fn marks_of_block<W: Words>(
+/// Marks the places from `start` on, up to `stop`, whose words aren't quiet, eight words a turn; answers how many they are.
+#[inline(always)]
+fn mark_span<W: Words>(
     words: &W,
-    from: usize,
+    start: usize,
     stop: usize,
     reach: Reach,
-    least: u64,
     first: u32,
     n: u32,
-) -> u64
-    requires from { from ≤ stop }
-    requires block { stop ≤ from + 64 }
+    places: &mut [u32],
+) -> usize
+    requires start { start ≤ stop }
     requires stop { stop ≤ length (W.words words.now) }
     requires room { first + length (W.words words.now) ≤ n }
     requires most { n ≤ most_words }
-    requires least { least ≡ least_of reach }
-    requires far { reach ≢ Quiet → AreFarFromEnds (first + from) (first + stop) n }
-    ensures { (profile : Profile) → (reach ≡ Ordered → profile ≡ Two) → AreMarked profile (W.words words.now) first n from stop result }
+    requires space { stop ≤ start + length places.old }
+    requires far { reach ≢ Quiet → AreFarFromEnds (first + start) (first + stop) n }
+    ensures count { result ≤ length places.new }
+    ensures marked { (profile : Profile) → (reach ≡ Ordered → profile ≡ Two)
+        → AreMarked profile (W.words words.now) first n start stop places.new result }
 {
-    let mut marks = 0;
-    let mut i = from;
+    let least = reach.least();
+    let mut count = 0;
+    let mut i = start;
     while stop - i >= 8 {
-        marks |= marks_of(words, i, 8, reach, least, first, n) << (i - from);
+        count = mark_loud(words, i, 8, reach, least, first, n, places, count);
         i += 8;
     }
-    if i == stop {
-        return marks;
-    }
-    marks | marks_of(words, i, stop - i, reach, least, first, n) << (i - from)
+    mark_loud(words, i, stop - i, reach, least, first, n, places, count)
 }
 
 /// Which needs a word meets.
@@ -186,20 +193,17 @@ fn is_told<W: Words>(words: &W, i: usize, first: u32, n: u32, profile: Profile) 
         | classes.opens_probe() & met.probe
 }
 
-/// Whether all marked words of a block are told. Without a branch by what a word is.
+/// Whether all marked words are told. Without a branch by what a word is.
 #[inline(never)]
-fn are_told<W: Words>(words: &W, from: usize, marks: u64, first: u32, n: u32, profile: Profile) -> bool
-    requires within { AreWithin marks from (length (W.words words.now)) }
+fn are_told<W: Words>(words: &W, marked: &[u32], first: u32, n: u32, profile: Profile) -> bool
+    requires within { AreWithin marked.now (length (W.words words.now)) }
     requires room { first + length (W.words words.now) ≤ n }
     requires most { n ≤ most_words }
-    ensures { IsTrue result → AreMarkedFine profile (W.words words.now) first n from marks 0 }
+    ensures { IsTrue result → AreMarkedFine profile (W.words words.now) first n marked.now (length marked.now) }
 {
     let mut told = true;
-    let mut left = marks;
-    while left != 0 {
-        let k = left.trailing_zeros();
-        told = told & is_told(words, from + k as usize, first, n, profile);
-        left &= !(1 << k);
+    for place in marked {
+        told = told & is_told(words, *place as usize, first, n, profile);
     }
     told
 }
@@ -231,62 +235,88 @@ fn fault_at<W: Words>(words: &W, i: usize, first: u32, n: u32, profile: Profile)
     }
 }
 
-/// The first fault that a closer look at the marked words of a block finds.
+/// The first fault that a closer look at marked words finds.
 #[inline(never)]
 fn first_by_look<W: Words>(
     words: &W,
-    from: usize,
-    marks: u64,
+    marked: &[u32],
     first: u32,
     n: u32,
     profile: Profile,
 ) -> Option<Fault>
-    requires within { AreWithin marks from (length (W.words words.now)) }
+    requires within { AreWithin marked.now (length (W.words words.now)) }
     requires room { first + length (W.words words.now) ≤ n }
     requires most { n ≤ most_words }
-    ensures some { IfSome result (λ fault. IsFoundIn profile (W.words words.now) first n from marks fault) }
-    ensures none { IfNone result (AreMarkedFine profile (W.words words.now) first n from marks 0) }
+    ensures some { IfSome result (λ fault. IsFoundIn profile (W.words words.now) first n marked.now fault) }
+    ensures none { IfNone result (AreMarkedFine profile (W.words words.now) first n marked.now (length marked.now)) }
 {
-    let mut left = marks;
-    while left != 0 {
-        let k = left.trailing_zeros();
-        let i = from + k as usize;
+    for place in marked {
+        let i = *place as usize;
         if !is_told(words, i, first, n, profile) {
             let fault = fault_at(words, i, first, n, profile);
             if fault.is_some() {
                 return fault;
             }
         }
-        left &= !(1 << k);
     }
     None
 }
 
-/// The first fault of a block, the words from `from` on, up to `stop`, where none before has one.
+/// The first fault of the words from `start` on, up to `stop`, where none before has one.
 #[inline(always)]
-fn first_in_block<W: Words>(
+fn first_in_span<W: Words>(
     words: &W,
-    from: usize,
+    start: usize,
     stop: usize,
     first: u32,
     n: u32,
     profile: Profile,
+    places: &mut [u32],
 ) -> Option<Fault>
-    requires from { from ≤ stop }
-    requires block { stop ≤ from + 64 }
+    requires start { start ≤ stop }
     requires stop { stop ≤ length (W.words words.now) }
     requires room { first + length (W.words words.now) ≤ n }
     requires most { n ≤ most_words }
-    ensures some { IfSome result (λ fault. AreFine profile (W.words words.now) first n 0 from → IsFirstInside profile (W.words words.now) first n (Some fault)) }
-    ensures none { IfNone result (AreFine profile (W.words words.now) first n from stop) }
+    requires space { stop ≤ start + length places.old }
+    ensures some { IfSome result (λ fault. AreFine profile (W.words words.now) first n 0 start → IsFirstInside profile (W.words words.now) first n (Some fault)) }
+    ensures none { IfNone result (AreFine profile (W.words words.now) first n start stop) }
 {
-    let reach = reach_between(first + from as u32, first + stop as u32, n, profile);
-    let marks = marks_of_block(words, from, stop, reach, reach.least(), first, n);
-    if are_told(words, from, marks, first, n, profile) {
+    let reach = reach_between(first + start as u32, first + stop as u32, n, profile);
+    let count = mark_span(words, start, stop, reach, first, n, places);
+    let marked = &places[..count];
+    if are_told(words, marked, first, n, profile) {
         None
     } else {
-        first_by_look(words, from, marks, first, n, profile)
+        first_by_look(words, marked, first, n, profile)
     }
+}
+
+/// The first fault of words, as many of them at once as there are places to mark.
+#[inline(always)]
+fn first_in_spans<W: Words>(
+    words: &W,
+    first: u32,
+    n: u32,
+    profile: Profile,
+    places: &mut [u32],
+) -> Option<Fault>
+    requires room { first + length (W.words words.now) ≤ n }
+    requires most { n ≤ most_words }
+    requires space { 1 ≤ length places.old }
+    requires size { length places.old ≤ most_words }
+    ensures { IsFirstInside profile (W.words words.now) first n result }
+{
+    let count = words.count();
+    let mut start = 0;
+    while start < count {
+        let stop = count.min(start + places.len());
+        let fault = first_in_span(words, start, stop, first, n, profile, places);
+        if fault.is_some() {
+            return fault;
+        }
+        start = stop;
+    }
+    None
 }
 
 /// The first fault of words that stand in a module of n words from `first` on.
@@ -296,15 +326,6 @@ pub fn first_inside<W: Words>(words: &W, first: u32, n: u32, profile: Profile) -
     requires most { n ≤ most_words }
     ensures { IsFirstInside profile (W.words words.now) first n result }
 {
-    let count = words.count();
-    let mut from = 0;
-    while from < count {
-        let stop = count.min(from + BLOCK);
-        let fault = first_in_block(words, from, stop, first, n, profile);
-        if fault.is_some() {
-            return fault;
-        }
-        from = stop;
-    }
-    None
+    let mut places = [0u32; SPAN];
+    first_in_spans(words, first, n, profile, &mut places)
 }

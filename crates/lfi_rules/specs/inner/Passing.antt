@@ -1,6 +1,5 @@
 -- What the pass over quiet words tells.
-use Rattle.std.specs.Prelude.{◌≡◌, ℕ, ◌+◌, ◌-◌, ◌*◌, ◌^◌, ◌<◌, ◌≤◌, if◌then◌else◌, nat_lt, ℤ, pos, negsuc, List, length, Some, None, slice_get}
-use Rattle.std.specs.Int.{bit_at}
+use Rattle.std.specs.Prelude.{◌≡◌, ℕ, ◌+◌, ◌-◌, ◌*◌, ◌^◌, ◌<◌, ◌≤◌, ◌⊎◌, if◌then◌else◌, nat_lt, ℤ, pos, negsuc, List, length, Some, None, slice_get, slice_index}
 use Rattle.a64_word.specs.inner.Bits.{bits_at}
 use Rattle.lfi_module.specs.declared.profile.Profile.{Profile}
 use Rattle.lfi_rules.specs.declared.needs.Need.{Need}
@@ -57,26 +56,29 @@ pub record IsFine (profile : Profile) (ws : List ℕ) (first n i : ℕ) : Type 0
 pub record AreFine (profile : Profile) (ws : List ℕ) (first n start stop : ℕ) : Type 0 where
   pub each : (i : ℕ) → start ≤ i → i < stop → IsFine profile ws first n i
 
--- The words from a place on, up to another, have these marks, one a bit: those whose bit is 0 are fine.
-pub record AreMarked (profile : Profile) (ws : List ℕ) (first n start stop marks : ℕ) : Type 0 where
-  pub fits : marks < 2 ^ (stop - start)
-  pub fine : (k : ℕ) → start + k < stop → bit_at marks k ≡ 0 → IsFine profile ws first n (start + k)
+-- a number is one of the first of a list
+abbrev pub IsAmong : List ℕ → (count i : ℕ) → Type 0
+IsAmong places count i = (p : ℕ) × (p < count) × (slice_index places p ≡ i)
 
--- each place that is marked, counted from one on, is below another
-pub record AreWithin (marks start stop : ℕ) : Type 0 where
-  pub each : (k : ℕ) → bit_at marks k ≡ 1 → start + k < stop
+-- Of the words from a place on, up to another, those that are at none of the first `count` places of a list are fine; these are
+-- among them, in order.
+pub record AreMarked (profile : Profile) (ws : List ℕ) (first n start stop : ℕ) (places : List ℕ) (count : ℕ) : Type 0 where
+  pub fine : (i : ℕ) → start ≤ i → i < stop → IsFine profile ws first n i ⊎ IsAmong places count i
+  pub low : (p : ℕ) → p < count → start ≤ slice_index places p
+  pub high : (p : ℕ) → p < count → slice_index places p < stop
+  pub rising : (p q : ℕ) → p < q → q < count → slice_index places p < slice_index places q
 
--- the bits of `left` are among the marks
-abbrev pub AreAmong : (left marks : ℕ) → Type 0
-AreAmong left marks = (k : ℕ) → bit_at left k ≡ 1 → bit_at marks k ≡ 1
+-- each number of a list is below another
+pub record AreWithin (places : List ℕ) (stop : ℕ) : Type 0 where
+  pub each : (p : ℕ) → p < length places → slice_index places p < stop
 
--- The words that are marked are fine, but those whose bit is set in `left`.
-pub record AreMarkedFine (profile : Profile) (ws : List ℕ) (first n start marks left : ℕ) : Type 0 where
-  pub each : (k : ℕ) → bit_at marks k ≡ 1 → bit_at left k ≡ 0 → IsFine profile ws first n (start + k)
+-- the words at the first `count` places of a list are fine
+pub record AreMarkedFine (profile : Profile) (ws : List ℕ) (first n : ℕ) (places : List ℕ) (count : ℕ) : Type 0 where
+  pub each : (p : ℕ) → p < count → IsFine profile ws first n (slice_index places p)
 
--- A fault is the first one, where all words before some marked place are fine; so are the marked words before that one.
-pub record IsFoundIn (profile : Profile) (ws : List ℕ) (first n start marks : ℕ) (fault : Fault) : Type 0 where
-  pub k : ℕ
-  pub marked : bit_at marks k ≡ 1
-  pub before : (j : ℕ) → j < k → bit_at marks j ≡ 1 → IsFine profile ws first n (start + j)
-  pub found : AreFine profile ws first n 0 (start + k) → IsFirstInside profile ws first n (Some fault)
+-- A fault is the first one, where all words before some place of a list are fine; so are the words at the places before that one.
+pub record IsFoundIn (profile : Profile) (ws : List ℕ) (first n : ℕ) (places : List ℕ) (fault : Fault) : Type 0 where
+  pub p : ℕ
+  pub within : p < length places
+  pub before : AreMarkedFine profile ws first n places p
+  pub found : AreFine profile ws first n 0 (slice_index places p) → IsFirstInside profile ws first n (Some fault)

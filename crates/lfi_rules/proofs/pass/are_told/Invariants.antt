@@ -1,12 +1,6 @@
 use Rattle.std.proofs.Common.{IsTrue}
-use Rattle.lfi_rules.specs.inner.Passing.{AreAmong, AreMarkedFine}
+use Rattle.lfi_rules.specs.inner.Passing.{AreMarkedFine}
 use Rattle.lfi_rules.proofs.pass.are_told.Given as goal
 
-abbrev pub invariant-loop-left : goal.invariant-loop-left
-invariant-loop-left g l = record {
-  among : AreAmong l.left l.marks;
-  fine : IsTrue l.told → AreMarkedFine l.profile (g.W.Words.words l.words) l.first l.n l.from l.marks l.left;
-}
-
-abbrev pub decreases-loop-left : goal.decreases-loop-left
-decreases-loop-left g l = l.left
+abbrev pub invariant-loop-place : goal.invariant-loop-place
+invariant-loop-place g l = IsTrue l.told → AreMarkedFine l.profile (g.W.Words.words l.words) l.first l.n l.marked l.place-index

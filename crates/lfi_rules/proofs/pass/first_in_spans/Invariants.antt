@@ -1,0 +1,12 @@
+use Rattle.std.proofs.Common.{◌≤◌, ◌-◌, length}
+use Rattle.lfi_rules.specs.inner.Passing.{AreFine}
+use Rattle.lfi_rules.proofs.pass.first_in_spans.Given as goal
+
+abbrev pub invariant-loop-start : goal.invariant-loop-start
+invariant-loop-start g l = record {
+  within : l.start ≤ length (g.W.Words.words l.words);
+  fine : AreFine l.profile (g.W.Words.words l.words) l.first l.n 0 l.start;
+}
+
+abbrev pub decreases-loop-start : goal.decreases-loop-start
+decreases-loop-start g l = l.count - l.start
