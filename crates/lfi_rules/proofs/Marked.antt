@@ -1,9 +1,12 @@
 -- Places that are marked, one after another.
-use Rattle.std.proofs.Common.{◌≡◌, ◌≢◌, false, ℕ, ◌+◌, ◌<◌, ◌≤◌, List, length, Option, Some, None, subst, sym, ap, ◌∙◌, arith, inl, inr, set, take}
+use Rattle.std.proofs.Common.{◌≡◌, ◌≢◌, false, ℕ, ◌+◌, ◌<◌, ◌≤◌, List, length, Option, Some, None, subst, sym, ap, ◌∙◌, refl, arith, inl, inr, set, take}
 use Rattle.std.specs.Prelude.{slice_index, is_some, IfSome, IfNone}
 use Rattle.std.proofs.lemmas.Bool.{cases_lt}
 use Rattle.std.proofs.lemmas.List.{get_or-set_same, get_or-set_other, get_or-take, length-take-le}
 use Rattle.lfi_module.specs.declared.profile.Profile.{Profile}
+use Rattle.lfi_classes.specs.Classes.{least_of}
+use Rattle.lfi_classes.specs.declared.classes.Reach.{Reach}
+use Rattle.lfi_classes.specs.declared.classes.Reach.TheVariants.{Quiet, Near, Ordered}
 use Rattle.lfi_rules.specs.declared.fault.Fault.{Fault}
 use Rattle.lfi_rules.specs.Faults.{IsFirstInside}
 use Rattle.lfi_rules.specs.inner.Passing.{IsFine, AreFine, AreMarked, AreMarkedFine, AreWithin, IsFoundIn}
@@ -154,3 +157,9 @@ pub none_by_look : (profile : Profile) (ws : List ℕ) (first n start stop : ℕ
     → IfNone o (AreMarkedFine profile ws first n places (length places)) → IfNone o (AreFine profile ws first n start stop)
 none_by_look profile ws first n start stop places None m fine = all_fine profile ws first n start stop places (length places) m fine
 none_by_look profile ws first n start stop places (Some fault) m fine = tt
+
+-- only where ordered words count is their number the least
+pub ordered_by_least : (reach : Reach) → least_of reach ≡ least_of Ordered → reach ≡ Ordered
+ordered_by_least Quiet e = absurd (omega arith)
+ordered_by_least Near e = absurd (omega arith)
+ordered_by_least Ordered e = refl

@@ -5,6 +5,7 @@ ghost use Rattle.lfi_module.specs.Numbers.{most_words};
 ghost use Rattle.lfi_module.specs.Profiles.{is_two};
 ghost use Rattle.lfi_module.specs.declared.profile.Profile.{Profile};
 ghost use Rattle.lfi_module.specs.declared.profile.Profile.TheVariants.{Two};
+ghost use Rattle.lfi_classes.specs.Classes.{least_of};
 ghost use Rattle.lfi_classes.specs.declared.classes.Reach.TheVariants.{Quiet, Ordered};
 ghost use Rattle.lfi_rules.specs.declared.needs.Need.TheVariants.{Nothing, Call, Guard, Probe};
 ghost use Rattle.lfi_rules.specs.Faults.{IsFirstInside};
@@ -61,38 +62,40 @@ fn reach_between(start: u32, stop: u32, n: u32, profile: Profile) -> Reach
     }
 }
 
-/// Marks the places from `from` on, up to `stop`, whose words aren't quiet, behind `count` places that are marked: writes them
-/// down in order, and answers how many are marked then. Without a branch by what a word is.
+/// Marks the places of so many words from one on, those of words that aren't quiet, behind `marked` places that are marked: writes
+/// them down in order, and answers how many are marked then. Without a branch by what a word is. `least` is the number of the
+/// reach.
 #[inline(always)]
 fn mark_loud<W: Words>(
     words: &W,
     from: usize,
-    stop: usize,
+    count: usize,
     reach: Reach,
+    least: u64,
     first: u32,
     n: u32,
     places: &mut [u32],
-    count: usize,
+    marked: usize,
 ) -> usize
-    requires from { from ≤ stop }
-    requires stop { stop ≤ length (W.words words.now) }
+    requires within { from + count ≤ length (W.words words.now) }
     requires room { first + length (W.words words.now) ≤ n }
     requires most { n ≤ most_words }
-    requires space { count + stop ≤ from + length places.old }
-    requires far { reach ≢ Quiet → AreFarFromEnds (first + from) (first + stop) n }
-    ensures count { result + from ≤ count + stop }
+    requires space { marked + count ≤ length places.old }
+    requires least { least ≡ least_of reach }
+    requires far { reach ≢ Quiet → AreFarFromEnds (first + from) (first + from + count) n }
+    ensures count { result ≤ marked + count }
     ensures marked { (profile : Profile) (start : ℕ) → (reach ≡ Ordered → profile ≡ Two) → start ≤ from
-        → AreMarked profile (W.words words.now) first n start from places.old count
-        → AreMarked profile (W.words words.now) first n start stop places.new result }
+        → AreMarked profile (W.words words.now) first n start from places.old marked
+        → AreMarked profile (W.words words.now) first n start (from + count) places.new result }
 {
-    let mut marked = count;
-    for i in from..stop {
-        places[marked] = i as u32;
-        if !classes_of(words.word(i)).is_quiet(reach) {
-            marked += 1;
+    let mut all = marked;
+    for k in 0..count {
+        places[all] = (from + k) as u32;
+        if !classes_of(words.word(from + k)).is_quiet_from(least) {
+            all += 1;
         }
     }
-    marked
+    all
 }
 
 /// Marks the places from `start` on, up to `stop`, whose words aren't quiet, eight words a turn; answers how many they are.
@@ -116,13 +119,14 @@ fn mark_span<W: Words>(
     ensures marked { (profile : Profile) → (reach ≡ Ordered → profile ≡ Two)
         → AreMarked profile (W.words words.now) first n start stop places.new result }
 {
+    let least = reach.least();
     let mut count = 0;
     let mut i = start;
     while stop - i >= 8 {
-        count = mark_loud(words, i, i + 8, reach, first, n, places, count);
+        count = mark_loud(words, i, 8, reach, least, first, n, places, count);
         i += 8;
     }
-    mark_loud(words, i, stop, reach, first, n, places, count)
+    mark_loud(words, i, stop - i, reach, least, first, n, places, count)
 }
 
 /// Which needs a word meets.

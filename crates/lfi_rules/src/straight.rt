@@ -21,11 +21,14 @@ fn is_straight(word: u32) -> bool
     (word >> 26 & 7 != 5) & (word & 31 != 31) & away
 }
 
+/// NOP, which has the bits of a branch.
+const NOP: u32 = 0xD503201F;
+
 /// Whether a word is surely calm, and keeps the rules wherever it stands.
 #[inline(always)]
 pub fn is_surely_calm(word: u32) -> bool
     ensures quiet { IsTrue result → (k n : ℕ) → IsQuietWord word k n Nothing }
     ensures calm { (profile : Profile) → IsTrue result → IsCalm profile word }
 {
-    classes_of(word).is_quiet(Reach::Quiet) & is_straight(word)
+    classes_of(word).is_quiet(Reach::Quiet) & (is_straight(word) | (word == NOP))
 }

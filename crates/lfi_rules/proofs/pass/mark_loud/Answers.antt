@@ -1,53 +1,64 @@
 use Rattle.std.proofs.Common.{◌≡◌, ◌≢◌, ℕ, ◌+◌, ◌^◌, ◌<◌, ◌≤◌, List, length, Some, sym, subst, ap, ◌∙◌, arith, rules}
 use Rattle.std.specs.Prelude.{slice_get, slice_set}
 use Rattle.std.proofs.lemmas.Option.{slice_get-get_or}
-use Rattle.lfi_classes.specs.Classes.{IsQuietHere}
-use Rattle.lfi_classes.specs.declared.classes.Reach.TheVariants.{Quiet}
+use Rattle.lfi_module.specs.declared.profile.Profile.TheVariants.{Two}
+use Rattle.lfi_classes.specs.Classes.{IsQuietHere, least_of}
+use Rattle.lfi_classes.specs.declared.classes.Reach.TheVariants.{Quiet, Ordered}
 use Rattle.lfi_rules.specs.inner.Passing.{IsFarFromEnds, AreMarked}
 use Rattle.lfi_rules.proofs.ByKind.{told_here}
 use Rattle.lfi_rules.proofs.Fine.{fine_quiet}
-use Rattle.lfi_rules.proofs.Marked.{fine_more, marked_more}
-use Rattle.lfi_rules.proofs.pass.mark_loud.Goals.{then-not-is_quiet, else-not-is_quiet}
+use Rattle.lfi_rules.proofs.Marked.{fine_more, marked_more, ordered_by_least}
+use Rattle.lfi_rules.proofs.pass.mark_loud.Goals.{then-not-is_quiet_from, else-not-is_quiet_from}
 use Rattle.lfi_rules.proofs.pass.mark_loud.Goals as goal
 
-pub loop-i-preserved : goal.loop-i-preserved
-loop-i-preserved g c =
+pub loop-k-preserved : goal.loop-k-preserved
+loop-k-preserved g c =
     let ws : List ℕ = g.W.Words.words c.args.words.now in
     let first : ℕ = c.args.first in
     let n : ℕ = c.args.n in
     let from : ℕ = c.args.from in
-    let stop : ℕ = c.args.stop in
-    let i : ℕ = c.loop-i.i in
+    let k : ℕ = c.loop-k.k in
+    let i : ℕ = from + k in
     let w : ℕ = c.word.result in
-    let places : List ℕ = c.loop-i.places in
-    let count : ℕ = c.loop-i.marked in
-    let before : i < stop = c.loop-i-test.true in
-    let high : stop ≤ length ws = c.requires.stop in
-    let begun : from ≤ i = c.loop-i.auto.i in
-    let low : count + from ≤ c.args.count + i = c.loop-i.invariant.count in
+    let places : List ℕ = c.loop-k.places in
+    let all : ℕ = c.loop-k.all in
+    let before : k < c.args.count = c.loop-k-test.true in
+    let high : from + c.args.count ≤ length ws = c.requires.within in
+    let low : all ≤ c.args.marked + k = c.loop-k.invariant.count in
     let within : i < length ws = omega arith in
     let fits : w < 2 ^ 32 = search rules in
     let at : slice_get ws i ≡ Some w = slice_get-get_or ws i 0 within ∙ ap Some (sym c.word.ensures) in
-    let size : length places ≡ length c.args.places.now = c.loop-i.auto.places in
-    let space : c.args.count + stop ≤ from + length c.args.places.now = c.requires.space in
-    let room : count < length places = omega arith in
-    elim c.if-not-is_quiet.branch [
-      | then-not-is_quiet b ↦
-          let more : c.if-not-is_quiet.marked ≡ count + 1 = b.marked-is in
+    let size : length places ≡ length c.args.places.now = c.loop-k.auto.places in
+    let space : c.args.marked + c.args.count ≤ length c.args.places.now = c.requires.space in
+    let room : all < length places = omega arith in
+    let step : i + 1 ≡ from + (k + 1) = omega arith in
+    elim c.if-not-is_quiet_from.branch [
+      | then-not-is_quiet_from b ↦
+          let more : c.if-not-is_quiet_from.all ≡ all + 1 = b.all-is in
           record {
             count = omega arith;
-            marked = λ p start of early m. subst (λ x. AreMarked p ws first n start (i + 1) (slice_set places count i) x) (sym more)
-                (marked_more p ws first n start i places count (omega arith) room (c.loop-i.invariant.marked p start of early m));
+            marked = λ p start two early m. subst (λ x. AreMarked p ws first n start x (slice_set places all i) c.if-not-is_quiet_from.all) step
+                (subst (λ x. AreMarked p ws first n start (i + 1) (slice_set places all i) x) (sym more)
+                (marked_more p ws first n start i places all (omega arith) room (c.loop-k.invariant.marked p start two early m)));
           }
-      | else-not-is_quiet b ↦
-          let same : c.if-not-is_quiet.marked ≡ count = b.marked-is in
-          let here : IsQuietHere c.args.reach w = c.is_quiet.ensures w c.classes_of.ensures (search rules) in
+      | else-not-is_quiet_from b ↦
+          let same : c.if-not-is_quiet_from.all ≡ all = b.all-is in
+          let here : IsQuietHere c.args.reach w = c.is_quiet_from.ensures w c.args.reach c.classes_of.ensures c.requires.least (search rules) in
           let far : c.args.reach ≢ Quiet → IsFarFromEnds (first + i) n =
-          λ e. let f = c.requires.far e in let least : 2048 ≤ first + from = f.from_start in let to : first + stop + 2048 ≤ n = f.to_end in record { start = omega arith; end = omega arith } in
+          λ e. let f = c.requires.far e in let least : 2048 ≤ first + from = f.from_start in let to : first + from + c.args.count + 2048 ≤ n = f.to_end in record { start = omega arith; end = omega arith } in
           record {
             count = omega arith;
-            marked = λ p start of early m. subst (λ x. AreMarked p ws first n start (i + 1) (slice_set places count i) x) (sym same)
-                (fine_more p ws first n start i places count i (c.loop-i.invariant.marked p start of early m)
-                (fine_quiet p ws first n i w at (told_here p w (first + i) n c.args.reach fits far of here)));
+            marked = λ p start two early m. subst (λ x. AreMarked p ws first n start x (slice_set places all i) c.if-not-is_quiet_from.all) step
+                (subst (λ x. AreMarked p ws first n start (i + 1) (slice_set places all i) x) (sym same)
+                (fine_more p ws first n start i places all i (c.loop-k.invariant.marked p start two early m)
+                (fine_quiet p ws first n i w at (told_here p w (first + i) n c.args.reach fits far (λ e. two (c.requires.least ∙ ap least_of e)) here))));
           }
     ]
+
+pub returns-clause-marked : goal.returns-clause-marked
+returns-clause-marked g c = λ p start of early m.
+    let end : c.loop-k.k ≤ c.args.count = c.loop-k.auto.k-end in
+    let done : c.args.count ≤ c.loop-k.k = c.loop-k-test.false in
+    let e : c.loop-k.k ≡ c.args.count = omega arith in
+    subst (λ x. AreMarked p (g.W.Words.words c.args.words.now) c.args.first c.args.n start (c.args.from + x) c.loop-k.places c.loop-k.all) e
+    (c.loop-k.invariant.marked p start (λ number. of (ordered_by_least c.args.reach (sym c.requires.least ∙ number))) early m)
