@@ -37,12 +37,7 @@ fn append_page(alloc: Global, builder: &mut Builder) -> Result<()> {
     if page.len_words() != due {
         bail!("a page has not the words due")
     }
-    let page = JudgedPage::judge(
-        page,
-        builder.placed(),
-        builder.words(),
-        builder.profile(),
-    );
+    let page = JudgedPage::judge(page, builder.placed(), builder.words(), builder.profile());
     match builder.append(page) {
         Ok(()) => Ok(()),
         Err(_) => bail!("the code breaks a rule"),

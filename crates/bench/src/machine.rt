@@ -51,12 +51,7 @@ fn image(alloc: Global) -> Result<CompleteImage> {
     if page.len_words() != builder.due() as usize {
         bail!("the page has not the words due");
     }
-    let page = JudgedPage::judge(
-        page,
-        builder.placed(),
-        builder.words(),
-        builder.profile(),
-    );
+    let page = JudgedPage::judge(page, builder.placed(), builder.words(), builder.profile());
     if builder.append(page).is_err() {
         bail!("the code breaks a rule");
     }

@@ -156,9 +156,9 @@ comes bytes small w =
     let full : (h.kind == 2 && nat_lt (length d) h.b) ≡ false = full_by _ _ _ _ (ap (λ f. rest_after f h (length d)) (sym none) ∙ after) in
     let fits = header_fits bytes small in
     let opens = λ (kind : (h.kind ≡ 1) ⊎ (h.kind ≡ 4)).
-        let message = open_message h.«module» (opened h) in
-        let found : Comes bytes = record { message = message; more = d; is = message_is message h (open_is h none kind) none fits.0 fits.1; spelled = comes_by message d bytes long small (open_is h none kind) refl } in
-        found
+    let message = open_message h.«module» (opened h) in
+    let found : Comes bytes = record { message = message; more = d; is = message_is message h (open_is h none kind) none fits.0 fits.1; spelled = comes_by message d bytes long small (open_is h none kind) refl } in
+    found
     in
     elim (sound h none).kind [
       | inl two ↦

@@ -170,10 +170,10 @@ module _ (new : Feed) (messages : List Message) (rest used : List ℕ) (each : A
           | inr last ↦ elim last [
             | inr four ↦ opened_told got none brings is (inr four)
             | inl three ↦
-              let message = close_message h.«module» in
-              let g : got ≡ Close h.«module» = brings ∙ ap (λ k. if k == 2 then Page h.«module» h.a h.b else if is_open k then Open h.«module» (opened h) else Close h.«module») three in
-              let p : new.position ≡ position.Header 0 = is ∙ ap (λ k. if k == 2 then position.Payload h.b else position.Header 0) three in
-              subst (λ g. IsTold g new messages rest used) (sym g) (between new messages message p each (message_is message h (close_is h none three) none fits.0 fits.1), spelled message (close_is h none three) refl)
+                let message = close_message h.«module» in
+                let g : got ≡ Close h.«module» = brings ∙ ap (λ k. if k == 2 then Page h.«module» h.a h.b else if is_open k then Open h.«module» (opened h) else Close h.«module») three in
+                let p : new.position ≡ position.Header 0 = is ∙ ap (λ k. if k == 2 then position.Payload h.b else position.Header 0) three in
+                subst (λ g. IsTold g new messages rest used) (sym g) (between new messages message p each (message_is message h (close_is h none three) none fits.0 fits.1), spelled message (close_is h none three) refl)
           ]
         ]
       ]

@@ -36,12 +36,7 @@ impl Model for JudgedPage {
 impl JudgedPage {
     /// Judges a page whose first word is the word `first` of a module of so many words, by a profile. The page has the
     /// words due there: 1,024, or all that are left.
-    pub fn judge(
-        page: SealedPage,
-        first: u32,
-        words: WordCount,
-        profile: Profile,
-    ) -> JudgedPage
+    pub fn judge(page: SealedPage, first: u32, words: WordCount, profile: Profile) -> JudgedPage
         requires due { length (words_of page) ≡ words_due page_words words first }
         ensures { result ≡ record { page = page; first = first; words = words; profile = profile } }
     {

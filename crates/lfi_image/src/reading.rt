@@ -82,12 +82,7 @@ fn read_page<R: Read>(
     ensures fault { IfErr result (λ fault. IsPageFault (R.remaining reader.old) (R.remaining reader.new) builder.old fault) }
 {
     let page = read_sealed(alloc, reader, 4 * builder.due() as usize)?;
-    let page = JudgedPage::judge(
-        page,
-        builder.placed(),
-        builder.words(),
-        builder.profile(),
-    );
+    let page = JudgedPage::judge(page, builder.placed(), builder.words(), builder.profile());
     match builder.append(page) {
         Ok(()) => Ok(()),
         Err((fault, _)) => Err(ImageFault::Unlawful(fault)),

@@ -20,11 +20,11 @@ ghost use Rattle.lfi_machine.specs.inner.Addresses.{unsigned_access, signed_acce
 
 use crate::halt::Halt;
 use crate::slot::{Access, Data, bytes_of};
-use a64_semantics::Registers;
 use a64_effects::ordered_transfer;
+use a64_semantics::Registers;
 use a64_word::{
-    IndexExtend, IndexMode, Ordered, Register, RegisterOffset, SignedOffset, Size, Transfer, UnsignedOffset,
-    Width,
+    IndexExtend, IndexMode, Ordered, Register, RegisterOffset, SignedOffset, Size, Transfer,
+    UnsignedOffset, Width,
 };
 use lfi_confinement::Cause;
 

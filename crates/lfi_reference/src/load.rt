@@ -71,7 +71,11 @@ fn outcome(n: u32, fault: Option<Fault>, end: Option<Reason>, words: usize, page
 /// # Errors
 ///
 /// Where memory was refused.
-pub fn load_module(alloc: Global, extent: PlainExtent, items: &[PlainItem]) -> Result<Loaded, AllocError>
+pub fn load_module(
+    alloc: Global,
+    extent: PlainExtent,
+    items: &[PlainItem],
+) -> Result<Loaded, AllocError>
     requires most { extent.words ≤ most_words }
     requires room { length (all_words (pages_of (items_by items.now))) ≤ extent.words }
     requires pages { length (pages_of (items_by items.now)) ≤ most_words }

@@ -82,11 +82,7 @@ pub fn first_fault(words: &Vec<u32>, n: u32, profile: Profile) -> Option<Fault>
 /// # Errors
 ///
 /// Where memory was refused.
-pub fn placed(
-    alloc: Global,
-    extent: PlainExtent,
-    pages: &[Vec<u32>],
-) -> Result<usize, AllocError>
+pub fn placed(alloc: Global, extent: PlainExtent, pages: &[Vec<u32>]) -> Result<usize, AllocError>
     requires room { length (all_words (pages_by pages.now)) ≤ extent.words }
     requires most { extent.words ≤ most_words }
     ensures within { IfOk result (λ count. count ≤ length pages.now) }
