@@ -19,8 +19,7 @@
 //!   program.
 //! - **A module's number is its slot's.** There is one type for both, `ModuleNumber`, and no table between them.
 //! - **`Extent` keeps that the entry is one of the words**, and has the profile beside them: what an Open says of a
-//!   module. A header's answer and a new builder have one. An item has
-//!   the words in each and the entry in its Open alone.
+//!   module. A header's answer, each item and a new builder have one.
 //! - **`ModuleNumber`, `WordCount` and `Extent` have two ways in**: `new`, which tests and answers an `Option`, for
 //!   numbers from outside; and `at` or `of`, with a condition, for numbers that are known to be in range.
 //! - **The page's size is a parameter** of the page arithmetic, in code (`PageSize`) and in definitions. This profile's

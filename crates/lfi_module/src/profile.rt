@@ -8,7 +8,8 @@ ghost use Rattle.lfi_module.specs.Profiles.{profile_number};
 pub enum Profile {
     /// The first profile.
     One,
-    /// The second one: the first with loads that acquire and stores that release.
+    /// The second one: the first with loads that acquire and stores that release, and with a probe that may come as late
+    /// as the fourth word after a move of sp.
     Two,
 }
 
