@@ -63,7 +63,11 @@ fn told_of(alloc: Global, row: &Row) -> Result<String, Fail> {
 #[test]
 fn names_the_word_that_opens(rt: HostRuntime) -> Result<(), Fail> {
     for row in &ROWS {
-        assert!(rt; told_of(rt.alloc(), row)?.as_str() == row.told, "{}", row.told);
+        assert!(rt;
+            told_of(rt.alloc(), row)?.as_str() == row.told,
+            "{}",
+            row.told
+        );
     }
     Ok(())
 }
@@ -102,10 +106,22 @@ const REFUSED: &str =
 fn lists_and_refuses(rt: HostRuntime) -> Result<(), Fail> {
     let words = Vec::from_array(rt.alloc(), [MOVE, NOP])?;
     let mut listing = Vec::new(rt.alloc());
-    write_listing(rt.alloc(), &words, ModuleNumber::at(0), Profile::Two, &mut listing)?;
+    write_listing(
+        rt.alloc(),
+        &words,
+        ModuleNumber::at(0),
+        Profile::Two,
+        &mut listing,
+    )?;
     assert!(rt; listing.as_slice() == LISTED.as_bytes());
     let mut refusals = Vec::new(rt.alloc());
-    let count = write_refusals(rt.alloc(), &words, ModuleNumber::at(0), Profile::Two, &mut refusals)?;
+    let count = write_refusals(
+        rt.alloc(),
+        &words,
+        ModuleNumber::at(0),
+        Profile::Two,
+        &mut refusals,
+    )?;
     assert!(rt; count == 1 && refusals.as_slice() == REFUSED.as_bytes());
     Ok(())
 }

@@ -38,15 +38,12 @@ fn stops_above_the_slot_after_four_words(rt: HostRuntime) -> Result<(), Fail> {
 /// Words that move sp, probe it, set it, go by or branch.
 const WORDS: [u32; 16] = [
     0xD13FFFFF, // SUB SP, SP, #4095
-    0xD13FFFFF,
-    0x913FFFFF, // ADD SP, SP, #4095
-    0x913FFFFF,
-    0xF90003E0, // STR X0, [SP]
+    0xD13FFFFF, 0x913FFFFF, // ADD SP, SP, #4095
+    0x913FFFFF, 0xF90003E0, // STR X0, [SP]
     0xF94003E1, // LDR X1, [SP]
     0xA94007E2, // LDP X2, X1, [SP]
     0xD503201F, // NOP
-    0xD503201F,
-    0xAA0103E0, // MOV X0, X1
+    0xD503201F, 0xAA0103E0, // MOV X0, X1
     0xF9400240, // LDR X0, [X18]
     0xC8DFFE40, // LDAR X0, [X18]
     0xF81003E0, // STUR X0, [SP, #-256]
