@@ -15,19 +15,14 @@ const MOST: u32 = 13;
 /// Words that matter to a move of sp and its probe, NOP and the moves more often than the others.
 const ALPHABET: [u32; 32] = [
     0xD10043FF, // SUB SP, SP, #16
-    0xD10043FF,
-    0xD13FFFFF, // SUB SP, SP, #4095
+    0xD10043FF, 0xD13FFFFF, // SUB SP, SP, #4095
     0x910043FF, // ADD SP, SP, #16
     0xF90003E0, // STR X0, [SP]
-    0xF90003E0,
-    0xF94003E1, // LDR X1, [SP]
+    0xF90003E0, 0xF94003E1, // LDR X1, [SP]
     0xA90007E0, // STP X0, X1, [SP]
     0xF94003FE, // LDR X30, [SP], which opens Guard
     0xD503201F, // NOP
-    0xD503201F,
-    0xD503201F,
-    0xD503201F,
-    0xAA0103E0, // MOV X0, X1
+    0xD503201F, 0xD503201F, 0xD503201F, 0xAA0103E0, // MOV X0, X1
     0xEB01001F, // CMP X0, X1
     0xF9400240, // LDR X0, [X18]
     0xF90007E0, // STR X0, [SP, #8]
@@ -130,7 +125,11 @@ fn has_fault_cut(
 }
 
 /// The first fault of a module, each place asked by itself.
-fn fault_by_places(rt: &HostRuntime, words: &[u32], profile: Profile) -> Result<Option<Fault>, Fail> {
+fn fault_by_places(
+    rt: &HostRuntime,
+    words: &[u32],
+    profile: Profile,
+) -> Result<Option<Fault>, Fail> {
     let words = Vec::from_slice(rt.alloc(), words)?;
     if words.len() > 4_194_304 {
         return Err(Fail::new("the module is too long"));
@@ -147,10 +146,12 @@ fn fault_by_places(rt: &HostRuntime, words: &[u32], profile: Profile) -> Result<
 /// Whether a module has one fault: by the letter, at once, word by word, place by place and cut in every way.
 pub fn has_one_fault(rt: &HostRuntime, words: &[u32], profile: Profile) -> Result<bool, Fail> {
     let letter = fault_by_letter(words, profile);
-    Ok(fault_of(rt, words, profile)? == letter
-        && fault_word_by_word(words, profile) == letter
-        && fault_by_places(rt, words, profile)? == letter
-        && has_fault_cut(rt, words, letter, profile)?)
+    Ok(
+        fault_of(rt, words, profile)? == letter
+            && fault_word_by_word(words, profile) == letter
+            && fault_by_places(rt, words, profile)? == letter
+            && has_fault_cut(rt, words, letter, profile)?,
+    )
 }
 
 /// The first of so many modules at random that has several faults, and how many of them have none.

@@ -62,7 +62,10 @@ fn unmet_at(place: Option<u32>) -> Option<Fault> {
 #[test]
 fn probes_by_the_second_profile(rt: HostRuntime) -> Result<(), Fail> {
     for (words, place) in &ROWS {
-        assert!(rt; fault_of(&rt, words, Profile::Two)? == unmet_at(*place), "{words:?}");
+        assert!(rt;
+            fault_of(&rt, words, Profile::Two)? == unmet_at(*place),
+            "{words:?}"
+        );
         assert!(rt; has_one_fault(&rt, words, Profile::Two)?, "{words:?}");
     }
     Ok(())
@@ -97,7 +100,12 @@ fn words_between_keep_their_rules(rt: HostRuntime) -> Result<(), Fail> {
 }
 
 /// NOPs, but for a move at one place and a store at another.
-fn apart(rt: &HostRuntime, count: usize, moved: usize, stored: usize) -> Result<Vec<u32>, AllocError> {
+fn apart(
+    rt: &HostRuntime,
+    count: usize,
+    moved: usize,
+    stored: usize,
+) -> Result<Vec<u32>, AllocError> {
     let mut words = Vec::with_capacity(rt.alloc(), count)?;
     for place in 0..count {
         words.push(if place == moved {
@@ -126,11 +134,23 @@ fn probes_across_a_seam(rt: HostRuntime) -> Result<(), Fail> {
     ] {
         let words = apart(&rt, count, moved, stored)?;
         let expected = unmet_at(place);
-        assert!(rt; fault_of(&rt, &words, Profile::Two)? == expected, "{moved} {stored}");
-        assert!(rt; fault_by_pages(&rt, &words, 1024, Profile::Two)? == expected, "{moved} {stored}");
-        assert!(rt; fault_by_pages(&rt, &words, 1, Profile::Two)? == expected, "{moved} {stored}");
+        assert!(rt;
+            fault_of(&rt, &words, Profile::Two)? == expected,
+            "{moved} {stored}"
+        );
+        assert!(rt;
+            fault_by_pages(&rt, &words, 1024, Profile::Two)? == expected,
+            "{moved} {stored}"
+        );
+        assert!(rt;
+            fault_by_pages(&rt, &words, 1, Profile::Two)? == expected,
+            "{moved} {stored}"
+        );
         let first = unmet_at(Some(u32::try_from(moved)?.saturating_add(1)));
-        assert!(rt; moved + 1 == count || fault_of(&rt, &words, Profile::One)? == first, "{moved} {stored}");
+        assert!(rt;
+            moved + 1 == count || fault_of(&rt, &words, Profile::One)? == first,
+            "{moved} {stored}"
+        );
     }
     Ok(())
 }
