@@ -153,7 +153,7 @@ lfi_status lfi_verify_final(const lfi_state *LFI_RESTRICT state, lfi_fault *LFI_
 /* Tells a fault as text, as `lfiload check --explain` does: the fault; the word before, where its need isn't met; the word
  * with its address in the module's slot and its assembly text; what the rule asks; and how the word is mended. It needs no
  * more of the code than `word`, the one at the fault's place, and `before`, the one before it, which is not looked at where
- * the place is 0.
+ * the place is 0. In profile 2 a probe may be late: the word that asks for it is told where it is `before`, and else is not.
  * Ensures:
  *  - LFI_LAWFUL: *size is the length of the text, and `text` begins with it, as far as `room` bytes reach; there is no 0 at
  *    its end, and the bytes of `text` after it are as they were;

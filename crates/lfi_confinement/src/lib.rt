@@ -17,8 +17,9 @@
 //!   machine runs what the decoder spells.
 //! - **Memory is a function of addresses; table and code are computed from the words.** So "no step changes the words"
 //!   is true by definition, and only the bytes that may be written are state.
-//! - **The invariant is about the word that comes next**: registers are lawful but for what the open need weakens, and
-//!   the instruction at pc, if there is one, meets that need.
+//! - **The invariant is about the words that come next**: registers are lawful but for what the open need weakens, and
+//!   the instruction at pc, if there is one, meets that need; or it is calm, and a probe comes among so many (`Awaits`).
+//!   It asks for no number of them but that it isn't 0, so one proof serves both profiles.
 //! - **Bytes of a word are written through the lent slice of frames**: through the memory, one by one, each store of a
 //!   byte may change the pointer to the frames, which is then read anew.
 //! - The index of the memory is a table of 2^20 numbers of 32 bits, written at `new`: 4 MiB. Frames are one `Vec`,
