@@ -1,9 +1,8 @@
 use Rattle.std.proofs.Common.{◌≡◌, ◌≢◌, ℕ, ◌+◌, ◌^◌, ◌<◌, ◌≤◌, List, length, Some, sym, subst, ap, ◌∙◌, arith, rules}
 use Rattle.std.specs.Prelude.{slice_get, slice_set}
 use Rattle.std.proofs.lemmas.Option.{slice_get-get_or}
-use Rattle.lfi_module.specs.declared.profile.Profile.TheVariants.{Two}
 use Rattle.lfi_classes.specs.Classes.{IsQuietHere, least_of}
-use Rattle.lfi_classes.specs.declared.classes.Reach.TheVariants.{Quiet, Ordered}
+use Rattle.lfi_classes.specs.declared.classes.Reach.TheVariants.{Quiet}
 use Rattle.lfi_rules.specs.inner.Passing.{IsFarFromEnds, AreMarked}
 use Rattle.lfi_rules.proofs.ByKind.{told_here}
 use Rattle.lfi_rules.proofs.Fine.{fine_quiet}
