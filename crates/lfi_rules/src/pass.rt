@@ -194,7 +194,7 @@ fn is_told<W: Words>(words: &W, i: usize, first: u32, n: u32, profile: Profile) 
         | classes.opens_probe() & met.probe
 }
 
-/// Whether all marked words are told. Without a branch by what a word is, but where a probe doesn't come at once.
+/// Whether all marked words are told. Without a branch by what a word is.
 #[inline(never)]
 fn are_told<W: Words>(words: &W, marked: &[u32], first: u32, n: u32, profile: Profile) -> bool
     requires within { AreWithin marked.now (length (W.words words.now)) }
@@ -204,9 +204,7 @@ fn are_told<W: Words>(words: &W, marked: &[u32], first: u32, n: u32, profile: Pr
 {
     let mut told = true;
     for place in marked {
-        let i = *place as usize;
-        told = told
-            & (is_told(words, i, first, n, profile) || is_told_late(words, i, first, n, profile));
+        told = told & is_told(words, *place as usize, first, n, profile);
     }
     told
 }
