@@ -10,8 +10,6 @@ mod edges;
 #[cfg(test)]
 mod host;
 #[cfg(test)]
-mod late;
-#[cfg(test)]
 mod ordered;
 #[cfg(test)]
 mod runs;
