@@ -7,7 +7,7 @@ abbrev pub invariant-loop-beginning : goal.invariant-loop-beginning
 invariant-loop-beginning g l = record {
   size : length l.buffer ≡ length l.initial.buffer;
   words : l.beginning.words ≡ l.words;
-  profile : l.beginning.profile ≡ l.profile;
+  profile : l.beginning.profile ≡ l.fn.profile;
   room : l.beginning.judged ≤ l.words;
   bytes : List ℕ;
   read : Consumes (g.R.Read.remaining l.initial.reader) (g.R.Read.remaining l.reader) bytes;
