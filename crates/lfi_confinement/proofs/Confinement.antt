@@ -25,7 +25,7 @@ use Rattle.a64_effects.specs.declared.access.Address.{Address}
 use Rattle.a64_effects.specs.Effects.{writes_of, address_of, target_of, is_blr, pair_offset, pair_bytes, form_of_pair_mode}
 use Rattle.a64_semantics.specs.declared.registers.Registers.{Registers}
 use Rattle.a64_semantics.specs.Registers.{x_at, x_or_sp_at, low_bits, put_all}
-use Rattle.sparse_memory.specs.Bytes.{number_at}
+use Rattle.a64_word.specs.Bytes.{number_at}
 use Rattle.a64_semantics.specs.Accesses.{displaced, first_byte, Touch, touch_at, touches}
 use Rattle.a64_semantics.specs.Writes.{linked, to_sp_unless, to_loaded, flags_in, results_of, flags_set, held_flags}
 use Rattle.a64_semantics.specs.Branches.{following, words_on, branches_if, next_pc}

@@ -13,13 +13,13 @@ use Rattle.a64_effects.specs.declared.access.Form.TheVariants as forms
 use Rattle.a64_effects.specs.declared.access.Address.{Address}
 use Rattle.a64_semantics.specs.declared.registers.Registers.{Registers}
 use Rattle.a64_semantics.specs.Registers.{x_at, put}
-use Rattle.sparse_memory.specs.Bytes.{number_at}
+use Rattle.a64_word.specs.Bytes.{number_at}
 use Rattle.a64_semantics.specs.Accesses.{displaced, Touch, touch_at, stored}
 use Rattle.a64_semantics.specs.Branches.{next_pc, following}
 use Rattle.a64_semantics.specs.Steps.{registers_after}
 use Rattle.lfi_rules.specs.declared.needs.Need.TheVariants.{Nothing}
 use Rattle.lfi_rules.specs.Rules.{written as written_by}
-use Rattle.sparse_memory.specs.Bytes.{written}
+use Rattle.a64_word.specs.Bytes.{written}
 use Rattle.lfi_confinement.specs.Slots.{base, word_address, entry_address, entry_at, is_in_slot, is_guarded, memory_of}
 use Rattle.lfi_confinement.specs.Lawful.{Held}
 use Rattle.lfi_confinement.specs.Moves.{State, go, ask, escape, word_at, Fetches, first_denied, carried_out, unless_denied, accessed, given, unless_called, performed, fetched}

@@ -3,7 +3,7 @@ use Rattle.std.proofs.Common.{◌≡◌, ℕ, zero, suc, ◌+◌, ◌-◌, ◌*�
 use Rattle.std.proofs.lemmas.Bool.{and_parts, and_from, cond_both, cond-true, cases_lt, false≢true, lt-leb, and_right}
 use Rattle.a64_word.specs.declared.instruction.Instruction.{Instruction}
 use Rattle.a64_word.specs.Profiles.{SpellsIn}
-use Rattle.sparse_memory.specs.Bytes.{number_at}
+use Rattle.a64_word.specs.Bytes.{number_at}
 use Rattle.a64_semantics.specs.Accesses.{displaced}
 use Rattle.lfi_confinement.specs.Slots.{base, slot_size, guard_size, code_offset, table_bytes, InSlot, is_in_slot, is_guarded, word_address, word_place, entry_address, entry_count, entry_at, Permission, NoAccess, data_offset, permission_in, permission_at, is_permitted, byte_in, memory_of}
 use Rattle.lfi_module.specs.Numbers.{module_count, base_of}

@@ -27,7 +27,7 @@ use Rattle.a64_semantics.specs.Sums.{sum_of, addend}
 use Rattle.a64_semantics.specs.Shifts.{extended_operand}
 use Rattle.a64_semantics.specs.declared.registers.Registers.{Registers}
 use Rattle.a64_semantics.specs.Registers.{x_at, x_or_sp_at, low_bits, Write, to_general}
-use Rattle.sparse_memory.specs.Bytes.{number_at}
+use Rattle.a64_word.specs.Bytes.{number_at}
 use Rattle.a64_semantics.specs.Accesses.{displaced, first_byte, loaded, register_bytes}
 use Rattle.a64_semantics.specs.Writes.{linked, to_base, to_loaded, with_loaded, results_at, results_of}
 use Rattle.lfi_rules.specs.declared.needs.Need.{Need}

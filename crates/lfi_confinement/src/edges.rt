@@ -4,7 +4,7 @@ ghost use Rattle.std.specs.Prelude.{◌≡◌, ℕ, ◌+◌, ◌-◌, ◌*◌, �
 ghost use Rattle.lfi_image.specs.Image.{Image};
 ghost use Rattle.a64_word.specs.declared.operands.Size.TheVariants.{Byte, Half, Double};
 ghost use Rattle.a64_word.specs.declared.operands.BranchKind.TheVariants.{Br, Blr, Ret};
-ghost use Rattle.sparse_memory.specs.Bytes.{number_at};
+ghost use Rattle.a64_word.specs.Bytes.{number_at};
 ghost use Rattle.a64_semantics.specs.Registers.{x_at};
 ghost use Rattle.lfi_module.specs.Numbers.{base_of, module_count, most_words};
 ghost use Rattle.lfi_confinement.specs.Slots.{base, is_guarded, entry_count, entry_address, entry_at, word_place, data_offset, Readable, Writable, NoAccess, permission_in, byte_in, memory_of};

@@ -4,7 +4,7 @@ ghost use Rattle.std.specs.Prelude.{◌≡◌, ◌≢◌, ℕ, [], ◌++◌, ◌
 ghost use Rattle.a64_word.specs.declared.instruction.Instruction.{Instruction};
 ghost use Rattle.a64_word.specs.Operands.{size_code};
 ghost use Rattle.a64_effects.specs.Effects.{data_width, is_store, pair_bytes, pair_offset};
-ghost use Rattle.sparse_memory.specs.Bytes.{number_at, low_bytes};
+ghost use Rattle.a64_word.specs.Bytes.{number_at, low_bytes};
 ghost use Rattle.sparse_memory.specs.Kept.{KeepsOnly};
 ghost use Rattle.a64_semantics.specs.Registers.{x_at, x_or_sp_at, put_all, to_general};
 ghost use Rattle.a64_semantics.specs.Accesses.{extended_index, extended_load, first_byte, register_bytes, stored, stored_by, touches};

@@ -1,6 +1,6 @@
 ghost use Rattle.std.specs.Prelude.{◌≡◌, ℕ, ◌+◌, ◌-◌, ◌*◌, ◌^◌, ◌<◌, ◌≤◌, true, false, not, Bool, length, SomeIff, IfOk, IfErr, OnOk, OnErr, IsErrOf, IsTrue, Some, None};
 ghost use Rattle.a64_word.specs.Operands.{size_code};
-ghost use Rattle.sparse_memory.specs.Bytes.{number_at};
+ghost use Rattle.a64_word.specs.Bytes.{number_at};
 ghost use Rattle.sparse_memory.specs.Kept.{byte_at, AreKept, KeepsOnly, SameBytes, SamePages, WritesByte, WritesNumber};
 ghost use Rattle.lfi_image.specs.Image.{IsImage};
 ghost use Rattle.lfi_confinement.specs.Slots.{base, permission_at, is_permitted, byte_in};

@@ -10,6 +10,8 @@ mod edges;
 #[cfg(test)]
 mod host;
 #[cfg(test)]
+mod late;
+#[cfg(test)]
 mod ordered;
 #[cfg(test)]
 mod runs;

@@ -1,7 +1,7 @@
 -- Numbers that bytes spell.
 use Rattle.std.proofs.Common.{◌≡◌, ℕ, zero, suc, ◌+◌, ◌-◌, ◌*◌, ◌^◌, ◌<◌, ◌≤◌, refl, ap, ap₂, ◌∙◌, arith, sub-one}
 use Rattle.std.proofs.Math.Nat.{pow-suc, pow-le-pow_right}
-use Rattle.sparse_memory.specs.Bytes.{number_at}
+use Rattle.a64_word.specs.Bytes.{number_at}
 
 pub same_numbers : (f g : ℕ → ℕ) (bytes a b : ℕ) → ((k : ℕ) → k < bytes → f (a + k) ≡ g (b + k)) → number_at f bytes a ≡ number_at g bytes b
 same_numbers f g zero a b h = refl

@@ -1,7 +1,7 @@
 -- Where the bytes of a page that is kept lie.
 use Rattle.std.proofs.Common.{◌≡◌, ℕ, zero, suc, ◌+◌, ◌-◌, ◌*◌, ◌/◌, ◌%◌, ◌<◌, ◌≤◌, false, eqb, cond, List, [], ◌∷◌, length, get_or, refl, sym, ap, ap₂, ◌∙◌, inl, inr, arith, ne_eqb}
 use Rattle.std.proofs.lemmas.Bool.{cases_eq, eq-eqb, eqb-true, eqb-false, cond_both, cond-true, cond-false}
-use Rattle.sparse_memory.specs.Bytes.{number_at, low_bytes, written}
+use Rattle.a64_word.specs.Bytes.{number_at, low_bytes, written}
 use Rattle.sparse_memory.proofs.Numbers.{same_numbers}
 use Rattle.sparse_memory.specs.Kept.{Kept, byte_at, frame_place, IsKept, IsWellKept, WritesNumber}
 

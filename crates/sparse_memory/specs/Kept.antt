@@ -1,6 +1,6 @@
 -- What memory that is kept in pages stands for.
 use Rattle.std.specs.Prelude.{◌≡◌, ℕ, ◌+◌, ◌-◌, ◌*◌, ◌/◌, ◌%◌, ◌^◌, ◌<◌, ◌≤◌, ◌↔◌, ◌⊎◌, if◌then◌else◌, ◌==◌, List, length, slice_index}
-use Rattle.sparse_memory.specs.Bytes.{low_bytes, written}
+use Rattle.a64_word.specs.Bytes.{low_bytes, written}
 
 -- Pages of 4,096 bytes. At each page's number the table has 0, or one more than the page's place among the frames.
 pub record Kept : Type 0 where

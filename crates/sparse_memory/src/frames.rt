@@ -1,5 +1,5 @@
 ghost use Rattle.std.specs.Prelude.{◌≡◌, ℕ, ◌+◌, ◌<◌, ◌≤◌, ◌==◌, if◌then◌else◌, length, OnOk, OnErr, IfOk, slice_index};
-ghost use Rattle.sparse_memory.specs.Bytes.{number_at, low_bytes, written};
+ghost use Rattle.a64_word.specs.Bytes.{number_at, low_bytes, written};
 
 use std::alloc::{AllocError, Global};
 

@@ -1,5 +1,5 @@
 use Rattle.std.proofs.Common.{[], true, ℕ, ◌+◌, ◌++◌, sym, ◌∙◌, subst}
-use Rattle.sparse_memory.specs.Bytes.{low_bytes}
+use Rattle.a64_word.specs.Bytes.{low_bytes}
 use Rattle.sparse_memory.specs.Kept.{AreKept}
 use Rattle.a64_effects.specs.Effects.{pair_bytes}
 use Rattle.a64_semantics.specs.Registers.{x_at}

@@ -1,6 +1,6 @@
 use Rattle.std.proofs.Common.{◌≡◌, ◌^◌, arith, sym, ◌∙◌, subst}
 use Rattle.a64_word.specs.Operands.{size_code}
-use Rattle.sparse_memory.specs.Bytes.{number_at}
+use Rattle.a64_word.specs.Bytes.{number_at}
 use Rattle.sparse_memory.specs.Kept.{byte_at}
 use Rattle.lfi_confinement.specs.Slots.{byte_in}
 use Rattle.lfi_machine.specs.Owned.{Owned}

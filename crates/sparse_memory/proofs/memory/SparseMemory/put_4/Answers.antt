@@ -1,7 +1,7 @@
 use Rattle.std.proofs.Common.{◌≡◌, ℕ, ◌+◌, ◌-◌, ◌*◌, ◌/◌, ◌%◌, get_or, length, rules, arith, sym, ap, subst, ◌∙◌}
 use Rattle.std.proofs.lemmas.Grind.{common_steps, get_or_default_zero}
 use Rattle.std.proofs.lemmas.List.{with_items_is}
-use Rattle.sparse_memory.specs.Bytes.{low_bytes, written}
+use Rattle.a64_word.specs.Bytes.{low_bytes, written}
 use Rattle.sparse_memory.specs.Kept.{Kept, byte_at, frame_place, IsKept}
 use Rattle.sparse_memory.proofs.Places.{written_near}
 use Rattle.sparse_memory.proofs.memory.SparseMemory.put_4.Goals as goal

@@ -1,6 +1,6 @@
 use Rattle.std.proofs.Common.{◌+◌, ◌-◌, ◌*◌, ◌/◌, ◌%◌, rules, arith, ap, ◌∙◌}
 use Rattle.std.proofs.lemmas.Grind.{common_steps, get_or_default_zero}
-use Rattle.sparse_memory.specs.Bytes.{number_at}
+use Rattle.a64_word.specs.Bytes.{number_at}
 use Rattle.sparse_memory.specs.Kept.{byte_at}
 use Rattle.sparse_memory.proofs.Places.{number_near}
 use Rattle.sparse_memory.proofs.memory.SparseMemory.word_8.Goals as goal

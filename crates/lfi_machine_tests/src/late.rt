@@ -1,0 +1,72 @@
+//! Probes that come late, with sp at both ends of its range, run in the machine by the second profile.
+
+use crate::host::{Host, image_by};
+use lfi_machine::{Cause, Halt, Machine, start_registers};
+use lfi_module::{ModuleNumber, Profile};
+use std::alloc::Global;
+use std::test::Fail;
+
+/// The base of slot 0.
+const BASE: u64 = 0x1_0000_0000;
+
+/// The end of slot 0.
+const END: u64 = 0x2_0000_0000;
+
+/// NOP.
+const NOP: u32 = 0xD503_201F;
+
+/// STR X0, [SP].
+const STORE: u32 = 0xF900_03E0;
+
+/// LDR X0, [SP].
+const LOAD: u32 = 0xF940_03E0;
+
+/// ADD and SUB SP, SP, #4095.
+const UP: u32 = 0x913F_FFFF;
+const DOWN: u32 = 0xD13F_FFFF;
+
+/// SUB SP, SP, #16.
+const DOWN_16: u32 = 0xD100_43FF;
+
+/// Five words, sp at the start, and how they end after how many steps.
+type Row = ([u32; 5], u64, Cause, u64);
+
+const ROWS: [Row; 8] = [
+    ([DOWN, NOP, NOP, NOP, STORE], BASE - 512, Cause::NoAccess(BASE - 4607), 4),
+    ([UP, NOP, NOP, NOP, STORE], END + 511, Cause::NoAccess(END + 4606), 4),
+    ([DOWN, NOP, NOP, NOP, LOAD], BASE + 4606, Cause::NoFetch(BASE + 65556), 5),
+    ([UP, NOP, NOP, LOAD, NOP], END - 4096, Cause::NoAccess(END), 3),
+    ([DOWN, STORE, NOP, NOP, NOP], BASE + 73726, Cause::NoAccess(BASE + 69631), 1),
+    ([DOWN_16, NOP, STORE, NOP, NOP], END + 9, Cause::NoAccess(END), 2),
+    ([DOWN_16, NOP, NOP, NOP, STORE], END + 8, Cause::NoFetch(BASE + 65556), 5),
+    ([DOWN_16, NOP, NOP, NOP, STORE], BASE + 69648, Cause::NoFetch(BASE + 65556), 5),
+];
+
+/// How a row's words end, run from the start with its sp.
+fn ending(alloc: Global, row: &Row) -> Result<(Halt, u64), Fail> {
+    let image = image_by(alloc, ModuleNumber::at(0), 0, &row.0, Profile::Two)?;
+    let mut registers = start_registers(&image);
+    registers.sp = row.1;
+    match Machine::new(alloc, image, registers) {
+        Ok(mut machine) => Ok(machine.run(9, &mut Host)),
+        Err(_) => Err(Fail::from("the machine was refused")),
+    }
+}
+
+/// The place of the first row that ends otherwise.
+fn first_otherwise(alloc: Global, rows: &[Row]) -> Result<Option<usize>, Fail> {
+    for (place, row) in rows.iter().enumerate() {
+        let (halt, steps) = ending(alloc, row)?;
+        if halt != Halt::Stopped(row.2) || steps != row.3 {
+            return Ok(Some(place));
+        }
+    }
+    Ok(None)
+}
+
+#[test]
+fn at_both_ends_of_the_stack(rt: HostRuntime) -> Result<(), Fail> {
+    let wrong = first_otherwise(rt.alloc(), &ROWS)?;
+    assert!(rt; wrong.is_none());
+    Ok(())
+}
