@@ -62,29 +62,34 @@ impl Write for FullWriter {
 /// RET twice.
 const TWO_RETS: [u8; 8] = [0xC0, 0x03, 0x5F, 0xD6, 0xC0, 0x03, 0x5F, 0xD6];
 
-/// How many bytes a file is told to have, of the eight that it gives, and what comes of it.
-const LENGTHS: [(Option<u64>, Result<Verdict, CommandFault>); 6] = [
-    (None, Ok(Verdict::Lawful { words: 2 })),
-    (Some(8), Ok(Verdict::Lawful { words: 2 })),
-    (Some(4), Err(CommandFault::NotRead(DeviceCause::Other))),
+/// How many bytes a file is told to have, after how many of its eight a read fails, and what comes of it.
+const LENGTHS: [(Option<u64>, usize, Result<Verdict, CommandFault>); 9] = [
+    (None, 100, Ok(Verdict::Lawful { words: 2 })),
+    (Some(8), 100, Ok(Verdict::Lawful { words: 2 })),
+    (Some(4), 100, Err(CommandFault::NotRead(DeviceCause::Other))),
     (
         Some(12),
+        100,
         Err(CommandFault::NotRead(DeviceCause::EndedEarly)),
     ),
-    (Some(0), Ok(Verdict::Lawful { words: 2 })),
-    (Some(7), Ok(Verdict::Lawful { words: 2 })),
+    (Some(0), 100, Ok(Verdict::Lawful { words: 2 })),
+    (Some(7), 100, Ok(Verdict::Lawful { words: 2 })),
+    (None, 8, Err(CommandFault::NotRead(DeviceCause::Other))),
+    (Some(8), 5, Err(CommandFault::NotRead(DeviceCause::Other))),
+    // All bytes come; then it is asked whether there are more.
+    (Some(8), 8, Err(CommandFault::NotRead(DeviceCause::Other))),
 ];
 
 #[test]
 fn files_of_another_length(rt: HostRuntime) -> Result<(), Fail> {
-    for (length, expected) in LENGTHS {
+    for (length, left, expected) in LENGTHS {
         let mut out = Vec::new(rt.alloc());
         let code = SlowReader {
             bytes: TWO_RETS.as_slice(),
-            left: 100,
+            left,
         };
         let verdict = check_file(rt.alloc(), code, length, Profile::One, &mut out);
-        assert!(rt; verdict == expected, "{length:?}");
+        assert!(rt; verdict == expected, "{length:?} {left}");
     }
     Ok(())
 }

@@ -1,5 +1,5 @@
 -- What is told where the input ends, and of the modules that a fault loses. Source: docs/PROFILE.md, "Streams".
-use Rattle.std.specs.Prelude.{◌≡◌, ℕ, ◌==◌, if◌then◌else◌, true, false, List, Option, Some, None}
+use Rattle.std.specs.Prelude.{◌≡◌, ℕ, ◌<◌, ◌==◌, if◌then◌else◌, true, false, List, Option, Some, None}
 use Rattle.lfi_module.specs.Extents.{ExtentView}
 use Rattle.lfi_frame.specs.declared.fault.FrameFault.{FrameFault}
 use Rattle.lfi_frame.specs.declared.feed.Position.TheVariants.{Faulty}
@@ -12,13 +12,14 @@ use Rattle.lfi_stream.specs.declared.event.Event.TheVariants.{Nothing, End, Faul
 use Rattle.lfi_stream.specs.declared.numbers.LfiStream.{LfiStream}
 use Rattle.lfi_stream.specs.Numbers.{position_at, progress_at}
 
--- Module k was open, so large, when so many pages had come; it has ended by this fault, and nothing else has changed.
+-- Module k was open, so large, when so many pages had come, and none of a lesser number was; it has ended by this fault, and nothing else has changed.
 pub record IsLost (fault : FrameFault) (old new : LfiStream) (k : ℕ) (extent : ExtentView) (pages : ℕ) : Type 0 where
   pub was : progress_at old.modules k ≡ Going extent pages
+  pub least : (m : ℕ) → m < k → is_going (progress_at old.modules m) ≡ false
   pub at : (m : ℕ) → progress_at new.modules m ≡ (if m == k then Ended else progress_at old.modules m)
   pub rest : new ≡ record old { modules = new.modules }
 
--- At a stream's fault one open module is lost by it, which the event tells; or none is open, and nothing changes.
+-- At a stream's fault the open module of the least number is lost by it, which the event tells; or none is open, and nothing changes.
 abbrev pub Loses : FrameFault → (old new : LfiStream) → Event → Type 0
 Loses fault old new (End k extent pages reason) = IsLost fault old new k extent pages × (reason ≡ reason_of fault)
 Loses fault old new Nothing = (new ≡ old) × ((m : ℕ) → is_going (progress_at old.modules m) ≡ false)

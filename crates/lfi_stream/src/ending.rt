@@ -1,6 +1,6 @@
 //! A stream ends.
 
-ghost use Rattle.std.specs.Prelude.{◌≡◌, ◌<◌, ◌==◌, ℕ, List, false, Some, IfSome, IfNone, if◌then◌else◌};
+ghost use Rattle.std.specs.Prelude.{◌≡◌, ◌<◌, ◌==◌, ℕ, List, false, Some, None, IfSome, IfNone, if◌then◌else◌};
 ghost use Rattle.lfi_module.specs.Numbers.{module_count};
 ghost use Rattle.lfi_frame.specs.declared.fault.FrameFault.{FrameFault};
 ghost use Rattle.lfi_frame.specs.declared.feed.Position.TheVariants.{Faulty};
@@ -32,6 +32,7 @@ fn reason_of(fault: FrameFault) -> Reason
 fn first_going(stream: &LfiStream) -> Option<OpenModule>
     ensures in_range { IfSome result (λ found. found.number < module_count) }
     ensures going { IfSome result (λ found. progress_at stream.now.modules found.number ≡ Going found.extent found.pages) }
+    ensures least { IfSome result (λ found. (m : ℕ) → m < found.number → is_going (progress_at stream.now.modules m) ≡ false) }
     ensures none { IfNone result ((m : ℕ) → is_going (progress_at stream.now.modules m) ≡ false) }
 {
     for (number, numbers) in stream.modules.iter().enumerate() {
@@ -71,6 +72,7 @@ pub fn end(stream: &mut LfiStream) -> Option<Event>
     ensures over { (fault : FrameFault) → position_at stream.old.feed.place stream.old.feed.number ≡ Some (Faulty fault) →
         LosesOne fault stream.old stream.new result }
     ensures none { IfNone result ((stream.new ≡ stream.old) × ((rest : List ℕ) → ¬ (IsIn stream.old.feed rest))) }
+    ensures no_feed { position_at stream.old.feed.place stream.old.feed.number ≡ None → result ≡ None }
 {
     let position = position_of(stream.feed.place, stream.feed.number)?;
     if let Position::Faulty(fault) = position {

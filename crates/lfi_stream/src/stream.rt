@@ -218,6 +218,7 @@ pub fn next(stream: &mut LfiStream, piece: &[u8]) -> Option<(usize, Event)>
     ensures over { (fault : FrameFault) → position_at stream.old.feed.place stream.old.feed.number ≡ Some (Faulty fault) →
         (result ≡ Some (0, Event.Fault fault)) × (stream.new ≡ stream.old) }
     ensures none { IfNone result ((stream.new ≡ stream.old) × ((rest : List ℕ) → ¬ (IsIn stream.old.feed rest))) }
+    ensures no_feed { position_at stream.old.feed.place stream.old.feed.number ≡ None → result ≡ None }
 {
     let position = position_of(stream.feed.place, stream.feed.number)?;
     if let Position::Faulty(fault) = position {

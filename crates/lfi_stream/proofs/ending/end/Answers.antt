@@ -24,6 +24,7 @@ returns-then-not-unfinished-going c =
           );
       over = λ fault is. absurd (c.in_default.not-Faulty fault (same_some position _ (sym at ∙ is)));
       none = tt;
+      no_feed = λ is. absurd (let e : Some position ≡ None = sym at ∙ is in cc);
     }
 
 pub returns : goal.returns
@@ -45,4 +46,5 @@ returns c =
           );
       over = λ fault is. absurd (c.in_default.not-Faulty fault (same_some position _ (sym at ∙ is)));
       none = tt;
+      no_feed = λ is. absurd (let e : Some position ≡ None = sym at ∙ is in cc);
     }

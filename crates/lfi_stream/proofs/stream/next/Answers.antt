@@ -1,4 +1,4 @@
-use Rattle.std.proofs.Common.{◌≡◌, ◌∙◌, sym, Some}
+use Rattle.std.proofs.Common.{◌≡◌, ◌∙◌, sym, Some, None}
 use Rattle.lfi_stream.specs.Numbers.{position_at}
 use Rattle.lfi_stream.proofs.Told.{same_some, stands_at}
 use Rattle.lfi_stream.proofs.stream.next.Goals as goal
@@ -14,4 +14,5 @@ returns c =
       moves = λ rest inside some. c.go_on.ensures.moves some;
       over = λ fault is. absurd (c.in_default.not-Faulty fault (same_some position _ (sym at ∙ is)));
       none = tt;
+      no_feed = λ is. absurd (let e : Some position ≡ None = sym at ∙ is in cc);
     }
