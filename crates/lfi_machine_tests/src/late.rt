@@ -21,8 +21,10 @@ const STORE: u32 = 0xF900_03E0;
 /// LDR X0, [SP].
 const LOAD: u32 = 0xF940_03E0;
 
-/// ADD and SUB SP, SP, #4095.
+/// ADD SP, SP, #4095.
 const UP: u32 = 0x913F_FFFF;
+
+/// SUB SP, SP, #4095.
 const DOWN: u32 = 0xD13F_FFFF;
 
 /// SUB SP, SP, #16.
@@ -32,14 +34,54 @@ const DOWN_16: u32 = 0xD100_43FF;
 type Row = ([u32; 5], u64, Cause, u64);
 
 const ROWS: [Row; 8] = [
-    ([DOWN, NOP, NOP, NOP, STORE], BASE - 512, Cause::NoAccess(BASE - 4607), 4),
-    ([UP, NOP, NOP, NOP, STORE], END + 511, Cause::NoAccess(END + 4606), 4),
-    ([DOWN, NOP, NOP, NOP, LOAD], BASE + 4606, Cause::NoFetch(BASE + 65556), 5),
-    ([UP, NOP, NOP, LOAD, NOP], END - 4096, Cause::NoAccess(END), 3),
-    ([DOWN, STORE, NOP, NOP, NOP], BASE + 73726, Cause::NoAccess(BASE + 69631), 1),
-    ([DOWN_16, NOP, STORE, NOP, NOP], END + 9, Cause::NoAccess(END), 2),
-    ([DOWN_16, NOP, NOP, NOP, STORE], END + 8, Cause::NoFetch(BASE + 65556), 5),
-    ([DOWN_16, NOP, NOP, NOP, STORE], BASE + 69648, Cause::NoFetch(BASE + 65556), 5),
+    (
+        [DOWN, NOP, NOP, NOP, STORE],
+        BASE - 512,
+        Cause::NoAccess(BASE - 4607),
+        4,
+    ),
+    (
+        [UP, NOP, NOP, NOP, STORE],
+        END + 511,
+        Cause::NoAccess(END + 4606),
+        4,
+    ),
+    (
+        [DOWN, NOP, NOP, NOP, LOAD],
+        BASE + 4606,
+        Cause::NoFetch(BASE + 65556),
+        5,
+    ),
+    (
+        [UP, NOP, NOP, LOAD, NOP],
+        END - 4096,
+        Cause::NoAccess(END),
+        3,
+    ),
+    (
+        [DOWN, STORE, NOP, NOP, NOP],
+        BASE + 73726,
+        Cause::NoAccess(BASE + 69631),
+        1,
+    ),
+    (
+        [DOWN_16, NOP, STORE, NOP, NOP],
+        END + 9,
+        Cause::NoAccess(END),
+        2,
+    ),
+    (
+        [DOWN_16, NOP, NOP, NOP, STORE],
+        END + 8,
+        Cause::NoFetch(BASE + 65556),
+        5,
+    ),
+    (
+        [DOWN_16, NOP, NOP, NOP, STORE],
+        BASE + 69648,
+        Cause::NoFetch(BASE + 65556),
+        5,
+    ),
 ];
 
 /// How a row's words end, run from the start with its sp.
