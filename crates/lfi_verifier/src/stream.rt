@@ -1,6 +1,6 @@
 //! A connection's stream, in a state that the caller keeps.
 
-ghost use Rattle.std.specs.Prelude.{◌≡◌, ◌≢◌, ◌<◌, ◌≤◌, ℕ, List, [], length, take, Some};
+ghost use Rattle.std.specs.Prelude.{◌≡◌, ◌≢◌, ◌<◌, ◌≤◌, ℕ, List, [], length, take, Some, None};
 ghost use Rattle.lfi_frame.specs.declared.fault.FrameFault.{FrameFault};
 ghost use Rattle.lfi_frame.specs.declared.feed.Position.TheVariants.{Faulty};
 ghost use Rattle.lfi_frame.specs.Streams.{Message};
@@ -153,7 +153,8 @@ pub extern "C" fn lfi_stream_next(
     ensures moves { (rest : List ℕ) → IsIn stream.old.feed rest → bytes.now ≢ [] → 0 < result }
     ensures over { (fault : FrameFault) → position_at stream.old.feed.place stream.old.feed.number ≡ Some (Faulty fault) →
         (result ≡ 0) × (event.new ≡ event_numbers (Fault fault)) × (stream.new ≡ stream.old) }
-    ensures bad { event.new ≡ no_stream → (stream.new ≡ stream.old) × ((rest : List ℕ) → ¬ (IsIn stream.old.feed rest)) }
+    ensures bad { event.new ≡ no_stream → (result ≡ 0) × (stream.new ≡ stream.old) × ((rest : List ℕ) → ¬ (IsIn stream.old.feed rest)) }
+    ensures no_feed { position_at stream.old.feed.place stream.old.feed.number ≡ None → event.new ≡ no_stream }
 {
     match lfi_stream::next(stream, bytes) {
         Some((used, brought)) => {
@@ -179,6 +180,7 @@ pub extern "C" fn lfi_stream_end(stream: &mut LfiStream, event: &mut LfiEvent) -
         TellsLost fault event.new stream.old stream.new × (result ≡ status_number Status.Lawful) }
     ensures bad { result ≡ status_number Status.BadState →
         (event.new ≡ no_stream) × (stream.new ≡ stream.old) × ((rest : List ℕ) → ¬ (IsIn stream.old.feed rest)) }
+    ensures no_feed { position_at stream.old.feed.place stream.old.feed.number ≡ None → result ≡ status_number Status.BadState }
 {
     match lfi_stream::end(stream) {
         Some(told) => {
