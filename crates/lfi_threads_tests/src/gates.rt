@@ -175,12 +175,12 @@ fn a_refused_module_beside_a_lawful_one(rt: HostRuntime) -> Result<(), Fail> {
         count: AtomicU64::new(0),
         module: AtomicU64::new(0),
     };
-    let mut text = two_pages(rt.alloc(), 0xD4000001, NOP)?;
+    let mut text = one_word(rt.alloc(), 15, 0xD4000001)?;
     text.extend_from_slice(one_word(rt.alloc(), 1, RET)?.as_slice())?;
     let report = loaded_until_noticed(&rt, text.as_slice(), &notices)?;
-    let want = "module 0: refused, word 5 rule 1\nmodule 1: complete, 1 words\nstrays ";
+    let want = "module 1: complete, 1 words\nmodule 15: refused, word 0 rule 1\nstrays ";
     assert!(rt; report.as_str().starts_with(want));
     assert_eq!(rt; notices.count.load(Ordering::SeqCst), 1);
-    assert_eq!(rt; notices.module.load(Ordering::SeqCst), 1);
+    assert_eq!(rt; notices.module.load(Ordering::SeqCst), 16);
     Ok(())
 }
