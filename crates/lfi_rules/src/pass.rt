@@ -194,19 +194,34 @@ fn is_told<W: Words>(words: &W, i: usize, first: u32, n: u32, profile: Profile) 
         | classes.opens_probe() & met.probe
 }
 
-/// Whether all marked words are told. Without a branch by what a word is.
+/// Keeps those of the first `count` places whose words aren't told, in order and before all others; answers how many they are.
+/// Without a branch by what a word is.
 #[inline(never)]
-fn are_told<W: Words>(words: &W, marked: &[u32], first: u32, n: u32, profile: Profile) -> bool
-    requires within { AreWithin marked.now (length (W.words words.now)) }
+fn keep_untold<W: Words>(
+    words: &W,
+    places: &mut [u32],
+    count: usize,
+    first: u32,
+    n: u32,
+    profile: Profile,
+) -> usize
+    requires count { count ≤ length places.old }
+    requires within { (p : ℕ) → p < count → slice_index places.old p < length (W.words words.now) }
     requires room { first + length (W.words words.now) ≤ n }
     requires most { n ≤ most_words }
-    ensures { IsTrue result → AreMarkedFine profile (W.words words.now) first n marked.now (length marked.now) }
+    ensures count { result ≤ count }
+    ensures marked { (start stop : ℕ) → AreMarked profile (W.words words.now) first n start stop places.old count
+        → AreMarked profile (W.words words.now) first n start stop places.new result }
 {
-    let mut told = true;
-    for place in marked {
-        told = told & is_told(words, *place as usize, first, n, profile);
+    let mut kept = 0;
+    for at in 0..count {
+        let place = places[at];
+        places[kept] = place;
+        if !is_told(words, place as usize, first, n, profile) {
+            kept += 1;
+        }
     }
-    told
+    kept
 }
 
 /// The first fault of the words from the place `first + i` on, up to the one that meets what the first opens: what that breaks
@@ -229,7 +244,7 @@ fn fault_at<W: Words>(words: &W, i: usize, first: u32, n: u32, profile: Profile)
     fault_behind(words, i, opened, first, n, profile)
 }
 
-/// The first fault that a closer look at marked words finds.
+/// The first fault that a closer look at words finds that aren't told.
 #[inline(never)]
 fn first_by_look<W: Words>(
     words: &W,
@@ -246,7 +261,7 @@ fn first_by_look<W: Words>(
 {
     for place in marked {
         let i = *place as usize;
-        if !is_told(words, i, first, n, profile) && !is_told_late(words, i, first, n, profile) {
+        if !is_told_late(words, i, first, n, profile) {
             let fault = fault_at(words, i, first, n, profile);
             if fault.is_some() {
                 return fault;
@@ -277,12 +292,8 @@ fn first_in_span<W: Words>(
 {
     let reach = reach_between(first + start as u32, first + stop as u32, n, profile);
     let count = mark_span(words, start, stop, reach, first, n, places);
-    let marked = &places[..count];
-    if are_told(words, marked, first, n, profile) {
-        None
-    } else {
-        first_by_look(words, marked, first, n, profile)
-    }
+    let kept = keep_untold(words, places, count, first, n, profile);
+    first_by_look(words, &places[..kept], first, n, profile)
 }
 
 /// The first fault of words, as many of them at once as there are places to mark.

@@ -87,6 +87,11 @@ pub record AreMarked (profile : Profile) (ws : List ℕ) (first n start stop : �
   pub high : (p : ℕ) → p < count → slice_index places p < stop
   pub rising : (p q : ℕ) → p < q → q < count → slice_index places p < slice_index places q
 
+-- The place that is marked next, behind the first `at` of a list of `count`; the end, where none is left.
+pub record IsNextMarked (places : List ℕ) (count stop at x : ℕ) : Type 0 where
+  pub inside : at < count → x ≡ slice_index places at
+  pub past : count ≤ at → x ≡ stop
+
 -- each number of a list is below another
 pub record AreWithin (places : List ℕ) (stop : ℕ) : Type 0 where
   pub each : (p : ℕ) → p < length places → slice_index places p < stop

@@ -1,15 +1,12 @@
 use Rattle.std.proofs.Common.{sym, ◌∙◌}
 use Rattle.lfi_rules.proofs.Marked.{one_more_fine, by_none}
-use Rattle.lfi_rules.proofs.pass.first_by_look.Goals.{then-not-is_told+then-not-is_told_late+else-is_some, else-not-is_told, else-not-is_told-via-then-not-is_told+else-not-is_told_late, else-not-is_told-via-else-not-is_told}
+use Rattle.lfi_rules.proofs.pass.first_by_look.Goals.{then-not-is_told_late+else-is_some, else-not-is_told_late}
 use Rattle.lfi_rules.proofs.pass.first_by_look.Goals as goal
 
 pub loop-place-preserved : goal.loop-place-preserved
 loop-place-preserved g c =
     one_more_fine c.args.profile (g.W.Words.words c.args.words.now) c.args.first c.args.n c.args.marked.now c.loop-place.place-index c.loop-place.invariant
-    (elim c.if-not-is_told.branch [
-      | then-not-is_told+then-not-is_told_late+else-is_some w ↦ by_none w.fault_at-fault.result _ (sym w.is_some.ensures ∙ w.if-is_some.false) w.fault_at-fault.ensures.none
-      | else-not-is_told w ↦ elim w.else-not-is_told.branch [
-        | else-not-is_told-via-then-not-is_told+else-not-is_told_late v ↦ v.is_told_late.ensures v.if-not-is_told_late.false
-        | else-not-is_told-via-else-not-is_told v ↦ c.is_told.ensures v.if-not-is_told.false
-      ]
+    (elim c.if-not-is_told_late.branch [
+      | then-not-is_told_late+else-is_some w ↦ by_none w.fault_at-fault.result _ (sym w.is_some.ensures ∙ w.if-is_some.false) w.fault_at-fault.ensures.none
+      | else-not-is_told_late w ↦ c.is_told_late.ensures w.if-not-is_told_late.false
     ])

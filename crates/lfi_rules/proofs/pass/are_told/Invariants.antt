@@ -1,6 +1,0 @@
-use Rattle.std.proofs.Common.{IsTrue}
-use Rattle.lfi_rules.specs.inner.Passing.{AreMarkedFine}
-use Rattle.lfi_rules.proofs.pass.are_told.Given as goal
-
-abbrev pub invariant-loop-place : goal.invariant-loop-place
-invariant-loop-place g l = IsTrue l.told → AreMarkedFine l.profile (g.W.Words.words l.words) l.first l.n l.marked l.place-index
