@@ -1,7 +1,6 @@
 //! Laws of streams whose numbers a caller keeps.
 
 ghost use Rattle.std.specs.Prelude.{◌≡◌, ◌<◌, ◌*◌, ℕ, List, [], ◌∷◌, length, Option, Some, All, true};
-ghost use Rattle.lfi_module.specs.Numbers.{page_words, page_bytes};
 ghost use Rattle.lfi_module.specs.Pages.{page_count};
 ghost use Rattle.a64_word.specs.Words.{words_of};
 ghost use Rattle.lfi_module.specs.Extents.{ExtentView};
@@ -36,5 +35,5 @@ pub fn one_outcome()
 /// are the module's code, one after the other.
 pub fn next_place()
     ensures { (messages : List Message) (rest : List ℕ) (m : ℕ) (extent : ExtentView) (pages : ℕ) → (made_of messages (rest_of rest) m).progress ≡ Going extent pages →
-        pages < page_count page_words extent.words → length (code_of (made_of messages (rest_of rest) m).items) ≡ page_bytes * pages }
+        pages < page_count extent.pages extent.words → length (code_of (made_of messages (rest_of rest) m).items) ≡ 4 * extent.pages * pages }
 {}
