@@ -30,7 +30,7 @@ ended n items result (Some reason) is some so = (reason, is, so ∙ same_end n i
 ended n items result None is some so = absurd (cc)
 
 pub load_is : (n : ExtentView) (items : List ItemView) (fault : Option Fault) (result : Outcome) → FirstFault n.profile (all_words (pages_of items)) n.words fault → IsEnded items →
-    result ≡ told_by n.words fault (end_of items) (words_in items) (pages_in items) → Load n items result
+    result ≡ told_by n.pages n.words fault (end_of items) (words_in items) (pages_in items) → Load n items result
 load_is n [] (Some fault) result first is so = let w : fault.word < 0 = breaks_within n.profile [] n.words fault.word fault.rule first.breaks in absurd (omega arith)
 load_is n [] None result first is so = so
 load_is n (item ∷ items) (Some fault) result first is so = (Some fault, first, so)
