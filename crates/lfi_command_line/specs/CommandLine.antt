@@ -7,6 +7,7 @@ use Rattle.clap.specs.declared.error.Error.{Error}
 use Rattle.clap.specs.declared.error.kind.ErrorKind.{ErrorKind}
 use Rattle.clap.specs.declared.error.kind.ErrorKind.TheVariants as kind
 use Rattle.lfi_module.specs.declared.profile.Profile.{Profile}
+use Rattle.lfi_module.specs.Numbers.{small_page, large_page}
 use Rattle.lfi_module.specs.Profiles.{profile_number, is_two}
 use Rattle.lfi_command_line.specs.Apps.{lfiload_app}
 use Rattle.lfi_command_line.specs.declared.line.Line.{Line}
@@ -52,9 +53,9 @@ IsProfile given profile = IsNumberOr 1 1 2 (first_of (codes "profile") given) (p
 
 -- the words of a page of the size that is named: small ones, where none is named too, or large ones by the second profile
 abbrev pub pages_named : Option Text → Profile → Option ℕ
-pages_named None profile = Some 1024
+pages_named None profile = Some small_page
 pages_named (Some text) profile =
-    if bytes_eq text (codes "small") then Some 1024 else if bytes_eq text (codes "large") && is_two profile then Some 4096 else None
+    if bytes_eq text (codes "small") then Some small_page else if bytes_eq text (codes "large") && is_two profile then Some large_page else None
 
 -- a subcommand of this name, with what was given to it, asks for this line
 abbrev pub IsAskedBy : (name : Text) → List Row → Line → Type 0

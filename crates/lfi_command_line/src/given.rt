@@ -153,7 +153,7 @@ pub(crate) fn disassemble_line<'a>(disassemble: &ArgMatches<'a>) -> Line<'a>
 /// The size of the pages that are named, by a profile: small ones, where none are named too, or large ones of the second
 /// profile; `None` for all else.
 fn pages_named(name: Option<&str>, profile: Profile) -> Option<PageSize>
-    ensures { result ≡ pages_named (option_map (λ s. s.now) name) profile }
+    ensures { result ≡ pages_named (option_map (λ s. s.now) name.entry) profile }
 {
     let Some(name) = name else {
         return Some(PageSize::SMALL);

@@ -50,3 +50,10 @@ returns-clause-line c =
       rw items (omega (count, all.2, arith)),
       rw items (omega (c.if-module-paths-gt-MODULES.false, arith)),
     )
+
+pub returns-in_default-clause-fault : goal.returns-in_default-clause-fault
+returns-in_default-clause-fault c = (
+  c.profile_of-profile.result,
+  c.profile_of-profile.ensures,
+  ap (λ o. pages_named o c.profile_of-profile.result) (sym (first_value-rows (found_of c.args.pack.now) (codes "pages")) ∙ sym c.get_str.ensures) ∙ sym c.pages_named.ensures ∙ c.in_default.is,
+)
