@@ -13,14 +13,15 @@ pub struct PageSize {
 }
 
 impl Model for PageSize {
-    ghost use Rattle.std.specs.Prelude.{ℕ};
+    ghost use Rattle.std.specs.Prelude.{ℕ, ◌≤◌};
+    ghost use Rattle.lfi_module.specs.Numbers.{large_page};
     ghost use Rattle.lfi_module.specs.Pages.{IsPageSize};
 
     ghost Value = { ℕ };
 
     ghost view = { λ p. p.words };
 
-    ghost invariant = { λ p. IsPageSize p.words };
+    ghost invariant = { λ p. (1 ≤ p.words) × (p.words ≤ large_page) × IsPageSize p.words };
 
     ghost inverse = { λ n. record { words = n } };
 }
