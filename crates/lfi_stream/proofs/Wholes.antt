@@ -12,6 +12,7 @@ use Rattle.lfi_code.proofs.Begun.{words_append}
 use Rattle.lfi_stream.proofs.Growth.{next_by}
 use Rattle.lfi_frame.specs.Streams.{Message, IsMessage, open_message, page_message, close_message, header_of, Rest, short, faulty, unfinished, whole, rest_of}
 use Rattle.lfi_frame.specs.declared.fault.FrameFault.{FrameFault}
+use Rattle.lfi_frame.proofs.Cuts.{page_paging}
 use Rattle.lfi_frame.proofs.Headers.{sound}
 use Rattle.lfi_model.specs.Item.{ItemView, KindView}
 use Rattle.lfi_model.specs.declared.item.ItemKind.TheVariants.{Open, Page, End}
@@ -52,7 +53,7 @@ message_whole m s Unclaimed (page_message k size index payload) is h = h
 message_whole m s Unclaimed (close_message k) is h = h
 message_whole m s (Going extent p) (open_message k other) is h = h
 message_whole m s (Going extent p) (page_message k size index payload) is h =
-    either (next_by extent p size index (length payload)) _ _ (more s.items _ h ((sound (header_of (page_message k size index payload)) is.faultless).whole refl)) (more s.items _ h tt)
+    either (next_by extent p size index (length payload)) _ _ (more s.items _ h ((sound (header_of (page_message k size index payload)) is.faultless).whole (page_paging size is.sizes))) (more s.items _ h tt)
 message_whole m s (Going extent p) (close_message k) is h = more s.items _ h tt
 message_whole m s Ended (open_message k extent) is h = h
 message_whole m s Ended (page_message k size index payload) is h = h
@@ -88,13 +89,13 @@ items_whole ms rest cause m each =
     (rest_whole m (fold (λ t message. after_message true m t t.progress message) nothing_yet (filter (is_of m) ms)) (rest_of rest)
     (fold_whole m (filter (is_of m) ms) nothing_yet (All-filter (is_of m) IsMessage ms each) (All-nil (λ i. IsWhole i.kind))))
 
-outcome_is : (n : ℕ) (items : List ItemView) (fault : Option Fault) (reason : Reason) → end_of items ≡ Some reason → IsOutcome n items fault (outcome_by n items fault reason)
+outcome_is : (n : ExtentView) (items : List ItemView) (fault : Option Fault) (reason : Reason) → end_of items ≡ Some reason → IsOutcome n items fault (outcome_by n items fault reason)
 outcome_is n items (Some fault) reason e = refl
 outcome_is n items None reason e = (reason, e, refl)
 
 -- The first fault of the whole pages and the end tell what becomes of a module.
 pub loaded : (ms : List Message) (rest : List ℕ) (cause : Cause) (m : ℕ) (extent : ExtentView) (item : ItemView) (items : List ItemView) (fault : Option Fault) (reason : Reason) → All IsMessage ms
-    → items_of ms rest cause (λ _. true) m ≡ item ∷ items → FirstFault extent.profile (words_of (code_of (item ∷ items))) extent.words fault → end_of (item ∷ items) ≡ Some reason → Load extent (item ∷ items) (outcome_by extent.words (item ∷ items) fault reason)
+    → items_of ms rest cause (λ _. true) m ≡ item ∷ items → FirstFault extent.profile (words_of (code_of (item ∷ items))) extent.words fault → end_of (item ∷ items) ≡ Some reason → Load extent (item ∷ items) (outcome_by extent (item ∷ items) fault reason)
 loaded ms rest cause m extent item items fault reason each is first ended =
     let wholes : Wholes (item ∷ items) = subst Wholes is (items_whole ms rest cause m each) in
-    (fault, subst (λ ws. FirstFault extent.profile ws extent.words fault) (words_are (item ∷ items) wholes) first, outcome_is extent.words (item ∷ items) fault reason ended)
+    (fault, subst (λ ws. FirstFault extent.profile ws extent.words fault) (words_are (item ∷ items) wholes) first, outcome_is extent (item ∷ items) fault reason ended)

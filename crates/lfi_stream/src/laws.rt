@@ -28,7 +28,7 @@ pub fn one_cut()
 pub fn one_outcome()
     ensures { (messages : List Message) (rest : List ℕ) (cause : Cause) (m : ℕ) (extent : ExtentView) (item : ItemView) (items : List ItemView) (fault : Option Fault) (reason : Reason) →
         All IsMessage messages → items_of messages rest cause (λ _. true) m ≡ item ∷ items → FirstFault extent.profile (words_of (code_of (item ∷ items))) extent.words fault →
-        end_of (item ∷ items) ≡ Some reason → Load extent (item ∷ items) (outcome_by extent.words (item ∷ items) fault reason) }
+        end_of (item ∷ items) ≡ Some reason → Load extent (item ∷ items) (outcome_by extent (item ∷ items) fault reason) }
 {}
 
 /// The next page of an open module begins where the code of its whole pages ends: so bytes that are put where they belong
