@@ -71,12 +71,13 @@ step claimed m s message = after_message claimed m s s.progress message
 abbrev going : List ItemView → ExtentView → ℕ → Share
 going items extent p = record { items = items; strays = 0; progress = Going extent p }
 
-due : (size n p : ℕ) (page : List ℕ) → length page ≡ bytes_in_page size n p → p < page_count size n → is_due size n p p (length page) ≡ true
+due : (size n p : ℕ) (page : List ℕ) → length page ≡ bytes_in_page size n p → p < page_count size n → (size == size && is_due size n p p (length page)) ≡ true
 due size n p page long inside =
     let a = eq-eqb p p refl in
     let b = lt-ltb p (page_count size n) inside in
     let c = eq-eqb (length page) (bytes_in_page size n p) long in
-    λ i. a i && b i && c i
+    let d = eq-eqb size size refl in
+    λ i. d i && (a i && b i && c i)
 
 pages_step : (m : ℕ) (extent : ExtentView) (p : ℕ) (items : List ItemView) (pages : List (List ℕ)) → Among extent.pages extent.words p pages →
     fold (step true m) (going items extent p) (numbered m extent.pages p pages) ≡ going (items ++ page_items m extent p pages) extent (p + length pages)
@@ -88,7 +89,7 @@ pages_step m extent p items (page ∷ pages) among =
     let s = going items extent p in
     let next : Share = going (items ++ item ∷ []) extent (p + 1) in
     let bad : Share = with_item s (item_of m (p + 1) extent (End (PageFault p))) Ended in
-    let one : (if is_due extent.pages n p p (length page) then next else bad) ≡ next = ap (λ b. if b then next else bad) (due extent.pages n p page is.0 is.1) in
+    let one : (if extent.pages == extent.pages && is_due extent.pages n p p (length page) then next else bad) ≡ next = ap (λ b. if b then next else bad) (due extent.pages n p page is.0 is.1) in
     let end : (p + 1) + length pages ≡ p + suc (length pages) = omega arith in
     ap (λ t. fold (step true m) t (numbered m extent.pages (p + 1) pages)) one
     ∙ pages_step m extent (p + 1) (items ++ item ∷ []) pages (later extent.pages n p page pages among)

@@ -4,6 +4,7 @@ use Rattle.std.specs.Prelude.{◌&&◌, nat_lt}
 use Rattle.std.proofs.lemmas.Bool.{and_parts, eqb-true, eq-eqb, ltb-true}
 use Rattle.std.proofs.lemmas.Bool.Decides.{eqb_tells}
 use Rattle.lfi_module.specs.Extents.{ExtentView}
+use Rattle.lfi_module.specs.Numbers.{large_page}
 use Rattle.lfi_module.specs.Pages.{is_due, page_count, bytes_in_page}
 use Rattle.lfi_frame.specs.Streams.{Message, open_message, page_message, close_message, short, unfinished, rest_of}
 use Rattle.lfi_model.specs.declared.item.ItemKind.TheVariants as item
@@ -132,9 +133,9 @@ due_inside size n p due =
     ltb-true p (page_count size n) first.1
 
 due_awaits : (o : Option Coming) (ms : List Message) (rest : List ℕ) (k : ℕ) (extent : ExtentView) (p size index len : ℕ) → o ≡ Some (record { «module» = k; come = 0 }) → (made_of ms (rest_of rest) k).progress ≡ Going extent p
-    → next_by extent p size index len ≡ true → rest_of rest ≡ unfinished k size index len → drop 12 rest ≡ [] → Awaits o (made_of ms (rest_of rest)) rest
-due_awaits None ms rest k extent p size index len e going due is bare = absurd (cc)
-due_awaits (Some page) ms rest k extent p size index len e going due is bare =
+    → next_by extent p size index len ≡ true → extent.pages ≤ large_page → rest_of rest ≡ unfinished k size index len → drop 12 rest ≡ [] → Awaits o (made_of ms (rest_of rest)) rest
+due_awaits None ms rest k extent p size index len e going due sized is bare = absurd (cc)
+due_awaits (Some page) ms rest k extent p size index len e going due sized is bare =
     let says = due_says extent p size index len due in
     let of_size = says.0 in
     let at_index = says.1 in
@@ -143,20 +144,20 @@ due_awaits (Some page) ms rest k extent p size index len e going due is bare =
     let there : unfinished k size index len ≡ unfinished k extent.pages p (bytes_in_page extent.pages extent.words p) = (λ i. unfinished k (of_size i) (at_index i) (of_len i)) in
     let here : is_due extent.pages extent.words p index len ≡ is_due extent.pages extent.words p p (bytes_in_page extent.pages extent.words p) = (λ i. is_due extent.pages extent.words p (at_index i) (of_len i)) in
     subst (λ (z : Coming). IsDue z (made_of ms (rest_of rest) z.«module»).progress rest) (sym same)
-    (record { extent = extent; pages = p; going = going; header = is ∙ there; is_next = sym here ∙ says.3; come = sym (ap length bare) })
+    (record { extent = extent; pages = p; going = going; sized = sized; header = is ∙ there; is_next = sym here ∙ says.3; come = sym (ap length bare) })
 
 -- The header of the page that is due.
-pub header_due : (old new : LfiStream) (ms : List Message) (rest payload : List ℕ) (k : ℕ) (extent : ExtentView) (p size index len : ℕ) → progress_at old.modules k ≡ Going extent p → next_by extent p size index len ≡ true
+pub header_due : (old new : LfiStream) (ms : List Message) (rest payload : List ℕ) (k : ℕ) (extent : ExtentView) (p size index len : ℕ) → progress_at old.modules k ≡ Going extent p → next_by extent p size index len ≡ true → extent.pages ≤ large_page
     → page_at new.page ≡ Some (record { «module» = k; come = 0 }) → ((m : ℕ) → progress_at new.modules m ≡ progress_at old.modules m) → Holds old ms [] → rest_of rest ≡ unfinished k size index len → drop 12 rest ≡ []
     → Holds new ms rest × Grows Nothing ms [] ms rest payload
-header_due old new ms rest payload k extent p size index len was due page at holds is bare =
+header_due old new ms rest payload k extent p size index len was due sized page at holds is bare =
     let F : ℕ → Share → Share = (λ m s. s) in
     let share : (made_of ms short k).progress ≡ Going extent p = sym (holds.progress k) ∙ was in
     let grown = header_grows ms k size index len F (ap (λ q. after_header k (made_of ms short k) q size index len) share ∙ by_true (next_by extent p size index len) _ _ due) in
     let grows : (m : ℕ) → made_of ms (rest_of rest) m ≡ made_of ms short m = (λ m. ap (λ r. made_of ms r m) is ∙ grown m ∙ both_same (m == k) (made_of ms short m)) in (
       record {
         progress = λ m. at m ∙ holds.progress m ∙ ap (λ s. s.progress) (sym (grows m));
-        awaits = due_awaits (page_at new.page) ms rest k extent p size index len page (ap (λ s. s.progress) (grows k) ∙ share) due is bare;
+        awaits = due_awaits (page_at new.page) ms rest k extent p size index len page (ap (λ s. s.progress) (grows k) ∙ share) due sized is bare;
       },
       grows,
     )
@@ -234,12 +235,13 @@ coming_more old new ms rest used payload page m size index len come some some' i
     let all : drop 12 (rest ++ used) ≡ drop 12 rest ++ used = drop_append_left 12 rest used before.0 in
     let long : length (drop 12 (rest ++ used)) ≡ length (drop 12 rest) + length used = ap length all ∙ length-append (drop 12 rest) used in
     let was = d.come in
+    let bound = d.sized in
     let few : page.come + length used < 2 ^ 64 = omega arith in
     let now : come ≡ length (drop 12 (rest ++ used)) = (let c = is_come few in omega arith) in (
       record {
         progress = λ k. at k ∙ holds.progress k ∙ ap (λ r. (made_of ms r k).progress) same;
         awaits = subst (λ o. Awaits o (made_of ms (rest_of (rest ++ used))) (rest ++ used)) (sym some')
-            (record { extent = d.extent; pages = d.pages; going = ap (λ r. (made_of ms r page.«module»).progress) (sym same) ∙ d.going; header = sym same ∙ d.header; is_next = d.is_next; come = now });
+            (record { extent = d.extent; pages = d.pages; going = ap (λ r. (made_of ms r page.«module»).progress) (sym same) ∙ d.going; sized = d.sized; header = sym same ∙ d.header; is_next = d.is_next; come = now });
       },
       λ k. ap (λ r. made_of ms r k) (sym same),
     )

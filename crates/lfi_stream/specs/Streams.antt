@@ -1,6 +1,7 @@
 -- What a stream whose numbers a caller keeps stands for. Source: docs/PROFILE.md, "Streams".
-use Rattle.std.specs.Prelude.{◌≡◌, ℕ, true, List, length, drop, ◌++◌, flat_map, Option, Some, None, All}
+use Rattle.std.specs.Prelude.{◌≡◌, ◌≤◌, ℕ, true, List, length, drop, ◌++◌, flat_map, Option, Some, None, All}
 use Rattle.lfi_module.specs.Extents.{ExtentView}
+use Rattle.lfi_module.specs.Numbers.{large_page}
 use Rattle.lfi_module.specs.Pages.{is_due, bytes_in_page}
 use Rattle.lfi_frame.specs.Streams.{Message, IsMessage, spelling, rest_of, unfinished, Rest}
 use Rattle.lfi_frame.specs.Feeds.{IsAt, fault_at}
@@ -29,6 +30,7 @@ pub record IsDue (page : Coming) (progress : Progress) (rest : List ℕ) : Type 
   pub extent : ExtentView
   pub pages : ℕ
   pub going : progress ≡ Going extent pages
+  pub sized : extent.pages ≤ large_page
   pub header : rest_of rest ≡ unfinished page.«module» extent.pages pages (bytes_in_page extent.pages extent.words pages)
   pub is_next : is_due extent.pages extent.words pages pages (bytes_in_page extent.pages extent.words pages) ≡ true
   pub come : page.come ≡ length (drop 12 rest)

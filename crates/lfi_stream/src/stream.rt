@@ -1,6 +1,7 @@
 //! A stream goes on.
 
 ghost use Rattle.std.specs.Prelude.{◌≡◌, ◌≢◌, ◌<◌, ◌≤◌, ◌+◌, ◌*◌, ◌==◌, ◌&&◌, ◌++◌, ◌∷◌, ℕ, true, false, List, [], length, take, drop, Some, None, IfSome, IfNone, if◌then◌else◌, ◌⊎◌, All};
+ghost use Rattle.lfi_module.specs.Numbers.{large_page};
 ghost use Rattle.lfi_module.specs.Pages.{is_due};
 ghost use Rattle.lfi_frame.specs.declared.feed.Feed.{Feed};
 ghost use Rattle.lfi_frame.specs.declared.feed.Position.TheVariants.{Faulty};
@@ -74,7 +75,8 @@ fn close(stream: &mut LfiStream, module: ModuleNumber) -> Event
 
 /// Whether page `index` of this size, with `len` payload bytes, is the one due of an open module of which so many came.
 fn is_next(extent: Extent, pages: u32, size: PageSize, index: u32, len: u32) -> bool
-    ensures { result ≡ (size == extent.pages && is_due extent.pages extent.words pages index len) }
+    ensures is { result ≡ (size == extent.pages && is_due extent.pages extent.words pages index len) }
+    ensures bounded { extent.pages ≤ large_page }
 {
     size == extent.pages()
         && extent

@@ -22,7 +22,7 @@ returns-then-not-is_next-clause-holds c = λ ms rest payload holds is bare.
     let new = c.place.new.stream in
     let k = c.args.«module» in
     let was : progress_at r.modules k ≡ Going c.in-Going.extent c.in-Going.pages = sym c.progress_in.ensures.at ∙ c.in-Going.is in
-    let undue : next_by c.in-Going.extent c.in-Going.pages c.args.size c.args.index c.args.len ≡ false = sym c.is_next.ensures ∙ c.if-not-is_next.true in
+    let undue : next_by c.in-Going.extent c.in-Going.pages c.args.size c.args.index c.args.len ≡ false = sym c.is_next.ensures.is ∙ c.if-not-is_next.true in
     header_undue r new ms rest payload k c.in-Going.extent c.in-Going.pages c.args.size c.args.index c.args.len was undue (ap (λ z. z.page) c.place.ensures.rest) c.place.ensures.at holds is
 
 pub returns-clause-holds : goal.returns-clause-holds
@@ -30,5 +30,5 @@ returns-clause-holds c = λ ms rest payload holds is bare.
     let r = c.args.stream.now in
     let k = c.args.«module» in
     let was : progress_at r.modules k ≡ Going c.in-Going.extent c.in-Going.pages = sym c.progress_in.ensures.at ∙ c.in-Going.is in
-    let due : next_by c.in-Going.extent c.in-Going.pages c.args.size c.args.index c.args.len ≡ true = sym c.is_next.ensures ∙ c.if-not-is_next.false in
-    header_due r (record r { page = c.of-stream.result }) ms rest payload k c.in-Going.extent c.in-Going.pages c.args.size c.args.index c.args.len was due c.of-stream.ensures (λ m. refl) holds is bare
+    let due : next_by c.in-Going.extent c.in-Going.pages c.args.size c.args.index c.args.len ≡ true = sym c.is_next.ensures.is ∙ c.if-not-is_next.false in
+    header_due r (record r { page = c.of-stream.result }) ms rest payload k c.in-Going.extent c.in-Going.pages c.args.size c.args.index c.args.len was due c.is_next.ensures.bounded c.of-stream.ensures (λ m. refl) holds is bare

@@ -1,4 +1,4 @@
-use Rattle.std.proofs.Common.{◌≡◌, ◌+◌, ◌<◌, ◌^◌, ◌++◌, ◌∙◌, Some, sym, refl, drop, length, arith}
+use Rattle.std.proofs.Common.{◌≡◌, ◌+◌, ◌*◌, ◌<◌, ◌≤◌, ◌^◌, ◌++◌, ◌∙◌, Some, sym, subst, refl, drop, length, arith}
 use Rattle.lfi_model.specs.declared.connection.Progress.TheVariants.{Going}
 use Rattle.lfi_stream.specs.Numbers.{page_at, progress_at}
 use Rattle.lfi_stream.proofs.Books.{passing_more, coming_more, code_at}
@@ -18,4 +18,4 @@ returns-clause-holds c = λ ms rest used m size index len long holds is is'.
     let sum = c.saturating_add.ensures in
     let is_come : page.come + length used < 2 ^ 64 → come ≡ page.come + length used = (λ few. omega (arith, sum, long, few)) in
     let more = coming_more r (record r { page = c.of-stream.result }) ms rest used (drop 12 rest ++ used) page m size index len come some c.of-stream.ensures is_come (λ k. refl) holds is is' in
-    (more.0, more.1, code_at r ms rest page c.in-Going.extent c.in-Going.pages c.offset_of.result some was holds c.offset_of.ensures)
+    (more.0, more.1, code_at r ms rest page c.in-Going.extent c.in-Going.pages c.offset_of.result some was holds (subst (λ s. page.come ≤ 4 * s → c.offset_of.result ≡ 4 * s * c.in-Going.pages + page.come) c.pages.ensures.value c.offset_of.ensures))
