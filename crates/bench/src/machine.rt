@@ -6,7 +6,7 @@ use a64_semantics::Registers;
 use anyhow::{Result, bail};
 use lfi_image::{Builder, CompleteImage, JudgedPage};
 use lfi_machine::{Answer, Data, Machine, Runtime, start_registers};
-use lfi_module::{Extent, ModuleNumber, Profile, WordCount};
+use lfi_module::{Extent, ModuleNumber, PageSize, Profile, WordCount};
 use page_buf::SealedPage;
 use std::alloc::Global;
 use std::time::Instant;
@@ -43,15 +43,21 @@ fn image(alloc: Global) -> Result<CompleteImage> {
     let Some(count) = WordCount::new((code.len() / 4) as u32) else {
         bail!("no module has so many words");
     };
-    let Some(extent) = Extent::new(count, 0, Profile::One) else {
+    let Some(extent) = Extent::new(count, 0, Profile::One, PageSize::SMALL) else {
         bail!("the entry is no word");
     };
     let mut builder = Builder::new(alloc, extent, ModuleNumber::at(0))?;
-    let page = SealedPage::of(alloc, &code)?;
+    let page = SealedPage::of(alloc, PageSize::SMALL, &code)?;
     if page.len_words() != builder.due() as usize {
         bail!("the page has not the words due");
     }
-    let page = JudgedPage::judge(page, builder.placed(), builder.words(), builder.profile());
+    let page = JudgedPage::judge(
+        page,
+        builder.placed(),
+        builder.words(),
+        builder.profile(),
+        builder.size(),
+    );
     if builder.append(page).is_err() {
         bail!("the code breaks a rule");
     }

@@ -86,13 +86,7 @@ fn is_next(extent: Extent, pages: u32, size: PageSize, index: u32, len: u32) -> 
 
 /// The header of page `index` of this size with `len` payload bytes: it is the one due of an open module, and is coming; or
 /// it ends its module; or it is passed over.
-fn page(
-    stream: &mut LfiStream,
-    module: ModuleNumber,
-    size: PageSize,
-    index: u32,
-    len: u32,
-) -> Event
+fn page(stream: &mut LfiStream, module: ModuleNumber, size: PageSize, index: u32, len: u32) -> Event
     ensures holds { (messages : List Message) (rest payload : List ℕ) → Holds stream.old messages [] → rest_of rest ≡ unfinished «module» size index len →
         drop 12 rest ≡ [] → Holds stream.new messages rest × Grows result messages [] messages rest payload }
     ensures plain { IsPlain result }

@@ -1,12 +1,20 @@
 use Rattle.std.proofs.Common.{◌≡◌, ◌+◌, ◌*◌, ◌<◌, ◌≤◌, ◌^◌, ◌++◌, ◌∙◌, Some, sym, subst, refl, drop, length, arith}
 use Rattle.lfi_model.specs.declared.connection.Progress.TheVariants.{Going}
 use Rattle.lfi_stream.specs.Numbers.{page_at, progress_at}
-use Rattle.lfi_stream.proofs.Books.{passing_more, coming_more, code_at}
+use Rattle.lfi_stream.proofs.Books.{passing_more, coming_more, is_due_now, code_at}
 use Rattle.lfi_stream.proofs.stream.payload_more.Goals as goal
 
 pub returns-in_default-clause-holds : goal.returns-in_default-clause-holds
 returns-in_default-clause-holds c = λ ms rest used m size index len long holds is is'.
     passing_more c.args.stream.now ms rest used (drop 12 rest ++ used) m size index len (sym c.coming.ensures ∙ c.in_default.is) holds is is'
+
+pub returns-in_default-progress_in-clause-holds : goal.returns-in_default-progress_in-clause-holds
+returns-in_default-progress_in-clause-holds c = λ ms rest used m size index len long holds is is'.
+    let r = c.args.stream.now in
+    let page = c.in-Some.page in
+    let some : page_at r.page ≡ Some page = sym c.coming.ensures ∙ c.in-Some.is in
+    let due = is_due_now r ms rest page some holds in
+    absurd (c.in_default-progress_in.not-Going due.extent due.pages (c.progress_in.ensures.at ∙ holds.progress page.«module» ∙ due.going))
 
 pub returns-clause-holds : goal.returns-clause-holds
 returns-clause-holds c = λ ms rest used m size index len long holds is is'.
