@@ -10,7 +10,7 @@ use Rattle.lfi_frame.specs.declared.fault.FrameFault.{FrameFault}
 use Rattle.lfi_frame.specs.Feeds.{page_header, opened}
 use Rattle.lfi_frame.specs.Streams.{AreBytes, Message, open_message, page_message, close_message, is_page, size_by, header_of, payload_of, spelling, header_at, header_fault, short, unfinished, whole, rest_after, rest_of}
 use Rattle.lfi_frame.proofs.Headers.{IsPaging, paging, header_fits, sound}
-use Rattle.lfi_frame.proofs.Cuts.{rest_long, rest_short, long_by, page_is, size_is, open_sizes, open_is, close_is, message_is, comes_by}
+use Rattle.lfi_frame.proofs.Cuts.{rest_long, rest_short, long_by, page_is, size_is, open_sizes, open_is, close_is, message_is, comes_by, header_stays}
 use Rattle.lfi_reference.specs.Messages.{Begins}
 
 -- a text at whose head a whole message stands
@@ -41,11 +41,16 @@ whole_at bytes small w =
     let full : (is_page h.kind && nat_lt (length d) h.b) ≡ false = full_by _ _ _ _ _ (ap (λ f. rest_after f h (length d)) (sym none) ∙ after) in
     record { long = long; none = none; fits = header_fits bytes small; full = λ kind. ltb-false (length d) h.b (and_false (is_page h.kind) (nat_lt (length d) h.b) full (paging h.kind kind)) }
 
+-- the first twelve bytes are the header
+pub header_front : (bytes front : List ℕ) → 12 ≤ length bytes → front ≡ take 12 bytes → header_at front ≡ header_at bytes
+header_front bytes front long same =
+    ap header_at same ∙ sym (header_stays (take 12 bytes) (drop 12 bytes) (omega (arith, length-take 12 bytes))) ∙ ap header_at (take-append-drop 12 bytes)
+
 -- the kind of a page is one of the two
 pub paged : (k : ℕ) → is_page k ≡ true → IsPaging k
 paged k e = elim (eqb_tells k 2) [
   | inl two ↦ inl two.1
-  | inr other ↦ elim (eqb_tells k 5) [ inl five ↦ inr five.1 | inr none ↦ absurd (let f : false ≡ true = ap (λ b. b || (k == 5)) (sym other.0) ∙ e in let g : (k == 5) ≡ false = none.0 in cc) ]
+  | inr other ↦ elim (eqb_tells k 5) [ inl five ↦ inr five.1 | inr none ↦ absurd (let f : (k == 5) ≡ true = ap (λ b. b || (k == 5)) (sym other.0) ∙ e in let g : (k == 5) ≡ false = none.0 in cc) ]
 ]
 
 pub page_fits : (bytes : List ℕ) (h : Header) → AreBytes bytes → rest_of bytes ≡ whole → h ≡ header_at bytes → is_page h.kind ≡ true → h.b + 12 ≤ length bytes

@@ -1,6 +1,6 @@
 -- How many words and pages the items of a module bring.
 use Rattle.std.proofs.Common.{◌≡◌, ℕ, ◌+◌, ◌*◌, ◌-◌, ◌/◌, ◌<◌, ◌≤◌, List, [], ◌∷◌, ◌++◌, length, refl, sym, ◌∙◌, ap, subst, arith, Option, Some, None, Bool, true, false, cond, length-append, append_assoc, mul-add, inl, inr}
-use Rattle.std.specs.Prelude.{◌==◌, ◌&&◌, ◌||◌, nat_lt, nat_le, if◌then◌else◌, All}
+use Rattle.std.specs.Prelude.{◌==◌, ◌&&◌, ◌||◌, not, nat_lt, nat_le, if◌then◌else◌, All}
 use Rattle.std.specs.List.{filter, fold}
 use Rattle.std.proofs.lemmas.Bool.{eqb-true, ltb-true, ltb-false}
 use Rattle.std.proofs.lemmas.List.{append-nil}
@@ -8,7 +8,7 @@ use Rattle.std.proofs.lemmas.List.Concat.{flat_map-append}
 use Rattle.std.proofs.lemmas.List.Elements.{All-head, All-tail}
 use Rattle.lfi_frame.specs.declared.fault.FrameFault.{FrameFault}
 use Rattle.lfi_frame.specs.declared.fault.FrameFault.TheVariants as fault
-use Rattle.lfi_frame.specs.Streams.{Message, open_message, page_message, close_message, IsMessage, Rest, short, faulty, unfinished, whole, rest_of}
+use Rattle.lfi_frame.specs.Streams.{Message, open_message, page_message, close_message, IsMessage, Rest, short, faulty, unfinished, whole, rest_of, is_second, second_byte}
 use Rattle.lfi_model.specs.Item.{ItemView}
 use Rattle.lfi_model.specs.declared.item.ItemKind.TheVariants.{Open, Page, End}
 use Rattle.lfi_model.specs.declared.item.Reason.{Reason}
@@ -116,13 +116,19 @@ second false c e = e
 
 words_most : (profile : Profile) (m words entry pages : ℕ) → IsMessage (open_message m (record { words = words; entry = entry; profile = profile; pages = pages })) → words ≤ 4194304
 words_most One m words entry pages is =
-    let one = passed (nat_le 16 m) fault.Module (if words == 0 || nat_lt 4194304 words then Some fault.WordCount else if nat_le words entry then Some fault.Entry else None) is.faultless in
-    let two = passed (words == 0 || nat_lt 4194304 words) fault.WordCount (if nat_le words entry then Some fault.Entry else None) one.1 in
-    ltb-false 4194304 words (second (words == 0) (nat_lt 4194304 words) two.0)
+    let wrong = not (is_second 1 (second_byte pages)) in
+    let count = words == 0 || nat_lt 4194304 words in
+    let one = passed wrong fault.SecondByte (if nat_le 16 m then Some fault.Module else if count then Some fault.WordCount else if nat_le words entry then Some fault.Entry else None) is.faultless in
+    let two = passed (nat_le 16 m) fault.Module (if count then Some fault.WordCount else if nat_le words entry then Some fault.Entry else None) one.1 in
+    let three = passed count fault.WordCount (if nat_le words entry then Some fault.Entry else None) two.1 in
+    ltb-false 4194304 words (second (words == 0) (nat_lt 4194304 words) three.0)
 words_most Two m words entry pages is =
-    let one = passed (nat_le 16 m) fault.Module (if words == 0 || nat_lt 4194304 words then Some fault.WordCount else if nat_le words entry then Some fault.Entry else None) is.faultless in
-    let two = passed (words == 0 || nat_lt 4194304 words) fault.WordCount (if nat_le words entry then Some fault.Entry else None) one.1 in
-    ltb-false 4194304 words (second (words == 0) (nat_lt 4194304 words) two.0)
+    let wrong = not (is_second 4 (second_byte pages)) in
+    let count = words == 0 || nat_lt 4194304 words in
+    let one = passed wrong fault.SecondByte (if nat_le 16 m then Some fault.Module else if count then Some fault.WordCount else if nat_le words entry then Some fault.Entry else None) is.faultless in
+    let two = passed (nat_le 16 m) fault.Module (if count then Some fault.WordCount else if nat_le words entry then Some fault.Entry else None) one.1 in
+    let three = passed count fault.WordCount (if nat_le words entry then Some fault.Entry else None) two.1 in
+    ltb-false 4194304 words (second (words == 0) (nat_lt 4194304 words) three.0)
 
 opened : (m : ℕ) (extent : ExtentView) (items : List ItemView) → extent.words ≤ 4194304 → HasPages extent.profile extent.pages → items ≡ [] → Grows (items ++ item_of m 0 extent Open ∷ []) extent 0
 opened m extent items most sized none =
