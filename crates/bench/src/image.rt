@@ -19,10 +19,10 @@ const NOP: [u8; 4] = [0x1F, 0x20, 0x03, 0xD5];
 /// More than any gap between the pages of an image, so that it is taken from behind them.
 const BEHIND_BYTES: usize = 65_536;
 
-/// A small page of so many NOPs, at most those of a full one.
-fn page(alloc: Global, words: usize) -> Result<SealedPage> {
-    let code = NOP.repeat(alloc, PageSize::SMALL.words() as usize)?;
-    let mut page = OpenPage::new(alloc, PageSize::SMALL)?;
+/// A page of this size of so many NOPs, at most those of a full page.
+fn page(alloc: Global, size: PageSize, words: usize) -> Result<SealedPage> {
+    let code = NOP.repeat(alloc, size.words() as usize)?;
+    let mut page = OpenPage::new(alloc, size)?;
     page.write(&code[..words.saturating_mul(4).min(code.len())]);
     match page.seal() {
         Ok(page) => Ok(page),
@@ -33,7 +33,8 @@ fn page(alloc: Global, words: usize) -> Result<SealedPage> {
 /// Places the next page of a module, as many NOPs as are due.
 fn append_page(alloc: Global, builder: &mut Builder) -> Result<()> {
     let due = builder.due() as usize;
-    let page = page(alloc, due)?;
+    let size = builder.size();
+    let page = page(alloc, size, due)?;
     if page.len_words() != due {
         bail!("a page has not the words due")
     }
@@ -42,7 +43,7 @@ fn append_page(alloc: Global, builder: &mut Builder) -> Result<()> {
         builder.placed(),
         builder.words(),
         builder.profile(),
-        builder.size(),
+        size,
     );
     match builder.append(page) {
         Ok(()) => Ok(()),

@@ -37,7 +37,8 @@ fn image(alloc: Global) -> Result<CompleteImage> {
             code.push(byte)?;
         }
     }
-    if code.is_empty() || code.len() > 4096 || code.len() % 4 != 0 {
+    let size = PageSize::SMALL;
+    if code.is_empty() || code.len() > size.bytes() as usize || code.len() % 4 != 0 {
         bail!("the code is no page");
     }
     let Some(count) = WordCount::new((code.len() / 4) as u32) else {
@@ -47,7 +48,7 @@ fn image(alloc: Global) -> Result<CompleteImage> {
         bail!("the entry is no word");
     };
     let mut builder = Builder::new(alloc, extent, ModuleNumber::at(0))?;
-    let page = SealedPage::of(alloc, PageSize::SMALL, &code)?;
+    let page = SealedPage::of(alloc, size, &code)?;
     if page.len_words() != builder.due() as usize {
         bail!("the page has not the words due");
     }
@@ -56,7 +57,7 @@ fn image(alloc: Global) -> Result<CompleteImage> {
         builder.placed(),
         builder.words(),
         builder.profile(),
-        builder.size(),
+        size,
     );
     if builder.append(page).is_err() {
         bail!("the code breaks a rule");

@@ -1,4 +1,4 @@
-//! How fast pages are written: `bench pages ROUNDS [time]` writes 256 small pages in each round, and a second word asks for the speed.
+//! How fast pages are written: `bench pages ROUNDS [time]` writes 256 pages in each round, and a second word asks for the speed.
 
 use anyhow::Result;
 use lfi_module::PageSize;
@@ -6,11 +6,11 @@ use page_buf::OpenPage;
 use std::alloc::Global;
 use std::time::{Duration, Instant};
 
+/// How many bytes a small page has.
+const PAGE_BYTES: usize = 4096;
+
 /// The pages that are written in one round: a megabyte.
 const BATCH: usize = 256;
-
-/// The bytes of a small page.
-const PAGE_BYTES: usize = 4096;
 
 fn batch(alloc: Global) -> Result<Vec<OpenPage>> {
     let mut pages = Vec::with_capacity(alloc, BATCH)?;

@@ -34,10 +34,14 @@ with_item s item progress = record { items = s.items ++ item ∷ []; strays = s.
 abbrev pub item_of : (m ordinal : ℕ) → ExtentView → KindView → ItemView
 item_of m ordinal extent kind = record { «module» = m; ordinal = ordinal; extent = extent; kind = kind }
 
--- a page of module m, of whose extent the first p pages have come: `then_due` where it is of the module's size and the one due, else the End
+-- page `index` of so many bytes, of pages of this size, is the one that has to come next of a module of this extent, of which the first p pages have come
+abbrev pub is_page_due : ExtentView → (p size index bytes : ℕ) → Bool
+is_page_due extent p size index bytes = size == extent.pages && is_due extent.pages extent.words p index bytes
+
+-- a page of module m, of whose extent the first p pages have come: `then_due` where it is the one due, else the End
 abbrev pub after_page : (m : ℕ) → ExtentView → (p : ℕ) → Share → (size index len : ℕ) → Share → Share
 after_page m extent p s size index len then_due =
-    if size == extent.pages && is_due extent.pages extent.words p index len then then_due
+    if is_page_due extent p size index len then then_due
     else with_item s (item_of m (p + 1) extent (End (PageFault index))) Ended
 
 -- one more message of module m, which is claimed or isn't
