@@ -10,10 +10,11 @@
 #include <sys/mman.h>
 #include <unistd.h>
 
-/* A module that was opened: its code in its slot, and how far that is judged, by the profile that its opening told. */
+/* A module that was opened: its code in its slot, the bytes of its pages, and how far it is judged, by the profile that its
+ * opening told. */
 typedef struct module {
     uint8_t *code;
-    size_t bytes;
+    size_t bytes, page_bytes;
     lfi_state state;
     lfi_event end;
 } module;
@@ -28,6 +29,7 @@ static int open_module(const lfi_event *event) {
     if (lfi_profile_map(event->profile, event->module, &map) || lfi_verify_init(&it->state, event->words, event->profile)) return 0;
     void *at = (void *)(uintptr_t)(map.base + map.code);
     it->bytes = 4 * (size_t)event->words;
+    it->page_bytes = event->page_bytes;
     it->code = mmap(at, it->bytes, PROT_READ | PROT_WRITE, MAP_PRIVATE | MAP_ANONYMOUS | MAP_FIXED_NOREPLACE, -1, 0);
     return it->code == at;
 }
@@ -54,7 +56,7 @@ static int follow(const lfi_event *event, const uint8_t *bytes, size_t used) {
 /* What became of a module: whether it is complete. From then on nobody writes its code. */
 static int tell(uint32_t number, const module *it) {
     lfi_fault found;
-    uint32_t all = (it->state.words + 1023) / 1024;
+    uint32_t all = (uint32_t)((it->bytes + it->page_bytes - 1) / it->page_bytes);
     int whole = it->end.reason == LFI_CLOSED && it->end.pages == all;
     lfi_status status = lfi_verify_final(&it->state, &found);
     printf("module %u: ", number);

@@ -21,7 +21,7 @@ extern "C" {
 #endif
 
 /* The number of this interface; lfi_version() answers that of the library that is linked. */
-#define LFI_VERSION 3u
+#define LFI_VERSION 4u
 
 /* The profiles: the rules, registers and map of slots of docs/DEFINITIONS.md. The second has the instructions of the first,
  * and LDAR and STLR. Calls with another number answer LFI_UNKNOWN_PROFILE. */
@@ -78,6 +78,7 @@ typedef struct lfi_stream_module {
     uint32_t words;   /* of an open one, its words in all */
     uint32_t entry;   /* of an open one, the word at which it is entered */
     uint32_t profile; /* of an open one, the profile by which it is to be judged */
+    uint32_t page_words; /* of an open one, the words of a full page of it: 1,024 or 4,096 */
     uint32_t pages;   /* of an open one, how many of its pages came */
 } lfi_stream_module;
 
@@ -94,7 +95,8 @@ typedef struct lfi_event {
     uint32_t words;   /* the module's words in all, of LFI_OPEN and LFI_END */
     uint32_t entry;   /* the word at which it is entered, of LFI_OPEN */
     uint32_t profile; /* the profile by which its code is to be judged, of LFI_OPEN: LFI_PROFILE_1 or LFI_PROFILE_2 */
-    uint32_t pages;   /* how many of its pages came, of LFI_END; a page has 4,096 bytes, the last one what is left */
+    uint32_t page_bytes; /* the bytes of a full page of it, of LFI_OPEN: 4,096 or 16,384; the last page has what is left */
+    uint32_t pages;   /* how many of its pages came, of LFI_END */
     uint32_t reason;  /* of LFI_END: LFI_CLOSED and the others below */
     uint32_t number;  /* of LFI_FAULT and LFI_LOST the fault, 1 to 10; of LFI_PAGE_FAULT the index of the page */
     uint32_t ended;   /* of LFI_CODE: 1 where its last byte is a page's last one, else 0 */
@@ -102,7 +104,7 @@ typedef struct lfi_event {
 } lfi_event;
 
 #define LFI_NOTHING 0u   /* nothing that a host has to do */
-#define LFI_OPEN 1u      /* the module opens, and tells its profile */
+#define LFI_OPEN 1u      /* the module opens, and tells its profile and its page size */
 #define LFI_CODE 2u      /* the bytes used are code of the module */
 #define LFI_STRAY 3u     /* a message of the module that is passed over */
 #define LFI_END 4u       /* the module has ended */
@@ -111,7 +113,7 @@ typedef struct lfi_event {
 
 #define LFI_CLOSED 1u     /* by its Close: complete where all its pages came, else incomplete */
 #define LFI_LOST 2u       /* by the stream's fault */
-#define LFI_PAGE_FAULT 3u /* by a page that isn't the one due, or hasn't its length */
+#define LFI_PAGE_FAULT 3u /* by a page that isn't the one due, hasn't its length, or is of the other kind */
 
 /* The caller owes, at each call:
  *  - no pointer is null, also where the size is 0;

@@ -6,8 +6,8 @@
 #include <stdlib.h>
 #include <string.h>
 
-#define MOST 60000u
-#define ROOM 20000u
+#define MOST 120000u
+#define ROOM 40000u
 
 static uint64_t seed;
 
@@ -27,9 +27,9 @@ typedef struct told {
 
 static told whole, cut;
 
-static void line(told *to, const char *what, uint32_t a, uint32_t b, uint32_t c, uint32_t d) {
+static void line(told *to, const char *what, uint32_t a, uint32_t b, uint32_t c, uint32_t d, uint32_t e) {
     if (to->size + 100 > sizeof to->lines) abort();
-    to->size += (size_t)sprintf(to->lines + to->size, "%s %u %u %u %u\n", what, a, b, c, d);
+    to->size += (size_t)sprintf(to->lines + to->size, "%s %u %u %u %u %u\n", what, a, b, c, d, e);
 }
 
 /* ---- a random stream */
@@ -41,22 +41,23 @@ static void put(uint32_t value, int bytes) {
     for (int k = 0; k < bytes; k++) text[length++] = (uint8_t)(value >> (8 * k));
 }
 
-static void header(uint32_t kind, uint32_t module, uint32_t a, uint32_t b) {
+static void header(uint32_t kind, uint32_t second, uint32_t module, uint32_t a, uint32_t b) {
     put(kind, 1);
-    put(0, 1);
+    put(second, 1);
     put(module, 2);
     put(a, 4);
     put(b, 4);
 }
 
-static uint32_t words_of[LFI_MODULES], pages_of[LFI_MODULES];
+static uint32_t words_of[LFI_MODULES], pages_of[LFI_MODULES], full_of[LFI_MODULES]; /* full_of: the words of a full page */
 
 static void page(uint32_t module) {
-    uint32_t left = words_of[module] - 1024 * pages_of[module], words = left < 1024 ? left : 1024;
-    if (words_of[module] <= 1024 * pages_of[module] || words == 0) words = 1 + number(1024);
-    header(2, module, number(30) ? pages_of[module] : number(5), 4 * (number(30) ? words : 1 + number(1024)));
+    uint32_t full = full_of[module], left = words_of[module] - full * pages_of[module], words = left < full ? left : full;
+    uint32_t kind = (full == 4096) == (number(30) > 0) ? 5 : 2;
+    if (words_of[module] <= full * pages_of[module] || words == 0) words = 1 + number(full);
+    header(kind, 0, module, number(30) ? pages_of[module] : number(5), 4 * (number(30) ? words : 1 + number(kind == 5 ? 4096 : 1024)));
     uint32_t bytes = (uint32_t)text[length - 4] | (uint32_t)text[length - 3] << 8;
-    for (uint32_t i = 0; i < bytes; i++) text[length++] = (uint8_t)number(256);
+    for (uint32_t i = 0; i < bytes && length < MOST; i++) text[length++] = (uint8_t)number(256);
     pages_of[module]++;
 }
 
@@ -65,14 +66,16 @@ static void make(void) {
     length = 0;
     memset(words_of, 0, sizeof words_of);
     memset(pages_of, 0, sizeof pages_of);
-    for (uint32_t i = 0; i < messages && length + 5000 < MOST; i++) {
+    for (uint32_t i = 0; i < messages && length + 17000 < MOST; i++) {
         uint32_t module = number(3) + (number(20) ? 0 : 13), what = number(8);
         if (what == 0 || words_of[module] == 0) {
-            words_of[module] = 1 + number(number(2) ? 4000 : 100);
+            uint32_t opening = number(4), second = opening == 3 ? 2 : number(40) ? 0 : number(4);
+            words_of[module] = 1 + number(number(2) ? (opening == 3 ? 9000 : 4000) : 100);
             pages_of[module] = 0;
-            header(number(3) ? 1 : 4, module, words_of[module], number(words_of[module]));
-        } else if (what == 1 || 1024 * pages_of[module] >= words_of[module]) {
-            header(3, module, 0, 0);
+            full_of[module] = opening == 3 ? 4096 : 1024;
+            header(opening < 2 ? 1 : 4, second, module, words_of[module], number(words_of[module]));
+        } else if (what == 1 || full_of[module] * pages_of[module] >= words_of[module]) {
+            header(3, 0, module, 0, 0);
         } else {
             page(module);
         }
@@ -91,71 +94,72 @@ static uint32_t at(size_t place, int bytes) {
 
 static uint32_t fault_of(uint32_t kind, uint32_t second, uint32_t module, uint32_t a, uint32_t b) {
     int opens = kind == 1 || kind == 4;
-    if (kind < 1 || kind > 4) return 1;
-    if (second) return 2;
+    if (kind < 1 || kind > 5) return 1;
+    if (second && !(kind == 4 && second == 2)) return 2;
     if (module > 15) return 3;
-    if (kind == 2 && (b == 0 || b > 4096 || b % 4)) return 4;
+    if ((kind == 2 || kind == 5) && (b == 0 || b > (kind == 5 ? 16384u : 4096u) || b % 4)) return 4;
     if (kind == 3 && (a || b)) return 5;
     if (opens && (a == 0 || a > LFI_MAX_WORDS)) return 6;
     return opens && b >= a ? 7 : 0;
 }
 
 static void pass(told *to) {
-    uint32_t phase[LFI_MODULES] = {0}, words[LFI_MODULES] = {0}, pages[LFI_MODULES] = {0}, fault = 0;
+    uint32_t phase[LFI_MODULES] = {0}, words[LFI_MODULES] = {0}, pages[LFI_MODULES] = {0}, full[LFI_MODULES] = {0}, fault = 0;
     size_t place = 0;
     while (!fault && length - place >= 12) {
         uint32_t kind = at(place, 1), m = at(place + 2, 2), a = at(place + 4, 4), b = at(place + 8, 4);
         if ((fault = fault_of(kind, at(place + 1, 1), m, a, b))) break;
         if ((kind == 1 || kind == 4) && phase[m] == 0) {
-            line(to, "open", m, a, b, kind == 4 ? LFI_PROFILE_2 : LFI_PROFILE_1);
+            full[m] = at(place + 1, 1) ? 4096 : 1024;
+            line(to, "open", m, a, b, kind == 4 ? LFI_PROFILE_2 : LFI_PROFILE_1, 4 * full[m]);
             phase[m] = 1, words[m] = a;
         } else if (kind == 3 && phase[m] == 1) {
-            line(to, "end", m, words[m], pages[m], LFI_CLOSED);
+            line(to, "end", m, words[m], pages[m], LFI_CLOSED, 0);
             phase[m] = 2;
-        } else if (kind == 2 && phase[m] == 1) {
-            uint32_t all = (words[m] + 1023) / 1024, left = words[m] - 1024 * a;
-            if (a == pages[m] && a < all && b == 4 * (left < 1024 ? left : 1024)) {
-                size_t here = length - place - 12 < b ? length - place - 12 : b;
-                if (4096 * (size_t)a + here <= ROOM) memcpy(to->code[m] + 4096 * (size_t)a, text + place + 12, here);
-                if (here == b) line(to, "page", m, pages[m]++, 0, 0);
+        } else if ((kind == 2 || kind == 5) && phase[m] == 1) {
+            uint32_t p = full[m], all = (words[m] + p - 1) / p, left = words[m] - p * a;
+            if ((kind == 5) == (p == 4096) && a == pages[m] && a < all && b == 4 * (left < p ? left : p)) {
+                size_t here = length - place - 12 < b ? length - place - 12 : b, first = 4 * (size_t)p * a;
+                if (first + here <= ROOM) memcpy(to->code[m] + first, text + place + 12, here);
+                if (here == b) line(to, "page", m, (uint32_t)(first + here), 0, 0, 0), pages[m]++;
             } else {
-                line(to, "page fault", m, words[m], pages[m], a);
+                line(to, "page fault", m, words[m], pages[m], a, 0);
                 phase[m] = 2;
             }
         } else {
-            line(to, "stray", m, 0, 0, 0);
+            line(to, "stray", m, 0, 0, 0, 0);
         }
-        size_t size = 12 + (kind == 2 ? (size_t)b : 0);
+        size_t size = 12 + (kind == 2 || kind == 5 ? (size_t)b : 0);
         if (length - place < size) fault = 9;
         else place += size;
     }
     if (!fault && place < length) fault = 9;
     for (uint32_t m = 0; m < LFI_MODULES; m++)
         if (phase[m] == 1 && !fault) fault = 9;
-    if (fault) line(to, "fault", fault, 0, 0, 0);
+    if (fault) line(to, "fault", fault, 0, 0, 0, 0);
     for (uint32_t m = 0; m < LFI_MODULES; m++)
-        if (phase[m] == 1) line(to, "lost", m, words[m], pages[m], fault);
+        if (phase[m] == 1) line(to, "lost", m, words[m], pages[m], fault, 0);
 }
 
 /* ---- the same in pieces */
 
 static void tell(told *to, const lfi_event *event, const uint8_t *bytes, size_t used) {
-    if (event->kind == LFI_OPEN) line(to, "open", event->module, event->words, event->entry, event->profile);
-    if (event->kind == LFI_STRAY) line(to, "stray", event->module, 0, 0, 0);
+    if (event->kind == LFI_OPEN) line(to, "open", event->module, event->words, event->entry, event->profile, event->page_bytes);
+    if (event->kind == LFI_STRAY) line(to, "stray", event->module, 0, 0, 0, 0);
     if (event->kind == LFI_CODE) {
         if (event->offset + used <= ROOM) memcpy(to->code[event->module] + event->offset, bytes, used);
-        if (event->ended) line(to, "page", event->module, (uint32_t)((event->offset + used - 1) / 4096), 0, 0);
+        if (event->ended) line(to, "page", event->module, (uint32_t)(event->offset + used), 0, 0, 0);
     }
-    if (event->kind == LFI_END && event->reason == LFI_CLOSED) line(to, "end", event->module, event->words, event->pages, LFI_CLOSED);
-    if (event->kind == LFI_END && event->reason == LFI_PAGE_FAULT) line(to, "page fault", event->module, event->words, event->pages, event->number);
-    if (event->kind == LFI_END && event->reason == LFI_LOST) line(to, "lost", event->module, event->words, event->pages, event->number);
-    if (event->kind == LFI_FAULT) line(to, "fault", event->number, 0, 0, 0);
+    if (event->kind == LFI_END && event->reason == LFI_CLOSED) line(to, "end", event->module, event->words, event->pages, LFI_CLOSED, 0);
+    if (event->kind == LFI_END && event->reason == LFI_PAGE_FAULT) line(to, "page fault", event->module, event->words, event->pages, event->number, 0);
+    if (event->kind == LFI_END && event->reason == LFI_LOST) line(to, "lost", event->module, event->words, event->pages, event->number, 0);
+    if (event->kind == LFI_FAULT) line(to, "fault", event->number, 0, 0, 0, 0);
 }
 
 /* Whether two events are the same, field by field: what lies between the fields is nobody's. */
 static int same(const lfi_event *a, const lfi_event *b) {
     return a->kind == b->kind && a->module == b->module && a->words == b->words && a->entry == b->entry && a->profile == b->profile &&
-           a->pages == b->pages && a->reason == b->reason && a->number == b->number && a->ended == b->ended && a->offset == b->offset;
+           a->page_bytes == b->page_bytes && a->pages == b->pages && a->reason == b->reason && a->number == b->number && a->ended == b->ended && a->offset == b->offset;
 }
 
 static int in_pieces(told *to, uint32_t longest) {

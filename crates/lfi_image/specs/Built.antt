@@ -1,6 +1,5 @@
 -- What a builder holds.
 use Rattle.std.specs.Prelude.{ℕ, List, [], ◌∷◌, ◌++◌, length}
-use Rattle.lfi_module.specs.Numbers.{page_words}
 use Rattle.lfi_module.specs.Pages.{words_due}
 use Rattle.a64_word.specs.Words.{words_of}
 use Rattle.lfi_image.specs.Image.{Module}
@@ -12,8 +11,8 @@ words_in (page ∷ pages) = words_of page ++ words_in pages
 
 -- how many words the next page has
 abbrev pub due : Module → ℕ
-due m = words_due page_words m.words (length m.placed)
+due m = words_due m.pages m.words (length m.placed)
 
 -- with more words placed
 abbrev pub with_placed : Module → List ℕ → Module
-with_placed m more = record { words = m.words; entry = m.entry; profile = m.profile; slot = m.slot; placed = m.placed ++ more }
+with_placed m more = record { words = m.words; entry = m.entry; profile = m.profile; pages = m.pages; slot = m.slot; placed = m.placed ++ more }

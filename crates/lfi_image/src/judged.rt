@@ -1,11 +1,10 @@
 //! A page and its verdict, which stay together.
 ghost use Rattle.std.specs.Prelude.{◌≡◌, length};
-ghost use Rattle.lfi_module.specs.Numbers.{page_words};
 ghost use Rattle.lfi_module.specs.Pages.{words_due};
 ghost use Rattle.a64_word.specs.Words.{words_of};
 ghost use Rattle.lfi_rules.specs.Verdicts.{Judges};
 
-use lfi_module::{Profile, WordCount};
+use lfi_module::{PageSize, Profile, WordCount};
 use lfi_rules::{PageVerdict, judge};
 use page_buf::SealedPage;
 use std::marker::Model;
@@ -13,14 +12,15 @@ use std::marker::Model;
 /// A page of a module, with the verdict on it at its place there. Its type keeps that the verdict is the judge's on
 /// these very words at this place by this profile, and that the page has the words due there.
 ///
-/// A contract sees it as its bytes, the place of its first word, and the words and the profile of its module: these
-/// determine what a verdict says. It moves between threads.
+/// A contract sees it as its bytes, the place of its first word, and the words, the profile and the pages' size of its
+/// module: these determine what a verdict says. It moves between threads.
 #[derive(Drop)]
 pub struct JudgedPage {
     page: SealedPage,
     verdict: PageVerdict,
     words: WordCount,
     profile: Profile,
+    size: PageSize,
 }
 
 impl Model for JudgedPage {
@@ -28,17 +28,23 @@ impl Model for JudgedPage {
 
     ghost Value = { JudgedView };
 
-    ghost view = { λ p. record { page = p.page; first = p.verdict.first; words = p.words; profile = p.profile } };
+    ghost view = { λ p. record { page = p.page; first = p.verdict.first; words = p.words; profile = p.profile; pages = p.size } };
 
-    ghost invariant = { λ p. IsJudged p.profile p.page p.verdict p.words };
+    ghost invariant = { λ p. IsJudged p.profile p.page p.verdict p.words p.size };
 }
 
 impl JudgedPage {
     /// Judges a page whose first word is the word `first` of a module of so many words, by a profile. The page has the
-    /// words due there: 1,024, or all that are left.
-    pub fn judge(page: SealedPage, first: u32, words: WordCount, profile: Profile) -> JudgedPage
-        requires due { length (words_of page) ≡ words_due page_words words first }
-        ensures { result ≡ record { page = page; first = first; words = words; profile = profile } }
+    /// words due there: a full page's of this size, or all that are left.
+    pub fn judge(
+        page: SealedPage,
+        first: u32,
+        words: WordCount,
+        profile: Profile,
+        size: PageSize,
+    ) -> JudgedPage
+        requires due { length (words_of page) ≡ words_due size words first }
+        ensures { result ≡ record { page = page; first = first; words = words; profile = profile; pages = size } }
     {
         let verdict = judge(&page, first, words.number(), profile);
         JudgedPage {
@@ -46,6 +52,7 @@ impl JudgedPage {
             verdict,
             words,
             profile,
+            size,
         }
     }
 
@@ -84,10 +91,17 @@ impl JudgedPage {
         self.profile
     }
 
+    /// The size of its module's full pages.
+    pub fn size(&self) -> PageSize
+        ensures { result ≡ self.now.pages }
+    {
+        self.size
+    }
+
     /// The page, and the verdict on it.
     pub fn into_parts(self) -> (SealedPage, PageVerdict)
         ensures page { result.0 ≡ self.page }
-        ensures due { length (words_of self.page) ≡ words_due page_words self.words self.first }
+        ensures due { length (words_of self.page) ≡ words_due self.pages self.words self.first }
         ensures verdict { Judges self.profile (words_of self.page) self.first self.words result.1 }
     {
         let JudgedPage {
@@ -95,6 +109,7 @@ impl JudgedPage {
             verdict,
             words: _,
             profile: _,
+            size: _,
         } = self;
         (page, verdict)
     }

@@ -102,7 +102,7 @@ no_fault feed messages rest stands none fault e = by feed.position stands.positi
 fault_without : (rest : Rest) (inside : Bool) → ((fault : FrameFault) → rest ≡ faulty fault → ⊥) → fault_of rest End inside ≡ fault_by_cause End inside
 fault_without short inside h = refl
 fault_without (faulty fault) inside h = absurd (h fault refl)
-fault_without (unfinished m index len) inside h = refl
+fault_without (unfinished m size index len) inside h = refl
 fault_without whole inside h = refl
 
 none_pass : (p : ℕ → Bool) (xs : List ℕ) → ((x : ℕ) → p x ≡ false) → list_any p xs ≡ false

@@ -22,7 +22,7 @@ use Rattle.lfi_stream.proofs.Texts.{shorter, short_before, whole_text}
 -- before a header's end no page is awaited
 awaits_short : (o : Option Coming) (made made' : ℕ → Share) (rest other : List ℕ) → rest_of rest ≡ short → rest_of other ≡ short → Awaits o made rest → Awaits o made' other
 awaits_short (Some page) made made' rest other is is' h = absurd (let e = h.header in cc)
-awaits_short None made made' rest other is is' h = λ m index len e. absurd (cc)
+awaits_short None made made' rest other is is' h = λ m size index len e. absurd (cc)
 
 holds_short : (s : LfiStream) (ms : List Message) (rest other : List ℕ) → rest_of rest ≡ short → rest_of other ≡ short → Holds s ms rest → Holds s ms other
 holds_short s ms rest other is is' h = record {
@@ -30,8 +30,8 @@ holds_short s ms rest other is is' h = record {
   awaits = awaits_short (page_at s.page) (made_of ms (rest_of rest)) (made_of ms (rest_of other)) rest other is is' h.awaits;
 }
 
-no_page : (ms : List Message) (rest used : List ℕ) → rest_of rest ≡ short → (used ≡ []) ⊎ ((m index len : ℕ) → rest_of rest ≡ unfinished m index len → IsOver (made_of ms (rest_of rest) m).progress)
-no_page ms rest used is = inr (λ m index len e. absurd (cc))
+no_page : (ms : List Message) (rest used : List ℕ) → rest_of rest ≡ short → (used ≡ []) ⊎ ((m size index len : ℕ) → rest_of rest ≡ unfinished m size index len → IsOver (made_of ms (rest_of rest) m).progress)
+no_page ms rest used is = inr (λ m size index len e. absurd (cc))
 
 plain_code : (event : Event) (ms : List Message) (rest used : List ℕ) → IsPlain event → rest_of rest ≡ short → TellsCode event ms rest used
 plain_code Nothing ms rest used plain is = no_page ms rest used is

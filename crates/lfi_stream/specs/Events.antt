@@ -1,7 +1,6 @@
 -- What the events of a stream tell of its text. Source: docs/PROFILE.md, "Streams".
 use Rattle.std.specs.Prelude.{◌≡◌, ◌≢◌, ℕ, ◌+◌, ◌*◌, ◌==◌, if◌then◌else◌, true, false, List, [], ◌++◌, length, drop, flat_map, ◌⊎◌, Some}
 use Rattle.lfi_module.specs.Extents.{ExtentView}
-use Rattle.lfi_module.specs.Numbers.{page_bytes}
 use Rattle.lfi_frame.specs.Streams.{Message, spelling, rest_of, unfinished, faulty}
 use Rattle.lfi_frame.specs.Feeds.{FeedStands}
 use Rattle.lfi_frame.specs.declared.fault.FrameFault.{FrameFault}
@@ -48,13 +47,13 @@ pub record IsCodeAt (k offset : ℕ) (messages : List Message) (rest : List ℕ)
   pub pages : ℕ
   pub len : ℕ
   pub going : (made_of messages (rest_of rest) k).progress ≡ Going extent pages
-  pub header : rest_of rest ≡ unfinished k pages len
-  pub offset_is : offset ≡ page_bytes * pages + length (drop 12 rest)
+  pub header : rest_of rest ≡ unfinished k extent.pages pages len
+  pub offset_is : offset ≡ 4 * extent.pages * pages + length (drop 12 rest)
 
 -- Code is told where it belongs; and where none is told, none was used.
 abbrev pub TellsCode : Event → (messages : List Message) → (rest used : List ℕ) → Type 0
 TellsCode (Code k offset ended) messages rest used = IsCodeAt k offset messages rest
-TellsCode event messages rest used = (used ≡ []) ⊎ ((m index len : ℕ) → rest_of rest ≡ unfinished m index len → IsOver (made_of messages (rest_of rest) m).progress)
+TellsCode event messages rest used = (used ≡ []) ⊎ ((m size index len : ℕ) → rest_of rest ≡ unfinished m size index len → IsOver (made_of messages (rest_of rest) m).progress)
 
 -- After an event the text is longer by the bytes used, and cut so; the feed and the other numbers stand for it.
 pub record Moves (feed : Feed) (stream : LfiStream) (messages : List Message) (rest used : List ℕ) (event : Event) : Type 0 where

@@ -1,5 +1,6 @@
 -- What becomes of a module, by the first fault of its whole pages and by its end. Source: docs/PROFILE.md, "Streams".
 use Rattle.std.specs.Prelude.{ℕ, List, [], flat_map, Option, Some, None}
+use Rattle.lfi_module.specs.Extents.{ExtentView}
 use Rattle.lfi_rules.specs.declared.fault.Fault.{Fault}
 use Rattle.lfi_model.specs.Item.{ItemView, KindView}
 use Rattle.lfi_model.specs.Outcomes.{by_end}
@@ -18,6 +19,6 @@ abbrev pub code_of : List ItemView → List ℕ
 code_of items = flat_map (λ item. bytes_at item.kind) items
 
 -- refused with its first fault; or what its end tells, where there is none
-abbrev pub outcome_by : ℕ → List ItemView → Option Fault → Reason → Outcome
-outcome_by words items (Some fault) reason = Refused fault
-outcome_by words items None reason = by_end words items reason
+abbrev pub outcome_by : ExtentView → List ItemView → Option Fault → Reason → Outcome
+outcome_by extent items (Some fault) reason = Refused fault
+outcome_by extent items None reason = by_end extent items reason

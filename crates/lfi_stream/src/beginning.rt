@@ -18,6 +18,7 @@ fn none_opened() -> [LfiStreamModule; ModuleNumber::COUNT]
         words: 0,
         entry: 0,
         profile: 0,
+        page_words: 0,
         pages: 0,
     };
     [untouched; ModuleNumber::COUNT]

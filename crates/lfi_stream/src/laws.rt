@@ -1,7 +1,6 @@
 //! Laws of streams whose numbers a caller keeps.
 
 ghost use Rattle.std.specs.Prelude.{◌≡◌, ◌<◌, ◌*◌, ℕ, List, [], ◌∷◌, length, Option, Some, All, true};
-ghost use Rattle.lfi_module.specs.Numbers.{page_words, page_bytes};
 ghost use Rattle.lfi_module.specs.Pages.{page_count};
 ghost use Rattle.a64_word.specs.Words.{words_of};
 ghost use Rattle.lfi_module.specs.Extents.{ExtentView};
@@ -29,12 +28,12 @@ pub fn one_cut()
 pub fn one_outcome()
     ensures { (messages : List Message) (rest : List ℕ) (cause : Cause) (m : ℕ) (extent : ExtentView) (item : ItemView) (items : List ItemView) (fault : Option Fault) (reason : Reason) →
         All IsMessage messages → items_of messages rest cause (λ _. true) m ≡ item ∷ items → FirstFault extent.profile (words_of (code_of (item ∷ items))) extent.words fault →
-        end_of (item ∷ items) ≡ Some reason → Load extent (item ∷ items) (outcome_by extent.words (item ∷ items) fault reason) }
+        end_of (item ∷ items) ≡ Some reason → Load extent (item ∷ items) (outcome_by extent (item ∷ items) fault reason) }
 {}
 
 /// The next page of an open module begins where the code of its whole pages ends: so bytes that are put where they belong
 /// are the module's code, one after the other.
 pub fn next_place()
     ensures { (messages : List Message) (rest : List ℕ) (m : ℕ) (extent : ExtentView) (pages : ℕ) → (made_of messages (rest_of rest) m).progress ≡ Going extent pages →
-        pages < page_count page_words extent.words → length (code_of (made_of messages (rest_of rest) m).items) ≡ page_bytes * pages }
+        pages < page_count extent.pages extent.words → length (code_of (made_of messages (rest_of rest) m).items) ≡ 4 * extent.pages * pages }
 {}

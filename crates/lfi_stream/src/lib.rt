@@ -1,4 +1,4 @@
-//! A connection's stream as it comes, in plain numbers that a caller keeps: which module opens and by which profile, where
+//! A connection's stream as it comes, in plain numbers that a caller keeps: which module opens, by which profile and with which pages, where
 //! the bytes of its code belong, how it ends.
 //!
 //! # How data flows

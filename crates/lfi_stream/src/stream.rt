@@ -1,7 +1,8 @@
 //! A stream goes on.
 
-ghost use Rattle.std.specs.Prelude.{◌≡◌, ◌≢◌, ◌<◌, ◌≤◌, ◌+◌, ◌*◌, ◌==◌, ◌++◌, ◌∷◌, ℕ, true, false, List, [], length, take, drop, Some, None, IfSome, IfNone, if◌then◌else◌, ◌⊎◌, All};
-ghost use Rattle.lfi_module.specs.Numbers.{page_bytes};
+ghost use Rattle.std.specs.Prelude.{◌≡◌, ◌≢◌, ◌<◌, ◌≤◌, ◌+◌, ◌*◌, ◌==◌, ◌&&◌, ◌++◌, ◌∷◌, ℕ, true, false, List, [], length, take, drop, Some, None, IfSome, IfNone, if◌then◌else◌, ◌⊎◌, All};
+ghost use Rattle.lfi_module.specs.Numbers.{large_page};
+ghost use Rattle.lfi_module.specs.Pages.{is_due};
 ghost use Rattle.lfi_frame.specs.declared.feed.Feed.{Feed};
 ghost use Rattle.lfi_frame.specs.declared.feed.Position.TheVariants.{Faulty};
 ghost use Rattle.lfi_frame.specs.declared.fault.FrameFault.{FrameFault};
@@ -72,18 +73,28 @@ fn close(stream: &mut LfiStream, module: ModuleNumber) -> Event
     }
 }
 
-/// The header of page `index` with `len` payload bytes: it is the one due of an open module, and is coming; or it ends its
-/// module; or it is passed over.
-fn page(stream: &mut LfiStream, module: ModuleNumber, index: u32, len: u32) -> Event
-    ensures holds { (messages : List Message) (rest payload : List ℕ) → Holds stream.old messages [] → rest_of rest ≡ unfinished «module» index len →
+/// Whether page `index` of this size, with `len` payload bytes, is the one due of an open module of which so many came.
+fn is_next(extent: Extent, pages: u32, size: PageSize, index: u32, len: u32) -> bool
+    ensures is { result ≡ (size == extent.pages && is_due extent.pages extent.words pages index len) }
+    ensures bounded { extent.pages ≤ large_page }
+{
+    size == extent.pages()
+        && extent
+            .words()
+            .is_due(extent.pages(), pages, index, len as usize)
+}
+
+/// The header of page `index` of this size with `len` payload bytes: it is the one due of an open module, and is coming; or
+/// it ends its module; or it is passed over.
+fn page(stream: &mut LfiStream, module: ModuleNumber, size: PageSize, index: u32, len: u32) -> Event
+    ensures holds { (messages : List Message) (rest payload : List ℕ) → Holds stream.old messages [] → rest_of rest ≡ unfinished «module» size index len →
         drop 12 rest ≡ [] → Holds stream.new messages rest × Grows result messages [] messages rest payload }
     ensures plain { IsPlain result }
 {
     let Progress::Going { extent, pages } = progress_in(stream, module) else {
         return Event::Stray { module };
     };
-    let words = extent.words();
-    if !words.is_due(PageSize::PROFILE, pages, index, len as usize) {
+    if !is_next(extent, pages, size, index, len) {
         place(stream, module, Progress::Ended);
         return Event::End {
             module,
@@ -96,24 +107,24 @@ fn page(stream: &mut LfiStream, module: ModuleNumber, index: u32, len: u32) -> E
     Event::Nothing
 }
 
-/// Where in its module the next byte of a page is, of which so many came.
-fn offset_of(pages: u32, come: usize) -> usize
-    ensures { come ≤ page_bytes → result ≡ page_bytes * pages + come }
+/// Where in its module the next byte of a page is, of which so many came, after so many pages of this size.
+fn offset_of(size: PageSize, pages: u32, come: usize) -> usize
+    ensures { come ≤ 4 * size → result ≡ 4 * size * pages + come }
 {
-    (PageSize::PROFILE.bytes() as usize * pages as usize).saturating_add(come)
+    (size.bytes() as usize * pages as usize).saturating_add(come)
 }
 
 /// Payload bytes of the page whose header came last, after which more are to come.
 fn payload_more(stream: &mut LfiStream, count: usize) -> Event
-    ensures holds { (messages : List Message) (rest used : List ℕ) (m index len : ℕ) → length used ≡ count → Holds stream.old messages rest →
-        rest_of rest ≡ unfinished m index len → rest_of (rest ++ used) ≡ unfinished m index len →
+    ensures holds { (messages : List Message) (rest used : List ℕ) (m size index len : ℕ) → length used ≡ count → Holds stream.old messages rest →
+        rest_of rest ≡ unfinished m size index len → rest_of (rest ++ used) ≡ unfinished m size index len →
         Holds stream.new messages (rest ++ used) × Grows result messages rest messages (rest ++ used) (drop 12 rest ++ used) × TellsCode result messages rest used }
     ensures sound { (fault : FrameFault) → result ≢ Event.Fault fault }
 {
     let Some(page) = stream.page.coming() else {
         return Event::Nothing;
     };
-    let Progress::Going { pages, .. } = progress_in(stream, page.module) else {
+    let Progress::Going { extent, pages } = progress_in(stream, page.module) else {
         return Event::Nothing;
     };
     stream.page = LfiStreamPage::of(Coming {
@@ -122,16 +133,16 @@ fn payload_more(stream: &mut LfiStream, count: usize) -> Event
     });
     Event::Code {
         module: page.module,
-        offset: offset_of(pages, page.come),
+        offset: offset_of(extent.pages(), pages, page.come),
         ended: false,
     }
 }
 
 /// The last payload bytes of the page whose header came last.
 fn payload_ended(stream: &mut LfiStream) -> Event
-    ensures holds { (messages : List Message) (rest used : List ℕ) (m index len : ℕ) → Holds stream.old messages rest →
-        rest_of rest ≡ unfinished m index len → length (drop 12 rest ++ used) ≡ len →
-        let now = messages ++ page_message m index (drop 12 rest ++ used) ∷ [] in
+    ensures holds { (messages : List Message) (rest used : List ℕ) (m size index len : ℕ) → Holds stream.old messages rest →
+        rest_of rest ≡ unfinished m size index len → length (drop 12 rest ++ used) ≡ len →
+        let now = messages ++ page_message m size index (drop 12 rest ++ used) ∷ [] in
         Holds stream.new now [] × Grows result messages rest now [] (drop 12 rest ++ used) × TellsCode result messages rest used }
     ensures sound { (fault : FrameFault) → result ≢ Event.Fault fault }
 {
@@ -141,8 +152,7 @@ fn payload_ended(stream: &mut LfiStream) -> Event
     let Progress::Going { extent, pages } = progress_in(stream, page.module) else {
         return Event::Nothing;
     };
-    let words = extent.words();
-    if pages >= words.pages(PageSize::PROFILE) {
+    if pages >= extent.words().pages(extent.pages()) {
         return Event::Nothing;
     }
     place(
@@ -156,7 +166,7 @@ fn payload_ended(stream: &mut LfiStream) -> Event
     stream.page = LfiStreamPage::none();
     Event::Code {
         module: page.module,
-        offset: offset_of(pages, page.come),
+        offset: offset_of(extent.pages(), pages, page.come),
         ended: true,
     }
 }
@@ -169,7 +179,12 @@ fn brought(stream: &mut LfiStream, got: Got, count: usize) -> Event
     match got {
         Got::More => Event::Nothing,
         Got::Open { module, extent } => open(stream, module, extent),
-        Got::Page { module, index, len } => page(stream, module, index, len),
+        Got::Page {
+            module,
+            size,
+            index,
+            len,
+        } => page(stream, module, size, index, len),
         Got::Payload { ended: false } => payload_more(stream, count),
         Got::Payload { ended: true } => payload_ended(stream),
         Got::Close { module } => close(stream, module),

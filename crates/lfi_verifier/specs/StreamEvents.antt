@@ -1,5 +1,5 @@
 -- The events of a stream as C sees them: include/lfi_verifier.h.
-use Rattle.std.specs.Prelude.{◌≡◌, ℕ, true, false, Bool, List}
+use Rattle.std.specs.Prelude.{◌≡◌, ℕ, ◌*◌, true, false, Bool, List}
 use Rattle.lfi_module.specs.Profiles.{profile_number}
 use Rattle.lfi_frame.specs.Streams.{Message}
 use Rattle.lfi_frame.specs.Faults.{number_of}
@@ -15,7 +15,7 @@ use Rattle.lfi_verifier.specs.declared.stream.LfiEvent.{LfiEvent}
 
 -- the numbers of nothing
 abbrev pub nothing_told : LfiEvent
-nothing_told = record { kind = 0; «module» = 0; words = 0; entry = 0; profile = 0; pages = 0; reason = 0; number = 0; ended = 0; offset = 0 }
+nothing_told = record { kind = 0; «module» = 0; words = 0; entry = 0; profile = 0; page_bytes = 0; pages = 0; reason = 0; number = 0; ended = 0; offset = 0 }
 
 -- the numbers are those of no stream
 abbrev pub no_stream : LfiEvent
@@ -36,7 +36,7 @@ one_if false = 0
 -- the numbers of an event
 abbrev pub event_numbers : Event → LfiEvent
 event_numbers Nothing = nothing_told
-event_numbers (Open k extent) = record nothing_told { kind = 1; «module» = k; words = extent.words; entry = extent.entry; profile = profile_number extent.profile }
+event_numbers (Open k extent) = record nothing_told { kind = 1; «module» = k; words = extent.words; entry = extent.entry; profile = profile_number extent.profile; page_bytes = 4 * extent.pages }
 event_numbers (Code k offset ended) = record nothing_told { kind = 2; «module» = k; ended = one_if ended; offset = offset }
 event_numbers (Stray k) = record nothing_told { kind = 3; «module» = k }
 event_numbers (End k extent pages reason) = record nothing_told { kind = 4; «module» = k; words = extent.words; pages = pages; reason = (reason_numbers reason).0; number = (reason_numbers reason).1 }

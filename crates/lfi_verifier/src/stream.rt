@@ -33,6 +33,8 @@ pub struct LfiEvent {
     pub entry: u32,
     /// The number of the profile by which it is to be judged, of kind 1.
     pub profile: u32,
+    /// How many bytes a full page of it has, of kind 1: 4,096 or 16,384.
+    pub page_bytes: u32,
     /// How many of its pages came, of kind 4.
     pub pages: u32,
     /// Why it ended, of kind 4: 1 a Close, 2 the stream's fault, 3 a page that isn't the one due, 4 no memory.
@@ -52,6 +54,7 @@ const NO_EVENT: LfiEvent = LfiEvent {
     words: 0,
     entry: 0,
     profile: 0,
+    page_bytes: 0,
     pages: 0,
     reason: 0,
     number: 0,
@@ -83,6 +86,7 @@ fn numbers_of(event: Event) -> LfiEvent
             words: extent.words().number(),
             entry: extent.entry(),
             profile: extent.profile().number(),
+            page_bytes: extent.pages().bytes(),
             ..NO_EVENT
         },
         Event::Code {

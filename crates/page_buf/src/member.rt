@@ -1,9 +1,10 @@
 //! A pool that parts of a program share, each with a seat of its own.
 
-ghost use Rattle.std.specs.Prelude.{◌≡◌, [], IfSome, IfNone, IfOk, IfErr, OnOk, OnErr};
+ghost use Rattle.std.specs.Prelude.{◌≡◌, ◌⊎◌, IfSome, IfNone, IfOk, IfErr, OnOk, OnErr};
+ghost use Rattle.page_buf.specs.Page.{small_empty};
 ghost use Rattle.page_buf.specs.Sightings.{Found, Passed, empty, full};
 
-use crate::page::{OpenPage, SealedPage};
+use crate::page::{OpenPage, SealedPage, SmallPage};
 use crate::pool::{Pool, PoolSeat};
 use std::alloc::{AllocError, Global};
 use std::marker::Model;
@@ -61,11 +62,32 @@ impl PoolMember {
     /// `get` of the pool.
     pub fn get(&mut self) -> Option<OpenPage>
         ensures pool { self.new.pool ≡ self.old.pool }
-        ensures empty { IfSome result (λ page. page ≡ []) }
+        ensures empty { IfSome result (λ page. page ≡ small_empty) }
         ensures some { IfSome result (λ _. Found full self.old.seen self.new.seen) }
         ensures none { IfNone result (Passed full 64 self.old.seen self.new.seen) }
     {
         self.pool.get(&mut self.seat)
+    }
+
+    /// `give` of the pool, which takes small pages alone.
+    ///
+    /// # Errors
+    ///
+    /// The page as it was, only where each slot was found not empty, at a moment of the call, or where the page is a
+    /// large one: then no slot is tried.
+    pub fn give(&mut self, page: SealedPage) -> Result<(), SealedPage>
+        ensures pool { self.new.pool ≡ self.old.pool }
+        ensures ok { OnOk result (Found empty self.old.seen self.new.seen) }
+        ensures back { IfErr result (λ back. back ≡ page) }
+        ensures err { OnErr result (Passed empty 64 self.old.seen self.new.seen ⊎ (self.new.seen ≡ self.old.seen)) }
+    {
+        match page.into_small() {
+            Ok(small) => match self.give_small(small) {
+                Ok(()) => Ok(()),
+                Err(back) => Err(back.into_page()),
+            },
+            Err(large) => Err(large),
+        }
     }
 
     /// `give` of the pool.
@@ -73,7 +95,7 @@ impl PoolMember {
     /// # Errors
     ///
     /// The page as it was, only where each slot was found not empty, at a moment of the call.
-    pub fn give(&mut self, page: SealedPage) -> Result<(), SealedPage>
+    fn give_small(&mut self, page: SmallPage) -> Result<(), SmallPage>
         ensures pool { self.new.pool ≡ self.old.pool }
         ensures ok { OnOk result (Found empty self.old.seen self.new.seen) }
         ensures back { IfErr result (λ back. back ≡ page) }

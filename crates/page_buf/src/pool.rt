@@ -4,7 +4,7 @@
 ghost use Rattle.std.specs.Prelude.{◌≡◌, ◌<◌, ◌≤◌, [], IfSome, IfNone, IfOk, IfErr, OnOk, OnErr, All, length};
 
 use crate::hand::{Hand, PutBack, Sit, Slots, Try};
-use crate::page::{OpenPage, SealedPage};
+use crate::page::{OpenPage, SmallPage};
 use atomic_table::{Seat, Shared, Table};
 use std::alloc::{AllocError, Global};
 
@@ -22,7 +22,7 @@ const SLOTS: usize = 64;
 
 type Top = Shared<Option<OpenPage>, Hand, (), Slots>;
 
-/// A pool of pages, which threads share by `&`.
+/// A pool of small pages, which threads share by `&`.
 #[derive(Drop)]
 pub struct Pool {
     table: Table<Option<OpenPage>, Hand, (), Slots, Global>,
@@ -59,6 +59,7 @@ fn sit_all(alloc: Global, top: &Top, count: usize) -> Result<Vec<PoolSeat>, Allo
 }
 
 impl Pool {
+    ghost use Rattle.page_buf.specs.Page.{small_empty};
     ghost use Rattle.page_buf.specs.Sightings.{Found, Passed, empty, full};
     ghost use Rattle.page_buf.specs.Pools.{pool_id, pool_of, seen_by};
 
@@ -84,12 +85,12 @@ impl Pool {
         sit(&self.table.shared)
     }
 
-    /// A page in which nothing is written. `None` only where each slot was found not full, at a
+    /// A small page in which nothing is written. `None` only where each slot was found not full, at a
     /// moment of the call.
     pub fn get(&self, seat: &mut PoolSeat) -> Option<OpenPage>
         requires pool { pool_of seat.old ≡ pool_id self.now }
         ensures pool { pool_of seat.new ≡ pool_of seat.old }
-        ensures empty { IfSome result (λ page. page ≡ []) }
+        ensures empty { IfSome result (λ page. page ≡ small_empty) }
         ensures some { IfSome result (λ _. Found full (seen_by seat.old) (seen_by seat.new)) }
         ensures none { IfNone result (Passed full 64 (seen_by seat.old) (seen_by seat.new)) }
     {
@@ -109,7 +110,7 @@ impl Pool {
     /// # Errors
     ///
     /// The page as it was, only where each slot was found not empty, at a moment of the call.
-    pub fn give(&self, seat: &mut PoolSeat, page: SealedPage) -> Result<(), SealedPage>
+    pub fn give(&self, seat: &mut PoolSeat, page: SmallPage) -> Result<(), SmallPage>
         requires pool { pool_of seat.old ≡ pool_id self.now }
         ensures pool { pool_of seat.new ≡ pool_of seat.old }
         ensures ok { OnOk result (Found empty (seen_by seat.old) (seen_by seat.new)) }

@@ -33,11 +33,11 @@ returns-in-Page c = λ feed ms rest used size some holds was.
 pub returns-in-Payload-false : goal.returns-in-Payload-false
 returns-in-Payload-false c = λ feed ms rest used size some holds was.
     let told = subst (λ g. IsTold g feed ms rest used) (c.in-Payload-false.is ∙ ap (λ b. Payload b) c.in-Payload-false.ended-test) was in
-    let more = c.payload_more.ensures.holds ms rest used told.0 told.1 told.2 size holds told.3 told.4 in
+    let more = c.payload_more.ensures.holds ms rest used told.0 told.1 told.2 told.3 size holds told.4 told.5 in
     record {
       now = ms;
       left = rest ++ used;
-      stands = told.5;
+      stands = told.6;
       holds = more.0;
       text = refl;
       grows = more.1;
@@ -49,15 +49,15 @@ pub returns-in-Payload-true : goal.returns-in-Payload-true
 returns-in-Payload-true c = λ feed ms rest used size some holds was.
     let told = subst (λ g. IsTold g feed ms rest used) (c.in-Payload-true.is ∙ ap (λ b. Payload b) c.in-Payload-true.ended-test) was in
     let payload = drop 12 rest ++ used in
-    let message = page_message told.0 told.1 payload in
-    let long = whole_len rest used payload told.0 told.1 told.2 told.0 told.3 told.4 (last_is ms message told.5.each) in
-    let ended = c.payload_ended.ensures.holds ms rest used told.0 told.1 told.2 holds told.3 long in
+    let message = page_message told.0 told.1 told.2 payload in
+    let long = whole_len rest used payload told.0 told.1 told.2 told.3 told.0 told.4 told.5 (last_is ms message told.6.each) in
+    let ended = c.payload_ended.ensures.holds ms rest used told.0 told.1 told.2 told.3 holds told.4 long in
     record {
       now = ms ++ message ∷ [];
       left = [];
-      stands = told.5;
+      stands = told.6;
       holds = ended.0;
-      text = whole_text ms message rest used told.4;
+      text = whole_text ms message rest used told.5;
       grows = ended.1;
       code = ended.2;
       sound = c.payload_ended.ensures.sound;

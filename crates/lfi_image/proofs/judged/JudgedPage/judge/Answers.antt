@@ -1,5 +1,4 @@
 use Rattle.std.proofs.Common.{◌≡◌, length, sym, subst}
-use Rattle.lfi_module.specs.Numbers.{page_words}
 use Rattle.lfi_module.specs.Pages.{words_due}
 use Rattle.a64_word.specs.Words.{words_of}
 use Rattle.lfi_rules.specs.Verdicts.{Judges}
@@ -11,6 +10,6 @@ invariant_of-result c =
     let there : c.args.first ≡ verdict.first = sym c.judge-verdict.ensures.place in
     let judged : Judges c.args.profile (words_of c.args.page) c.args.first c.args.words verdict = subst (λ n. Judges c.args.profile (words_of c.args.page) c.args.first n verdict) c.number.ensures.value c.judge-verdict.ensures in
     record {
-      due = subst (λ first. length (words_of c.args.page) ≡ words_due page_words c.args.words first) there c.requires.due;
+      due = subst (λ first. length (words_of c.args.page) ≡ words_due c.args.size c.args.words first) there c.requires.due;
       judged = subst (λ first. Judges c.args.profile (words_of c.args.page) first c.args.words verdict) there judged;
     }

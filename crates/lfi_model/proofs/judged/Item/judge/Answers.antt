@@ -8,8 +8,10 @@ use Rattle.lfi_model.proofs.judged.Item.judge.Goals as goal
 pub judge-requires : goal.judge-requires
 judge-requires c =
     let i = c.self.inside in
-    let f : KindFits i.extent.words i.ordinal (Page c.in-Page.page) = subst (λ k. KindFits i.extent.words i.ordinal (kind_seen (λ page. page) k)) c.in-Page.is c.self.invariant.item.kind_fits in
+    let f : KindFits i.extent.pages i.extent.words i.ordinal (Page c.in-Page.page) = subst (λ k. KindFits i.extent.pages i.extent.words i.ordinal (kind_seen (λ page. page) k)) c.in-Page.is c.self.invariant.item.kind_fits in
     let count : length c.in-Page.page / 4 ≡ length (words_of c.in-Page.page) = words_count c.in-Page.page in
-    let long : length c.in-Page.page ≡ 4 * min 1024 (i.extent.words - 1024 * (i.ordinal - 1)) = f.1 in
-    let due : length (words_of c.in-Page.page) ≡ min 1024 (i.extent.words - 1024 * (i.ordinal - 1)) = omega arith in
-    record { due = due ∙ ap (λ size. min 1024 (i.extent.words - size * (i.ordinal - 1))) (sym c.words.ensures.value) ∙ ap (λ n. min 1024 (n - c.words.result * (i.ordinal - 1))) (sym c.words-in-Page.ensures) }
+    let long : length c.in-Page.page ≡ 4 * min i.extent.pages (i.extent.words - i.extent.pages * (i.ordinal - 1)) = f.1 in
+    let due : length (words_of c.in-Page.page) ≡ min i.extent.pages (i.extent.words - i.extent.pages * (i.ordinal - 1)) = omega arith in
+    let size : c.pages-size.result ≡ i.extent.pages = c.pages-size.ensures.value in
+    let words : c.words.result ≡ i.extent.pages = c.words.ensures.value ∙ size in
+    record { due = due ∙ (λ j. min (sym size j) (sym c.words-in-Page.ensures j - sym words j * (i.ordinal - 1))) }
