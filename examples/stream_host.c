@@ -1,5 +1,5 @@
-/* A host that takes a stream of modules from standard input: copies their code straight into their slots, judges each page
- * there when it is whole, and prints the report that `lfiload load` prints. docs/C.md says what each call promises.
+/* A host that takes a stream of modules from standard input: copies their code straight into their slots, hears of each module
+ * what becomes of it, and prints the report that `lfiload load` prints. docs/C.md says what each call promises.
  *
  *   cc -I include examples/stream_host.c crates/lfi_verifier/out/liblfi_verifier.a -o stream_host
  *   ./stream_host < examples/two_modules.stream */
@@ -10,11 +10,10 @@
 #include <sys/mman.h>
 #include <unistd.h>
 
-/* A module that was opened: its code in its slot, and how far that is judged, by the profile that its opening told. */
+/* A module that was opened: its code in its slot, how large it is, and how it ended. */
 typedef struct module {
     uint8_t *code;
-    size_t bytes;
-    lfi_state state;
+    uint32_t words, page_bytes;
     lfi_event end;
 } module;
 
@@ -25,26 +24,19 @@ static uint32_t strays, fault;
 static int open_module(const lfi_event *event) {
     lfi_map map;
     module *it = &modules[event->module];
-    if (lfi_profile_map(event->profile, event->module, &map) || lfi_verify_init(&it->state, event->words, event->profile)) return 0;
+    if (lfi_profile_map(event->profile, event->module, &map)) return 0;
     void *at = (void *)(uintptr_t)(map.base + map.code);
-    it->bytes = 4 * (size_t)event->words;
-    it->code = mmap(at, it->bytes, PROT_READ | PROT_WRITE, MAP_PRIVATE | MAP_ANONYMOUS | MAP_FIXED_NOREPLACE, -1, 0);
+    it->words = event->words;
+    it->page_bytes = event->page_bytes;
+    it->code = mmap(at, 4 * (size_t)it->words, PROT_READ | PROT_WRITE, MAP_PRIVATE | MAP_ANONYMOUS | MAP_FIXED_NOREPLACE, -1, 0);
     return it->code == at;
 }
 
-/* Puts code where it belongs, and judges the page where it is whole. */
-static int take_code(const lfi_event *event, const uint8_t *bytes, size_t used) {
-    module *it = &modules[event->module];
-    memcpy(it->code + event->offset, bytes, used);
-    if (!event->ended) return 1;
-    size_t judged = 4 * (size_t)it->state.judged;
-    return lfi_verify_update(&it->state, it->code + judged, event->offset + used - judged) <= LFI_REFUSED;
-}
-
-/* Does what an event asks for; answers 0 where the system gives no memory. */
+/* Does what an event asks for; answers 0 where the system gives no memory. The bytes were judged where they are: nobody else
+ * writes this piece before they are copied. */
 static int follow(const lfi_event *event, const uint8_t *bytes, size_t used) {
     if (event->kind == LFI_OPEN) return open_module(event);
-    if (event->kind == LFI_CODE) return take_code(event, bytes, used);
+    if (event->kind == LFI_CODE) memcpy(modules[event->module].code + event->offset, bytes, used);
     if (event->kind == LFI_STRAY) strays++;
     if (event->kind == LFI_END) modules[event->module].end = *event;
     if (event->kind == LFI_FAULT) fault = event->number;
@@ -53,17 +45,14 @@ static int follow(const lfi_event *event, const uint8_t *bytes, size_t used) {
 
 /* What became of a module: whether it is complete. From then on nobody writes its code. */
 static int tell(uint32_t number, const module *it) {
-    lfi_fault found;
-    uint32_t all = (it->state.words + 1023) / 1024;
-    int whole = it->end.reason == LFI_CLOSED && it->end.pages == all;
-    lfi_status status = lfi_verify_final(&it->state, &found);
+    const lfi_event *end = &it->end;
     printf("module %u: ", number);
-    if (status == LFI_REFUSED) printf("refused, word %u rule %u\n", found.word, found.rule);
-    else if (whole) printf("complete, %u words\n", it->state.words);
-    else if (it->end.reason == LFI_CLOSED) printf("incomplete, %u of %u pages\n", it->end.pages, all);
-    else if (it->end.reason == LFI_LOST) printf("lost, fault %u\n", it->end.number);
-    else printf("page fault, index %u\n", it->end.number);
-    return whole && status == LFI_LAWFUL && !mprotect(it->code, it->bytes, PROT_READ);
+    if (end->verdict == LFI_REFUSED) printf("refused, word %u rule %u\n", end->fault.word, end->fault.rule);
+    else if (end->verdict == LFI_LAWFUL) printf("complete, %u words\n", it->words);
+    else if (end->reason == LFI_CLOSED) printf("incomplete, %u of %u pages\n", end->pages, (4 * it->words + it->page_bytes - 1) / it->page_bytes);
+    else if (end->reason == LFI_LOST) printf("lost, fault %u\n", end->number);
+    else printf("page fault, index %u\n", end->number);
+    return end->verdict == LFI_LAWFUL && !mprotect(it->code, 4 * (size_t)it->words, PROT_READ);
 }
 
 int main(void) {

@@ -21,7 +21,7 @@ extern "C" {
 #endif
 
 /* The number of this interface; lfi_version() answers that of the library that is linked. */
-#define LFI_VERSION 3u
+#define LFI_VERSION 5u
 
 /* The profiles: the rules, registers and map of slots of docs/DEFINITIONS.md. The second has the instructions of the first,
  * and LDAR and STLR. Calls with another number answer LFI_UNKNOWN_PROFILE. */
@@ -60,6 +60,13 @@ typedef struct lfi_state {
     uint32_t need;    /* what the last word asks of the next one */
 } lfi_state;
 
+/* The same of a beginning that may be cut within a word: 32 bytes. */
+typedef struct lfi_cut_state {
+    lfi_state whole; /* the whole words that came */
+    uint32_t count;  /* how many bytes came after them: 0 to 3 */
+    uint8_t held[3]; /* these bytes */
+} lfi_cut_state;
+
 /* A connection's stream, of which some bytes came: plain numbers of the caller's, to be copied and dropped as it likes.
  * Only lfi_stream_init, lfi_stream_next and lfi_stream_end write them. */
 typedef struct lfi_stream_feed {
@@ -78,13 +85,24 @@ typedef struct lfi_stream_module {
     uint32_t words;   /* of an open one, its words in all */
     uint32_t entry;   /* of an open one, the word at which it is entered */
     uint32_t profile; /* of an open one, the profile by which it is to be judged */
+    uint32_t page_words; /* of an open one, the words of a full page of it: 1,024 or 4,096 */
     uint32_t pages;   /* of an open one, how many of its pages came */
 } lfi_stream_module;
 
-typedef struct lfi_stream {
+typedef struct lfi_stream_text {
     lfi_stream_feed feed;
     lfi_stream_page page;
     lfi_stream_module modules[16];
+} lfi_stream_text;
+
+typedef struct lfi_stream_verdicts {
+    lfi_state modules[16]; /* of an open module, what is judged of its whole pages */
+    lfi_cut_state coming;  /* of the page that is coming what came, after its module's whole pages */
+} lfi_stream_verdicts;
+
+typedef struct lfi_stream {
+    lfi_stream_text text;
+    lfi_stream_verdicts verdicts;
 } lfi_stream;
 
 /* What bytes of a stream brought. What a kind doesn't tell is 0. */
@@ -94,15 +112,19 @@ typedef struct lfi_event {
     uint32_t words;   /* the module's words in all, of LFI_OPEN and LFI_END */
     uint32_t entry;   /* the word at which it is entered, of LFI_OPEN */
     uint32_t profile; /* the profile by which its code is to be judged, of LFI_OPEN: LFI_PROFILE_1 or LFI_PROFILE_2 */
-    uint32_t pages;   /* how many of its pages came, of LFI_END; a page has 4,096 bytes, the last one what is left */
+    uint32_t page_bytes; /* the bytes of a full page of it, of LFI_OPEN: 4,096 or 16,384; the last page has what is left */
+    uint32_t pages;   /* how many of its pages came, of LFI_END */
     uint32_t reason;  /* of LFI_END: LFI_CLOSED and the others below */
     uint32_t number;  /* of LFI_FAULT and LFI_LOST the fault, 1 to 10; of LFI_PAGE_FAULT the index of the page */
     uint32_t ended;   /* of LFI_CODE: 1 where its last byte is a page's last one, else 0 */
+    lfi_status verdict; /* of LFI_CODE: LFI_LAWFUL or LFI_REFUSED, by all whole words of the module that were told so far;
+                           of LFI_END: LFI_LAWFUL, it is complete and lawful; LFI_REFUSED; LFI_INCOMPLETE, it is neither */
+    lfi_fault fault;  /* where that is LFI_REFUSED, the module's first fault so far, or of all its whole pages; else {0, 0} */
     size_t offset;    /* of LFI_CODE: where in the module's code the first of these bytes belongs */
 } lfi_event;
 
 #define LFI_NOTHING 0u   /* nothing that a host has to do */
-#define LFI_OPEN 1u      /* the module opens, and tells its profile */
+#define LFI_OPEN 1u      /* the module opens, and tells its profile and its page size */
 #define LFI_CODE 2u      /* the bytes used are code of the module */
 #define LFI_STRAY 3u     /* a message of the module that is passed over */
 #define LFI_END 4u       /* the module has ended */
@@ -111,14 +133,15 @@ typedef struct lfi_event {
 
 #define LFI_CLOSED 1u     /* by its Close: complete where all its pages came, else incomplete */
 #define LFI_LOST 2u       /* by the stream's fault */
-#define LFI_PAGE_FAULT 3u /* by a page that isn't the one due, or hasn't its length */
+#define LFI_PAGE_FAULT 3u /* by a page that isn't the one due, hasn't its length, or is of the other kind */
 
 /* The caller owes, at each call:
  *  - no pointer is null, also where the size is 0;
  *  - each pointer to a struct is aligned for it; bytes may lie at any address;
  *  - `size` bytes can be read at `code`, `piece` or `bytes`, and `room` bytes written at `text`, each below 2^63, and nobody else
  *    writes them during the call: bytes that another thread or process may still write are to be copied first;
- *  - a struct that is written overlaps nothing else that the call is handed, and no other thread uses it during the call.
+ *  - a struct that is written overlaps nothing else that the call is handed, and no other thread uses it during the call;
+ *  - nobody writes bytes that lfi_stream_next told as code, until the host has its own copy of them: they were judged there.
  * A state needs no more than that: numbers that no call made are answered, by LFI_BAD_STATE where they can't be a state's.
  */
 
@@ -167,24 +190,32 @@ lfi_status lfi_explain(uint32_t profile, uint32_t module, uint32_t words, const 
  * on `profile`: each tells its own, by LFI_OPEN. */
 lfi_status lfi_stream_init(lfi_stream *stream, uint32_t profile);
 
-/* Goes on in the next bytes of a stream, up to the end of a header or of a payload, and answers how many it used: 0 to
- * `size`, and at least 1 where there are any, unless *event is LFI_FAULT or LFI_NO_STREAM. What it didn't use comes first
- * in the next call. Ensures, where *stream stood for a stream of which certain bytes came, in whatever pieces:
+/* Goes on in the next bytes of a stream, up to the end of a header or of a payload, judges them where they are code, and
+ * answers how many it used: 0 to `size`, and at least 1 where there are any, unless *event is LFI_FAULT or LFI_NO_STREAM. What
+ * it didn't use comes first in the next call. Ensures, where *stream stood for a stream of which certain bytes came, in
+ * whatever pieces:
  *  - unless *event is LFI_FAULT, *stream stands for the stream of which these bytes and then those used came, and *event tells
  *    what they brought, and all of it: LFI_OPEN, a module that wasn't opened before opens; LFI_CODE, all bytes used are payload of the page that is
  *    due of an open module, and belong at `offset` of its code; LFI_STRAY, a message is passed over; LFI_END, by a Close
- *    or a page that isn't due;
- *  - LFI_FAULT: the bytes used end a header with this fault.
+ *    or a page that isn't due. The bytes used are all of one message, and none lies behind its header where they began in it;
+ *  - LFI_FAULT: the bytes used end a header with this fault;
+ *  - of LFI_CODE, `verdict` and `fault` tell what lfi_verify_final tells of the whole words of the module's code up to these bytes' end: a fault
+ *    or, so far, none. A page that is cut off counts here too;
+ *  - of LFI_END, they tell the outcome of one plain pass over the module's whole pages, by the profile that its LFI_OPEN told:
+ *    LFI_REFUSED and their first fault, whatever its end is; LFI_LAWFUL, where all its words came, none breaks a rule, and a
+ *    Close ended it: lfi_verify tells the same of its code; LFI_INCOMPLETE, else.
  * At the stream's fault every call answers 0 and tells it. LFI_NO_STREAM: *stream can't stand for any stream, and is as it
- * was. Bytes of a module are lawful where lfi_verify says so, by the profile that its LFI_OPEN told: judge them where they
- * lie. */
+ * was. Where only the verifier's numbers of a module are none that it can have, `verdict` is LFI_BAD_STATE.
+ * The bytes are judged here, in this piece: from this call on until the host has made its own copy of them nobody may write
+ * them, or what is judged isn't what is copied. A host may judge its copy besides, by lfi_verify_update. */
 size_t lfi_stream_next(lfi_stream *LFI_RESTRICT stream, const uint8_t *LFI_RESTRICT bytes, size_t size, lfi_event *LFI_RESTRICT event);
 
 /* Tells the end of the input. Ensures, where *stream stood for a stream of which certain bytes came: LFI_LAWFUL, and
  *  - LFI_NOTHING: it ended between two messages, and no module is open; *stream is as it was;
  *  - LFI_FAULT: it ended within a message, or a module is open; this is the stream's fault.
  * At the stream's fault each call ends the open module of the least number, LFI_END by LFI_LOST, and LFI_NOTHING tells that none
- * is open. LFI_BAD_STATE: *stream can't stand for any stream, and is as it was; *event is LFI_NO_STREAM. */
+ * is open; of LFI_END `verdict` and `fault` tell the outcome as in lfi_stream_next. LFI_BAD_STATE: *stream can't stand for any
+ * stream, and is as it was; *event is LFI_NO_STREAM. */
 lfi_status lfi_stream_end(lfi_stream *LFI_RESTRICT stream, lfi_event *LFI_RESTRICT event);
 
 /* Where the parts of a module's slot lie, in addresses and bytes. The guards, one directly below the base and one directly

@@ -242,36 +242,42 @@ static int all_explained(void) {
     return 0;
 }
 
-/* A stream of a module of one word whose Open is of this kind: the profile that its opening tells, and what is found by it. */
-static lfi_status in_stream(uint8_t kind, uint32_t word, uint32_t *profile) {
+/* A stream of a module of one word, with the first two bytes of its Open and the kind of its page: the profile and the bytes of a
+ * page that its opening tells, and what is found by that profile. */
+static lfi_status in_stream(uint8_t kind, uint8_t second, uint8_t page, uint32_t word, uint32_t *profile, uint32_t *page_bytes) {
     uint8_t text[40] = {0};
     lfi_stream stream;
     lfi_event event = {0};
     lfi_state state = {0};
     lfi_fault f;
-    text[0] = kind, text[4] = 1;    /* an Open of module 5: a word, entered at word 0 */
-    text[12] = 2, text[20] = 4;     /* its page 0, of 4 bytes */
+    text[0] = kind, text[1] = second, text[4] = 1; /* an Open of module 5: a word, entered at word 0 */
+    text[12] = page, text[20] = 4;  /* its page 0, of 4 bytes */
     text[28] = 3;                   /* its Close */
     text[2] = text[14] = text[30] = 5;
     put(text + 24, word);
     if (lfi_stream_init(&stream, LFI_PROFILE_1)) return LFI_BAD_STATE;
     for (size_t at = 0, used; at < sizeof text && event.kind < LFI_FAULT; at += used) {
         used = lfi_stream_next(&stream, text + at, sizeof text - at, &event);
-        if (event.kind == LFI_OPEN) *profile = event.profile;
+        if (event.kind == LFI_OPEN) *profile = event.profile, *page_bytes = event.page_bytes;
         if (event.kind == LFI_OPEN && (event.module != 5 || lfi_verify_init(&state, event.words, event.profile))) return LFI_BAD_STATE;
         if (event.kind == LFI_CODE && lfi_verify_update(&state, text + at, used) > LFI_REFUSED) return LFI_BAD_STATE;
     }
-    return event.kind == LFI_END && event.reason == LFI_CLOSED && event.profile == 0 ? lfi_verify_final(&state, &f) : LFI_BAD_STATE;
+    if (event.kind != LFI_END || event.reason != LFI_CLOSED || event.profile || event.page_bytes || lfi_verify_final(&state, &f) != event.verdict) return LFI_BAD_STATE;
+    return event.fault.word == f.word && event.fault.rule == f.rule ? event.verdict : LFI_BAD_STATE;
 }
 
 static int streams(void) {
-    uint32_t by = 0;
-    CHECK(120, sizeof(lfi_stream_module) == 20 && sizeof(lfi_stream) == 360);
-    CHECK(121, in_stream(1, 0xD65F03C0, &by) == LFI_LAWFUL && by == LFI_PROFILE_1);
-    CHECK(122, in_stream(1, 0xC8DFFE40, &by) == LFI_REFUSED && by == LFI_PROFILE_1); /* LDAR X0, [X18] */
-    CHECK(123, in_stream(4, 0xC8DFFE40, &by) == LFI_LAWFUL && by == LFI_PROFILE_2);
-    CHECK(124, in_stream(4, 0xC8DFFC20, &by) == LFI_REFUSED && by == LFI_PROFILE_2); /* LDAR X0, [X1] */
-    CHECK(125, in_stream(5, 0xD65F03C0, &by) == LFI_BAD_STATE && in_stream(0, 0xD65F03C0, &by) == LFI_BAD_STATE);
+    uint32_t by = 0, size = 0;
+    CHECK(120, sizeof(lfi_stream_module) == 24 && sizeof(lfi_stream_text) == 424 && sizeof(lfi_cut_state) == 32 && sizeof(lfi_stream) == 840);
+    CHECK(121, in_stream(1, 0, 2, 0xD65F03C0, &by, &size) == LFI_LAWFUL && by == LFI_PROFILE_1 && size == 4096);
+    CHECK(122, in_stream(1, 0, 2, 0xC8DFFE40, &by, &size) == LFI_REFUSED && by == LFI_PROFILE_1 && size == 4096); /* LDAR X0, [X18] */
+    CHECK(123, in_stream(4, 0, 2, 0xC8DFFE40, &by, &size) == LFI_LAWFUL && by == LFI_PROFILE_2 && size == 4096);
+    CHECK(124, in_stream(4, 0, 2, 0xC8DFFC20, &by, &size) == LFI_REFUSED && by == LFI_PROFILE_2 && size == 4096); /* LDAR X0, [X1] */
+    CHECK(125, in_stream(4, 2, 5, 0xC8DFFE40, &by, &size) == LFI_LAWFUL && by == LFI_PROFILE_2 && size == 16384);
+    CHECK(126, in_stream(4, 2, 5, 0xC8DFFC20, &by, &size) == LFI_REFUSED && by == LFI_PROFILE_2 && size == 16384);
+    CHECK(127, in_stream(4, 2, 2, 0xD65F03C0, &by, &size) == LFI_BAD_STATE && in_stream(4, 0, 5, 0xD65F03C0, &by, &size) == LFI_BAD_STATE);
+    CHECK(128, in_stream(5, 0, 2, 0xD65F03C0, &by, &size) == LFI_BAD_STATE && in_stream(0, 0, 2, 0xD65F03C0, &by, &size) == LFI_BAD_STATE);
+    CHECK(129, in_stream(1, 2, 5, 0xD65F03C0, &by, &size) == LFI_BAD_STATE && in_stream(4, 1, 2, 0xD65F03C0, &by, &size) == LFI_BAD_STATE);
     return 0;
 }
 

@@ -1,13 +1,14 @@
-/* streams COUNT SEED: random streams, with mistakes of all kinds, in random pieces. What lfi_stream_next tells of them, put
- * together, must be what one plain pass over all their bytes makes of them: the same modules, strays, ends and faults in the
- * same order, and the same bytes of code at the same places. */
+/* streams COUNT SEED: random streams, with mistakes of all kinds, in random pieces, cut within words too. What lfi_stream_next
+ * tells of them, put together, must be what one plain pass over all their bytes makes of them: the same modules, strays, ends
+ * and faults in the same order, the same bytes of code at the same places, and of each end the outcome that lfi_verify makes of
+ * the module's whole pages. What is told of code is, at some places, what lfi_verify_final tells of all of it up to there. */
 #include "lfi_verifier.h"
 #include <stdio.h>
 #include <stdlib.h>
 #include <string.h>
 
-#define MOST 60000u
-#define ROOM 20000u
+#define MOST 120000u
+#define ROOM 40000u
 
 static uint64_t seed;
 
@@ -27,9 +28,9 @@ typedef struct told {
 
 static told whole, cut;
 
-static void line(told *to, const char *what, uint32_t a, uint32_t b, uint32_t c, uint32_t d) {
+static void line(told *to, const char *what, uint32_t a, uint32_t b, uint32_t c, uint32_t d, uint32_t e) {
     if (to->size + 100 > sizeof to->lines) abort();
-    to->size += (size_t)sprintf(to->lines + to->size, "%s %u %u %u %u\n", what, a, b, c, d);
+    to->size += (size_t)sprintf(to->lines + to->size, "%s %u %u %u %u %u\n", what, a, b, c, d, e);
 }
 
 /* ---- a random stream */
@@ -41,44 +42,75 @@ static void put(uint32_t value, int bytes) {
     for (int k = 0; k < bytes; k++) text[length++] = (uint8_t)(value >> (8 * k));
 }
 
-static void header(uint32_t kind, uint32_t module, uint32_t a, uint32_t b) {
+static void header(uint32_t kind, uint32_t second, uint32_t module, uint32_t a, uint32_t b) {
     put(kind, 1);
-    put(0, 1);
+    put(second, 1);
     put(module, 2);
     put(a, 4);
     put(b, 4);
 }
 
-static uint32_t words_of[LFI_MODULES], pages_of[LFI_MODULES];
+static uint32_t words_of[LFI_MODULES], pages_of[LFI_MODULES], full_of[LFI_MODULES]; /* full_of: the words of a full page */
+
+/* A word of code: a lawful one, one that asks for a probe, a probe, or in some streams any word. */
+static uint32_t rarely;
+
+static uint32_t word(void) {
+    static const uint32_t some[] = {0xD503201F, 0xD65F03C0, 0x8B010000, 0xD503201F, 0xD503201F, 0x8B010000, 0xF90003FF, 0xF90003FF};
+    if (rarely && number(rarely) == 0) return number(2) ? 0xD10043FF : (uint32_t)(number(65536) << 16 | number(65536));
+    return some[number(8)];
+}
 
 static void page(uint32_t module) {
-    uint32_t left = words_of[module] - 1024 * pages_of[module], words = left < 1024 ? left : 1024;
-    if (words_of[module] <= 1024 * pages_of[module] || words == 0) words = 1 + number(1024);
-    header(2, module, number(30) ? pages_of[module] : number(5), 4 * (number(30) ? words : 1 + number(1024)));
+    uint32_t full = full_of[module], left = words_of[module] - full * pages_of[module], words = left < full ? left : full;
+    uint32_t kind = (full == 4096) == (number(30) > 0) ? 5 : 2;
+    if (words_of[module] <= full * pages_of[module] || words == 0) words = 1 + number(full);
+    header(kind, 0, module, number(30) ? pages_of[module] : number(5), 4 * (number(30) ? words : 1 + number(kind == 5 ? 4096 : 1024)));
     uint32_t bytes = (uint32_t)text[length - 4] | (uint32_t)text[length - 3] << 8;
-    for (uint32_t i = 0; i < bytes; i++) text[length++] = (uint8_t)number(256);
+    for (uint32_t i = 0; i < bytes && length + 4 < MOST; i += 4) put(word(), 4);
     pages_of[module]++;
 }
 
 static void make(void) {
     uint32_t messages = number(25);
     length = 0;
+    rarely = number(3) ? number(3) ? 3000 : 0 : 1 + number(40);
     memset(words_of, 0, sizeof words_of);
     memset(pages_of, 0, sizeof pages_of);
-    for (uint32_t i = 0; i < messages && length + 5000 < MOST; i++) {
+    for (uint32_t i = 0; i < messages && length + 17000 < MOST; i++) {
         uint32_t module = number(3) + (number(20) ? 0 : 13), what = number(8);
         if (what == 0 || words_of[module] == 0) {
-            words_of[module] = 1 + number(number(2) ? 4000 : 100);
+            uint32_t opening = number(4), second = opening == 3 ? 2 : number(40) ? 0 : number(4);
+            words_of[module] = 1 + number(number(2) ? (opening == 3 ? 9000 : 4000) : 100);
             pages_of[module] = 0;
-            header(number(3) ? 1 : 4, module, words_of[module], number(words_of[module]));
-        } else if (what == 1 || 1024 * pages_of[module] >= words_of[module]) {
-            header(3, module, 0, 0);
+            full_of[module] = opening == 3 ? 4096 : 1024;
+            header(opening < 2 ? 1 : 4, second, module, words_of[module], number(words_of[module]));
+        } else if (what == 1 || full_of[module] * pages_of[module] >= words_of[module]) {
+            header(3, 0, module, 0, 0);
         } else {
             page(module);
         }
     }
     if (number(4) == 0 && length > 0) text[number((uint32_t)length)] ^= (uint8_t)(1 + number(255));
     if (number(4) == 0 && length > 0) length = number((uint32_t)length);
+}
+
+/* ---- verdicts on code that came */
+
+/* What lfi_verify_final tells of this beginning of a module. */
+static lfi_status found(uint32_t words, uint32_t profile, const uint8_t *code, size_t size, lfi_fault *fault) {
+    lfi_state state;
+    if (lfi_verify_init(&state, words, profile) || lfi_verify_update(&state, code, size) > LFI_REFUSED) abort();
+    return lfi_verify_final(&state, fault);
+}
+
+/* A module's outcome, by its whole pages. */
+static void outcome(told *to, uint32_t m, uint32_t words, uint32_t profile, size_t size, int closed) {
+    lfi_fault fault, again;
+    lfi_status status = found(words, profile, to->code[m], size, &fault);
+    if (size == 4 * (size_t)words && (lfi_verify(to->code[m], size, profile, &again) != status || again.word != fault.word || again.rule != fault.rule)) abort();
+    if (status == LFI_LAWFUL && !closed) status = LFI_INCOMPLETE;
+    line(to, "outcome", m, status, fault.word, fault.rule, 0);
 }
 
 /* ---- one plain pass over all bytes */
@@ -91,77 +123,94 @@ static uint32_t at(size_t place, int bytes) {
 
 static uint32_t fault_of(uint32_t kind, uint32_t second, uint32_t module, uint32_t a, uint32_t b) {
     int opens = kind == 1 || kind == 4;
-    if (kind < 1 || kind > 4) return 1;
-    if (second) return 2;
+    if (kind < 1 || kind > 5) return 1;
+    if (second && !(kind == 4 && second == 2)) return 2;
     if (module > 15) return 3;
-    if (kind == 2 && (b == 0 || b > 4096 || b % 4)) return 4;
+    if ((kind == 2 || kind == 5) && (b == 0 || b > (kind == 5 ? 16384u : 4096u) || b % 4)) return 4;
     if (kind == 3 && (a || b)) return 5;
     if (opens && (a == 0 || a > LFI_MAX_WORDS)) return 6;
     return opens && b >= a ? 7 : 0;
 }
 
 static void pass(told *to) {
-    uint32_t phase[LFI_MODULES] = {0}, words[LFI_MODULES] = {0}, pages[LFI_MODULES] = {0}, fault = 0;
-    size_t place = 0;
+    uint32_t phase[LFI_MODULES] = {0}, words[LFI_MODULES] = {0}, pages[LFI_MODULES] = {0}, full[LFI_MODULES] = {0}, fault = 0;
+    uint32_t by[LFI_MODULES] = {0};
+    size_t place = 0, came[LFI_MODULES] = {0};
     while (!fault && length - place >= 12) {
         uint32_t kind = at(place, 1), m = at(place + 2, 2), a = at(place + 4, 4), b = at(place + 8, 4);
         if ((fault = fault_of(kind, at(place + 1, 1), m, a, b))) break;
         if ((kind == 1 || kind == 4) && phase[m] == 0) {
-            line(to, "open", m, a, b, kind == 4 ? LFI_PROFILE_2 : LFI_PROFILE_1);
-            phase[m] = 1, words[m] = a;
+            full[m] = at(place + 1, 1) ? 4096 : 1024;
+            line(to, "open", m, a, b, kind == 4 ? LFI_PROFILE_2 : LFI_PROFILE_1, 4 * full[m]);
+            phase[m] = 1, words[m] = a, by[m] = kind == 4 ? LFI_PROFILE_2 : LFI_PROFILE_1;
         } else if (kind == 3 && phase[m] == 1) {
-            line(to, "end", m, words[m], pages[m], LFI_CLOSED);
+            line(to, "end", m, words[m], pages[m], LFI_CLOSED, 0);
+            outcome(to, m, words[m], by[m], came[m], 1);
             phase[m] = 2;
-        } else if (kind == 2 && phase[m] == 1) {
-            uint32_t all = (words[m] + 1023) / 1024, left = words[m] - 1024 * a;
-            if (a == pages[m] && a < all && b == 4 * (left < 1024 ? left : 1024)) {
-                size_t here = length - place - 12 < b ? length - place - 12 : b;
-                if (4096 * (size_t)a + here <= ROOM) memcpy(to->code[m] + 4096 * (size_t)a, text + place + 12, here);
-                if (here == b) line(to, "page", m, pages[m]++, 0, 0);
+        } else if ((kind == 2 || kind == 5) && phase[m] == 1) {
+            uint32_t p = full[m], all = (words[m] + p - 1) / p, left = words[m] - p * a;
+            if ((kind == 5) == (p == 4096) && a == pages[m] && a < all && b == 4 * (left < p ? left : p)) {
+                size_t here = length - place - 12 < b ? length - place - 12 : b, first = 4 * (size_t)p * a;
+                if (first + here <= ROOM) memcpy(to->code[m] + first, text + place + 12, here);
+                if (here == b) line(to, "page", m, (uint32_t)(first + here), 0, 0, 0), pages[m]++, came[m] = first + here;
             } else {
-                line(to, "page fault", m, words[m], pages[m], a);
+                line(to, "page fault", m, words[m], pages[m], a, 0);
+                outcome(to, m, words[m], by[m], came[m], 0);
                 phase[m] = 2;
             }
         } else {
-            line(to, "stray", m, 0, 0, 0);
+            line(to, "stray", m, 0, 0, 0, 0);
         }
-        size_t size = 12 + (kind == 2 ? (size_t)b : 0);
+        size_t size = 12 + (kind == 2 || kind == 5 ? (size_t)b : 0);
         if (length - place < size) fault = 9;
         else place += size;
     }
     if (!fault && place < length) fault = 9;
     for (uint32_t m = 0; m < LFI_MODULES; m++)
         if (phase[m] == 1 && !fault) fault = 9;
-    if (fault) line(to, "fault", fault, 0, 0, 0);
+    if (fault) line(to, "fault", fault, 0, 0, 0, 0);
     for (uint32_t m = 0; m < LFI_MODULES; m++)
-        if (phase[m] == 1) line(to, "lost", m, words[m], pages[m], fault);
+        if (phase[m] == 1) line(to, "lost", m, words[m], pages[m], fault, 0), outcome(to, m, words[m], by[m], came[m], 0);
 }
 
 /* ---- the same in pieces */
 
 static void tell(told *to, const lfi_event *event, const uint8_t *bytes, size_t used) {
-    if (event->kind == LFI_OPEN) line(to, "open", event->module, event->words, event->entry, event->profile);
-    if (event->kind == LFI_STRAY) line(to, "stray", event->module, 0, 0, 0);
+    if (event->kind == LFI_OPEN) line(to, "open", event->module, event->words, event->entry, event->profile, event->page_bytes);
+    if (event->kind == LFI_STRAY) line(to, "stray", event->module, 0, 0, 0, 0);
     if (event->kind == LFI_CODE) {
         if (event->offset + used <= ROOM) memcpy(to->code[event->module] + event->offset, bytes, used);
-        if (event->ended) line(to, "page", event->module, (uint32_t)((event->offset + used - 1) / 4096), 0, 0);
+        if (event->ended) line(to, "page", event->module, (uint32_t)(event->offset + used), 0, 0, 0);
     }
-    if (event->kind == LFI_END && event->reason == LFI_CLOSED) line(to, "end", event->module, event->words, event->pages, LFI_CLOSED);
-    if (event->kind == LFI_END && event->reason == LFI_PAGE_FAULT) line(to, "page fault", event->module, event->words, event->pages, event->number);
-    if (event->kind == LFI_END && event->reason == LFI_LOST) line(to, "lost", event->module, event->words, event->pages, event->number);
-    if (event->kind == LFI_FAULT) line(to, "fault", event->number, 0, 0, 0);
+    if (event->kind == LFI_END && event->reason == LFI_CLOSED) line(to, "end", event->module, event->words, event->pages, LFI_CLOSED, 0);
+    if (event->kind == LFI_END && event->reason == LFI_PAGE_FAULT) line(to, "page fault", event->module, event->words, event->pages, event->number, 0);
+    if (event->kind == LFI_END && event->reason == LFI_LOST) line(to, "lost", event->module, event->words, event->pages, event->number, 0);
+    if (event->kind == LFI_END) line(to, "outcome", event->module, event->verdict, event->fault.word, event->fault.rule, 0);
+    if (event->kind == LFI_FAULT) line(to, "fault", event->number, 0, 0, 0, 0);
+}
+
+/* Whether what is told of code is what is found of all of the module's code up to there; looked at now and then. */
+static int judged(const told *to, const lfi_event *event, size_t used, const uint32_t *words, const uint32_t *by) {
+    lfi_fault fault;
+    uint32_t m = event->module;
+    if (event->kind != LFI_CODE && event->kind != LFI_END) return event->verdict == 0 && event->fault.word == 0 && event->fault.rule == 0;
+    if (event->kind == LFI_END || event->offset + used > ROOM || (number(50) && !event->ended)) return 1;
+    lfi_status status = found(words[m], by[m], to->code[m], (event->offset + used) / 4 * 4, &fault);
+    return event->verdict == (status == LFI_REFUSED ? LFI_REFUSED : LFI_LAWFUL) && event->fault.word == fault.word && event->fault.rule == fault.rule;
 }
 
 /* Whether two events are the same, field by field: what lies between the fields is nobody's. */
 static int same(const lfi_event *a, const lfi_event *b) {
     return a->kind == b->kind && a->module == b->module && a->words == b->words && a->entry == b->entry && a->profile == b->profile &&
-           a->pages == b->pages && a->reason == b->reason && a->number == b->number && a->ended == b->ended && a->offset == b->offset;
+           a->page_bytes == b->page_bytes && a->pages == b->pages && a->reason == b->reason && a->number == b->number && a->ended == b->ended && a->offset == b->offset &&
+           a->verdict == b->verdict && a->fault.word == b->fault.word && a->fault.rule == b->fault.rule;
 }
 
 static int in_pieces(told *to, uint32_t longest) {
     lfi_stream stream, copy;
     lfi_event event, again;
     size_t place = 0;
+    uint32_t words[LFI_MODULES] = {0}, by[LFI_MODULES] = {0};
     if (lfi_stream_init(&stream, LFI_PROFILE_1)) return 1;
     event.kind = LFI_NOTHING;
     while (place < length && event.kind != LFI_FAULT) {
@@ -171,7 +220,9 @@ static int in_pieces(told *to, uint32_t longest) {
         size_t used = lfi_stream_next(&stream, text + place, size, &event);
         if (used != lfi_stream_next(&copy, text + place, size, &again) || used > size || !same(&event, &again)) return 2;
         if (event.kind == LFI_NO_STREAM || (used == 0 && event.kind != LFI_FAULT)) return 3;
+        if (event.kind == LFI_OPEN) words[event.module] = event.words, by[event.module] = event.profile;
         tell(to, &event, text + place, used);
+        if (!judged(to, &event, used, words, by)) return 6;
         place += used;
     }
     if (event.kind == LFI_FAULT && (lfi_stream_next(&stream, text, 12, &again) != 0 || again.kind != LFI_FAULT || again.number != event.number)) return 4;
@@ -188,18 +239,35 @@ static int bad_states(void) {
     uint8_t bytes[12] = {0};
     memset(&stream, 0, sizeof stream);
     if (lfi_stream_init(&stream, 3) != LFI_UNKNOWN_PROFILE || lfi_stream_init(&stream, LFI_PROFILE_1)) return 1;
-    stream.feed.place = 3;
+    stream.text.feed.place = 3;
     before = stream;
     if (lfi_stream_next(&stream, bytes, 12, &event) != 0 || event.kind != LFI_NO_STREAM || memcmp(&stream, &before, sizeof stream)) return 2;
     if (lfi_stream_end(&stream, &event) != LFI_BAD_STATE || event.kind != LFI_NO_STREAM || memcmp(&stream, &before, sizeof stream)) return 3;
-    stream.feed.place = 0, stream.feed.number = 12;
+    stream.text.feed.place = 0, stream.text.feed.number = 12;
     return lfi_stream_end(&stream, &event) == LFI_BAD_STATE ? 0 : 4;
+}
+
+/* A stream of whose verifier's numbers some are none of a module: its events are told, and its code isn't judged. */
+static int bad_verdicts(void) {
+    static const uint8_t open[12] = {1, 0, 5, 0, 2, 0, 0, 0, 0, 0, 0, 0}, page[16] = {2, 0, 5, 0, 0, 0, 0, 0, 8, 0, 0, 0, 0xC0, 0x03, 0x5F, 0xD6};
+    lfi_stream stream, copy;
+    lfi_event event;
+    if (lfi_stream_init(&stream, LFI_PROFILE_1) || lfi_stream_next(&stream, open, 12, &event) != 12 || event.kind != LFI_OPEN) return 1;
+    if (lfi_stream_next(&stream, page, 12, &event) != 12 || event.kind != LFI_NOTHING) return 2;
+    copy = stream, copy.verdicts.modules[5].profile = 3;
+    if (lfi_stream_next(&copy, page + 12, 4, &event) != 4 || event.kind != LFI_CODE || event.verdict != LFI_BAD_STATE) return 3;
+    if (lfi_stream_end(&copy, &event) || event.kind != LFI_FAULT || lfi_stream_end(&copy, &event) || event.kind != LFI_END || event.verdict != LFI_BAD_STATE) return 4;
+    if (lfi_stream_next(&stream, page + 12, 2, &event) != 2 || event.kind != LFI_CODE || event.verdict != LFI_LAWFUL) return 5;
+    copy = stream, copy.verdicts.coming.count = 4;
+    if (lfi_stream_next(&copy, page + 14, 2, &event) != 2 || event.kind != LFI_CODE || event.verdict != LFI_BAD_STATE) return 6;
+    if (lfi_stream_next(&stream, page + 14, 2, &event) != 2 || event.kind != LFI_CODE || event.verdict != LFI_LAWFUL) return 7;
+    return 0;
 }
 
 int main(int count, char **words) {
     if (count != 3) return 9;
-    if (bad_states()) return 8;
-    long streams = atol(words[1]), faulty = 0;
+    if (bad_states() || bad_verdicts()) return 8;
+    long streams = atol(words[1]), faulty = 0, refused = 0, complete = 0;
     seed = 88172645463325252ull + (uint64_t)atol(words[2]);
     for (long i = 0; i < streams; i++) {
         make();
@@ -212,7 +280,11 @@ int main(int count, char **words) {
             return 1;
         }
         faulty += strstr(whole.lines, "fault") != NULL;
+        for (const char *at = whole.lines; (at = strstr(at, "outcome ")) != NULL; at++) {
+            unsigned m, status;
+            if (sscanf(at, "outcome %u %u", &m, &status) == 2) refused += status == LFI_REFUSED, complete += status == LFI_LAWFUL;
+        }
     }
-    printf("%ld streams, %ld with a fault\n", streams, faulty);
+    printf("%ld streams, %ld with a fault; %ld modules refused, %ld complete\n", streams, faulty, refused, complete);
     return 0;
 }

@@ -1,11 +1,13 @@
 //! How fast an image is written to a file and read back: `bench image WORDS [ROUNDS]`. With a second word it does so as
 //! many times, and prints the least time of each part, and the most memory.
 
+ghost use Rattle.std.specs.Prelude.{◌≡◌, IfOk};
+
 use anyhow::{Result, bail};
 use lfi_image::{Builder, CompleteImage, JudgedPage, read_image, write_image};
 use lfi_module::{Extent, ModuleNumber, PageSize, Profile, WordCount};
 use lfi_rules::judge;
-use page_buf::{OpenPage, PAGE_BYTES, SealedPage};
+use page_buf::{OpenPage, SealedPage};
 use std::alloc::Global;
 use std::fs::{self, File};
 use std::time::{CpuClock, Duration, Instant};
@@ -19,10 +21,12 @@ const NOP: [u8; 4] = [0x1F, 0x20, 0x03, 0xD5];
 /// More than any gap between the pages of an image, so that it is taken from behind them.
 const BEHIND_BYTES: usize = 65_536;
 
-/// A page of so many NOPs, at most those of a full page.
-fn page(alloc: Global, words: usize) -> Result<SealedPage> {
-    let code = NOP.repeat(alloc, PAGE_BYTES / 4)?;
-    let mut page = OpenPage::new(alloc)?;
+/// A page of this size of so many NOPs, at most those of a full page.
+fn page(alloc: Global, size: PageSize, words: usize) -> Result<SealedPage>
+    ensures { IfOk result (λ page. page.size ≡ size) }
+{
+    let code = NOP.repeat(alloc, size.words() as usize)?;
+    let mut page = OpenPage::new(alloc, size)?;
     page.write(&code[..words.saturating_mul(4).min(code.len())]);
     match page.seal() {
         Ok(page) => Ok(page),
@@ -33,7 +37,8 @@ fn page(alloc: Global, words: usize) -> Result<SealedPage> {
 /// Places the next page of a module, as many NOPs as are due.
 fn append_page(alloc: Global, builder: &mut Builder) -> Result<()> {
     let due = builder.due() as usize;
-    let page = page(alloc, due)?;
+    let size = builder.size();
+    let page = page(alloc, size, due)?;
     if page.len_words() != due {
         bail!("a page has not the words due")
     }
@@ -49,11 +54,11 @@ fn image(alloc: Global, words: u32) -> Result<CompleteImage> {
     let Some(words) = WordCount::new(words) else {
         bail!("no module has so many words")
     };
-    let Some(extent) = Extent::new(words, 0, Profile::One) else {
+    let Some(extent) = Extent::new(words, 0, Profile::One, PageSize::SMALL) else {
         bail!("a module has no first word")
     };
     let mut builder = Builder::new(alloc, extent, ModuleNumber::at(0))?;
-    for _ in 0..words.pages(PageSize::PROFILE) {
+    for _ in 0..words.pages(PageSize::SMALL) {
         append_page(alloc, &mut builder)?;
     }
     match builder.finish() {
@@ -68,7 +73,7 @@ fn faulty_pages(page: &SealedPage, words: u32) -> u32 {
     if words > WordCount::MOST.number() {
         return 0;
     }
-    let size = PageSize::PROFILE.words();
+    let size = PageSize::SMALL.words();
     for i in 0..words / size {
         let first = size * i;
         let last = page.len_words() as u32 + first;
@@ -158,7 +163,7 @@ fn read(rt: &HostRuntime, words: u32) -> Result<Spent> {
 
 /// Judges so many words, and nothing else.
 fn judge_alone(rt: &HostRuntime, words: u32) -> Result<Spent> {
-    let page = page(rt.alloc(), 1024)?;
+    let page = page(rt.alloc(), PageSize::SMALL, 1024)?;
     let since = Since::now(rt)?;
     if faulty_pages(&page, words) != 0 {
         bail!("the code breaks a rule")

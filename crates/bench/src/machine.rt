@@ -6,7 +6,7 @@ use a64_semantics::Registers;
 use anyhow::{Result, bail};
 use lfi_image::{Builder, CompleteImage, JudgedPage};
 use lfi_machine::{Answer, Data, Machine, Runtime, start_registers};
-use lfi_module::{Extent, ModuleNumber, Profile, WordCount};
+use lfi_module::{Extent, ModuleNumber, PageSize, Profile, WordCount};
 use page_buf::SealedPage;
 use std::alloc::Global;
 use std::time::Instant;
@@ -37,17 +37,18 @@ fn image(alloc: Global) -> Result<CompleteImage> {
             code.push(byte)?;
         }
     }
-    if code.is_empty() || code.len() > 4096 || code.len() % 4 != 0 {
+    let size = PageSize::SMALL;
+    if code.is_empty() || code.len() > size.bytes() as usize || code.len() % 4 != 0 {
         bail!("the code is no page");
     }
     let Some(count) = WordCount::new((code.len() / 4) as u32) else {
         bail!("no module has so many words");
     };
-    let Some(extent) = Extent::new(count, 0, Profile::One) else {
+    let Some(extent) = Extent::new(count, 0, Profile::One, PageSize::SMALL) else {
         bail!("the entry is no word");
     };
     let mut builder = Builder::new(alloc, extent, ModuleNumber::at(0))?;
-    let page = SealedPage::of(alloc, &code)?;
+    let page = SealedPage::of(alloc, size, &code)?;
     if page.len_words() != builder.due() as usize {
         bail!("the page has not the words due");
     }

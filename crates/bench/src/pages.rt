@@ -1,9 +1,13 @@
 //! How fast pages are written: `bench pages ROUNDS [time]` writes 256 pages in each round, and a second word asks for the speed.
 
 use anyhow::Result;
-use page_buf::{OpenPage, PAGE_BYTES};
+use lfi_module::PageSize;
+use page_buf::OpenPage;
 use std::alloc::Global;
 use std::time::{Duration, Instant};
+
+/// How many bytes a small page has.
+const PAGE_BYTES: usize = 4096;
 
 /// The pages that are written in one round: a megabyte.
 const BATCH: usize = 256;
@@ -11,7 +15,7 @@ const BATCH: usize = 256;
 fn batch(alloc: Global) -> Result<Vec<OpenPage>> {
     let mut pages = Vec::with_capacity(alloc, BATCH)?;
     for _ in 0..BATCH {
-        pages.push(OpenPage::new(alloc)?)?;
+        pages.push(OpenPage::new(alloc, PageSize::SMALL)?)?;
     }
     Ok(pages)
 }

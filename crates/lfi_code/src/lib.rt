@@ -4,8 +4,10 @@
 
 mod beginning;
 mod code;
+mod cut;
 mod verdict;
 
 pub use beginning::Beginning;
 pub use code::{Code, MOST_BYTES};
+pub use cut::{CutBeginning, CutWord};
 pub use verdict::{Verdict, judge_code};

@@ -81,8 +81,8 @@ subcommand_asks (Some p) some none =
         level_gives disassemble_shape p.1 (inl (refl, refl, refl), (inl (refl, refl, tt), (inr (inr (inr (inl refl))), tt))) (inl refl, (inl refl, (inl refl, tt))) e
     go false false false false false true has e =
         level_gives pack_shape p.1
-        (inl (refl, refl, refl), (inl (refl, refl, refl), (inl (refl, refl, refl), (inr (inl (refl, refl, tt)), (inr (inr (inr (inl refl))), tt)))))
-        (inl refl, (inl refl, (inl refl, (inl refl, (inl refl, tt))))) e
+        (inl (refl, refl, refl), (inl (refl, refl, refl), (inl (refl, refl, refl), (inl (refl, refl, tt), (inr (inl (refl, refl, tt)), (inr (inr (inr (inl refl))), tt))))))
+        (inl refl, (inl refl, (inl refl, (inl refl, (inl refl, (inl refl, tt)))))) e
     go false false false false false false has e = absurd (true≢false (sym has))
 
 needed : (has : Bool) (rows : List Row) → check_fault whole.top rows has ≡ [] → has ≡ true

@@ -61,10 +61,10 @@ run_app = with_rule (with_rule (new_app (codes "run")) (needed (number_rule (cod
 abbrev pub disassemble_app : App
 disassemble_app = with_rule (with_rule (new_app (codes "disassemble")) profile_rule) (required_rule (codes "FILE"))
 
--- `pack [--module M] [--entry WORD] [--profile P] CODE..`
+-- `pack [--module M] [--entry WORD] [--profile P] [--pages SIZE] CODE..`
 abbrev pub pack_app : App
-pack_app = with_rule (with_rule (with_rule (with_rule (new_app (codes "pack")) (number_rule (codes "module") (Unsigned 0 15))) (number_rule (codes "entry") (Unsigned 0 4194303))) profile_rule)
-    (several_rule (codes "CODE"))
+pack_app = with_rule (with_rule (with_rule (with_rule (with_rule (new_app (codes "pack")) (number_rule (codes "module") (Unsigned 0 15))) (number_rule (codes "entry") (Unsigned 0 4194303))) profile_rule)
+    (option_rule (codes "pages"))) (several_rule (codes "CODE"))
 
 -- the program without its subcommands: one has to be there, `help` is none, and it has a version
 abbrev pub bare_app : App

@@ -1,19 +1,21 @@
 -- What the words of the command line ask for, and what is wrong with them. (docs/COMMANDS.md)
-use Rattle.std.specs.Prelude.{◌≡◌, ⊤, ℕ, ◌+◌, ◌≤◌, ◌<◌, Bool, List, [], codes, length, map, Option, Some, None, true, false, option_map}
+use Rattle.std.specs.Prelude.{◌≡◌, ⊤, ℕ, ◌+◌, ◌≤◌, ◌<◌, ◌&&◌, if◌then◌else◌, Bool, List, [], codes, length, map, Option, Some, None, true, false, option_map}
 use Rattle.clap.specs.Words.{IsAmong, Row, Text, all_of, fault_of, first_of, kind_of, one_of, subcommand_of}
+use Rattle.std.specs.Str.{bytes_eq}
 use Rattle.std.specs.Str.Parse.{IsNumeral, digits_value, without_leading_plus}
 use Rattle.clap.specs.declared.error.Error.{Error}
 use Rattle.clap.specs.declared.error.kind.ErrorKind.{ErrorKind}
 use Rattle.clap.specs.declared.error.kind.ErrorKind.TheVariants as kind
 use Rattle.lfi_module.specs.declared.profile.Profile.{Profile}
-use Rattle.lfi_module.specs.Profiles.{profile_number}
+use Rattle.lfi_module.specs.Numbers.{small_page, large_page}
+use Rattle.lfi_module.specs.Profiles.{profile_number, is_two}
 use Rattle.lfi_command_line.specs.Apps.{lfiload_app}
 use Rattle.lfi_command_line.specs.declared.line.Line.{Line}
 use Rattle.lfi_command_line.specs.declared.line.Line.TheVariants.{Check, Load, Serve, Run, Disassemble, Pack}
 use Rattle.lfi_command_line.specs.declared.line.Explain.{Explain}
 use Rattle.lfi_command_line.specs.declared.line.Explain.TheVariants.{Nothing, First, All}
 use Rattle.lfi_command_line.specs.declared.fault.LineFault.{LineFault}
-use Rattle.lfi_command_line.specs.declared.fault.LineFault.TheVariants.{NoMemory, Help, Wrong, TooManyStreams, TooManyModules}
+use Rattle.lfi_command_line.specs.declared.fault.LineFault.TheVariants.{NoMemory, Help, Wrong, TooManyStreams, TooManyModules, NoPages}
 
 -- the text is a number in this range in decimal digits, perhaps with a plus before them
 abbrev pub IsNumber : (least most : ℕ) → Text → ℕ → Type 0
@@ -49,6 +51,12 @@ IsExplain given explain =
 abbrev pub IsProfile : List Row → Profile → Type 0
 IsProfile given profile = IsNumberOr 1 1 2 (first_of (codes "profile") given) (profile_number profile)
 
+-- the words of a page of the size that is named: small ones, where none is named too, or large ones by the second profile
+abbrev pub pages_named : Option Text → Profile → Option ℕ
+pages_named None profile = Some small_page
+pages_named (Some text) profile =
+    if bytes_eq text (codes "small") then Some small_page else if bytes_eq text (codes "large") && is_two profile then Some large_page else None
+
 -- a subcommand of this name, with what was given to it, asks for this line
 abbrev pub IsAskedBy : (name : Text) → List Row → Line → Type 0
 IsAskedBy name given (Check file explain profile) = (name ≡ codes "check") × (first_of (codes "FILE") given ≡ Some file.now) × IsExplain given explain × IsProfile given profile
@@ -62,8 +70,8 @@ IsAskedBy name given (Serve socket connections verifiers seconds out explain) = 
 IsAskedBy name given (Run image steps) = (name ≡ codes "run") × (first_of (codes "IMAGE") given ≡ Some image.now)
     × ((text : Text) × (first_of (codes "steps") given ≡ Some text) × IsNumber 0 1000000000 text steps)
 IsAskedBy name given (Disassemble file profile) = (name ≡ codes "disassemble") × (first_of (codes "FILE") given ≡ Some file.now) × IsProfile given profile
-IsAskedBy name given (Pack number entry profile files) = (name ≡ codes "pack") × IsNumberOr 0 0 15 (first_of (codes "module") given) number
-    × IsNumberOr 0 0 4194303 (first_of (codes "entry") given) entry × IsProfile given profile × (all_of (codes "CODE") given ≡ Some (map (λ s. s.now) files.items))
+IsAskedBy name given (Pack number entry profile pages files) = (name ≡ codes "pack") × IsNumberOr 0 0 15 (first_of (codes "module") given) number
+    × IsNumberOr 0 0 4194303 (first_of (codes "entry") given) entry × IsProfile given profile × (pages_named (first_of (codes "pages") given) profile ≡ Some pages) × (all_of (codes "CODE") given ≡ Some (map (λ s. s.now) files.items))
     × (1 ≤ length files.items) × (number + length files.items ≤ 16)
 
 -- Nothing is wrong with the words for the parser, which takes them for this subcommand, with what is given to it.
@@ -89,6 +97,10 @@ abbrev pub NameTooManyModules : List Text → Type 0
 NameTooManyModules words = (given : List Row) × (number : ℕ) × (files : List Text) × AreTakenFor words (codes "pack") given
     × IsNumberOr 0 0 15 (first_of (codes "module") given) number × (all_of (codes "CODE") given ≡ Some files) × (16 < number + length files)
 
+-- they ask for pages of a size that there isn't by the profile which they name
+abbrev pub NameNoPages : List Text → Type 0
+NameNoPages words = (given : List Row) × (profile : Profile) × AreTakenFor words (codes "pack") given × IsProfile given profile × (pages_named (first_of (codes "pages") given) profile ≡ None)
+
 -- the parser's error has a kind that the words give, and isn't for want of memory
 abbrev pub IsLineFault : List Text → LineFault → Type 0
 IsLineFault words NoMemory = ⊤
@@ -96,6 +108,7 @@ IsLineFault words (Help error) = IsAmong (kind_of error) (fault_of lfiload_app w
 IsLineFault words (Wrong error) = IsAmong (kind_of error) (fault_of lfiload_app words) × (is_help (kind_of error) ≡ false)
 IsLineFault words TooManyStreams = NameTooMany words
 IsLineFault words TooManyModules = NameTooManyModules words
+IsLineFault words NoPages = NameNoPages words
 
 -- the fault that is made of the parser's error, by its kind
 abbrev pub fault_by : ErrorKind → Error → LineFault

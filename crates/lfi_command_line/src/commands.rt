@@ -201,6 +201,7 @@ fn pack_command<'a>(alloc: Global) -> Result<Command<'a>, AllocError>
     let module = number_argument(alloc, "module", "M", help::MODULE, (0, LAST_MODULE));
     let entry = number_argument(alloc, "entry", "WORD", help::ENTRY, (0, LAST_WORD));
     let profile = profile_argument(alloc);
+    let pages = option_argument(alloc, "pages", "SIZE", help::PAGES);
     let codes = several_arguments(alloc, "CODE", help::CODE);
     Command::new(alloc, "pack")
         .about("Writes a stream of the code in files, a module each")
@@ -208,6 +209,7 @@ fn pack_command<'a>(alloc: Global) -> Result<Command<'a>, AllocError>
         .arg(module)?
         .arg(entry)?
         .arg(profile)?
+        .arg(pages)?
         .arg(codes)
 }
 

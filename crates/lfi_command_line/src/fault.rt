@@ -25,6 +25,9 @@ pub enum LineFault {
     /// They ask for modules above the last one, 15.
     #[error("at most 16 modules")]
     TooManyModules,
+    /// They name pages of a size that is neither small, nor large by the second profile.
+    #[error("pages are small, or large with --profile 2")]
+    NoPages,
 }
 
 impl From<AllocError> for LineFault {

@@ -1,15 +1,15 @@
 //! What is given to each subcommand.
 
-ghost use Rattle.std.specs.Prelude.{◌≡◌, ℕ, IfOk, IfErr, true, is_some, codes};
+ghost use Rattle.std.specs.Prelude.{◌≡◌, ℕ, IfOk, IfErr, true, is_some, codes, option_map};
 ghost use Rattle.clap.specs.Words.{first_of, one_of, rows_of, found_of};
-ghost use Rattle.lfi_command_line.specs.CommandLine.{IsAskedBy, IsFlag, IsProfile, IsNumberIfAny, IsNumberOr, explain_by};
+ghost use Rattle.lfi_command_line.specs.CommandLine.{IsAskedBy, IsFlag, IsProfile, IsNumberIfAny, IsNumberOr, explain_by, pages_named};
 ghost use Rattle.lfi_command_line.specs.inner.Given.{IsNumberGiven, IsFaultOfLoad, IsFaultOfPack};
 
 use crate::commands::{LAST_MODULE, MOST_CONNECTIONS};
 use crate::fault::LineFault;
 use crate::line::{Explain, Line};
 use clap::ArgMatches;
-use lfi_module::Profile;
+use lfi_module::{PageSize, Profile};
 use std::alloc::Global;
 
 /// How many verifiers there are where nothing is said of them.
@@ -150,11 +150,29 @@ pub(crate) fn disassemble_line<'a>(disassemble: &ArgMatches<'a>) -> Line<'a>
     }
 }
 
+/// The size of the pages that are named, by a profile: small ones, where none are named too, or large ones of the second
+/// profile; `None` for all else.
+fn pages_named(name: Option<&str>, profile: Profile) -> Option<PageSize>
+    ensures { result ≡ pages_named (option_map (λ s. s.now) name.entry) profile }
+{
+    let Some(name) = name else {
+        return Some(PageSize::SMALL);
+    };
+    if name == "small" {
+        Some(PageSize::SMALL)
+    } else if name == "large" && profile == Profile::Two {
+        Some(PageSize::LARGE)
+    } else {
+        None
+    }
+}
+
 /// What `pack` asks for.
 ///
 /// # Errors
 ///
-/// Where there are more files than modules from the first one's number on, or no memory to list them.
+/// Where there are more files than modules from the first one's number on, pages of no such size, or no memory to list the
+/// files.
 pub(crate) fn pack_line<'a>(alloc: Global, pack: &ArgMatches<'a>) -> Result<Line<'a>, LineFault>
     requires codes { is_some (first_of (codes "CODE") (rows_of (found_of pack.now))) ≡ true }
     requires module { IsNumberGiven 0 15 (codes "module") (rows_of (found_of pack.now)) }
@@ -170,11 +188,15 @@ pub(crate) fn pack_line<'a>(alloc: Global, pack: &ArgMatches<'a>) -> Result<Line
         return Err(LineFault::TooManyModules);
     }
     let profile = profile_of(pack);
+    let Some(pages) = pages_named(pack.get_str("pages"), profile) else {
+        return Err(LineFault::NoPages);
+    };
     let codes = Vec::from_slice(alloc, paths)?;
     Ok(Line::Pack {
         module,
         entry,
         profile,
+        pages,
         codes,
     })
 }

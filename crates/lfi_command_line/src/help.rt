@@ -62,6 +62,9 @@ pub const ENTRY: &str = "the word at which each module is entered; 0 where it is
 /// Of `--profile`.
 pub const PROFILE: &str = "the profile that the code goes by, 1 or 2; 1 where it isn't said";
 
+/// Of `--pages`.
+pub const PAGES: &str = "small or large, of 4096 or 16384 bytes; small where it isn't said";
+
 /// Of the files with code.
 pub const CODE: &str = "1 to 16 files, each with the plain code words of one module";
 
@@ -198,13 +201,15 @@ Example: lfiload disassemble module.code";
 pub const PACK: &str =
     "Writes a stream to the standard output, as load and serve read it: of each file an Open, its pages
 and a Close. The first file is module M, the next M + 1, and so on, up to 15 at the most. The code
-isn't judged: who receives it does that (status 0).
+isn't judged: who receives it does that (status 0). Large pages are of profile 2 alone.
 
 On the standard error:
   lfiload: bad length PATH       The file is empty, no multiple of 4 bytes, or above 16,777,216
                                  bytes (status 1).
   lfiload: no word WORD in PATH  The file has no such word, at which it could be entered (status 1).
   lfiload: at most 16 modules    The files are more than the modules from M on (status 2).
+  lfiload: pages are small, or large with --profile 2
+                                 SIZE is another word, or large and the profile is 1 (status 2).
   lfiload: cannot read PATH      The first file that can't be read (status 3).
   lfiload: no memory             There was no memory for the files (status 3).
 All files are read first: after each of these lines nothing was written.

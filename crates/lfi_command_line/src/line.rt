@@ -8,7 +8,7 @@ use crate::commands::command;
 use crate::fault::LineFault;
 use crate::given::{check_line, disassemble_line, load_line, pack_line, run_line, serve_line};
 use clap::ArgMatches;
-use lfi_module::Profile;
+use lfi_module::{PageSize, Profile};
 use std::alloc::Global;
 
 /// What `check` explains.
@@ -62,11 +62,13 @@ pub enum Line<'a> {
         profile: Profile,
     },
     /// To write a stream of the code in 1 to 16 files, one module each, from this number on, up to 15 at the most, each of which
-    /// is entered at this word, 0 to 4,194,303, and goes by this profile.
+    /// is entered at this word, 0 to 4,194,303, goes by this profile, and is cut into pages of this size, which are large ones
+    /// by the second profile alone.
     Pack {
         module: usize,
         entry: u32,
         profile: Profile,
+        pages: PageSize,
         codes: Vec<&'a str>,
     },
 }

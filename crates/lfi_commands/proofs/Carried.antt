@@ -1,5 +1,5 @@
 -- What a command found, as what a run of the program did.
-use Rattle.std.proofs.Common.{◌≡◌, ℕ, List, Bool, Option, refl}
+use Rattle.std.proofs.Common.{ℕ, List, Bool, Option, refl}
 use Rattle.lfi_module.specs.declared.profile.Profile.{Profile}
 use Rattle.lfi_command_line.specs.declared.line.Explain.{Explain}
 use Rattle.lfi_command_line.specs.declared.line.Explain.TheVariants.{Nothing, First, All}
@@ -25,6 +25,6 @@ module _ (out new : Option (List ℕ)) (put : Option (List (List ℕ × List ℕ
   pub runs_file : (bytes : Option (List ℕ)) (steps : ℕ) → FindsRun bytes steps out new lost errors told ending → HasRun bytes steps (left out put was errors) (left new put lost told) ending
   runs_file bytes steps finds = record { run = finds.run; came = finds.came; put = refl; told = finds.told; ends = finds.ends }
 
-  pub packs_files : (profile : Profile) (first entry : ℕ) (paths : List (List ℕ)) (file_at : List ℕ → Option (List ℕ)) → FindsPacked profile first entry paths file_at out new lost errors told ending
-      → HasPacked profile first entry paths file_at (left out put was errors) (left new put lost told) ending
-  packs_files profile first entry paths file_at finds = record { found = finds; put = refl }
+  pub packs_files : (profile : Profile) (pages first entry : ℕ) (paths : List (List ℕ)) (file_at : List ℕ → Option (List ℕ)) → FindsPacked profile pages first entry paths file_at out new lost errors told ending
+      → HasPacked profile pages first entry paths file_at (left out put was errors) (left new put lost told) ending
+  packs_files profile pages first entry paths file_at finds = record { found = finds; put = refl }

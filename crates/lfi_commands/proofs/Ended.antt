@@ -59,7 +59,7 @@ by_line (Load verifiers folder explain streams) file_at old new carried = by_loa
 by_line (Serve socket connections verifiers seconds folder explain) file_at old new carried = by_load carried.found.report carried.found.all_accepted carried.all carried.ends
 by_line (Run image steps) file_at old new carried = by_run new.is_lost carried.run carried.ends
 by_line (Disassemble file profile) file_at old new carried = carried.found
-by_line (Pack first entry profile files) file_at old new carried = carried.found
+by_line (Pack first entry profile pages files) file_at old new carried = carried.found
 
 pub runs_line : (words : List (List ℕ)) (file_at : List ℕ → Option (List ℕ)) (old new : Left) (line : Line) (ending : Ending) → IsLine words line → CarriesOut line file_at old new ending
     → Runs words file_at old new ending

@@ -11,12 +11,12 @@ use Rattle.lfi_commands.specs.Packing.{AreModules, AreModulesOf, WritesStream}
 use Rattle.lfi_commands.specs.inner.Whole.{WritesModule}
 use Rattle.lfi_commands.proofs.Inputs.{grown}
 
-stream_more : (profile : Profile) (number entry : ℕ) (files : List (List ℕ)) (code text more : List ℕ) → IsStream (modules_from profile number entry files) text
-    → IsPacked (number + length files) (record { words = length (words_of code); entry = entry; profile = profile }) code more → IsStream (modules_from profile number entry (files ++ code ∷ [])) (text ++ more)
-stream_more profile number entry [] code text more is packed =
+stream_more : (profile : Profile) (pages number entry : ℕ) (files : List (List ℕ)) (code text more : List ℕ) → IsStream (modules_from profile pages number entry files) text
+    → IsPacked (number + length files) (record { words = length (words_of code); entry = entry; profile = profile; pages = pages }) code more → IsStream (modules_from profile pages number entry (files ++ code ∷ [])) (text ++ more)
+stream_more profile pages number entry [] code text more is packed =
     let same : number + 0 ≡ number = omega arith in
-    (more, [], ap (λ t. t ++ more) is ∙ sym (append-nil more), subst (λ n. IsPacked n (record { words = length (words_of code); entry = entry; profile = profile }) code more) same packed, refl)
-stream_more profile number entry (x ∷ files) code text more is packed =
+    (more, [], ap (λ t. t ++ more) is ∙ sym (append-nil more), subst (λ n. IsPacked n (record { words = length (words_of code); entry = entry; profile = profile; pages = pages }) code more) same packed, refl)
+stream_more profile pages number entry (x ∷ files) code text more is packed =
     let first = is.0 in
     let rest = is.1 in
     let same : number + length (x ∷ files) ≡ number + 1 + length files = omega arith in (
@@ -24,7 +24,7 @@ stream_more profile number entry (x ∷ files) code text more is packed =
       rest ++ more,
       ap (λ t. t ++ more) is.2 ∙ append_assoc first rest more,
       is.3,
-      stream_more profile (number + 1) entry files code rest more is.4 (subst (λ n. IsPacked n (record { words = length (words_of code); entry = entry; profile = profile }) code more) same packed),
+      stream_more profile pages (number + 1) entry files code rest more is.4 (subst (λ n. IsPacked n (record { words = length (words_of code); entry = entry; profile = profile; pages = pages }) code more) same packed),
     )
 
 some_same : {A : Type 0} (a b : A) → Some a ≡ Some b → a ≡ b
@@ -42,16 +42,16 @@ taken_length (y ∷ ys) zero within = refl
 taken_length (y ∷ ys) (suc k) within = ap suc (taken_length ys k (omega (arith, within)))
 
 -- one module more was written
-pub written_more : (profile : Profile) (number entry : ℕ) (files : List (List ℕ)) (k : ℕ) (code : List ℕ) (old half new : Option (List ℕ)) → slice_get files k ≡ Some code
-    → WritesStream profile number entry (take k files) old half → WritesModule profile (number + k) entry code half new → WritesStream profile number entry (take (k + 1) files) old new
-written_more profile number entry files k code old half new at before one =
+pub written_more : (profile : Profile) (pages number entry : ℕ) (files : List (List ℕ)) (k : ℕ) (code : List ℕ) (old half new : Option (List ℕ)) → slice_get files k ≡ Some code
+    → WritesStream profile pages number entry (take k files) old half → WritesModule profile pages (number + k) entry code half new → WritesStream profile pages number entry (take (k + 1) files) old new
+written_more profile pages number entry files k code old half new at before one =
     let within = slice_get_within files k code at in
     let size : length (take k files) ≡ k = taken_length files k within in
     let next : k + 1 ≡ suc k = omega arith in
     let all : take (k + 1) files ≡ take k files ++ code ∷ [] = ap (λ n. take n files) next ∙ taken_next files k code at in
-    let packed = subst (λ n. IsPacked (number + n) (record { words = length (words_of code); entry = entry; profile = profile }) code one.0) (sym size) one.1 in (
+    let packed = subst (λ n. IsPacked (number + n) (record { words = length (words_of code); entry = entry; profile = profile; pages = pages }) code one.0) (sym size) one.1 in (
       before.0 ++ one.0,
-      subst (λ l. IsStream (modules_from profile number entry l) (before.0 ++ one.0)) (sym all) (stream_more profile number entry (take k files) code before.0 one.0 before.1 packed),
+      subst (λ l. IsStream (modules_from profile pages number entry l) (before.0 ++ one.0)) (sym all) (stream_more profile pages number entry (take k files) code before.0 one.0 before.1 packed),
       Appends-trans old half new before.0 one.0 before.2 one.2,
     )
 

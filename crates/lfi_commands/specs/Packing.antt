@@ -37,9 +37,9 @@ pub record AreModulesOf (entry : ℕ) (bytes : List (Option (List ℕ))) (files 
   pub each : (c : ℕ) (code : List ℕ) (known : Option (List ℕ)) → slice_get files c ≡ Some code → slice_get bytes c ≡ Some known → IfSome known (λ xs. xs ≡ code)
   pub modules : AreModules entry files
 
--- A stream of exactly these modules, numbered from `first` on and going by a profile, was written.
-abbrev pub WritesStream : Profile → (first entry : ℕ) → List (List ℕ) → (old new : Option (List ℕ)) → Type 0
-WritesStream profile first entry files old new = (text : List ℕ) × IsStream (modules_from profile first entry files) text × Appends old new text
+-- A stream of exactly these modules, numbered from `first` on, going by a profile and with pages of one size, was written.
+abbrev pub WritesStream : Profile → (pages first entry : ℕ) → List (List ℕ) → (old new : Option (List ℕ)) → Type 0
+WritesStream profile pages first entry files old new = (text : List ℕ) × IsStream (modules_from profile pages first entry files) text × Appends old new text
 
 -- One of the files is no module; that was told, unless it is lost, and nothing was written.
 abbrev pub TellsNoModule : (entry : ℕ) → (paths : List (List ℕ)) → (List ℕ → Option (List ℕ)) → (out_old out_new : Option (List ℕ)) → (is_lost : Bool) → (errors_old errors_new : Option (List ℕ)) → Type 0
@@ -48,16 +48,16 @@ TellsNoModule entry paths file_at out_old out_new is_lost errors_old errors_new 
     × Told is_lost errors_old errors_new (no_module_line told) × (out_new ≡ out_old)
 
 -- The files at these paths were packed, a module each; or one of them is no module. By the ending.
-abbrev pub FindsPacked : Profile → (first entry : ℕ) → (paths : List (List ℕ)) → (List ℕ → Option (List ℕ)) → (out_old out_new : Option (List ℕ)) → (is_lost : Bool) → (errors_old errors_new : Option (List ℕ)) → Ending → Type 0
-FindsPacked profile first entry paths file_at out_old out_new is_lost errors_old errors_new Well =
-    (files : List (List ℕ)) × AreModulesOf entry (map file_at paths) files × WritesStream profile first entry files out_old out_new × (errors_new ≡ errors_old)
-FindsPacked profile first entry paths file_at out_old out_new is_lost errors_old errors_new NotWell =
+abbrev pub FindsPacked : Profile → (pages first entry : ℕ) → (paths : List (List ℕ)) → (List ℕ → Option (List ℕ)) → (out_old out_new : Option (List ℕ)) → (is_lost : Bool) → (errors_old errors_new : Option (List ℕ)) → Ending → Type 0
+FindsPacked profile pages first entry paths file_at out_old out_new is_lost errors_old errors_new Well =
+    (files : List (List ℕ)) × AreModulesOf entry (map file_at paths) files × WritesStream profile pages first entry files out_old out_new × (errors_new ≡ errors_old)
+FindsPacked profile pages first entry paths file_at out_old out_new is_lost errors_old errors_new NotWell =
     TellsNoModule entry paths file_at out_old out_new is_lost errors_old errors_new × (is_lost ≡ false)
-FindsPacked profile first entry paths file_at out_old out_new is_lost errors_old errors_new WrongWords = ⊥
-FindsPacked profile first entry paths file_at out_old out_new is_lost errors_old errors_new Failed =
+FindsPacked profile pages first entry paths file_at out_old out_new is_lost errors_old errors_new WrongWords = ⊥
+FindsPacked profile pages first entry paths file_at out_old out_new is_lost errors_old errors_new Failed =
     TellsNoModule entry paths file_at out_old out_new is_lost errors_old errors_new × (is_lost ≡ true)
 
 -- What `lfiload pack` did with the files at these paths: it packed them, or told that one of them is no module, and put no file.
-pub record HasPacked (profile : Profile) (first entry : ℕ) (paths : List (List ℕ)) (file_at : List ℕ → Option (List ℕ)) (old new : Left) (ending : Ending) : Type 0 where
-  pub found : FindsPacked profile first entry paths file_at old.out new.out new.is_lost old.errors new.errors ending
+pub record HasPacked (profile : Profile) (pages first entry : ℕ) (paths : List (List ℕ)) (file_at : List ℕ → Option (List ℕ)) (old new : Left) (ending : Ending) : Type 0 where
+  pub found : FindsPacked profile pages first entry paths file_at old.out new.out new.is_lost old.errors new.errors ending
   pub put : new.put ≡ old.put

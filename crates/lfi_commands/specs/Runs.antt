@@ -5,7 +5,7 @@ use Rattle.lfi_command_line.specs.declared.line.Line.{Line}
 use Rattle.lfi_command_line.specs.declared.line.Line.TheVariants.{Check, Load, Serve, Run, Disassemble, Pack}
 use Rattle.lfi_command_line.specs.declared.line.Explain.{Explain}
 use Rattle.lfi_command_line.specs.declared.line.Explain.TheVariants.{Nothing}
-use Rattle.lfi_command_line.specs.CommandLine.{IsLine, AsksHelp, AreWrong, NameTooMany, NameTooManyModules}
+use Rattle.lfi_command_line.specs.CommandLine.{IsLine, AsksHelp, AreWrong, NameTooMany, NameTooManyModules, NameNoPages}
 use Rattle.lfi_commands.specs.declared.ending.Ending.{Ending}
 use Rattle.lfi_commands.specs.declared.ending.Ending.TheVariants.{Well, NotWell, WrongWords, Failed}
 use Rattle.lfi_commands.specs.declared.failure.Target.TheVariants.{StandardOutput}
@@ -33,7 +33,7 @@ CarriesOut (Load verifiers folder explain streams) file_at = HasLoaded verifiers
 CarriesOut (Serve socket connections verifiers seconds folder explain) file_at = HasServedAll connections verifiers seconds (option_map (λ s. s.now) folder) explain
 CarriesOut (Run image steps) file_at = HasRun (file_at image.now) steps
 CarriesOut (Disassemble file profile) file_at = HasListed profile (file_at file.now)
-CarriesOut (Pack first entry profile files) file_at = HasPacked profile first entry (map (λ s. s.now) files.items) file_at
+CarriesOut (Pack first entry profile pages files) file_at = HasPacked profile pages first entry (map (λ s. s.now) files.items) file_at
 
 -- it tells of a fault of what the line asks for: of a file that it names, of the output, of the socket
 abbrev pub FailsAs : Line → Failure → Type 0
@@ -42,7 +42,7 @@ FailsAs (Load verifiers folder explain streams) = FailsOn (map (λ s. s.now) str
 FailsAs (Serve socket connections verifiers seconds folder explain) = FailsServing
 FailsAs (Run image steps) = IsOfReading image.now
 FailsAs (Disassemble file profile) = FailsOn (file.now ∷ [])
-FailsAs (Pack first entry profile files) = FailsOn (map (λ s. s.now) files.items)
+FailsAs (Pack first entry profile pages files) = FailsOn (map (λ s. s.now) files.items)
 
 -- The words ask for a line, and it was carried out.
 abbrev pub CarriesOutWords : List (List ℕ) → (List ℕ → Option (List ℕ)) → (old new : Left) → Ending → Type 0
@@ -72,9 +72,13 @@ TellsTooMany words old new = NameTooMany words × Told new.is_lost old.errors ne
 abbrev pub TellsTooManyModules : List (List ℕ) → (old new : Left) → Type 0
 TellsTooManyModules words old new = NameTooManyModules words × Told new.is_lost old.errors new.errors (codes "lfiload: at most 16 modules\n")
 
+-- They ask for pages of a size that there isn't by their profile, and that was told, unless it is lost.
+abbrev pub TellsNoPages : List (List ℕ) → (old new : Left) → Type 0
+TellsNoPages words old new = NameNoPages words × Told new.is_lost old.errors new.errors (codes "lfiload: pages are small, or large with --profile 2\n")
+
 -- What a run of the program on these words did, by its ending.
 abbrev pub Runs : List (List ℕ) → (List ℕ → Option (List ℕ)) → (old new : Left) → Ending → Type 0
 Runs words file_at old new Well = (AsksHelp words × (new.put ≡ old.put) × (new.errors ≡ old.errors)) ⊎ CarriesOutWords words file_at old new Well
 Runs words file_at old new NotWell = CarriesOutWords words file_at old new NotWell
-Runs words file_at old new WrongWords = (AreWrong words ⊎ (TellsTooMany words old new ⊎ TellsTooManyModules words old new)) × (new.out ≡ old.out) × (new.put ≡ old.put)
+Runs words file_at old new WrongWords = (AreWrong words ⊎ (TellsTooMany words old new ⊎ (TellsTooManyModules words old new ⊎ TellsNoPages words old new))) × (new.out ≡ old.out) × (new.put ≡ old.put)
 Runs words file_at old new Failed = TellsFailure words old new ⊎ CarriesOutWords words file_at old new Failed

@@ -1,6 +1,7 @@
 //! Code files that are packed as a stream, a module each.
 
 ghost use Rattle.std.specs.Prelude.{◌≡◌, ◌<◌, ◌≤◌, ◌+◌, Some, true, map, length, slice_get, IfOk, IfErr, IfSome, OnOk};
+ghost use Rattle.lfi_module.specs.Pages.{HasPages};
 ghost use Rattle.a64_word.specs.Words.{words_of};
 ghost use Rattle.lfi_code.specs.Checking.{IsCode};
 ghost use Rattle.lfi_commands.specs.Packing as spec;
@@ -12,7 +13,7 @@ use crate::failure::Failure;
 use crate::opening::{open, path_at};
 use crate::whole::read_code;
 use lfi_code::Code;
-use lfi_module::{Extent, ModuleNumber, Profile, WordCount};
+use lfi_module::{Extent, ModuleNumber, PageSize, Profile, WordCount};
 use lfi_pack::{PackFault, pack_module};
 use std::alloc::Global;
 use std::fmt;
@@ -104,21 +105,23 @@ fn code_at(files: &[Vec<u8>], place: usize) -> &[u8]
     files[place].as_slice()
 }
 
-/// Writes this code as the module with this number, which is entered at this word.
+/// Writes this code as the module with this number, which is entered at this word and has pages of this size.
 fn write_module<W: Write>(
     number: usize,
     entry: u32,
     profile: Profile,
+    pages: PageSize,
     code: &[u8],
     writer: &mut W,
 ) -> Result<(), DeviceCause>
     requires number { number < 16 }
     requires code { IsCode code.now }
     requires entry { entry < length (words_of code.now) }
-    ensures { OnOk result (WritesModule profile number entry code.now (W.contents writer.old) (W.contents writer.new)) }
+    requires pages { HasPages profile pages }
+    ensures { OnOk result (WritesModule profile pages number entry code.now (W.contents writer.old) (W.contents writer.new)) }
 {
     let words = Code::of(code).len_words() as u32;
-    let extent = Extent::of(WordCount::of(words), entry, profile);
+    let extent = Extent::of(WordCount::of(words), entry, profile, pages);
     let mut reader = code;
     match pack_module(ModuleNumber::at(number), extent, &mut reader, writer) {
         Ok(()) => Ok(()),
@@ -127,7 +130,8 @@ fn write_module<W: Write>(
     }
 }
 
-/// Writes a stream of this code, a module each, numbered from this number on and entered at this word.
+/// Writes a stream of this code, a module each, numbered from this number on, entered at this word, and cut into pages of
+/// this size.
 ///
 /// # Errors
 ///
@@ -136,15 +140,24 @@ pub(crate) fn write_stream<W: Write>(
     first: usize,
     entry: u32,
     profile: Profile,
+    pages: PageSize,
     files: &[Vec<u8>],
     writer: &mut W,
 ) -> Result<(), DeviceCause>
     requires numbers { first + length files.now ≤ 16 }
     requires modules { spec.AreModules entry (map (λ file. file.items) files.now) }
-    ensures { OnOk result (spec.WritesStream profile first entry (map (λ file. file.items) files.now) (W.contents writer.old) (W.contents writer.new)) }
+    requires pages { HasPages profile pages }
+    ensures { OnOk result (spec.WritesStream profile pages first entry (map (λ file. file.items) files.now) (W.contents writer.old) (W.contents writer.new)) }
 {
     for place in 0..files.len() {
-        write_module(first + place, entry, profile, code_at(files, place), writer)?;
+        write_module(
+            first + place,
+            entry,
+            profile,
+            pages,
+            code_at(files, place),
+            writer,
+        )?;
     }
     Ok(())
 }

@@ -11,6 +11,7 @@ ghost use Rattle.lfi_commands.specs.Left.{left};
 ghost use Rattle.lfi_commands.specs.Listing.{FindsListing};
 ghost use Rattle.lfi_commands.specs.Loading.{asked_images, folder_or_none, HasLoaded};
 ghost use Rattle.lfi_commands.specs.Packing.{FindsPacked};
+ghost use Rattle.lfi_module.specs.Pages.{HasPages};
 ghost use Rattle.lfi_commands.specs.Serving.{HasServedAll, IsLimit};
 ghost use Rattle.lfi_commands.specs.Runs.{FailsAs, CarriesOut, Runs};
 ghost use Rattle.lfi_commands.specs.inner.Found.{FindsRun, FindsVerdict};
@@ -29,7 +30,7 @@ use crate::packing::{Stop, read_modules, write_stream};
 use crate::refused::write_asked_refused;
 use lfi_code::Verdict;
 use lfi_command_line::{Explain, Line, LineFault, read_line};
-use lfi_module::Profile;
+use lfi_module::{PageSize, Profile};
 use lfi_place::ModuleReport;
 use lfi_run::run_image;
 use lfi_threads::Notices;
@@ -105,7 +106,8 @@ fn run_disassemble<'a, D: Disk, O: Write>(
     }
 }
 
-/// Writes a stream of the code in these files, a module each, numbered from the first number on and entered at this word.
+/// Writes a stream of the code in these files, a module each, numbered from the first number on, entered at this word, and
+/// cut into pages of this size.
 /// All files are read before anything is written.
 fn run_pack<'a, D: Disk, O: Write, E: Write>(
     alloc: Global,
@@ -113,12 +115,14 @@ fn run_pack<'a, D: Disk, O: Write, E: Write>(
     first: usize,
     entry: u32,
     profile: Profile,
+    pages: PageSize,
     paths: &[&'a str],
     out: &mut O,
     errors: &mut Errors<E>,
 ) -> Result<Ending, Failure<'a>>
     requires numbers { first + length paths.now ≤ 16 }
-    ensures found { IfOk result (FindsPacked profile first entry (map (λ path. path.now) paths.now) (D.file_at disk.now)
+    requires pages { HasPages profile pages }
+    ensures found { IfOk result (FindsPacked profile pages first entry (map (λ path. path.now) paths.now) (D.file_at disk.now)
         (O.contents out.old) (O.contents out.new) (is_lost_of errors.new) (E.contents (writer_of errors.old)) (E.contents (writer_of errors.new))) }
     ensures failure { IfErr result (FailsOn (map (λ path. path.now) paths.now)) }
     ensures output { IfErr result (λ failure. is_of_output failure ≡ false → out.new ≡ out.old) }
@@ -135,7 +139,7 @@ fn run_pack<'a, D: Disk, O: Write, E: Write>(
             return Ok(Ending::Failed);
         }
     };
-    match write_stream(first, entry, profile, &files, out) {
+    match write_stream(first, entry, profile, pages, &files, out) {
         Ok(()) => Ok(Ending::Well),
         Err(cause) => Err(Failure::of_output(cause)),
     }
@@ -357,8 +361,11 @@ fn run<
             module,
             entry,
             profile,
+            pages,
             codes,
-        } => run_pack(alloc, disk, module, entry, profile, &codes, out, errors),
+        } => run_pack(
+            alloc, disk, module, entry, profile, pages, &codes, out, errors,
+        ),
     }
 }
 
@@ -389,6 +396,12 @@ fn tell_fault<O: Write, E: Write>(fault: &LineFault, out: &mut O, errors: &mut E
         }
         LineFault::TooManyModules => {
             errors.write_line("lfiload: at most 16 modules");
+            if !errors.is_lost() {
+                return Ending::WrongWords;
+            }
+        }
+        LineFault::NoPages => {
+            errors.write_line("lfiload: pages are small, or large with --profile 2");
             if !errors.is_lost() {
                 return Ending::WrongWords;
             }

@@ -1,9 +1,9 @@
 -- What a feed stands for after a call.
 use Rattle.std.proofs.Common.{zero, suc, ◌≡◌, ◌≢◌, ℕ, ◌-◌, ◌<◌, ◌≤◌, List, [], ◌∷◌, ◌++◌, length, take, drop, inl, inr, refl, sym, ◌∙◌, ap, subst, arith, lit<, ◌⊎◌, append_assoc, length-append, flat_map}
-use Rattle.std.specs.Prelude.{Option, Some, None, Ok, Err, Bool, true, false, ◌==◌, if◌then◌else◌, All}
+use Rattle.std.specs.Prelude.{Option, Some, None, Ok, Err, Bool, true, false, ◌==◌, ◌&&◌, nat_lt, if◌then◌else◌, All}
 use Rattle.std.proofs.lemmas.List.{append-nil, length-take, length-drop}
 use Rattle.std.proofs.lemmas.List.Elements.{All-push}
-use Rattle.std.proofs.lemmas.Bool.{eq-eqb, eqb-true, lt-ltb}
+use Rattle.std.proofs.lemmas.Bool.{eqb-true, lt-ltb}
 use Rattle.std.proofs.lemmas.Bool.Decides.{eqb_tells}
 use Rattle.lfi_frame.specs.declared.header.Header.{Header}
 use Rattle.lfi_frame.specs.declared.fault.FrameFault.{FrameFault}
@@ -14,47 +14,58 @@ use Rattle.lfi_frame.specs.declared.answer.Got.TheVariants.{Open, Page, Payload,
 use Rattle.lfi_frame.specs.declared.feed.Position.{Position}
 use Rattle.lfi_frame.specs.declared.feed.Position.TheVariants as position
 use Rattle.lfi_frame.specs.inner.Positions.{is_between}
-use Rattle.lfi_frame.specs.Streams.{Cut, AreBytes, Message, open_message, page_message, close_message, is_open, header_of, payload_of, spelling, header_at, header_bytes, header_fault, IsMessage, short, faulty, unfinished, whole, rest_after, rest_of}
+use Rattle.lfi_frame.specs.Streams.{Cut, AreBytes, Message, open_message, page_message, close_message, is_open, page_kind, is_page, size_by, header_of, payload_of, spelling, header_at, header_bytes, header_fault, IsMessage, short, faulty, unfinished, whole, rest_after, rest_of}
 use Rattle.lfi_frame.specs.Feeds.{IsAtEnd, fault_at, page_header, IsInPage, IsSeen, IsAt, FeedStands, IsTold, opened, got_by, answer_by, answer_to, position_by, position_after}
-use Rattle.lfi_frame.proofs.Headers.{header_spells, header_fits, sound}
-use Rattle.lfi_frame.proofs.Cuts.{rest_long, rest_short, rest_spelled, page_is, open_is, close_is, message_is, comes_by, long_by}
+use Rattle.lfi_frame.proofs.Headers.{header_spells, header_fits, sound, IsPaging, paging}
+use Rattle.lfi_frame.proofs.Cuts.{rest_long, rest_short, rest_spelled, page_is, size_is, page_paging, size_back, open_sizes, open_is, close_is, message_is, comes_by, long_by}
 
 -- inside a page
 
-pub page_rest : (rest : List ℕ) (left : ℕ) (p : IsInPage rest left) → rest_of rest ≡ unfinished p.m p.index p.len
+len_fits : {rest : List ℕ} {left : ℕ} (p : IsInPage rest left) → p.len ≤ 16384
+len_fits p =
+    let most = (sound (page_header p.m p.size p.index p.len) p.faultless).few (page_paging p.size p.sized) in
+    let same = size_back p.size p.sized in
+    elim p.sized [ inl small ↦ omega arith | inr large ↦ omega arith ]
+
+pub page_rest : (rest : List ℕ) (left : ℕ) (p : IsInPage rest left) → rest_of rest ≡ unfinished p.m p.size p.index p.len
 page_rest rest left p =
     let few : length p.payload < p.len = omega (arith, p.to_come, p.unended) in
-    let most = (sound (page_header p.m p.index p.len) p.faultless).few refl in
+    let is = page_paging p.size p.sized in
+    let most = len_fits p in
     ap rest_of p.spelled
-    ∙ rest_spelled (page_header p.m p.index p.len) p.payload p.faultless p.index_fits (omega arith)
-    ∙ ap (λ b. if b then unfinished p.m p.index p.len else whole) (lt-ltb (length p.payload) p.len few)
+    ∙ rest_spelled (page_header p.m p.size p.index p.len) p.payload p.faultless p.index_fits (omega arith)
+    ∙ ap (λ b. if b && nat_lt (length p.payload) p.len then unfinished p.m (size_by (page_kind p.size)) p.index p.len else whole) (paging (page_kind p.size) is)
+    ∙ ap (λ b. if b then unfinished p.m (size_by (page_kind p.size)) p.index p.len else whole) (lt-ltb (length p.payload) p.len few)
+    ∙ ap (λ s. unfinished p.m s p.index p.len) (size_back p.size p.sized)
 
 pub page_long : (rest : List ℕ) (left : ℕ) → IsInPage rest left → 12 ≤ length rest
-page_long rest left p = subst (λ l. 12 ≤ length l) (sym p.spelled) (long_by (page_header p.m p.index p.len) p.payload)
+page_long rest left p = subst (λ l. 12 ≤ length l) (sym p.spelled) (long_by (page_header p.m p.size p.index p.len) p.payload)
 
 abbrev pub page_goes : (rest used : List ℕ) (left : ℕ) → IsInPage rest left → length used < left → IsInPage (rest ++ used) (left - length used)
 page_goes rest used left p few = record {
   m = p.m;
+  size = p.size;
   index = p.index;
   len = p.len;
   payload = p.payload ++ used;
-  spelled = ap (λ l. l ++ used) p.spelled ∙ append_assoc (header_bytes (page_header p.m p.index p.len)) p.payload used;
+  spelled = ap (λ l. l ++ used) p.spelled ∙ append_assoc (header_bytes (page_header p.m p.size p.index p.len)) p.payload used;
   faultless = p.faultless;
+  sized = p.sized;
   index_fits = p.index_fits;
   to_come = omega (arith, length-append p.payload used, p.to_come);
   unended = omega arith;
 }
 
 pub page_message_of : (rest used : List ℕ) (left : ℕ) → IsInPage rest left → Message
-page_message_of rest used left p = page_message p.m p.index (p.payload ++ used)
+page_message_of rest used left p = page_message p.m p.size p.index (p.payload ++ used)
 
-page_ends : (rest used : List ℕ) (left : ℕ) (p : IsInPage rest left) → length used ≡ left → IsMessage (page_message p.m p.index (p.payload ++ used)) × (rest ++ used ≡ spelling (page_message p.m p.index (p.payload ++ used)))
+page_ends : (rest used : List ℕ) (left : ℕ) (p : IsInPage rest left) → length used ≡ left → IsMessage (page_message p.m p.size p.index (p.payload ++ used)) × (rest ++ used ≡ spelling (page_message p.m p.size p.index (p.payload ++ used)))
 page_ends rest used left p all =
     let len : length (p.payload ++ used) ≡ p.len = omega (arith, length-append p.payload used, p.to_come) in
-    let most = (sound (page_header p.m p.index p.len) p.faultless).few refl in
-    let is : page_header p.m p.index (length (p.payload ++ used)) ≡ page_header p.m p.index p.len = ap (λ n. page_header p.m p.index n) len in (
-      message_is (page_message p.m p.index (p.payload ++ used)) (page_header p.m p.index p.len) is p.faultless p.index_fits (omega arith),
-      ap (λ l. l ++ used) p.spelled ∙ append_assoc (header_bytes (page_header p.m p.index p.len)) p.payload used ∙ ap (λ h. header_bytes h ++ (p.payload ++ used)) (sym is),
+    let most = len_fits p in
+    let is : page_header p.m p.size p.index (length (p.payload ++ used)) ≡ page_header p.m p.size p.index p.len = ap (λ n. page_header p.m p.size p.index n) len in (
+      message_is (page_message p.m p.size p.index (p.payload ++ used)) (page_header p.m p.size p.index p.len) is p.faultless p.index_fits (omega arith) p.sized,
+      ap (λ l. l ++ used) p.spelled ∙ append_assoc (header_bytes (page_header p.m p.size p.index p.len)) p.payload used ∙ ap (λ h. header_bytes h ++ (p.payload ++ used)) (sym is),
     )
 
 -- a feed between two messages
@@ -68,19 +79,21 @@ payload_by : (b : Bool) (left used : ℕ) (new : Feed) (messages : List Message)
 payload_by true left used new messages rest bytes len most test is each p =
     let all : length bytes ≡ left = elim test [ inl t ↦ (let z = t.1 in omega arith) | inr f ↦ (let no_path : true ≡ false = f.0 in absurd (cc)) ] in
     let e = page_ends rest bytes left p all in
-    let told = between new messages (page_message p.m p.index (p.payload ++ bytes)) is each e.0 in
+    let told = between new messages (page_message p.m p.size p.index (p.payload ++ bytes)) is each e.0 in
     let payload : p.payload ≡ drop 12 rest = sym (ap (λ l. drop 12 l) p.spelled) in (
       p.m,
+      p.size,
       p.index,
       p.len,
       page_rest rest left p,
-      subst (λ l. rest ++ bytes ≡ spelling (page_message p.m p.index (l ++ bytes))) payload e.1,
-      subst (λ l. FeedStands new (messages ++ page_message p.m p.index (l ++ bytes) ∷ []) []) payload told,
+      subst (λ l. rest ++ bytes ≡ spelling (page_message p.m p.size p.index (l ++ bytes))) payload e.1,
+      subst (λ l. FeedStands new (messages ++ page_message p.m p.size p.index (l ++ bytes) ∷ []) []) payload told,
     )
 payload_by false left used new messages rest bytes len most test is each p =
     let few : length bytes < left = elim test [ inl t ↦ (let no_path : false ≡ true = t.0 in absurd (cc)) | inr f ↦ (let z : left - used ≢ 0 = f.1 in omega arith) ] in
     let goes : IsInPage (rest ++ bytes) (left - length bytes) = page_goes rest bytes left p few in (
       p.m,
+      p.size,
       p.index,
       p.len,
       page_rest rest left p,
@@ -124,16 +137,18 @@ module _ (new : Feed) (messages : List Message) (rest used : List ℕ) (each : A
   spelled : (message : Message) → header_of message ≡ h → payload_of message ≡ [] → rest ++ used ≡ spelling message
   spelled message is empty = sym (sym (append-nil (spelling message)) ∙ comes_by message [] (rest ++ used) (omega arith) small is (append-nil (payload_of message) ∙ empty ∙ sym (nothing_after (rest ++ used) twelve)))
 
-  abbrev in_page : header_fault h ≡ None → h.kind ≡ 2 → IsInPage (rest ++ used) h.b
+  abbrev in_page : header_fault h ≡ None → IsPaging h.kind → IsInPage (rest ++ used) h.b
   in_page none two =
       let is = page_is h none two in let fits = header_fits (rest ++ used) small in
       record {
         m = h.«module»;
+        size = size_by h.kind;
         index = h.a;
         len = h.b;
         payload = [];
         spelled = sym (header_spells (rest ++ used) (omega arith) small) ∙ ap (λ l. header_bytes h ++ l) (nothing_after (rest ++ used) twelve) ∙ ap (λ g. header_bytes g ++ []) (sym is);
         faultless = ap header_fault is ∙ none;
+        sized = size_is h.kind two;
         index_fits = fits.0;
         to_come = omega arith;
         unended = (sound h none).some two;
@@ -145,15 +160,15 @@ module _ (new : Feed) (messages : List Message) (rest used : List ℕ) (each : A
       let message = open_message h.«module» (opened h) in
       let g : got ≡ Open h.«module» (opened h) = brings ∙ brought h.kind kind in
       let p : new.position ≡ position.Header 0 = is ∙ put h.kind kind in
-      subst (λ g. IsTold g new messages rest used) (sym g) (between new messages message p each (message_is message h (open_is h none kind) none fits.0 fits.1), spelled message (open_is h none kind) refl)
+      subst (λ g. IsTold g new messages rest used) (sym g) (between new messages message p each (message_is message h (open_is h none kind) none fits.0 fits.1 (open_sizes h none)), spelled message (open_is h none kind) refl)
     where
-      brought : (k : ℕ) → (k ≡ 1) ⊎ (k ≡ 4) → (if k == 2 then Page h.«module» h.a h.b else if is_open k then Open h.«module» (opened h) else Close h.«module») ≡ Open h.«module» (opened h)
-      brought k (inl one) = ap (λ k. if k == 2 then Page h.«module» h.a h.b else if is_open k then Open h.«module» (opened h) else Close h.«module») one
-      brought k (inr four) = ap (λ k. if k == 2 then Page h.«module» h.a h.b else if is_open k then Open h.«module» (opened h) else Close h.«module») four
+      brought : (k : ℕ) → (k ≡ 1) ⊎ (k ≡ 4) → (if is_page k then Page h.«module» (size_by k) h.a h.b else if is_open k then Open h.«module» (opened h) else Close h.«module») ≡ Open h.«module» (opened h)
+      brought k (inl one) = ap (λ k. if is_page k then Page h.«module» (size_by k) h.a h.b else if is_open k then Open h.«module» (opened h) else Close h.«module») one
+      brought k (inr four) = ap (λ k. if is_page k then Page h.«module» (size_by k) h.a h.b else if is_open k then Open h.«module» (opened h) else Close h.«module») four
 
-      put : (k : ℕ) → (k ≡ 1) ⊎ (k ≡ 4) → (if k == 2 then position.Payload h.b else position.Header 0) ≡ position.Header 0
-      put k (inl one) = ap (λ k. if k == 2 then position.Payload h.b else position.Header 0) one
-      put k (inr four) = ap (λ k. if k == 2 then position.Payload h.b else position.Header 0) four
+      put : (k : ℕ) → (k ≡ 1) ⊎ (k ≡ 4) → (if is_page k then position.Payload h.b else position.Header 0) ≡ position.Header 0
+      put k (inl one) = ap (λ k. if is_page k then position.Payload h.b else position.Header 0) one
+      put k (inr four) = ap (λ k. if is_page k then position.Payload h.b else position.Header 0) four
 
   sound_told : (got : Got) → header_fault h ≡ None → got ≡ got_by h → new.position ≡ position_by None h → IsTold got new messages rest used
   sound_told got none brings is =
@@ -161,8 +176,8 @@ module _ (new : Feed) (messages : List Message) (rest used : List ℕ) (each : A
       elim (sound h none).kind [
         | inl two ↦
             let page = in_page none two in
-            let b = eq-eqb h.kind 2 two in
-            let g : got ≡ Page h.«module» h.a h.b = brings ∙ ap (λ b. if b then Page h.«module» h.a h.b else if is_open h.kind then Open h.«module» (opened h) else Close h.«module») b in
+            let b = paging h.kind two in
+            let g : got ≡ Page h.«module» (size_by h.kind) h.a h.b = brings ∙ ap (λ b. if b then Page h.«module» (size_by h.kind) h.a h.b else if is_open h.kind then Open h.«module» (opened h) else Close h.«module») b in
             let p : new.position ≡ position.Payload h.b = is ∙ ap (λ b. if b then position.Payload h.b else position.Header 0) b in
             subst (λ g. IsTold g new messages rest used) (sym g) (record { each = each; position = subst (λ q. IsAt new.held q (rest ++ used)) (sym p) page }, twelve, page_rest (rest ++ used) h.b page)
         | inr other ↦ elim other [
@@ -171,9 +186,9 @@ module _ (new : Feed) (messages : List Message) (rest used : List ℕ) (each : A
             | inr four ↦ opened_told got none brings is (inr four)
             | inl three ↦
                 let message = close_message h.«module» in
-                let g : got ≡ Close h.«module» = brings ∙ ap (λ k. if k == 2 then Page h.«module» h.a h.b else if is_open k then Open h.«module» (opened h) else Close h.«module») three in
-                let p : new.position ≡ position.Header 0 = is ∙ ap (λ k. if k == 2 then position.Payload h.b else position.Header 0) three in
-                subst (λ g. IsTold g new messages rest used) (sym g) (between new messages message p each (message_is message h (close_is h none three) none fits.0 fits.1), spelled message (close_is h none three) refl)
+                let g : got ≡ Close h.«module» = brings ∙ ap (λ k. if is_page k then Page h.«module» (size_by k) h.a h.b else if is_open k then Open h.«module» (opened h) else Close h.«module») three in
+                let p : new.position ≡ position.Header 0 = is ∙ ap (λ k. if is_page k then position.Payload h.b else position.Header 0) three in
+                subst (λ g. IsTold g new messages rest used) (sym g) (between new messages message p each (message_is message h (close_is h none three) none fits.0 fits.1 tt), spelled message (close_is h none three) refl)
           ]
         ]
       ]
@@ -233,7 +248,7 @@ inside_rest (position.Header filled) held rest long going inside at_position = (
 )
 inside_rest (position.Payload left) held rest long going inside at_position = (
   λ n. (let e : length rest ≡ 0 = ap length n in let l = page_long rest left at_position in absurd (omega arith)),
-  λ w. (let f : unfinished at_position.m at_position.index at_position.len ≡ whole = sym (page_rest rest left at_position) ∙ w in absurd (cc)),
+  λ w. (let f : unfinished at_position.m at_position.size at_position.index at_position.len ≡ whole = sym (page_rest rest left at_position) ∙ w in absurd (cc)),
 )
 inside_rest (position.Faulty fault) held rest long going inside at_position = absurd (going fault refl)
 
@@ -270,8 +285,13 @@ not_seen Entry rest s = λ w. let f : faulty Entry ≡ whole = sym s ∙ w in ab
 
 stops_at : (p : Position) (held rest : List ℕ) → IsAt held p rest → rest_of rest ≢ whole
 stops_at (position.Header filled) held rest at_position = not_whole rest (let few = at_position.0 in subst (λ l. length l < 12) (sym at_position.1) (let t = take_some filled held in omega arith))
-stops_at (position.Payload left) held rest at_position = λ w. (let f : unfinished at_position.m at_position.index at_position.len ≡ whole = sym (page_rest rest left at_position) ∙ w in absurd (cc))
+stops_at (position.Payload left) held rest at_position = λ w. (let f : unfinished at_position.m at_position.size at_position.index at_position.len ≡ whole = sym (page_rest rest left at_position) ∙ w in absurd (cc))
 stops_at (position.Faulty fault) held rest at_position = not_seen fault rest at_position
 
 pub stands_cut : (feed : Feed) (messages : List Message) (rest : List ℕ) → FeedStands feed messages rest → Cut (flat_map spelling messages ++ rest) messages rest
 stands_cut feed messages rest stands = record { spelled = refl; each = stands.each; stops = stops_at feed.position feed.held rest stands.position }
+
+-- a feed that is stopped for what its bytes don't show
+pub stopped : (old new : Feed) (fault : FrameFault) (messages : List Message) (rest : List ℕ) → (fault ≡ NoMemory) ⊎ (fault ≡ ReadFailed) → new.position ≡ position.Faulty fault → FeedStands old messages rest → FeedStands new messages rest
+stopped old new fault messages rest (inl memory) is stands = record { each = stands.each; position = subst (λ p. IsAt new.held p rest) (sym (is ∙ ap position.Faulty memory)) (stops_at old.position old.held rest stands.position) }
+stopped old new fault messages rest (inr read) is stands = record { each = stands.each; position = subst (λ p. IsAt new.held p rest) (sym (is ∙ ap position.Faulty read)) (stops_at old.position old.held rest stands.position) }

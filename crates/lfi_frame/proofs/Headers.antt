@@ -1,5 +1,5 @@
 -- Twelve bytes and the header that they spell.
-use Rattle.std.proofs.Common.{zero, suc, ◌≢◌, ◌≡◌, ℕ, ◌+◌, ◌<◌, ◌≤◌, ◌^◌, List, [], ◌∷◌, ◌++◌, length, drop, get_or, inl, inr, refl, ◌∙◌, ap, arith, lit<, ◌⊎◌}
+use Rattle.std.proofs.Common.{zero, suc, ◌≢◌, ◌≡◌, ℕ, ◌+◌, ◌*◌, ◌<◌, ◌≤◌, ◌^◌, List, [], ◌∷◌, ◌++◌, length, drop, get_or, inl, inr, refl, sym, ◌∙◌, ap, arith, lit<, ◌⊎◌}
 use Rattle.std.specs.Prelude.{Option, Some, None, Bool, true, false, not, ◌||◌, ◌&&◌, ◌==◌, ◌%◌, nat_lt, nat_le, if◌then◌else◌, slice_index}
 use Rattle.std.proofs.lemmas.Nat.{le_bytes_2, le_bytes_4}
 use Rattle.std.proofs.lemmas.List.{get_or-drop}
@@ -10,8 +10,8 @@ use Rattle.byteorder.specs.Numbers.{little_number-reads_back, little_from-lt}
 use Rattle.lfi_frame.specs.declared.header.Header.{Header}
 use Rattle.lfi_frame.specs.declared.fault.FrameFault.{FrameFault}
 use Rattle.lfi_frame.specs.declared.fault.FrameFault.TheVariants.{Kind, SecondByte, Module, PageLength, CloseNumbers}
-use Rattle.lfi_module.specs.Numbers.{module_count, page_bytes}
-use Rattle.lfi_frame.specs.Streams.{AreBytes, header_at, header_bytes, header_fault, is_page_length}
+use Rattle.lfi_module.specs.Numbers.{module_count}
+use Rattle.lfi_frame.specs.Streams.{AreBytes, header_at, header_bytes, header_fault, is_page_length, is_page, is_second, size_by}
 
 -- the header that a header's bytes spell
 pub header_back : (h : Header) (xs : List ℕ) → h.«module» < 2 ^ 16 → h.a < 2 ^ 32 → h.b < 2 ^ 32 → header_at (header_bytes h ++ xs) ≡ h
@@ -81,54 +81,73 @@ second_false : (b c : Bool) → (b && c) ≡ false → b ≡ true → c ≡ fals
 second_false true c e t = e
 second_false false c e t = absurd (cc)
 
+-- the kinds of a page
+abbrev pub IsPaging : (kind : ℕ) → Type 0
+IsPaging kind = (kind ≡ 2) ⊎ (kind ≡ 5)
+
 -- what a header without a fault says
 pub record IsSound (h : Header) : Type 0 where
-  pub kind : (h.kind ≡ 2) ⊎ ((h.kind ≡ 1) ⊎ ((h.kind ≡ 3) ⊎ (h.kind ≡ 4)))
-  pub second : h.second ≡ 0
+  pub kind : IsPaging h.kind ⊎ ((h.kind ≡ 1) ⊎ ((h.kind ≡ 3) ⊎ (h.kind ≡ 4)))
+  pub second : (h.second ≡ 0) ⊎ ((h.kind ≡ 4) × (h.second ≡ 2))
   pub m_below : h.«module» < module_count
   pub zeros : h.kind ≡ 3 → (h.a ≡ 0) × (h.b ≡ 0)
-  pub some : h.kind ≡ 2 → 0 < h.b
-  pub few : h.kind ≡ 2 → h.b ≤ page_bytes
-  pub whole : h.kind ≡ 2 → h.b % 4 ≡ 0
+  pub some : IsPaging h.kind → 0 < h.b
+  pub few : IsPaging h.kind → h.b ≤ 4 * size_by h.kind
+  pub whole : IsPaging h.kind → h.b % 4 ≡ 0
 
 above_zero : (n : ℕ) → (n == 0) ≡ false → 0 < n
 above_zero zero e = absurd (cc)
 above_zero (suc n) e = omega arith
 
-kind_among : (k : ℕ) → (k == 0 || nat_lt 4 k) ≡ false → (k ≡ 2) ⊎ ((k ≡ 1) ⊎ ((k ≡ 3) ⊎ (k ≡ 4)))
+pub paging : (k : ℕ) → IsPaging k → is_page k ≡ true
+paging k (inl two) = ap is_page two
+paging k (inr five) = ap is_page five
+
+kind_among : (k : ℕ) → (k == 0 || nat_lt 5 k) ≡ false → IsPaging k ⊎ ((k ≡ 1) ⊎ ((k ≡ 3) ⊎ (k ≡ 4)))
 kind_among k e =
-    let two = neither (k == 0) (nat_lt 4 k) e in
-    let most : k ≤ 4 = ltb-false 4 k two.1 in
+    let two = neither (k == 0) (nat_lt 5 k) e in
+    let most : k ≤ 5 = ltb-false 5 k two.1 in
     let least : 0 < k = above_zero k two.0 in
     elim (eqb_tells k 2) [
-      | inl a ↦ inl a.1
+      | inl a ↦ inl (inl a.1)
       | inr a ↦ elim (eqb_tells k 1) [
         | inl b ↦ inr (inl b.1)
         | inr b ↦ elim (eqb_tells k 3) [
           | inl c ↦ inr (inr (inl c.1))
-          | inr c ↦ let no_two : k ≢ 2 = a.1 in let no_one : k ≢ 1 = b.1 in let no_three : k ≢ 3 = c.1 in inr (inr (inr (omega arith)))
+          | inr c ↦ elim (eqb_tells k 4) [
+            | inl d ↦ inr (inr (inr d.1))
+            | inr d ↦ let no_two : k ≢ 2 = a.1 in let no_one : k ≢ 1 = b.1 in let no_three : k ≢ 3 = c.1 in let no_four : k ≢ 4 = d.1 in inl (inr (omega arith))
+          ]
         ]
       ]
     ]
 
+second_among : (kind second : ℕ) → is_second kind second ≡ true → (second ≡ 0) ⊎ ((kind ≡ 4) × (second ≡ 2))
+second_among kind second e = elim (eqb_tells second 0) [
+  | inl a ↦ inl a.1
+  | inr a ↦ (let z = both (kind == 4) (second == 2) (sym (ap (λ b. b || kind == 4 && second == 2) a.0) ∙ e) in inr (eqb-true kind 4 z.0, eqb-true second 2 z.1))
+]
+
 pub sound : (h : Header) → header_fault h ≡ None → IsSound h
 sound h none =
-    let one = passed (h.kind == 0 || nat_lt 4 h.kind) Kind _ none in
-    let two = passed (not (h.second == 0)) SecondByte _ one.1 in
+    let one = passed (h.kind == 0 || nat_lt 5 h.kind) Kind _ none in
+    let two = passed (not (is_second h.kind h.second)) SecondByte _ one.1 in
     let three = passed (nat_le module_count h.«module») Module _ two.1 in
-    let four = passed (h.kind == 2 && not (is_page_length h.b)) PageLength _ three.1 in
+    let four = passed (is_page h.kind && not (is_page_length (size_by h.kind) h.b)) PageLength _ three.1 in
     let five = passed (h.kind == 3 && not (h.a == 0 && h.b == 0)) CloseNumbers _ four.1 in
-    let in_range = λ (k : h.kind ≡ 2).
-    both (nat_lt 0 h.b && nat_le h.b page_bytes) (h.b % 4 == 0) (not_false (is_page_length h.b) (second_false (h.kind == 2) (not (is_page_length h.b)) four.0 (eq-eqb h.kind 2 k))) in
+    let most = 4 * size_by h.kind in
+    let length_is = is_page_length (size_by h.kind) h.b in
+    let in_range = λ (k : IsPaging h.kind).
+    both (nat_lt 0 h.b && nat_le h.b most) (h.b % 4 == 0) (not_false length_is (second_false (is_page h.kind) (not length_is) four.0 (paging h.kind k))) in
     record {
       kind = kind_among h.kind one.0;
-      second = eqb-true h.second 0 (not_false (h.second == 0) two.0);
+      second = second_among h.kind h.second (not_false (is_second h.kind h.second) two.0);
       m_below = leb-false module_count h.«module» three.0;
       zeros = λ k.
           let z = both (h.a == 0) (h.b == 0) (not_false (h.a == 0 && h.b == 0) (second_false (h.kind == 3) (not (h.a == 0 && h.b == 0)) five.0 (eq-eqb h.kind 3 k))) in
           (eqb-true h.a 0 z.0, eqb-true h.b 0 z.1);
-      some = λ k. let z = in_range k in ltb-true 0 h.b (both (nat_lt 0 h.b) (nat_le h.b page_bytes) z.0).0;
-      few = λ k. let z = in_range k in leb-true h.b page_bytes (both (nat_lt 0 h.b) (nat_le h.b page_bytes) z.0).1;
+      some = λ k. let z = in_range k in ltb-true 0 h.b (both (nat_lt 0 h.b) (nat_le h.b most) z.0).0;
+      few = λ k. let z = in_range k in leb-true h.b most (both (nat_lt 0 h.b) (nat_le h.b most) z.0).1;
       whole = λ k. let z = in_range k in eqb-true (h.b % 4) 0 z.1;
     }
 

@@ -18,22 +18,22 @@ use Rattle.lfi_frame.proofs.Feeding.{stands_cut, nothing_after}
 -- what was heard is what the feed stands for, also of the page that it is in
 pub record Agrees (feed : Feed) (heard : Heard) (rest : List ℕ) : Type 0 where
   pub stands : FeedStands feed heard.messages rest
-  pub page : (m index len : ℕ) → rest_of rest ≡ unfinished m index len → (heard.m ≡ m) × (heard.index ≡ index) × (heard.payload ≡ drop 12 rest)
+  pub page : (m size index len : ℕ) → rest_of rest ≡ unfinished m size index len → (heard.m ≡ m) × (heard.size ≡ size) × (heard.index ≡ index) × (heard.payload ≡ drop 12 rest)
 
-long_of : (rest : List ℕ) (m index len : ℕ) → rest_of rest ≡ unfinished m index len → 12 ≤ length rest
-long_of rest m index len e = elim (cases_lt (length rest) 12) [ inl few ↦ (let f : short ≡ unfinished m index len = sym (rest_short rest few) ∙ e in absurd (cc)) | inr long ↦ long ]
+long_of : (rest : List ℕ) (m size index len : ℕ) → rest_of rest ≡ unfinished m size index len → 12 ≤ length rest
+long_of rest m size index len e = elim (cases_lt (length rest) 12) [ inl few ↦ (let f : short ≡ unfinished m size index len = sym (rest_short rest few) ∙ e in absurd (cc)) | inr long ↦ long ]
 
-same_page : (m index len n j k : ℕ) → unfinished m index len ≡ unfinished n j k → (m ≡ n) × (index ≡ j)
-same_page m index len n j k e = (cc, cc)
+same_page : (m size index len n s j k : ℕ) → unfinished m size index len ≡ unfinished n s j k → (m ≡ n) × (size ≡ s) × (index ≡ j)
+same_page m size index len n s j k e = (cc, cc, cc)
 
-empty_text : (m index len : ℕ) → rest_of [] ≡ unfinished m index len → ⊥
-empty_text m index len e = let f : short ≡ unfinished m index len = e in absurd (cc)
+empty_text : (m size index len : ℕ) → rest_of [] ≡ unfinished m size index len → ⊥
+empty_text m size index len e = let f : short ≡ unfinished m size index len = e in absurd (cc)
 
-nothing_more : (feed : Feed) (heard : Heard) (rest used : List ℕ) (stands : FeedStands feed heard.messages (rest ++ used)) → ((m index len : ℕ) → rest_of rest ≡ unfinished m index len → (heard.m ≡ m) × (heard.index ≡ index) × (heard.payload ≡ drop 12 rest)) → (((m index len : ℕ) → rest_of (rest ++ used) ≡ unfinished m index len → ⊥) ⊎ (used ≡ [])) → Agrees feed heard (rest ++ used)
-nothing_more feed heard rest used stands page (inl none) = record { stands = stands; page = λ m index len e. absurd (none m index len e) }
+nothing_more : (feed : Feed) (heard : Heard) (rest used : List ℕ) (stands : FeedStands feed heard.messages (rest ++ used)) → ((m size index len : ℕ) → rest_of rest ≡ unfinished m size index len → (heard.m ≡ m) × (heard.size ≡ size) × (heard.index ≡ index) × (heard.payload ≡ drop 12 rest)) → (((m size index len : ℕ) → rest_of (rest ++ used) ≡ unfinished m size index len → ⊥) ⊎ (used ≡ [])) → Agrees feed heard (rest ++ used)
+nothing_more feed heard rest used stands page (inl none) = record { stands = stands; page = λ m size index len e. absurd (none m size index len e) }
 nothing_more feed heard rest used stands page (inr none) =
     let is : rest ++ used ≡ rest = ap (λ l. rest ++ l) none ∙ append-nil rest in
-    record { stands = stands; page = subst (λ l. (m index len : ℕ) → rest_of l ≡ unfinished m index len → (heard.m ≡ m) × (heard.index ≡ index) × (heard.payload ≡ drop 12 l)) (sym is) page }
+    record { stands = stands; page = subst (λ l. (m size index len : ℕ) → rest_of l ≡ unfinished m size index len → (heard.m ≡ m) × (heard.size ≡ size) × (heard.index ≡ index) × (heard.payload ≡ drop 12 l)) (sym is) page }
 
 -- one answer: what is heard then, with the text told before it
 abbrev Heards : Feed → Heard → Heard → List ℕ → List ℕ → Type 0
@@ -48,7 +48,7 @@ whole_text messages message rest used e =
 
 new_message : (new : Feed) (before : Heard) (message : Message) (rest used payload : List ℕ) → FeedStands new (before.messages ++ message ∷ []) [] → rest ++ used ≡ spelling message → Heards new before (record before { messages = before.messages ++ message ∷ [] }) rest used
 new_message new before message rest used payload stands e =
-    ([], record { stands = stands; page = λ m index len f. absurd (empty_text m index len f) }, whole_text before.messages message rest used e)
+    ([], record { stands = stands; page = λ m size index len f. absurd (empty_text m size index len f) }, whole_text before.messages message rest used e)
 
 same_text : (messages : List Message) (rest used : List ℕ) → flat_map spelling messages ++ (rest ++ used) ≡ (flat_map spelling messages ++ rest) ++ used
 same_text messages rest used = sym (append_assoc (flat_map spelling messages) rest used)
@@ -57,23 +57,23 @@ got_heard : (got : Got) (old new : Feed) (heard : Heard) (rest used : List ℕ) 
 got_heard More old new heard rest used agrees told = (
   rest ++ used,
   nothing_more new heard rest used told.0 agrees.page (elim told.1 [
-    | inl s ↦ inl (λ m index len e. (let f : short ≡ unfinished m index len = sym s ∙ e in absurd (cc)))
+    | inl s ↦ inl (λ m size index len e. (let f : short ≡ unfinished m size index len = sym s ∙ e in absurd (cc)))
     | inr none ↦ inr none
   ]),
   same_text heard.messages rest used,
 )
 got_heard (Open m extent) old new heard rest used agrees told = new_message new heard (open_message m extent) rest used [] told.0 told.1
 got_heard (Close m) old new heard rest used agrees told = new_message new heard (close_message m) rest used [] told.0 told.1
-got_heard (Page m index len) old new heard rest used agrees told =
-    (rest ++ used, record { stands = told.0; page = λ n j k e. (let s = same_page m index len n j k (sym told.2 ∙ e) in (s.0, s.1, sym (nothing_after (rest ++ used) told.1))) }, same_text heard.messages rest used)
+got_heard (Page m size index len) old new heard rest used agrees told =
+    (rest ++ used, record { stands = told.0; page = λ n z j k e. (let s = same_page m size index len n z j k (sym told.2 ∙ e) in (s.0, s.1, s.2, sym (nothing_after (rest ++ used) told.1))) }, same_text heard.messages rest used)
 got_heard (Payload false) old new heard rest used agrees told =
-    let long : 12 ≤ length rest = long_of rest told.0 told.1 told.2 told.3 in
-    let was = agrees.page told.0 told.1 told.2 told.3 in (
+    let long : 12 ≤ length rest = long_of rest told.0 told.1 told.2 told.3 told.4 in
+    let was = agrees.page told.0 told.1 told.2 told.3 told.4 in (
       rest ++ used,
       record {
-        stands = told.5;
-        page = λ n j k e. (let s = same_page told.0 told.1 told.2 n j k (sym told.4 ∙ e) in
-            (was.0 ∙ s.0, was.1 ∙ s.1, ap (λ l. l ++ used) was.2 ∙ sym (drop_front rest used long)));
+        stands = told.6;
+        page = λ n z j k e. (let s = same_page told.0 told.1 told.2 told.3 n z j k (sym told.5 ∙ e) in
+            (was.0 ∙ s.0, was.1 ∙ s.1, was.2 ∙ s.2, ap (λ l. l ++ used) was.3 ∙ sym (drop_front rest used long)));
       },
       same_text heard.messages rest used,
     )
@@ -81,12 +81,12 @@ got_heard (Payload false) old new heard rest used agrees told =
     drop_front : (xs ys : List ℕ) → 12 ≤ length xs → drop 12 (xs ++ ys) ≡ drop 12 xs ++ ys
     drop_front xs ys long = drop-append-le 12 xs ys long
 got_heard (Payload true) old new heard rest used agrees told =
-    let was = agrees.page told.0 told.1 told.2 told.3 in
-    let message = page_message heard.m heard.index (heard.payload ++ used) in
-    let is : page_message told.0 told.1 (drop 12 rest ++ used) ≡ message = λ i. page_message (sym was.0 i) (sym was.1 i) (sym was.2 i ++ used) in (
+    let was = agrees.page told.0 told.1 told.2 told.3 told.4 in
+    let message = page_message heard.m heard.size heard.index (heard.payload ++ used) in
+    let is : page_message told.0 told.1 told.2 (drop 12 rest ++ used) ≡ message = λ i. page_message (sym was.0 i) (sym was.1 i) (sym was.2 i) (sym was.3 i ++ used) in (
       [],
-      record { stands = subst (λ z. FeedStands new (heard.messages ++ z ∷ []) []) is told.5; page = λ m index len f. absurd (empty_text m index len f) },
-      whole_text heard.messages message rest used (told.4 ∙ ap spelling is),
+      record { stands = subst (λ z. FeedStands new (heard.messages ++ z ∷ []) []) is told.6; page = λ m size index len f. absurd (empty_text m size index len f) },
+      whole_text heard.messages message rest used (told.5 ∙ ap spelling is),
     )
 
 answer_heard : (answer : Result Step (ℕ × FrameFault)) (old new : Feed) (heard : Heard) (rest piece : List ℕ) → Agrees old heard rest → Tells answer new heard.messages rest piece → Heards new heard (hear_answer answer heard (take (used_in answer) piece)) rest (take (used_in answer) piece)
@@ -94,7 +94,7 @@ answer_heard (Ok step) old new heard rest piece agrees told = got_heard step.got
 answer_heard (Err fault) old new heard rest piece agrees told = (
   rest ++ take fault.0 piece,
   nothing_more new heard rest (take fault.0 piece) told.0 agrees.page (elim told.1 [
-    | inl s ↦ inl (λ m index len e. (let f : faulty fault.1 ≡ unfinished m index len = sym s ∙ e in absurd (cc)))
+    | inl s ↦ inl (λ m size index len e. (let f : faulty fault.1 ≡ unfinished m size index len = sym s ∙ e in absurd (cc)))
     | inr none ↦ inr none
   ]),
   same_text heard.messages rest (take fault.0 piece),
@@ -115,7 +115,7 @@ runs from to (call ∷ calls) heard rest agrees are =
 pub whole_run : (from to : Feed) (calls : List Call) → FeedStands from [] [] → AreCalls from calls to →
     (rest : List ℕ) × Cut (flat_map used_by calls) (hear nothing_heard calls).messages rest × FeedStands to (hear nothing_heard calls).messages rest
 whole_run from to calls stands are =
-    let run = runs from to calls nothing_heard [] (record { stands = stands; page = λ m index len e. absurd (empty_text m index len e) }) are in
+    let run = runs from to calls nothing_heard [] (record { stands = stands; page = λ m size index len e. absurd (empty_text m size index len e) }) are in
     let cut = stands_cut to (hear nothing_heard calls).messages run.0 run.1.stands in
     (run.0, record { spelled = sym run.2; each = cut.each; stops = cut.stops }, run.1.stands)
 

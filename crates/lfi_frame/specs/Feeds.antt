@@ -1,7 +1,7 @@
 -- What a feed stands for, and what its answers tell. Source: this project's format, docs/PROFILE.md.
-use Rattle.std.specs.Prelude.{◌≡◌, ◌≢◌, ℕ, ◌%◌, ◌≤◌, ◌<◌, ◌+◌, ◌==◌, ◌^◌, true, false, List, [], ◌∷◌, ◌++◌, length, take, drop, ◌⊎◌, Option, Some, None, Result, Ok, Err, All, if◌then◌else◌}
+use Rattle.std.specs.Prelude.{◌*◌, ◌≡◌, ◌≢◌, ℕ, ◌%◌, ◌≤◌, ◌<◌, ◌+◌, ◌^◌, Bool, true, false, nat_lt, List, [], ◌∷◌, ◌++◌, length, take, drop, ◌⊎◌, Option, Some, None, Result, Ok, Err, All, if◌then◌else◌}
 use Rattle.lfi_module.specs.Extents.{ExtentView}
-use Rattle.lfi_module.specs.Numbers.{page_bytes}
+use Rattle.lfi_module.specs.Pages.{IsPageSize}
 use Rattle.lfi_frame.specs.declared.header.Header.{Header}
 use Rattle.lfi_frame.specs.declared.fault.FrameFault.{FrameFault}
 use Rattle.lfi_frame.specs.declared.fault.FrameFault.TheVariants.{NoMemory, Ended, ReadFailed}
@@ -11,20 +11,22 @@ use Rattle.lfi_frame.specs.declared.answer.Got.{Got}
 use Rattle.lfi_frame.specs.declared.answer.Got.TheVariants.{More, Open, Page, Payload, Close}
 use Rattle.lfi_frame.specs.declared.feed.Position.{Position}
 use Rattle.lfi_frame.specs.declared.feed.Position.TheVariants as position
-use Rattle.lfi_frame.specs.Streams.{AreBytes, Message, open_message, page_message, close_message, is_open, opened_by, spelling, header_bytes, header_fault, IsMessage, rest_of, faulty, unfinished, short, whole}
+use Rattle.lfi_frame.specs.Streams.{AreBytes, Message, open_message, page_message, close_message, is_open, opened_by, pages_by, page_kind, is_page, size_by, spelling, header_bytes, header_fault, IsMessage, rest_of, faulty, unfinished, short, whole}
 
 -- the header of a page
-abbrev pub page_header : ℕ → ℕ → ℕ → Header
-page_header m index len = record { kind = 2; second = 0; «module» = m; a = index; b = len }
+abbrev pub page_header : (m size index len : ℕ) → Header
+page_header m size index len = record { kind = page_kind size; second = 0; «module» = m; a = index; b = len }
 
 -- The bytes since the last whole message are a page's header and some of its payload, of which so much is still to come.
 pub record IsInPage (rest : List ℕ) (left : ℕ) : Type 0 where
   pub m : ℕ
+  pub size : ℕ
   pub index : ℕ
   pub len : ℕ
   pub payload : List ℕ
-  pub spelled : rest ≡ header_bytes (page_header m index len) ++ payload
-  pub faultless : header_fault (page_header m index len) ≡ None
+  pub spelled : rest ≡ header_bytes (page_header m size index len) ++ payload
+  pub faultless : header_fault (page_header m size index len) ≡ None
+  pub sized : IsPageSize size
   pub index_fits : index < 2 ^ 32
   pub to_come : length payload + left ≡ len
   pub unended : 0 < left
@@ -53,19 +55,19 @@ IsTold More new messages rest used =
     FeedStands new messages (rest ++ used) × ((rest_of (rest ++ used) ≡ short) ⊎ (used ≡ []))
 IsTold (Open m extent) new messages rest used =
     FeedStands new (messages ++ open_message m extent ∷ []) [] × (rest ++ used ≡ spelling (open_message m extent))
-IsTold (Page m index len) new messages rest used =
-    FeedStands new messages (rest ++ used) × (length (rest ++ used) ≡ 12) × (rest_of (rest ++ used) ≡ unfinished m index len)
+IsTold (Page m size index len) new messages rest used =
+    FeedStands new messages (rest ++ used) × (length (rest ++ used) ≡ 12) × (rest_of (rest ++ used) ≡ unfinished m size index len)
 IsTold (Payload false) new messages rest used =
-    (m index len : ℕ) × (rest_of rest ≡ unfinished m index len) × (rest_of (rest ++ used) ≡ unfinished m index len) × FeedStands new messages (rest ++ used)
+    (m size index len : ℕ) × (rest_of rest ≡ unfinished m size index len) × (rest_of (rest ++ used) ≡ unfinished m size index len) × FeedStands new messages (rest ++ used)
 IsTold (Payload true) new messages rest used =
     let payload = drop 12 rest ++ used in
-    (m index len : ℕ) × (rest_of rest ≡ unfinished m index len) × (rest ++ used ≡ spelling (page_message m index payload)) × FeedStands new (messages ++ page_message m index payload ∷ []) []
+    (m size index len : ℕ) × (rest_of rest ≡ unfinished m size index len) × (rest ++ used ≡ spelling (page_message m size index payload)) × FeedStands new (messages ++ page_message m size index payload ∷ []) []
 IsTold (Close m) new messages rest used =
     FeedStands new (messages ++ close_message m ∷ []) [] × (rest ++ used ≡ spelling (close_message m))
 
 -- the length of a page that an answer tells is that of whole words, at least one and at most a full page's
 abbrev pub IsInRange : Got → Type 0
-IsInRange (Page m index len) = (0 < len) × (len ≤ page_bytes) × (len % 4 ≡ 0)
+IsInRange (Page m size index len) = (0 < len) × (len ≤ 4 * size) × (len % 4 ≡ 0)
 IsInRange got = Unit {0}
 
 -- the bytes that a call used
@@ -102,6 +104,12 @@ Tells (Err fault) new messages rest piece =
 abbrev pub IsFed : Feed → List ℕ → Result Step (ℕ × FrameFault) → Feed → Type 0
 IsFed old piece answer new = (messages : List Message) (rest : List ℕ) → FeedStands old messages rest → Tells answer new messages rest piece
 
+-- a feed can be at a position: of a header it holds fewer than its twelve bytes, and of a payload a byte is still to come
+abbrev pub can_be_at : Position → Bool
+can_be_at (position.Header filled) = nat_lt filled 12
+can_be_at (position.Payload left) = nat_lt 0 left
+can_be_at (position.Faulty fault) = true
+
 -- the fault of a stream at a position
 abbrev pub fault_at : Position → Option FrameFault
 fault_at (position.Header filled) = None
@@ -130,11 +138,11 @@ IsAtEnd (Some before) rest answer = Unit {0}
 
 -- how large a module is that a header opens
 abbrev pub opened : Header → ExtentView
-opened h = record { words = h.a; entry = h.b; profile = opened_by h.kind }
+opened h = record { words = h.a; entry = h.b; profile = opened_by h.kind; pages = pages_by h.second }
 
 -- what a header brings, and where a feed is after it
 abbrev pub got_by : Header → Got
-got_by h = if h.kind == 2 then Page h.«module» h.a h.b else if is_open h.kind then Open h.«module» (opened h) else Close h.«module»
+got_by h = if is_page h.kind then Page h.«module» (size_by h.kind) h.a h.b else if is_open h.kind then Open h.«module» (opened h) else Close h.«module»
 
 abbrev pub answer_by : Option FrameFault → Header → Result Got FrameFault
 answer_by (Some fault) h = Err fault
@@ -145,7 +153,7 @@ answer_to h = answer_by (header_fault h) h
 
 abbrev pub position_by : Option FrameFault → Header → Position
 position_by (Some fault) h = position.Faulty fault
-position_by None h = if h.kind == 2 then position.Payload h.b else position.Header 0
+position_by None h = if is_page h.kind then position.Payload h.b else position.Header 0
 
 abbrev pub position_after : Header → Position
 position_after h = position_by (header_fault h) h

@@ -23,19 +23,20 @@ AreCalls from (call ∷ calls) to = (call.old ≡ from) × IsFed call.old call.p
 abbrev pub used_by : Call → List ℕ
 used_by call = take (used_in call.answer) call.piece
 
--- what a listener puts together from the answers: the whole messages, and of the page whose header came last its module, index and bytes
+-- what a listener puts together from the answers: the whole messages, and of the page whose header came last its module, size, index and bytes
 pub record Heard : Type 0 where
   pub messages : List Message
   pub m : ℕ
+  pub size : ℕ
   pub index : ℕ
   pub payload : List ℕ
 
 abbrev pub hear_got : Got → Heard → List ℕ → Heard
 hear_got More heard used = heard
 hear_got (Open m extent) heard used = record heard { messages = heard.messages ++ open_message m extent ∷ [] }
-hear_got (Page m index len) heard used = record { messages = heard.messages; m = m; index = index; payload = [] }
+hear_got (Page m size index len) heard used = record { messages = heard.messages; m = m; size = size; index = index; payload = [] }
 hear_got (Payload false) heard used = record heard { payload = heard.payload ++ used }
-hear_got (Payload true) heard used = record heard { messages = heard.messages ++ page_message heard.m heard.index (heard.payload ++ used) ∷ [] }
+hear_got (Payload true) heard used = record heard { messages = heard.messages ++ page_message heard.m heard.size heard.index (heard.payload ++ used) ∷ [] }
 hear_got (Close m) heard used = record heard { messages = heard.messages ++ close_message m ∷ [] }
 
 abbrev pub hear_answer : Result Step (ℕ × FrameFault) → Heard → List ℕ → Heard
@@ -47,7 +48,7 @@ hear heard [] = heard
 hear heard (call ∷ calls) = hear (hear_answer call.answer heard (used_by call)) calls
 
 abbrev pub nothing_heard : Heard
-nothing_heard = record { messages = []; m = 0; index = 0; payload = [] }
+nothing_heard = record { messages = []; m = 0; size = 0; index = 0; payload = [] }
 
 -- the bytes of all pieces
 abbrev pub joined : List (List ℕ) → List ℕ

@@ -1,21 +1,22 @@
 //! What a feed answers: the parts of the stream that its bytes have brought.
 
-use lfi_module::{Extent, ModuleNumber};
+use lfi_module::{Extent, ModuleNumber, PageSize};
 
 /// What the bytes that a call used have brought.
 #[derive(Clone, Copy, Debug, PartialEq, Eq)]
 pub enum Got {
     /// The whole piece was used, or it was empty, and nothing came to its end.
     More,
-    /// A whole Open of this module, with its words, its entry and its profile.
+    /// A whole Open of this module, with its words, its entry, its profile and the size of its pages.
     Open {
         module: ModuleNumber,
         extent: Extent,
     },
-    /// The header of a page: of this module, with this index in it, and a payload of `len` bytes, 4
-    /// to 4,096 and a multiple of 4, which follows.
+    /// The header of a page: of this module, small or large by its kind, with this index in the
+    /// module, and a payload of `len` bytes, 4 to a full page's and a multiple of 4, which follows.
     Page {
         module: ModuleNumber,
+        size: PageSize,
         index: u32,
         len: u32,
     },

@@ -13,14 +13,15 @@ use std::fmt;
 /// docs/PROFILE.md, "Faults".
 #[derive(Clone, Copy, Debug, PartialEq, Eq)]
 pub enum FrameFault {
-    /// The kind, a header's first byte, isn't 1 (Open), 2 (Page), 3 (Close) or 4 (Open by the
-    /// second profile).
+    /// The kind, a header's first byte, isn't 1 (Open), 2 (Page), 3 (Close), 4 (Open by the second
+    /// profile) or 5 (large Page).
     Kind,
-    /// The second byte of a header isn't 0.
+    /// The second byte of a header isn't 0, nor, in an Open by the second profile, 2.
     SecondByte,
     /// The module is 16 or more.
     Module,
-    /// The payload of a Page isn't of 4 to 4,096 bytes, a multiple of 4.
+    /// The payload of a Page isn't of 4 to 4,096 bytes, or that of a large one of 4 to 16,384, a
+    /// multiple of 4.
     PageLength,
     /// One of the two numbers of a Close isn't 0.
     CloseNumbers,

@@ -2,7 +2,7 @@
 //!
 //! Source of the format: docs/PROFILE.md, "Streams".
 
-ghost use Rattle.std.specs.Prelude.{◌≡◌, ◌≢◌, ℕ, ◌<◌, ◌≤◌, ◌⊎◌, List, [], ◌++◌, length, take, Result, Ok, Err, Option, Some, None, IfSome, IfNone, IfOk, All};
+ghost use Rattle.std.specs.Prelude.{◌≡◌, ◌≢◌, ℕ, ◌<◌, ◌≤◌, ◌⊎◌, List, [], ◌++◌, length, take, Result, Ok, Err, Option, Some, None, IfSome, IfNone, IfOk, All, is_some};
 ghost use Rattle.lfi_frame.specs.inner.Positions.{filled_at, left_at, is_between};
 
 use crate::answer::{Got, Step};
@@ -33,7 +33,7 @@ pub struct Feed {
 impl Feed {
     ghost use Rattle.lfi_frame.specs.declared.fault.FrameFault.TheVariants.{NoMemory, Ended, ReadFailed};
     ghost use Rattle.lfi_frame.specs.Streams.{Message, IsMessage, header_at};
-    ghost use Rattle.lfi_frame.specs.Feeds.{FeedStands, IsAt, IsFed, IsInRange, feed_fault, UsesAll, UsesPayload, IsHeaderUsed, fault_at, fault_told, used_in, IsAtEnd, fault_ended, answer_to, position_after};
+    ghost use Rattle.lfi_frame.specs.Feeds.{FeedStands, IsAt, IsFed, IsInRange, feed_fault, UsesAll, UsesPayload, IsHeaderUsed, can_be_at, fault_at, fault_told, used_in, IsAtEnd, fault_ended, answer_to, position_after};
 
     /// A feed of which no byte has come.
     pub fn new() -> Feed
@@ -53,6 +53,7 @@ impl Feed {
             FeedStands feed messages rest) }
         ensures fault { IfSome result (λ feed. feed_fault feed ≡ fault_at position) }
         ensures none { IfNone result ((rest : List ℕ) → ¬ (IsAt held position rest)) }
+        ensures possible { is_some result ≡ can_be_at position }
     {
         let can_be = match position {
             Position::Header { filled } => filled < HEADER_BYTES,

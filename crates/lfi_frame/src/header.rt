@@ -1,12 +1,12 @@
 //! The header of a message, and the numbers of the stream format.
 //!
-//! A message is a header of 12 bytes, `kind u8, 0 u8, module u16, a u32, b u32`, little-endian; the
+//! A message is a header of 12 bytes, `kind u8, second u8, module u16, a u32, b u32`, little-endian; the
 //! header of a Page is followed by its payload of `b`
 //! bytes. Source: docs/PROFILE.md, "Streams".
 
 ghost use Rattle.std.specs.Prelude.{◌≡◌, IfOk};
 ghost use Rattle.std.specs.Result.{result_err};
-ghost use Rattle.lfi_frame.specs.Streams.{header_at, header_bytes, header_fault, is_page_length};
+ghost use Rattle.lfi_frame.specs.Streams.{header_at, header_bytes, header_fault, is_page_length, is_second, pages_by};
 ghost use Rattle.lfi_frame.specs.inner.Kinds.{kind_of};
 ghost use Rattle.lfi_frame.specs.Feeds.{IsInRange, answer_to};
 
@@ -26,8 +26,8 @@ const WORD_BYTES: u32 = 4;
 pub(crate) enum MessageKind {
     /// A module begins that goes by this profile: 1 for the first, 4 for the second.
     Open(Profile),
-    /// A page of a module: 2.
-    Page,
+    /// A page of a module: 2 for a small one, 5 for a large one.
+    Page(PageSize),
     /// A module has come to its end: 3.
     Close,
 }
@@ -39,9 +39,10 @@ impl MessageKind {
     {
         match number {
             1 => Some(MessageKind::Open(Profile::One)),
-            2 => Some(MessageKind::Page),
+            2 => Some(MessageKind::Page(PageSize::SMALL)),
             3 => Some(MessageKind::Close),
             4 => Some(MessageKind::Open(Profile::Two)),
+            5 => Some(MessageKind::Page(PageSize::LARGE)),
             _ => None,
         }
     }
@@ -50,17 +51,18 @@ impl MessageKind {
 /// The five numbers of a header, as they come.
 #[derive(Clone, Copy, Debug, PartialEq, Eq)]
 pub struct Header {
-    /// 1 for an Open, 2 for a Page, 3 for a Close, 4 for an Open by the second profile.
+    /// 1 for an Open, 2 for a Page, 3 for a Close, 4 for an Open by the second profile, 5 for a
+    /// large Page.
     pub kind: u8,
-    /// The second byte, always 0.
+    /// The second byte: 2 in an Open by the second profile of a module of large pages, else 0.
     pub second: u8,
     /// The module, 0 to 15.
     pub module: u16,
     /// The words of an Open's module, 1 to 4,194,304; the index of a Page in its module; 0 in a
     /// Close.
     pub a: u32,
-    /// The entry word of an Open, below its words; the payload bytes of a Page, 4 to 4,096 and a
-    /// multiple of 4; 0 in a Close.
+    /// The entry word of an Open, below its words; the payload bytes of a Page, 4 to a full page's
+    /// and a multiple of 4; 0 in a Close.
     pub b: u32,
 }
 
@@ -112,7 +114,7 @@ impl Header {
         let Some(kind) = MessageKind::of(self.kind) else {
             return Err(FrameFault::Kind);
         };
-        if self.second != 0 {
+        if !self.is_second() {
             return Err(FrameFault::SecondByte);
         }
         let Some(module) = ModuleNumber::new(self.module) else {
@@ -121,25 +123,50 @@ impl Header {
         match kind {
             MessageKind::Open(profile) => {
                 let words = WordCount::new(self.a).ok_or(FrameFault::WordCount)?;
-                let extent = Extent::new(words, self.b, profile).ok_or(FrameFault::Entry)?;
+                let extent = Extent::new(words, self.b, profile, self.pages()).ok_or(
+                    FrameFault::Entry,
+                )?;
                 Ok(Got::Open { module, extent })
             }
-            MessageKind::Page if !self.is_page_length() => Err(FrameFault::PageLength),
-            MessageKind::Page => Ok(Got::Page {
-                module,
-                index: self.a,
-                len: self.b,
-            }),
+            MessageKind::Page(size) => {
+                if !self.is_page_length(size) {
+                    return Err(FrameFault::PageLength);
+                }
+                Ok(Got::Page {
+                    module,
+                    size,
+                    index: self.a,
+                    len: self.b,
+                })
+            }
             MessageKind::Close if self.a != 0 || self.b != 0 => Err(FrameFault::CloseNumbers),
             MessageKind::Close => Ok(Got::Close { module }),
         }
     }
 
+    /// Whether its second byte is one of its kind: 0, or 2 in an Open by the second profile.
+    fn is_second(&self) -> bool
+        ensures { result ≡ is_second self.now.kind self.now.second }
+    {
+        self.second == 0 || self.kind == 4 && self.second == 2
+    }
+
+    /// The size of a module's pages, by the second byte of its Open.
+    fn pages(&self) -> PageSize
+        ensures { result ≡ pages_by self.now.second }
+    {
+        if self.second == 2 {
+            PageSize::LARGE
+        } else {
+            PageSize::SMALL
+        }
+    }
+
     /// Whether its second number is that of a page's payload: whole words, at least one and at
     /// most a full page's.
-    fn is_page_length(&self) -> bool
-        ensures { result ≡ is_page_length self.now.b }
+    fn is_page_length(&self, size: PageSize) -> bool
+        ensures { result ≡ is_page_length size self.now.b }
     {
-        self.b != 0 && self.b <= PageSize::PROFILE.bytes() && self.b % WORD_BYTES == 0
+        self.b != 0 && self.b <= size.bytes() && self.b % WORD_BYTES == 0
     }
 }

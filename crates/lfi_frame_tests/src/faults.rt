@@ -39,7 +39,7 @@ fn assert_over(rt: &impl std::process::Abort, mut feed: Feed, fault: FrameFault)
 #[test]
 fn after_a_faulty_header(rt: HostRuntime) {
     for (kind, second, module, a, b, fault) in [
-        (5, 0, 0, 0, 0, FrameFault::Kind),
+        (6, 0, 0, 0, 0, FrameFault::Kind),
         (1, 1, 0, 1, 0, FrameFault::SecondByte),
         (1, 0, 16, 1, 0, FrameFault::Module),
         (2, 0, 0, 0, 0, FrameFault::PageLength),

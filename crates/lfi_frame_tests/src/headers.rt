@@ -2,9 +2,11 @@
 
 ghost use Rattle.std.specs.Prelude.{◌<◌, ◌≤◌};
 ghost use Rattle.lfi_module.specs.Numbers.{module_count, most_words};
+ghost use Rattle.lfi_module.specs.Pages.{HasPages};
+ghost use Rattle.lfi_module.specs.declared.profile.Profile.TheVariants.{Two};
 
 use lfi_frame::{Feed, FrameFault, Got, Header, Step};
-use lfi_module::{Extent, ModuleNumber, Profile, WordCount};
+use lfi_module::{Extent, ModuleNumber, PageSize, Profile, WordCount};
 
 /// The bytes of a header with these numbers.
 pub fn header(kind: u8, second: u8, module: u16, a: u32, b: u32) -> [u8; 12] {
@@ -20,10 +22,13 @@ pub fn header(kind: u8, second: u8, module: u16, a: u32, b: u32) -> [u8; 12] {
 fn each_fault_alone(rt: HostRuntime) {
     for (kind, second, module, a, b, fault) in [
         (0, 0, 0, 1, 0, FrameFault::Kind),
-        (5, 0, 0, 1, 0, FrameFault::Kind),
+        (6, 0, 0, 1, 0, FrameFault::Kind),
         (255, 0, 0, 1, 0, FrameFault::Kind),
         (1, 1, 0, 1, 0, FrameFault::SecondByte),
+        (1, 2, 0, 1, 0, FrameFault::SecondByte),
         (4, 1, 0, 1, 0, FrameFault::SecondByte),
+        (4, 3, 0, 1, 0, FrameFault::SecondByte),
+        (5, 2, 0, 0, 4, FrameFault::SecondByte),
         (2, 255, 0, 0, 4, FrameFault::SecondByte),
         (1, 0, 16, 1, 0, FrameFault::Module),
         (4, 0, 16, 1, 0, FrameFault::Module),
@@ -34,6 +39,9 @@ fn each_fault_alone(rt: HostRuntime) {
         (2, 0, 0, 0, 4_095, FrameFault::PageLength),
         (2, 0, 0, 0, 4_100, FrameFault::PageLength),
         (2, 0, 0, 0, 4_294_967_292, FrameFault::PageLength),
+        (5, 0, 0, 0, 0, FrameFault::PageLength),
+        (5, 0, 0, 0, 16_383, FrameFault::PageLength),
+        (5, 0, 0, 0, 16_388, FrameFault::PageLength),
         (3, 0, 0, 1, 0, FrameFault::CloseNumbers),
         (3, 0, 0, 0, 1, FrameFault::CloseNumbers),
         (3, 0, 0, 4_294_967_295, 0, FrameFault::CloseNumbers),
@@ -59,7 +67,9 @@ fn each_fault_alone(rt: HostRuntime) {
 #[test]
 fn first_of_several_faults(rt: HostRuntime) {
     for (kind, second, module, a, b, fault) in [
-        (5, 1, 0, 0, 0, FrameFault::Kind),
+        (6, 1, 0, 0, 0, FrameFault::Kind),
+        (5, 1, 16, 0, 0, FrameFault::SecondByte),
+        (5, 0, 16, 0, 0, FrameFault::Module),
         (4, 1, 0, 0, 0, FrameFault::SecondByte),
         (0, 1, 16, 0, 0, FrameFault::Kind),
         (2, 1, 16, 0, 0, FrameFault::SecondByte),
@@ -90,28 +100,42 @@ pub fn open(module: usize, words: u32, entry: u32) -> Got
 {
     Got::Open {
         module: ModuleNumber::at(module),
-        extent: Extent::of(WordCount::of(words), entry, Profile::One),
+        extent: Extent::of(WordCount::of(words), entry, Profile::One, PageSize::SMALL),
     }
 }
 
-/// The same of a module of the second profile.
-fn open_second(module: usize, words: u32, entry: u32) -> Got
+/// The same of a module of the second profile, with pages of this size.
+fn open_second(module: usize, words: u32, entry: u32, pages: PageSize) -> Got
     requires module { «module» < module_count }
     requires words { (1 ≤ words) × (words ≤ most_words) }
     requires entry { entry < words }
+    requires pages { HasPages Two pages }
 {
     Got::Open {
         module: ModuleNumber::at(module),
-        extent: Extent::of(WordCount::of(words), entry, Profile::Two),
+        extent: Extent::of(WordCount::of(words), entry, Profile::Two, pages),
     }
 }
 
-/// The header of this page, of so many bytes.
+/// The header of this small page, of so many bytes.
 pub fn page(module: usize, index: u32, len: u32) -> Got
     requires { «module» < module_count }
 {
     Got::Page {
         module: ModuleNumber::at(module),
+        size: PageSize::SMALL,
+        index,
+        len,
+    }
+}
+
+/// The header of this large page, of so many bytes.
+fn large_page(module: usize, index: u32, len: u32) -> Got
+    requires { «module» < module_count }
+{
+    Got::Page {
+        module: ModuleNumber::at(module),
+        size: PageSize::LARGE,
         index,
         len,
     }
@@ -128,16 +152,33 @@ pub fn close(module: usize) -> Got
 
 #[test]
 fn ends_of_the_ranges(rt: HostRuntime) {
-    for (kind, module, a, b, got) in [
-        (1, 0, 1, 0, open(0, 1, 0)),
-        (4, 3, 2, 1, open_second(3, 2, 1)),
-        (1, 15, 4_194_304, 4_194_303, open(15, 4_194_304, 4_194_303)),
-        (2, 0, 0, 4, page(0, 0, 4)),
-        (2, 2, 4_294_967_295, 4_096, page(2, 4_294_967_295, 4_096)),
-        (3, 0, 0, 0, close(0)),
-        (3, 15, 0, 0, close(15)),
+    for (kind, second, module, a, b, got) in [
+        (1, 0, 0, 1, 0, open(0, 1, 0)),
+        (4, 0, 3, 2, 1, open_second(3, 2, 1, PageSize::SMALL)),
+        (4, 2, 3, 2, 1, open_second(3, 2, 1, PageSize::LARGE)),
+        (
+            1,
+            0,
+            15,
+            4_194_304,
+            4_194_303,
+            open(15, 4_194_304, 4_194_303),
+        ),
+        (2, 0, 0, 0, 4, page(0, 0, 4)),
+        (2, 0, 2, 4_294_967_295, 4_096, page(2, 4_294_967_295, 4_096)),
+        (5, 0, 0, 0, 4, large_page(0, 0, 4)),
+        (
+            5,
+            0,
+            2,
+            4_294_967_295,
+            16_384,
+            large_page(2, 4_294_967_295, 16_384),
+        ),
+        (3, 0, 0, 0, 0, close(0)),
+        (3, 0, 15, 0, 0, close(15)),
     ] {
-        let bytes = header(kind, 0, module, a, b);
+        let bytes = header(kind, second, module, a, b);
         assert_eq!(rt; Header::read(&bytes).fault(), None, "at {bytes:?}");
         assert_eq!(rt;
             Feed::new().feed(bytes.as_slice()),

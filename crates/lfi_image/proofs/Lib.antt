@@ -5,3 +5,4 @@ pub mod Runs
 pub mod Small
 pub mod Whole
 pub mod Written
+pub mod OneImage

@@ -19,14 +19,14 @@ use Rattle.lfi_image.specs.inner.Steps.{ReadsPage, IsPageFault, IsRead}
 use Rattle.lfi_image.proofs.Pieces.{words_of-append, code_of-append, word_count}
 use Rattle.lfi_rules.proofs.Following.{fault_stays, fault_comes}
 
-pub read_more : (p : Profile) (old mid new : Option (List ℕ)) (count : ℕ) (m after : Module) → IsRead p old mid count m.placed → ReadsPage mid new m after → m.profile ≡ p → m.words ≡ count → length m.placed < count → IsRead p old new count after.placed
-read_more p old mid new count m after read step goes same less =
+pub read_more : (p : Profile) (old mid new : Option (List ℕ)) (count : ℕ) (m after : Module) → IsRead p old mid count m.placed → ReadsPage mid new m after → m.profile ≡ p → m.words ≡ count → m.pages ≡ 1024 → length m.placed < count → IsRead p old new count after.placed
+read_more p old mid new count m after read step goes same sized less =
     let more = words_of step.page in
     let size : length more ≡ due m = word_count step.page (due m) step.size in
     let words : after.placed ≡ m.placed ++ more = ap words_at step.placed in
     let grown = length-append m.placed more in
     let longer : length after.placed ≡ length m.placed + length more = ap length words ∙ grown in
-    let is_due : due m ≡ min 1024 (m.words - length m.placed) = refl in
+    let is_due : due m ≡ min 1024 (m.words - length m.placed) = ap (λ s. min s (m.words - length m.placed)) sized in
     record {
       code = read.code ++ step.page;
       consumed = Consumes-trans old mid new read.code step.page read.consumed step.consumed;
@@ -111,29 +111,29 @@ whole_begins n pages front rest fits even = by_test (nat_le (4 * n) (length text
         cut (4096 * (length (front ++ rest) / 4096)) low (omega (arith, short)) (ap (λ b. if b then take (4 * n) (front ++ rest) else take (4096 * (length (front ++ rest) / 4096)) (front ++ rest)) test)
 
 -- what is wrong with a page is wrong with the code
-pub page_fault : (p : Profile) (old mid new : Option (List ℕ)) (count : ℕ) (m : Module) (fault : ImageFault) → IsRead p old mid count m.placed → m.profile ≡ p → m.words ≡ count → length m.placed < count
+pub page_fault : (p : Profile) (old mid new : Option (List ℕ)) (count : ℕ) (m : Module) (fault : ImageFault) → IsRead p old mid count m.placed → m.profile ≡ p → m.words ≡ count → m.pages ≡ 1024 → length m.placed < count
     → IsPageFault mid new m fault → IfSome old (λ code. IsCodeFault p count code fault)
-page_fault p None mid new count m fault read goes same less told = tt
-page_fault p (Some xs) None new count m fault read goes same less told = absurd read.consumed
-page_fault p (Some xs) (Some ys) new count m NoMemory read goes same less told = tt
-page_fault p (Some xs) (Some ys) new count m Device read goes same less told = tt
-page_fault p (Some xs) (Some ys) new count m Magic read goes same less told = absurd told
-page_fault p (Some xs) (Some ys) new count m OtherProfile read goes same less told = absurd told
-page_fault p (Some xs) (Some ys) new count m Counts read goes same less told = absurd told
-page_fault p (Some xs) (Some ys) new count m Base read goes same less told = absurd told
-page_fault p (Some xs) (Some ys) new count m More read goes same less told = absurd told
-page_fault p (Some xs) (Some ys) new count m Truncated read goes same less told =
-    let is_due : due m ≡ min 1024 (m.words - length m.placed) = refl in
+page_fault p None mid new count m fault read goes same sized less told = tt
+page_fault p (Some xs) None new count m fault read goes same sized less told = absurd read.consumed
+page_fault p (Some xs) (Some ys) new count m NoMemory read goes same sized less told = tt
+page_fault p (Some xs) (Some ys) new count m Device read goes same sized less told = tt
+page_fault p (Some xs) (Some ys) new count m Magic read goes same sized less told = absurd told
+page_fault p (Some xs) (Some ys) new count m OtherProfile read goes same sized less told = absurd told
+page_fault p (Some xs) (Some ys) new count m Counts read goes same sized less told = absurd told
+page_fault p (Some xs) (Some ys) new count m Base read goes same sized less told = absurd told
+page_fault p (Some xs) (Some ys) new count m More read goes same sized less told = absurd told
+page_fault p (Some xs) (Some ys) new count m Truncated read goes same sized less told =
+    let is_due : due m ≡ min 1024 (m.words - length m.placed) = ap (λ s. min s (m.words - length m.placed)) sized in
     let all : length xs ≡ length read.code + length ys = ap length read.consumed ∙ length-append read.code ys in
     let short : length ys < 4 * due m = told in
     let even : length read.code ≡ 4096 * read.pages = omega (arith, read.size, read.whole less) in
     let whole : whole_pages count xs ≡ read.code = ap (whole_pages count) read.consumed ∙ whole_is count read.pages read.code ys even (omega (arith, short, is_due)) (omega (arith, short, is_due, same, less, read.size)) in
     (subst (λ ws. FirstFault p ws count None) (sym (ap words_of whole ∙ read.spelled)) read.faultless, omega (arith, all, short, is_due, same, less, read.size))
-page_fault p (Some xs) (Some ys) None count m (Unlawful fault) read goes same less told = absurd told.consumed
-page_fault p (Some xs) (Some ys) (Some rest) count m (Unlawful fault) read goes same less told =
+page_fault p (Some xs) (Some ys) None count m (Unlawful fault) read goes same sized less told = absurd told.consumed
+page_fault p (Some xs) (Some ys) (Some rest) count m (Unlawful fault) read goes same sized less told =
     let page : List ℕ = told.page in
     let size : length page ≡ 4 * due m = told.size in
-    let is_due : due m ≡ min 1024 (m.words - length m.placed) = refl in
+    let is_due : due m ≡ min 1024 (m.words - length m.placed) = ap (λ s. min s (m.words - length m.placed)) sized in
     let front : List ℕ = read.code ++ page in
     let long : length front ≡ length read.code + length page = length-append read.code page in
     let text : xs ≡ front ++ rest = read.consumed ∙ ap (λ l. read.code ++ l) told.consumed ∙ sym (append_assoc read.code page rest) in
@@ -150,23 +150,23 @@ page_fault p (Some xs) (Some ys) (Some rest) count m (Unlawful fault) read goes 
     (subst (λ n. FirstFault p (m.placed ++ words_of page) n (Some fault)) same (subst (λ x. FirstFault x (m.placed ++ words_of page) m.words (Some fault)) goes told.first)))
 
 -- what follows a page with a fault is left
-pub page_unread : (p : Profile) (old mid new : Option (List ℕ)) (count : ℕ) (m : Module) (fault : ImageFault) → IsRead p old mid count m.placed → m.profile ≡ p → m.words ≡ count → length m.placed < count
+pub page_unread : (p : Profile) (old mid new : Option (List ℕ)) (count : ℕ) (m : Module) (fault : ImageFault) → IsRead p old mid count m.placed → m.profile ≡ p → m.words ≡ count → m.pages ≡ 1024 → length m.placed < count
     → IsPageFault mid new m fault → IfSome old (λ code. IsUnread count code new fault)
-page_unread p None mid new count m fault read goes same less told = tt
-page_unread p (Some xs) None new count m fault read goes same less told = absurd read.consumed
-page_unread p (Some xs) (Some ys) new count m NoMemory read goes same less told = tt
-page_unread p (Some xs) (Some ys) new count m Device read goes same less told = tt
-page_unread p (Some xs) (Some ys) new count m Magic read goes same less told = tt
-page_unread p (Some xs) (Some ys) new count m OtherProfile read goes same less told = tt
-page_unread p (Some xs) (Some ys) new count m Counts read goes same less told = tt
-page_unread p (Some xs) (Some ys) new count m Base read goes same less told = tt
-page_unread p (Some xs) (Some ys) new count m More read goes same less told = tt
-page_unread p (Some xs) (Some ys) new count m Truncated read goes same less told = tt
-page_unread p (Some xs) (Some ys) None count m (Unlawful fault) read goes same less told = absurd told.consumed
-page_unread p (Some xs) (Some ys) (Some rest) count m (Unlawful fault) read goes same less told =
+page_unread p None mid new count m fault read goes same sized less told = tt
+page_unread p (Some xs) None new count m fault read goes same sized less told = absurd read.consumed
+page_unread p (Some xs) (Some ys) new count m NoMemory read goes same sized less told = tt
+page_unread p (Some xs) (Some ys) new count m Device read goes same sized less told = tt
+page_unread p (Some xs) (Some ys) new count m Magic read goes same sized less told = tt
+page_unread p (Some xs) (Some ys) new count m OtherProfile read goes same sized less told = tt
+page_unread p (Some xs) (Some ys) new count m Counts read goes same sized less told = tt
+page_unread p (Some xs) (Some ys) new count m Base read goes same sized less told = tt
+page_unread p (Some xs) (Some ys) new count m More read goes same sized less told = tt
+page_unread p (Some xs) (Some ys) new count m Truncated read goes same sized less told = tt
+page_unread p (Some xs) (Some ys) None count m (Unlawful fault) read goes same sized less told = absurd told.consumed
+page_unread p (Some xs) (Some ys) (Some rest) count m (Unlawful fault) read goes same sized less told =
     let page : List ℕ = told.page in
     let size : length page ≡ 4 * due m = told.size in
-    let is_due : due m ≡ min 1024 (m.words - length m.placed) = refl in
+    let is_due : due m ≡ min 1024 (m.words - length m.placed) = ap (λ s. min s (m.words - length m.placed)) sized in
     let front : List ℕ = read.code ++ page in
     let long : length front ≡ length read.code + length page = length-append read.code page in
     let text : xs ≡ front ++ rest = read.consumed ∙ ap (λ l. read.code ++ l) told.consumed ∙ sym (append_assoc read.code page rest) in

@@ -23,13 +23,13 @@ code_length : (words : List ℕ) → length (code_of words) ≡ 4 * length words
 code_length [] = refl
 code_length (w ∷ words) = omega (arith, code_length words)
 
-words_back : (words : List ℕ) → AreWords words → words_of (code_of words) ≡ words
+pub words_back : (words : List ℕ) → AreWords words → words_of (code_of words) ≡ words
 words_back [] small = refl
 words_back (w ∷ words) small =
     (λ i. from_le_bytes-to_le_bytes_4 w (small 0) i ∷ words_back words (λ j. small (suc j)) i)
 
 -- One list begins with as many items in one way.
-same_front : (xs ys vs ws : List ℕ) → length xs ≡ length ys → xs ++ vs ≡ ys ++ ws → (xs ≡ ys) × (vs ≡ ws)
+pub same_front : (xs ys vs ws : List ℕ) → length xs ≡ length ys → xs ++ vs ≡ ys ++ ws → (xs ≡ ys) × (vs ≡ ws)
 same_front [] [] vs ws long e = (refl, e)
 same_front [] (y ∷ ys) vs ws long e = absurd (omega (arith, long))
 same_front (x ∷ xs) [] vs ws long e = absurd (omega (arith, long))

@@ -3,6 +3,7 @@ use Rattle.std.proofs.Common.{◌≡◌, ℕ, zero, suc, ◌+◌, ◌<◌, List,
 use Rattle.std.specs.Io.KnownBytes.{Appends}
 use Rattle.std.proofs.KnownBytes.{Appends-trans}
 use Rattle.a64_word.specs.Words.{words_of}
+use Rattle.page_buf.specs.Page.{PageView}
 use Rattle.std.specs.Prelude.{OnOk, OnErr, IfErr}
 use Rattle.lfi_image.specs.declared.fault.ImageFault.{ImageFault}
 use Rattle.lfi_image.specs.declared.fault.ImageFault.TheVariants.{Device}
@@ -39,23 +40,23 @@ writes_part a b xs (Ok x) w = tt
 writes_part a b xs (Err fault) w = w.1
 
 -- the words of the pages before a page, of it, and of those after it
-pub words_taken : (ps : List (List ℕ)) (at : ℕ) (d : List ℕ) → at < length ps → words_in (take (at + 1) ps) ≡ words_in (take at ps) ++ words_of (get_or ps at d)
+pub words_taken : (ps : List PageView) (at : ℕ) (d : PageView) → at < length ps → words_in (take (at + 1) ps) ≡ words_in (take at ps) ++ words_of (get_or ps at d).bytes
 words_taken ps at d within = ap (λ n. words_in (take n ps)) (let e : at + 1 ≡ suc at = omega arith in e) ∙ taken ps at within
   where
-    taken : (ps : List (List ℕ)) (at : ℕ) → at < length ps → words_in (take (suc at) ps) ≡ words_in (take at ps) ++ words_of (get_or ps at d)
+    taken : (ps : List PageView) (at : ℕ) → at < length ps → words_in (take (suc at) ps) ≡ words_in (take at ps) ++ words_of (get_or ps at d).bytes
     taken [] at within = absurd (omega (arith, within))
-    taken (p ∷ ps) zero within = append-nil (words_of p)
-    taken (p ∷ ps) (suc at) within = ap (λ l. words_of p ++ l) (taken ps at (omega (arith, within))) ∙ sym (append_assoc (words_of p) (words_in (take at ps)) (words_of (get_or ps at d)))
+    taken (p ∷ ps) zero within = append-nil (words_of p.bytes)
+    taken (p ∷ ps) (suc at) within = ap (λ l. words_of p.bytes ++ l) (taken ps at (omega (arith, within))) ∙ sym (append_assoc (words_of p.bytes) (words_in (take at ps)) (words_of (get_or ps at d).bytes))
 
-pub words_split : (ps : List (List ℕ)) (n : ℕ) → words_in ps ≡ words_in (take n ps) ++ words_in (drop n ps)
+pub words_split : (ps : List PageView) (n : ℕ) → words_in ps ≡ words_in (take n ps) ++ words_in (drop n ps)
 words_split [] zero = refl
 words_split [] (suc n) = refl
 words_split (p ∷ ps) zero = refl
-words_split (p ∷ ps) (suc n) = ap (λ l. words_of p ++ l) (words_split ps n) ∙ sym (append_assoc (words_of p) (words_in (take n ps)) (words_in (drop n ps)))
+words_split (p ∷ ps) (suc n) = ap (λ l. words_of p.bytes ++ l) (words_split ps n) ∙ sym (append_assoc (words_of p.bytes) (words_in (take n ps)) (words_in (drop n ps)))
 
 -- the code of the pages up to a page, and of it
-pub code_taken : (ps : List (List ℕ)) (at : ℕ) (d : List ℕ) → at < length ps → code_of (words_in (take at ps)) ++ code_of (words_of (get_or ps at d)) ≡ code_of (words_in (take (at + 1) ps))
-code_taken ps at d within = sym (code_of-append (words_in (take at ps)) (words_of (get_or ps at d))) ∙ ap code_of (sym (words_taken ps at d within))
+pub code_taken : (ps : List PageView) (at : ℕ) (d : PageView) → at < length ps → code_of (words_in (take at ps)) ++ code_of (words_of (get_or ps at d).bytes) ≡ code_of (words_in (take (at + 1) ps))
+code_taken ps at d within = sym (code_of-append (words_in (take at ps)) (words_of (get_or ps at d).bytes)) ∙ ap code_of (sym (words_taken ps at d within))
 
-pub code_split : (ps : List (List ℕ)) (n : ℕ) → code_of (words_in (take n ps)) ++ code_of (words_in (drop n ps)) ≡ code_of (words_in ps)
+pub code_split : (ps : List PageView) (n : ℕ) → code_of (words_in (take n ps)) ++ code_of (words_in (drop n ps)) ≡ code_of (words_in ps)
 code_split ps n = sym (code_of-append (words_in (take n ps)) (words_in (drop n ps))) ∙ ap code_of (sym (words_split ps n))

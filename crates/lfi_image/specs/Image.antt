@@ -7,11 +7,12 @@ use Rattle.lfi_module.specs.Profiles.{profile_number}
 use Rattle.lfi_module.specs.declared.profile.Profile.{Profile}
 use Rattle.lfi_rules.specs.Faults.{Lawful}
 
--- a module of so many words, which goes by a profile, and of which the first words have been placed
+-- a module of so many words, which goes by a profile and comes in pages of so many words, and of which the first words have been placed
 pub record Module : Type 0 where
   pub words : ℕ
   pub entry : ℕ
   pub profile : Profile
+  pub pages : ℕ
   pub slot : ℕ
   pub placed : List ℕ
 

@@ -4,7 +4,7 @@ use Rattle.std.specs.Prelude.{◌≡◌, ℕ, ◌+◌, ◌*◌, ◌/◌, ◌^◌
 use Rattle.byteorder.specs.Endian.{little_number}
 use Rattle.lfi_module.specs.declared.profile.Profile.{Profile}
 use Rattle.lfi_module.specs.declared.profile.Profile.TheVariants.{One, Two}
-use Rattle.lfi_module.specs.Numbers.{module_count, most_words, page_words, page_bytes, base_of}
+use Rattle.lfi_module.specs.Numbers.{module_count, most_words, small_page, base_of}
 use Rattle.a64_word.specs.Words.{words_of}
 use Rattle.lfi_rules.specs.Faults.{FirstFault}
 use Rattle.lfi_image.specs.declared.fault.ImageFault.{ImageFault}
@@ -48,9 +48,9 @@ header_fault header =
     else if not (is_base (base_in header)) then Some Base
     else None
 
--- The code of n words is read by full pages, of which the last may be shorter. These are the bytes of the pages that are there whole.
+-- The code of n words is read by full small pages, of which the last may be shorter. These are the bytes of the pages that are there whole.
 abbrev pub whole_pages : ℕ → List ℕ → List ℕ
-whole_pages n code = if nat_le (4 * n) (length code) then take (4 * n) code else take (page_bytes * (length code / page_bytes)) code
+whole_pages n code = if nat_le (4 * n) (length code) then take (4 * n) code else take (4 * small_page * (length code / (4 * small_page))) code
 
 -- the fault of what follows a header for n words of a profile; memory can run out and the device can fail at any time
 abbrev pub IsCodeFault : Profile → ℕ → List ℕ → ImageFault → Type 0
@@ -72,7 +72,7 @@ pub data IsFault (bytes : List ℕ) (fault : ImageFault) : Type 0 where
 
 -- where in the code of n words the page of this word ends, in bytes
 abbrev pub page_end : (n word : ℕ) → ℕ
-page_end n word = 4 * min n (page_words * (word / page_words + 1))
+page_end n word = 4 * min n (small_page * (word / small_page + 1))
 
 -- Where a page of the code of n words has a fault, all that follows this page is left.
 abbrev pub IsUnread : (n : ℕ) (code : List ℕ) (left : Option (List ℕ)) → ImageFault → Type 0

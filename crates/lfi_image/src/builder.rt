@@ -1,6 +1,5 @@
 //! Modules page by page, until they are whole.
 ghost use Rattle.std.specs.Prelude.{◌≡◌, ℕ, ◌+◌, ◌<◌, ◌≤◌, [], ◌++◌, length, slice_index, Some, None, IfOk, IfErr, OnErr, MatchResult, vec_capacity};
-ghost use Rattle.lfi_module.specs.Numbers.{page_words};
 ghost use Rattle.lfi_module.specs.Pages.{page_count};
 ghost use Rattle.a64_word.specs.Words.{words_of};
 ghost use Rattle.lfi_rules.specs.Faults.{FirstFault};
@@ -18,13 +17,15 @@ use std::marker::Model;
 
 /// The pages of a module so far. Their words have no fault.
 ///
-/// A contract sees it as the module: how many words it has in all, its entry, its profile, its slot and the words placed.
+/// A contract sees it as the module: how many words it has in all, its entry, its profile, the size of its pages, its slot
+/// and the words placed.
 #[derive(Drop)]
 pub struct Builder {
     pages: Vec<SealedPage>,
     words: u32,
     entry: u32,
     profile: Profile,
+    size: PageSize,
     slot: u16,
     placed: u32,
     tail: Need,
@@ -33,20 +34,20 @@ pub struct Builder {
 impl Model for Builder {
     ghost Value = { Module };
 
-    ghost view = { λ b. record { words = b.words; entry = b.entry; profile = b.profile; slot = b.slot; placed = words_in b.pages.items } };
+    ghost view = { λ b. record { words = b.words; entry = b.entry; profile = b.profile; pages = b.size; slot = b.slot; placed = words_in b.pages.items } };
 
-    ghost invariant = { λ b. IsBuilt b.profile b.words b.entry b.slot b.placed b.tail b.pages.items × (page_count page_words b.words ≤ vec_capacity b.pages) };
+    ghost invariant = { λ b. IsBuilt b.profile b.size b.words b.entry b.slot b.placed b.tail b.pages.items × (page_count b.size b.words ≤ vec_capacity b.pages) };
 }
 
 impl Builder {
-    /// A module of so many words with this entry and this profile, in this slot. No word is placed, and the places for its pages are
+    /// A module of so many words with this entry, this profile and pages of this size, in this slot. No word is placed, and the places for its pages are
     /// reserved.
     ///
     /// # Errors
     ///
     /// Where the places' memory is refused.
     pub fn new(alloc: Global, extent: Extent, slot: ModuleNumber) -> Result<Builder, AllocError>
-        ensures { IfOk result (λ b. b ≡ record { words = extent.words; entry = extent.entry; profile = extent.profile; slot = slot; placed = [] }) }
+        ensures { IfOk result (λ b. b ≡ record { words = extent.words; entry = extent.entry; profile = extent.profile; pages = extent.pages; slot = slot; placed = [] }) }
     {
         let places = Places::new(alloc, extent.words())?;
         Ok(Builder::in_places(places, extent, slot))
@@ -55,7 +56,7 @@ impl Builder {
     /// The same module in places that were reserved before, which are enough: see [`Places::words`]. It takes no memory.
     pub fn in_places(places: Places, extent: Extent, slot: ModuleNumber) -> Builder
         requires { extent.words ≤ places }
-        ensures { result ≡ record { words = extent.words; entry = extent.entry; profile = extent.profile; slot = slot; placed = [] } }
+        ensures { result ≡ record { words = extent.words; entry = extent.entry; profile = extent.profile; pages = extent.pages; slot = slot; placed = [] } }
     {
         let Places { pages, words: _ } = places;
         Builder {
@@ -63,6 +64,7 @@ impl Builder {
             words: extent.words().number(),
             entry: extent.entry(),
             profile: extent.profile(),
+            size: extent.pages(),
             slot: slot.number(),
             placed: 0,
             tail: Need::Nothing,
@@ -78,10 +80,11 @@ impl Builder {
     pub fn append(&mut self, page: JudgedPage) -> Result<(), (Fault, SealedPage)>
         requires module { page.words ≡ self.old.words }
         requires profile { page.profile ≡ self.old.profile }
+        requires pages { page.page.size ≡ self.old.pages }
         requires place { page.first ≡ length self.old.placed }
-        ensures placed { IfOk result (λ _. self.new ≡ with_placed self.old (words_of page.page)) }
-        ensures faultless { IfOk result (λ _. FirstFault self.old.profile (self.old.placed ++ words_of page.page) self.old.words None) }
-        ensures fault { IfErr result (λ back. FirstFault self.old.profile (self.old.placed ++ words_of page.page) self.old.words (Some back.0)) }
+        ensures placed { IfOk result (λ _. self.new ≡ with_placed self.old (words_of page.page.bytes)) }
+        ensures faultless { IfOk result (λ _. FirstFault self.old.profile (self.old.placed ++ words_of page.page.bytes) self.old.words None) }
+        ensures fault { IfErr result (λ back. FirstFault self.old.profile (self.old.placed ++ words_of page.page.bytes) self.old.words (Some back.0)) }
         ensures back { IfErr result (λ back. back.1 ≡ page.page) }
         ensures stays { OnErr result (self.new ≡ self.old) }
     {
@@ -138,6 +141,13 @@ impl Builder {
         self.profile
     }
 
+    /// The size of its full pages.
+    pub fn size(&self) -> PageSize
+        ensures { result ≡ self.now.pages }
+    {
+        self.size
+    }
+
     /// The slot.
     pub fn slot(&self) -> ModuleNumber
         ensures { result ≡ self.now.slot }
@@ -154,11 +164,11 @@ impl Builder {
         self.placed
     }
 
-    /// How many words the next page has: 1,024, or all that are left.
+    /// How many words the next page has: a full page's, or all that are left.
     pub fn due(&self) -> u32
         ensures { result ≡ due self.now }
     {
-        self.words().due(PageSize::PROFILE, self.placed)
+        self.words().due(self.size, self.placed)
     }
 
     /// The word at `i`, one that is placed.
@@ -166,7 +176,7 @@ impl Builder {
         requires { i < length self.now.placed }
         ensures { result ≡ slice_index self.now.placed i }
     {
-        let size = PageSize::PROFILE.words();
+        let size = self.size.words();
         self.pages[(i / size) as usize].word((i % size) as usize)
     }
 }

@@ -1,12 +1,13 @@
 //! What stands before the code in an image file.
 ghost use Rattle.std.specs.Prelude.{◌≡◌, true, false, length, None, Some, IfOk, MatchOption, MatchResult};
+ghost use Rattle.lfi_module.specs.Numbers.{small_page};
 ghost use Rattle.lfi_module.specs.Profiles.{profile_number};
 ghost use Rattle.lfi_image.specs.Image.{header_of};
 ghost use Rattle.lfi_image.specs.Reading.{header_fault, count_in, is_profile, named_profile, is_base, slot_at};
 
 use crate::fault::ImageFault;
 use byteorder::{ByteOrder, LittleEndian};
-use lfi_module::{Extent, ModuleNumber, Profile, WordCount};
+use lfi_module::{Extent, ModuleNumber, PageSize, Profile, WordCount};
 
 /// The bytes of a header.
 pub(crate) const HEADER_BYTES: usize = 24;
@@ -14,7 +15,8 @@ pub(crate) const HEADER_BYTES: usize = 24;
 /// `LFI1`.
 const MAGIC: [u8; 4] = [0x4C, 0x46, 0x49, 0x31];
 
-/// What a header says: how many words there are, which of them is entered, the profile, and the slot.
+/// What a header says: how many words there are, which of them is entered, the profile, and the slot. It says nothing of
+/// pages: a file is read by small ones.
 #[derive(Clone, Copy)]
 pub(crate) struct Header {
     pub(crate) extent: Extent,
@@ -69,6 +71,7 @@ impl Header {
         ensures count { IfOk result (λ h. h.extent.words ≡ count_in bytes.now) }
         ensures bytes { IfOk result (λ h. bytes.now ≡ header_of h.extent.words h.extent.entry h.extent.profile h.slot) }
         ensures profile { IfOk result (λ h. h.extent.profile ≡ named_profile bytes.now) }
+        ensures pages { IfOk result (λ h. h.extent.pages ≡ small_page) }
     {
         if LittleEndian::read_u32(bytes) != LittleEndian::read_u32(&MAGIC) {
             return Err(ImageFault::Magic);
@@ -79,7 +82,8 @@ impl Header {
         let Some(words) = WordCount::new(LittleEndian::read_u32(&bytes[4..])) else {
             return Err(ImageFault::Counts);
         };
-        let Some(extent) = Extent::new(words, LittleEndian::read_u32(&bytes[8..]), profile) else {
+        let entry = LittleEndian::read_u32(&bytes[8..]);
+        let Some(extent) = Extent::new(words, entry, profile, PageSize::SMALL) else {
             return Err(ImageFault::Counts);
         };
         match slot_of(LittleEndian::read_u64(&bytes[16..])) {

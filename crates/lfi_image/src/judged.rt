@@ -1,6 +1,5 @@
 //! A page and its verdict, which stay together.
 ghost use Rattle.std.specs.Prelude.{◌≡◌, length};
-ghost use Rattle.lfi_module.specs.Numbers.{page_words};
 ghost use Rattle.lfi_module.specs.Pages.{words_due};
 ghost use Rattle.a64_word.specs.Words.{words_of};
 ghost use Rattle.lfi_rules.specs.Verdicts.{Judges};
@@ -13,7 +12,7 @@ use std::marker::Model;
 /// A page of a module, with the verdict on it at its place there. Its type keeps that the verdict is the judge's on
 /// these very words at this place by this profile, and that the page has the words due there.
 ///
-/// A contract sees it as its bytes, the place of its first word, and the words and the profile of its module: these
+/// A contract sees it as the page, the place of its first word, and the words and the profile of its module: these
 /// determine what a verdict says. It moves between threads.
 #[derive(Drop)]
 pub struct JudgedPage {
@@ -35,9 +34,9 @@ impl Model for JudgedPage {
 
 impl JudgedPage {
     /// Judges a page whose first word is the word `first` of a module of so many words, by a profile. The page has the
-    /// words due there: 1,024, or all that are left.
+    /// words due there: as many as it has room for, or all that are left.
     pub fn judge(page: SealedPage, first: u32, words: WordCount, profile: Profile) -> JudgedPage
-        requires due { length (words_of page) ≡ words_due page_words words first }
+        requires due { length (words_of page.bytes) ≡ words_due page.size words first }
         ensures { result ≡ record { page = page; first = first; words = words; profile = profile } }
     {
         let verdict = judge(&page, first, words.number(), profile);
@@ -58,7 +57,7 @@ impl JudgedPage {
 
     /// The judge's verdict on its words at its place.
     pub fn verdict(&self) -> PageVerdict
-        ensures { Judges self.now.profile (words_of self.now.page) self.now.first self.now.words result }
+        ensures { Judges self.now.profile (words_of self.now.page.bytes) self.now.first self.now.words result }
     {
         self.verdict
     }
@@ -87,8 +86,8 @@ impl JudgedPage {
     /// The page, and the verdict on it.
     pub fn into_parts(self) -> (SealedPage, PageVerdict)
         ensures page { result.0 ≡ self.page }
-        ensures due { length (words_of self.page) ≡ words_due page_words self.words self.first }
-        ensures verdict { Judges self.profile (words_of self.page) self.first self.words result.1 }
+        ensures due { length (words_of self.page.bytes) ≡ words_due self.page.size self.words self.first }
+        ensures verdict { Judges self.profile (words_of self.page.bytes) self.first self.words result.1 }
     {
         let JudgedPage {
             page,

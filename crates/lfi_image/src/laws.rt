@@ -10,3 +10,8 @@ pub fn file_of_an_image()
     ensures { (image : Image) (bytes : List ℕ) (fault : ImageFault) → IsImage image → FileOf image bytes → IsFault bytes fault
         → (fault ≡ NoMemory) ⊎ (fault ≡ Device) }
 {}
+
+/// A file is that of one image: who reads the file of an image has that image again.
+pub fn one_image()
+    ensures { (one other : Image) (bytes : List ℕ) → IsImage one → IsImage other → FileOf one bytes → FileOf other bytes → one ≡ other }
+{}

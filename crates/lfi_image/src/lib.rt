@@ -45,6 +45,8 @@
 //! - **Sixteen pages a call were tried, and left.** Gathered writes copy each byte once more; reads ahead read past a
 //!   page that breaks a rule, where the rest is to stay unread. Reading 16 MiB gained about 1.7 ms of 28, of which 22
 //!   are the judge's.
+//! - **A module's pages are small or large**, as its extent says, and its builder and each judged page keep it. A file
+//!   doesn't say how its module came: `read_image` judges 1,024 words at a time, and writing knows of no pages.
 //! - **Places for a builder can be reserved before the module is known** (`Places`, `Builder::in_places`), so that who
 //!   takes modules from others has all memory at its start.
 //! - Only the header's numbers go through `byteorder`; code is moved as bytes.
@@ -62,7 +64,7 @@ mod writing;
 pub use builder::{Builder, CompleteImage};
 pub use fault::ImageFault;
 pub use judged::JudgedPage;
-pub use laws::file_of_an_image;
+pub use laws::{file_of_an_image, one_image};
 pub use places::Places;
 pub use reading::read_image;
 pub use writing::write_image;

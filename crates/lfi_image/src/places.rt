@@ -1,6 +1,6 @@
 //! Memory for the pages of a module, before the module is known.
 ghost use Rattle.std.specs.Prelude.{◌≡◌, ℕ, ◌≤◌, [], IfOk, vec_capacity};
-ghost use Rattle.lfi_module.specs.Numbers.{page_words};
+ghost use Rattle.lfi_module.specs.Numbers.{small_page};
 ghost use Rattle.lfi_module.specs.Pages.{page_count};
 
 use lfi_module::{PageSize, WordCount};
@@ -8,7 +8,7 @@ use page_buf::SealedPage;
 use std::alloc::{AllocError, Global};
 use std::marker::Model;
 
-/// The reserved places for the pages of one module. They hold no page.
+/// The reserved places for the pages of one module, small or large ones. They hold no page.
 ///
 /// A contract sees it as a number: the most words that a module in these places may have.
 #[derive(Drop)]
@@ -22,11 +22,11 @@ impl Model for Places {
 
     ghost view = { λ p. p.words };
 
-    ghost invariant = { λ p. (p.pages.items ≡ []) × (page_count page_words p.words ≤ vec_capacity p.pages) };
+    ghost invariant = { λ p. (p.pages.items ≡ []) × (page_count small_page p.words ≤ vec_capacity p.pages) };
 }
 
 impl Places {
-    /// Reserves the places for a module of at most so many words.
+    /// Reserves the places for a module of at most so many words: for as many small pages as they take.
     ///
     /// # Errors
     ///
@@ -34,7 +34,7 @@ impl Places {
     pub fn new(alloc: Global, words: WordCount) -> Result<Places, AllocError>
         ensures { IfOk result (λ places. places ≡ words) }
     {
-        let count = words.pages(PageSize::PROFILE);
+        let count = words.pages(PageSize::SMALL);
         let pages = Vec::with_capacity(alloc, count as usize)?;
         Ok(Places { pages, words })
     }

@@ -1,7 +1,7 @@
 //! Image files, read.
 ghost use Rattle.std.specs.Prelude.{◌≡◌, ◌*◌, ◌%◌, ◌<◌, ◌≤◌, [], length, take, true, false, IsTrue, IfOk, IfErr, IfSome, OnOk};
 ghost use Rattle.std.specs.Io.KnownBytes.{Consumes, IsAtEnd};
-ghost use Rattle.lfi_module.specs.Numbers.{page_bytes};
+ghost use Rattle.lfi_module.specs.Numbers.{small_page};
 ghost use Rattle.page_buf.specs.Page.{IsWhole};
 ghost use Rattle.a64_word.specs.Words.{words_of};
 ghost use Rattle.lfi_image.specs.declared.fault.ImageFault.TheVariants.{NoMemory, Device};
@@ -14,9 +14,13 @@ use crate::fault::ImageFault;
 use crate::header::{HEADER_BYTES, Header};
 use crate::judged::JudgedPage;
 use in_full::fill;
-use page_buf::{PAGE_BYTES, SealedPage};
+use lfi_module::PageSize;
+use page_buf::SealedPage;
 use std::alloc::Global;
 use std::io::Read;
+
+/// The most bytes of a page as it is read: a small one's.
+const PAGE_BYTES: usize = 4096;
 
 /// Fills the buffer.
 fn read_bytes<R: Read>(reader: &mut R, bytes: &mut [u8]) -> Result<(), ImageFault>
@@ -46,23 +50,24 @@ fn is_at_end<R: Read>(reader: &mut R) -> Result<bool, ImageFault>
 
 /// A sealed page of these bytes. Its words give them back.
 fn sealed(alloc: Global, bytes: &[u8]) -> Result<SealedPage, ImageFault>
-    requires { IsWhole bytes.now × (length bytes.now ≤ page_bytes) }
-    ensures page { IfOk result (λ page. page ≡ bytes.now) }
+    requires { IsWhole bytes.now × (length bytes.now ≤ 4 * small_page) }
+    ensures page { IfOk result (λ page. page ≡ record { size = small_page; bytes = bytes.now }) }
     ensures back { code_of (words_of bytes.now) ≡ bytes.now }
     ensures fault { IfErr result (λ fault. fault ≡ NoMemory) }
 {
-    match SealedPage::of(alloc, bytes) {
+    match SealedPage::of(alloc, PageSize::SMALL, bytes) {
         Ok(page) => Ok(page),
         Err(_) => Err(ImageFault::NoMemory),
     }
 }
 
-/// Reads a page of so many bytes.
+/// Reads a small page of so many bytes.
 fn read_sealed<R: Read>(alloc: Global, reader: &mut R, len: usize) -> Result<SealedPage, ImageFault>
-    requires { (0 < len) × (len ≤ page_bytes) × (len % 4 ≡ 0) }
-    ensures read { IfOk result (λ page. Consumes (R.remaining reader.old) (R.remaining reader.new) page) }
-    ensures size { IfOk result (λ page. length page ≡ len) }
-    ensures back { IfOk result (λ page. code_of (words_of page) ≡ page) }
+    requires { (0 < len) × (len ≤ 4 * small_page) × (len % 4 ≡ 0) }
+    ensures read { IfOk result (λ page. Consumes (R.remaining reader.old) (R.remaining reader.new) page.bytes) }
+    ensures size { IfOk result (λ page. page.size ≡ small_page) }
+    ensures len { IfOk result (λ page. length page.bytes ≡ len) }
+    ensures back { IfOk result (λ page. code_of (words_of page.bytes) ≡ page.bytes) }
     ensures fault { IfErr result (λ fault. IsNoPage (R.remaining reader.old) len fault) }
 {
     let mut bytes = [0; PAGE_BYTES];
@@ -77,7 +82,8 @@ fn read_page<R: Read>(
     reader: &mut R,
     builder: &mut Builder,
 ) -> Result<(), ImageFault>
-    requires { length builder.old.placed < builder.old.words }
+    requires room { length builder.old.placed < builder.old.words }
+    requires pages { builder.old.pages ≡ small_page }
     ensures page { OnOk result (ReadsPage (R.remaining reader.old) (R.remaining reader.new) builder.old builder.new) }
     ensures fault { IfErr result (λ fault. IsPageFault (R.remaining reader.old) (R.remaining reader.new) builder.old fault) }
 {
@@ -89,13 +95,14 @@ fn read_page<R: Read>(
     }
 }
 
-/// Reads the code of a module, page by page.
+/// Reads the code of a module by small pages.
 fn read_code<R: Read>(
     alloc: Global,
     reader: &mut R,
     builder: &mut Builder,
 ) -> Result<(), ImageFault>
-    requires { builder.old.placed ≡ [] }
+    requires none { builder.old.placed ≡ [] }
+    requires pages { builder.old.pages ≡ small_page }
     ensures code { OnOk result (IsRead builder.old.profile (R.remaining reader.old) (R.remaining reader.new) builder.old.words builder.new.placed) }
     ensures whole { OnOk result (length builder.new.placed ≡ builder.old.words) }
     ensures same { OnOk result (IsSameModule builder.old builder.new) }

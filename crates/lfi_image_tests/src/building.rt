@@ -5,7 +5,7 @@ use crate::rows::{
     page_ending,
 };
 use lfi_image::{Builder, JudgedPage, Places};
-use lfi_module::{Profile, WordCount};
+use lfi_module::{Extent, ModuleNumber, PageSize, Profile, WordCount};
 use lfi_rules::{Fault, Rule};
 use page_buf::SealedPage;
 use std::marker::Send;
@@ -15,7 +15,7 @@ fn needs_send<T: Send>(_: &T) {}
 
 #[test]
 fn a_judged_page_and_its_parts(rt: HostRuntime) -> Result<(), Fail> {
-    let page = SealedPage::of(rt.alloc(), &MOVE_STACK)?;
+    let page = SealedPage::of(rt.alloc(), PageSize::SMALL, &MOVE_STACK)?;
     let judged = JudgedPage::judge(page, 1024, WordCount::of(1025), Profile::One);
     needs_send(&judged);
     assert!(rt; judged.first() == 1024 && judged.words().number() == 1025);
@@ -58,6 +58,19 @@ fn places_are_reserved_before_the_module_is_known(rt: HostRuntime) -> Result<(),
     let image = finished(builder)?;
     assert!(rt; image.words().number() == 1025 && image.entry() == 1024);
     assert!(rt; image.slot().number() == 15);
+    Ok(())
+}
+
+#[test]
+fn large_pages_have_four_times_the_words(rt: HostRuntime) -> Result<(), Fail> {
+    let extent = Extent::of(WordCount::of(4097), 0, Profile::Two, PageSize::LARGE);
+    let mut builder = Builder::new(rt.alloc(), extent, ModuleNumber::at(0))?;
+    assert!(rt; append(rt.alloc(), &mut builder, &NOP.repeat(rt.alloc(), 4096)?)?.is_none());
+    assert!(rt; builder.placed() == 4096 && builder.due() == 1);
+    assert!(rt; append(rt.alloc(), &mut builder, &RET)?.is_none());
+    let image = finished(builder)?;
+    assert!(rt; image.words().number() == 4097);
+    assert!(rt; image.word(4095) == 0xD503_201F && image.word(4096) == 0xD65F_03C0);
     Ok(())
 }
 

@@ -2,7 +2,7 @@
 
 use crate::rows::{ONE_RET, UNKNOWN, fault_of};
 use lfi_image::ImageFault;
-use lfi_module::Profile;
+use lfi_module::{PageSize, Profile};
 use lfi_rules::{Fault, Rule, check_all};
 use page_buf::SealedPage;
 use std::test::Fail;
@@ -88,7 +88,7 @@ fn each_code_byte(rt: HostRuntime) -> Result<(), Fail> {
                 let mut bytes = ONE_RET;
                 bytes[12] = if profile == Profile::One { 1 } else { 2 };
                 bytes[at] = value;
-                let page = SealedPage::of(rt.alloc(), &bytes[24..])?;
+                let page = SealedPage::of(rt.alloc(), PageSize::SMALL, &bytes[24..])?;
                 let want = check_all(&page, profile).map(ImageFault::Unlawful);
                 assert!(rt;
                     fault_of(rt.alloc(), &bytes) == want,

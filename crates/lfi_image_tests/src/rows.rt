@@ -1,7 +1,7 @@
 //! What the tests share: code, the image file of one RET, and images of code.
 
 use lfi_image::{Builder, CompleteImage, ImageFault, JudgedPage, read_image};
-use lfi_module::{Extent, ModuleNumber, Profile, WordCount};
+use lfi_module::{Extent, ModuleNumber, PageSize, Profile, WordCount};
 use lfi_rules::Fault;
 use page_buf::SealedPage;
 use std::alloc::Global;
@@ -31,12 +31,13 @@ pub const ONE_RET: [u8; 28] = [
     0x5F, 0xD6,
 ];
 
-/// Judges the page of this code and appends it. What comes back is the page's fault.
+/// Judges the page of this code, which is of the builder's size, and appends it. What comes back is the page's fault.
 pub fn append(alloc: Global, builder: &mut Builder, code: &[u8]) -> Result<Option<Fault>, Fail> {
-    if code.is_empty() || code.len() > 4096 || code.len() % 4 != 0 {
+    let size = builder.size();
+    if code.is_empty() || code.len() > size.bytes() as usize || code.len() % 4 != 0 {
         return Err(Fail::from("the code is no page"));
     }
-    let page = SealedPage::of(alloc, code)?;
+    let page = SealedPage::of(alloc, size, code)?;
     if page.len_words() != builder.due() as usize {
         return Err(Fail::from("the page has not the words due"));
     }
@@ -52,7 +53,7 @@ pub fn module(words: u32, entry: u32, slot: u16) -> Result<(Extent, ModuleNumber
     let Some(words) = WordCount::new(words) else {
         return Err(Fail::from("no module has so many words"));
     };
-    let Some(extent) = Extent::new(words, entry, Profile::One) else {
+    let Some(extent) = Extent::new(words, entry, Profile::One, PageSize::SMALL) else {
         return Err(Fail::from("the entry is no word of the module"));
     };
     let Some(slot) = ModuleNumber::new(slot) else {

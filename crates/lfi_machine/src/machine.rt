@@ -6,6 +6,7 @@ ghost use Rattle.sparse_memory.specs.Kept.{byte_at};
 ghost use Rattle.lfi_confinement.specs.Slots.{base};
 ghost use Rattle.lfi_confinement.specs.Lawful.{Held};
 ghost use Rattle.lfi_machine.specs.Starts.{start_of, refusal_of};
+ghost use Rattle.lfi_machine.specs.Keeping.{KeepsByStep};
 ghost use Rattle.lfi_machine.specs.Runs.{Steps, IsConfined, RanThenHalts};
 
 use crate::halt::Halt;
@@ -102,6 +103,7 @@ impl Machine {
     pub fn step<R: Runtime>(&mut self, runtime: &mut R) -> Result<(), Halt>
         ensures steps { Steps R.answers self.old runtime.old self.new runtime.new result }
         ensures image { self.new.owned.image ≡ self.old.owned.image }
+        ensures keeps { KeepsByStep self.old.registers self.old.owned self.new.owned }
         ensures confined { IsConfined self.new }
     {
         step_on(

@@ -319,6 +319,7 @@ pub fn ordered(slot: &mut Data, registers: &mut Registers, i: &Ordered) -> Resul
     requires image { IsImage slot.old.image }
     requires confined { access_move (Instruction.Ordered i.now) slot.old registers.old ≢ escape }
     ensures accesses { Accesses (Instruction.Ordered i.now) slot.old slot.new registers.old registers.new result }
+    ensures keeps { KeepsStored (touches (Instruction.Ordered i.now) registers.old) slot.old slot.new }
     ensures image { slot.new.image ≡ slot.old.image }
 {
     let address = ordered_address(registers, i);

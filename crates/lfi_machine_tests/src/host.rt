@@ -5,7 +5,7 @@ ghost use Rattle.std.specs.Prelude.{⊤};
 use a64_semantics::Registers;
 use lfi_image::{Builder, CompleteImage, JudgedPage};
 use lfi_machine::{Answer, Data, DataFault, Machine, Runtime};
-use lfi_module::{Extent, ModuleNumber, Profile, WordCount};
+use lfi_module::{Extent, ModuleNumber, PageSize, Profile, WordCount};
 use page_buf::SealedPage;
 use std::alloc::Global;
 use std::test::Fail;
@@ -97,7 +97,7 @@ pub fn image_by(
     let Some(count) = WordCount::new((code.len() / 4) as u32) else {
         return Err(Fail::from("no module has so many words"));
     };
-    let Some(extent) = Extent::new(count, entry, profile) else {
+    let Some(extent) = Extent::new(count, entry, profile, PageSize::SMALL) else {
         return Err(Fail::from("the entry is no word of the module"));
     };
     let mut builder = Builder::new(alloc, extent, slot)?;
@@ -112,10 +112,11 @@ pub fn image_by(
 
 /// Appends a page of these bytes.
 fn append(alloc: Global, builder: &mut Builder, bytes: &[u8]) -> Result<(), Fail> {
-    if bytes.is_empty() || bytes.len() > 4096 || bytes.len() % 4 != 0 {
+    let size = builder.size();
+    if bytes.is_empty() || bytes.len() > size.bytes() as usize || bytes.len() % 4 != 0 {
         return Err(Fail::from("the code is no page"));
     }
-    let page = SealedPage::of(alloc, bytes)?;
+    let page = SealedPage::of(alloc, size, bytes)?;
     if page.len_words() != builder.due() as usize {
         return Err(Fail::from("the page has not the words due"));
     }

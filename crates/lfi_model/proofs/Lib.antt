@@ -3,3 +3,4 @@ pub mod Faults
 pub mod Lines
 pub mod Numbered
 pub mod OneText
+pub mod OneOutcome

@@ -1,5 +1,5 @@
 -- The items of one module as its connection makes them are numbered, and end once.
-use Rattle.std.proofs.Common.{ap, ◌∙◌, ◌≡◌, ℕ, ◌+◌, ◌==◌, List, [], ◌∷◌, ◌++◌, length, Option, Some, None, refl, sym, subst, inl, inr, arith, Bool, true, false, cond, length-append, not, ◌||◌, ◌⊎◌}
+use Rattle.std.proofs.Common.{ap, ◌∙◌, ◌≡◌, ℕ, ◌+◌, ◌==◌, List, [], ◌∷◌, ◌++◌, length, Option, Some, None, refl, sym, subst, inl, inr, arith, Bool, true, false, cond, length-append, not, ◌||◌, ◌&&◌, ◌⊎◌}
 use Rattle.std.specs.List.{filter, fold, list_any}
 use Rattle.std.proofs.lemmas.List.{append-nil}
 use Rattle.lfi_model.specs.Item.{ItemView, KindView}
@@ -18,7 +18,6 @@ use Rattle.lfi_frame.specs.declared.fault.FrameFault.{FrameFault}
 use Rattle.lfi_frame.specs.declared.fault.FrameFault.TheVariants as fault_kind
 use Rattle.lfi_frame.specs.Streams.{rest_of}
 use Rattle.lfi_model.specs.Items.{Share, after_header, after_message, after_page, after_rest, connection_fault, ends_of, fault_by_cause, fault_of, is_going, is_inside, is_of, item_of, items_of, modules, nothing_yet, reason_of, share_at, with_item, with_stray}
-use Rattle.lfi_module.specs.Numbers.{page_words}
 use Rattle.lfi_module.specs.Pages.{is_due}
 use Rattle.lfi_module.specs.Extents.{ExtentView}
 use Rattle.lfi_module.specs.declared.profile.Profile.TheVariants.{One}
@@ -87,7 +86,7 @@ end_snoc (i ∷ items) x e = end_by i.kind (end_of items) (end_of (items ++ x �
 
 -- some item
 nothing : ItemView
-nothing = item_of 0 0 (record { words = 0; entry = 0; profile = One }) Open
+nothing = item_of 0 0 (record { words = 0; entry = 0; profile = One; pages = 0 }) Open
 
 -- a page or an End comes after the Open
 later : (p : ℕ) (items : List ItemView) (kind : KindView) → length items ≡ p + 1 → OpensFirst (nothing ∷ []) kind → OpensFirst items kind
@@ -143,9 +142,9 @@ either : (b : Bool) (s t : Share) → Stands s.progress s.items → Stands t.pro
 either true s t hs ht = hs
 either false s t hs ht = ht
 
-page_stands : (m : ℕ) (n : ExtentView) (p : ℕ) (s : Share) (index len : ℕ) (due : Share) → IsGoing n p s.items → Stands due.progress due.items → Stands (after_page m n p s index len due).progress (after_page m n p s index len due).items
-page_stands m n p s index len due g d =
-    either (is_due page_words n.words p index len) due (with_item s (item_of m (p + 1) n (End (PageFault index))) Ended) d (over m n p s.items (PageFault index) g)
+page_stands : (m : ℕ) (n : ExtentView) (p : ℕ) (s : Share) (size index len : ℕ) (due : Share) → IsGoing n p s.items → Stands due.progress due.items → Stands (after_page m n p s size index len due).progress (after_page m n p s size index len due).items
+page_stands m n p s size index len due g d =
+    either (size == n.pages && is_due n.pages n.words p index len) due (with_item s (item_of m (p + 1) n (End (PageFault index))) Ended) d (over m n p s.items (PageFault index) g)
 
 same_stands : (s : Share) (progress : Progress) → s.progress ≡ progress → Stands progress s.items → Stands s.progress s.items
 same_stands s progress e h = subst (λ q. Stands q s.items) (sym e) h
@@ -153,13 +152,13 @@ same_stands s progress e h = subst (λ q. Stands q s.items) (sym e) h
 message_stands : (claimed : Bool) (m : ℕ) (s : Share) (progress : Progress) (message : Message) → s.progress ≡ progress → Stands progress s.items →
     Stands (after_message claimed m s progress message).progress (after_message claimed m s progress message).items
 message_stands claimed m s Unclaimed (open_message k extent) e h = either claimed (with_item s (item_of m 0 extent Open) (Going extent 0)) (with_stray s) (opened m extent s.items h) (same_stands s Unclaimed e h)
-message_stands claimed m s Unclaimed (page_message k index payload) e h = same_stands s Unclaimed e h
+message_stands claimed m s Unclaimed (page_message k size index payload) e h = same_stands s Unclaimed e h
 message_stands claimed m s Unclaimed (close_message k) e h = same_stands s Unclaimed e h
 message_stands claimed m s (Going n p) (open_message k extent) e h = same_stands s (Going n p) e h
-message_stands claimed m s (Going n p) (page_message k index payload) e h = page_stands m n p s index (length payload) (with_item s (item_of m (p + 1) n (Page payload)) (Going n (p + 1))) h (page_more m n p s.items payload h)
+message_stands claimed m s (Going n p) (page_message k size index payload) e h = page_stands m n p s size index (length payload) (with_item s (item_of m (p + 1) n (Page payload)) (Going n (p + 1))) h (page_more m n p s.items payload h)
 message_stands claimed m s (Going n p) (close_message k) e h = over m n p s.items Close h
 message_stands claimed m s Ended (open_message k extent) e h = same_stands s Ended e h
-message_stands claimed m s Ended (page_message k index payload) e h = same_stands s Ended e h
+message_stands claimed m s Ended (page_message k size index payload) e h = same_stands s Ended e h
 message_stands claimed m s Ended (close_message k) e h = same_stands s Ended e h
 
 messages_stand : (claimed : Bool) (m : ℕ) (messages : List Message) (s : Share) → Stands s.progress s.items →
@@ -168,15 +167,15 @@ messages_stand claimed m [] s h = h
 messages_stand claimed m (message ∷ messages) s h =
     messages_stand claimed m messages (after_message claimed m s s.progress message) (message_stands claimed m s s.progress message refl h)
 
-header_stands : (m : ℕ) (s : Share) (progress : Progress) (index len : ℕ) → s.progress ≡ progress → Stands progress s.items → Stands (after_header m s progress index len).progress (after_header m s progress index len).items
-header_stands m s Unclaimed index len e h = same_stands s Unclaimed e h
-header_stands m s (Going n p) index len e h = page_stands m n p s index len s h (same_stands s (Going n p) e h)
-header_stands m s Ended index len e h = same_stands s Ended e h
+header_stands : (m : ℕ) (s : Share) (progress : Progress) (size index len : ℕ) → s.progress ≡ progress → Stands progress s.items → Stands (after_header m s progress size index len).progress (after_header m s progress size index len).items
+header_stands m s Unclaimed size index len e h = same_stands s Unclaimed e h
+header_stands m s (Going n p) size index len e h = page_stands m n p s size index len s h (same_stands s (Going n p) e h)
+header_stands m s Ended size index len e h = same_stands s Ended e h
 
 rest_stands : (m : ℕ) (s : Share) (rest : Rest) → Stands s.progress s.items → Stands (after_rest m s rest).progress (after_rest m s rest).items
 rest_stands m s short h = h
 rest_stands m s (faulty fault) h = h
-rest_stands m s (unfinished k index len) h = either (k == m) (after_header m s s.progress index len) s (header_stands m s s.progress index len refl h) h
+rest_stands m s (unfinished k size index len) h = either (k == m) (after_header m s s.progress size index len) s (header_stands m s s.progress size index len refl h) h
 rest_stands m s whole h = h
 
 ends_stand : (m : ℕ) (progress : Progress) (items : List ItemView) (fault : Option FrameFault) → Stands progress items → IsModule (items ++ ends_of m progress fault)
@@ -203,7 +202,7 @@ by_cause Starved = (fault_kind.NoMemory, refl)
 fault_sure : (rest : Rest) (cause : Cause) → (fault : FrameFault) × (fault_of rest cause true ≡ Some fault)
 fault_sure short cause = by_cause cause
 fault_sure (faulty fault) cause = (fault, refl)
-fault_sure (unfinished m index len) cause = by_cause cause
+fault_sure (unfinished m size index len) cause = by_cause cause
 fault_sure whole cause = by_cause cause
 
 or_true : (b : Bool) → (b || true) ≡ true

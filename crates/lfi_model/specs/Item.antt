@@ -1,8 +1,8 @@
 -- What contracts see of an item, and what its type keeps.
 use Rattle.std.specs.Prelude.{◌≡◌, ℕ, ◌+◌, ◌-◌, ◌<◌, ◌≤◌, List, length}
-use Rattle.lfi_module.specs.Numbers.{module_count, most_words, page_words}
+use Rattle.lfi_module.specs.Numbers.{module_count, most_words, small_page}
 use Rattle.lfi_module.specs.Extents.{ExtentView}
-use Rattle.lfi_module.specs.Pages.{page_count, words_in_page, bytes_in_page}
+use Rattle.lfi_module.specs.Pages.{HasPages, page_count, words_in_page, bytes_in_page}
 use Rattle.lfi_model.specs.declared.item.ItemKind.{ItemKind}
 use Rattle.lfi_model.specs.declared.item.ItemKind.TheVariants.{Open, Page, End}
 
@@ -10,7 +10,7 @@ use Rattle.lfi_model.specs.declared.item.ItemKind.TheVariants.{Open, Page, End}
 abbrev pub KindView : Type 0
 KindView = ItemKind (List ℕ)
 
--- one of the numbered items of a module: which one, how large it is, and what it brings
+-- one of the numbered items of a module: which one, its extent, and what it brings
 pub record ItemView : Type 0 where
   pub «module» : ℕ
   pub ordinal : ℕ
@@ -18,19 +18,20 @@ pub record ItemView : Type 0 where
   pub kind : KindView
 
 -- The Open has ordinal 0, and it alone; a page has the words due, at least one.
-abbrev pub KindFits : (words ordinal : ℕ) → KindView → Type 0
-KindFits words ordinal Open = ordinal ≡ 0
-KindFits words ordinal (Page bytes) = (0 < ordinal) × (length bytes ≡ bytes_in_page page_words words (ordinal - 1)) × (0 < words_in_page page_words words (ordinal - 1))
-KindFits words ordinal (End reason) = 0 < ordinal
+abbrev pub KindFits : (size words ordinal : ℕ) → KindView → Type 0
+KindFits size words ordinal Open = ordinal ≡ 0
+KindFits size words ordinal (Page bytes) = (0 < ordinal) × (length bytes ≡ bytes_in_page size words (ordinal - 1)) × (0 < words_in_page size words (ordinal - 1))
+KindFits size words ordinal (End reason) = 0 < ordinal
 
--- what every item keeps
+-- what every item keeps; there are no more ordinals than for a module of small pages
 pub record IsItem (item : ItemView) : Type 0 where
   pub module_in_range : item.«module» < module_count
   pub some_words : 0 < item.extent.words
   pub words_in_range : item.extent.words ≤ most_words
   pub entry_in_range : item.extent.entry < item.extent.words
-  pub ordinal_in_range : item.ordinal ≤ page_count page_words most_words + 1
-  pub kind_fits : KindFits item.extent.words item.ordinal item.kind
+  pub pages_in_range : HasPages item.extent.profile item.extent.pages
+  pub ordinal_in_range : item.ordinal ≤ page_count small_page most_words + 1
+  pub kind_fits : KindFits item.extent.pages item.extent.words item.ordinal item.kind
 
 -- What an item brings, by the bytes of its page; and a fact of that page, where it brings one.
 module _ {P : Type 0} where

@@ -1,7 +1,7 @@
 -- The items of one connection, module by module. Source: this project's format, docs/PROFILE.md.
-use Rattle.std.specs.Prelude.{◌≡◌, ℕ, ◌+◌, ◌<◌, ◌==◌, Bool, true, false, ◌||◌, not, if◌then◌else◌, List, [], ◌∷◌, ◌++◌, length, Option, Some, None, fold, filter, sum_by}
+use Rattle.std.specs.Prelude.{◌≡◌, ℕ, ◌+◌, ◌<◌, ◌==◌, Bool, true, false, ◌||◌, ◌&&◌, not, if◌then◌else◌, List, [], ◌∷◌, ◌++◌, length, Option, Some, None, fold, filter, sum_by}
 use Rattle.std.specs.List.{list_any}
-use Rattle.lfi_module.specs.Numbers.{module_count, page_words}
+use Rattle.lfi_module.specs.Numbers.{module_count}
 use Rattle.lfi_module.specs.Pages.{is_due}
 use Rattle.lfi_module.specs.Extents.{ExtentView}
 use Rattle.lfi_frame.specs.declared.fault.FrameFault.{FrameFault}
@@ -34,31 +34,35 @@ with_item s item progress = record { items = s.items ++ item ∷ []; strays = s.
 abbrev pub item_of : (m ordinal : ℕ) → ExtentView → KindView → ItemView
 item_of m ordinal extent kind = record { «module» = m; ordinal = ordinal; extent = extent; kind = kind }
 
+-- page `index` of so many bytes, of pages of this size, is the one that has to come next of a module of this extent, of which the first p pages have come
+abbrev pub is_page_due : ExtentView → (p size index bytes : ℕ) → Bool
+is_page_due extent p size index bytes = size == extent.pages && is_due extent.pages extent.words p index bytes
+
 -- a page of module m, of whose extent the first p pages have come: `then_due` where it is the one due, else the End
-abbrev pub after_page : (m : ℕ) → ExtentView → (p : ℕ) → Share → (index len : ℕ) → Share → Share
-after_page m extent p s index len then_due =
-    if is_due page_words extent.words p index len then then_due
+abbrev pub after_page : (m : ℕ) → ExtentView → (p : ℕ) → Share → (size index len : ℕ) → Share → Share
+after_page m extent p s size index len then_due =
+    if is_page_due extent p size index len then then_due
     else with_item s (item_of m (p + 1) extent (End (PageFault index))) Ended
 
 -- one more message of module m, which is claimed or isn't
 abbrev pub after_message : Bool → ℕ → Share → Progress → Message → Share
 after_message claimed m s Unclaimed (open_message _ extent) =
     if claimed then with_item s (item_of m 0 extent Open) (Going extent 0) else with_stray s
-after_message claimed m s (Going extent p) (page_message _ index payload) =
-    after_page m extent p s index (length payload) (with_item s (item_of m (p + 1) extent (Page payload)) (Going extent (p + 1)))
+after_message claimed m s (Going extent p) (page_message _ size index payload) =
+    after_page m extent p s size index (length payload) (with_item s (item_of m (p + 1) extent (Page payload)) (Going extent (p + 1)))
 after_message claimed m s (Going extent p) (close_message _) = with_item s (item_of m (p + 1) extent (End Close)) Ended
 after_message claimed m s progress message = with_stray s
 
 -- the header of a page whose payload isn't whole
-abbrev pub after_header : ℕ → Share → Progress → (index len : ℕ) → Share
-after_header m s (Going extent p) index len = after_page m extent p s index len s
-after_header m s progress index len = with_stray s
+abbrev pub after_header : ℕ → Share → Progress → (size index len : ℕ) → Share
+after_header m s (Going extent p) size index len = after_page m extent p s size index len s
+after_header m s progress size index len = with_stray s
 
 abbrev pub is_of : ℕ → Message → Bool
 is_of m message = (header_of message).«module» == m
 
 abbrev pub after_rest : ℕ → Share → Rest → Share
-after_rest m s (unfinished of index len) = if of == m then after_header m s s.progress index len else s
+after_rest m s (unfinished of size index len) = if of == m then after_header m s s.progress size index len else s
 after_rest m s rest = s
 
 -- what module m has got, when these messages and this rest have come

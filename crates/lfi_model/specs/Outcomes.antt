@@ -11,7 +11,6 @@ use Rattle.lfi_rules.specs.Verdicts.{all_words}
 use Rattle.a64_word.specs.Words.{words_of}
 use Rattle.lfi_model.specs.declared.outcome.Outcome.{Outcome}
 use Rattle.lfi_model.specs.declared.outcome.Outcome.TheVariants as outcome
-use Rattle.lfi_module.specs.Numbers.{page_words}
 use Rattle.lfi_module.specs.Pages.{page_count}
 
 -- the pages of a module's items, each as its words
@@ -31,23 +30,23 @@ abbrev pub end_of : List ItemView → Option Reason
 end_of [] = None
 end_of (item ∷ items) = reason_at item.kind (end_of items)
 
--- the outcome of a module of n words, by its End, where there is no fault in its words
-abbrev pub by_end : ℕ → List ItemView → Reason → Outcome
-by_end n items Close =
-    if length (all_words (pages_of items)) == n then outcome.Complete n else outcome.Incomplete (length (pages_of items)) (page_count page_words n)
-by_end n items (Lost fault) = outcome.Lost fault
-by_end n items (PageFault index) = outcome.PageFault index
-by_end n items NoMemory = outcome.NoMemory
+-- the outcome of a module of this extent, by its End, where there is no fault in its words
+abbrev pub by_end : ExtentView → List ItemView → Reason → Outcome
+by_end extent items Close =
+    if length (all_words (pages_of items)) == extent.words then outcome.Complete extent.words else outcome.Incomplete (length (pages_of items)) (page_count extent.pages extent.words)
+by_end extent items (Lost fault) = outcome.Lost fault
+by_end extent items (PageFault index) = outcome.PageFault index
+by_end extent items NoMemory = outcome.NoMemory
 
-abbrev pub IsOutcome : ℕ → List ItemView → Option Fault → Outcome → Type 0
-IsOutcome n items (Some fault) result = result ≡ outcome.Refused fault
-IsOutcome n items None result = (reason : Reason) × (end_of items ≡ Some reason) × (result ≡ by_end n items reason)
+abbrev pub IsOutcome : ExtentView → List ItemView → Option Fault → Outcome → Type 0
+IsOutcome extent items (Some fault) result = result ≡ outcome.Refused fault
+IsOutcome extent items None result = (reason : Reason) × (end_of items ≡ Some reason) × (result ≡ by_end extent items reason)
 
 -- The outcome of a module of this extent with these items.
 abbrev pub Load : ExtentView → List ItemView → Outcome → Type 0
 Load extent [] result = result ≡ outcome.Unused
 Load extent (item ∷ items) result =
-    (fault : Option Fault) × FirstFault extent.profile (all_words (pages_of (item ∷ items))) extent.words fault × IsOutcome extent.words (item ∷ items) fault result
+    (fault : Option Fault) × FirstFault extent.profile (all_words (pages_of (item ∷ items))) extent.words fault × IsOutcome extent (item ∷ items) fault result
 
 abbrev pub Begins : {A : Type 0} → List A → List A → Type 0
 Begins {A} us xs = (rest : List A) × (xs ≡ us ++ rest)

@@ -14,7 +14,8 @@ pub enum Reason {
     Close,
     /// Its connection came to this fault while the module was open.
     Lost(FrameFault),
-    /// This page, by its index, wasn't the one due, or hadn't its length.
+    /// This page, by its index, wasn't the one due, or hadn't its length, or was small where the module has large pages or
+    /// the other way round.
     PageFault(u32),
     /// There was no memory for a page.
     NoMemory,
@@ -32,9 +33,9 @@ pub trait PageBody: Drop {
 }
 
 impl PageBody for SealedPage {
-    ghost bytes = { λ page. page };
+    ghost bytes = { λ page. page.bytes };
 
-    ghost IsAtPlace = { λ ordinal extent page. Unit {0} };
+    ghost IsAtPlace = { λ ordinal extent page. page.size ≡ extent.pages };
 }
 
 /// What an item brings.
@@ -58,7 +59,7 @@ pub struct NumberedItem<P: PageBody> {
     pub module: ModuleNumber,
     /// The item's place among those of its module: 0 the Open, then the pages, then the End.
     pub ordinal: u32,
-    /// How large the whole module is, where it is entered, and the profile that it goes by.
+    /// How large the whole module is, where it is entered, the profile that it goes by, and how large its pages are.
     pub extent: Extent,
     /// What it brings.
     pub kind: ItemKind<P>,

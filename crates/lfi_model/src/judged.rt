@@ -4,18 +4,15 @@ ghost use Rattle.std.specs.Prelude.{◌≡◌, ◌-◌, ◌*◌};
 
 use crate::item::{Item, ItemKind, NumberedItem, PageBody};
 use lfi_image::JudgedPage;
-use lfi_module::PageSize;
 
 impl PageBody for JudgedPage {
-    ghost use Rattle.lfi_module.specs.Numbers.{page_words};
+    ghost bytes = { λ page. page.page.bytes };
 
-    ghost bytes = { λ page. page.page };
-
-    ghost IsAtPlace = { λ ordinal extent page. (page.first ≡ page_words * (ordinal - 1)) × (page.words ≡ extent.words) × (page.profile ≡ extent.profile) };
+    ghost IsAtPlace = { λ ordinal extent page. (page.first ≡ extent.pages * (ordinal - 1)) × (page.words ≡ extent.words) × (page.profile ≡ extent.profile) × (page.page.size ≡ extent.pages) };
 }
 
 /// One of the numbered items of a module, with the verdict on its page where it brings one: that
-/// page was judged by its module's profile at its own place, the word 1,024 times (ordinal - 1) of its module.
+/// page was judged by its module's profile at its own place, which is (ordinal - 1) full pages into its module.
 pub type Judged = NumberedItem<JudgedPage>;
 
 impl Item {
@@ -32,7 +29,7 @@ impl Item {
         let kind = match kind {
             ItemKind::Open => ItemKind::Open,
             ItemKind::Page(page) => {
-                let first = PageSize::PROFILE.words() * (ordinal - 1);
+                let first = extent.pages().words() * (ordinal - 1);
                 ItemKind::Page(JudgedPage::judge(page, first, extent.words(), extent.profile()))
             }
             ItemKind::End(reason) => ItemKind::End(reason),

@@ -6,6 +6,7 @@ ghost use Rattle.lfi_frame.specs.declared.fault.FrameFault.{FrameFault};
 ghost use Rattle.lfi_frame.specs.Streams.{Message, short};
 ghost use Rattle.lfi_model.specs.Item.{ItemView};
 ghost use Rattle.lfi_model.specs.declared.item.Reason.{Reason};
+ghost use Rattle.lfi_model.specs.declared.outcome.Outcome.{Outcome};
 ghost use Rattle.lfi_module.specs.Extents.{ExtentView};
 ghost use Rattle.lfi_rules.specs.declared.fault.Fault.{Fault};
 ghost use Rattle.lfi_rules.specs.Faults.{FirstFault};
@@ -13,7 +14,7 @@ ghost use Rattle.lfi_rules.specs.Verdicts.{all_words};
 ghost use Rattle.lfi_model.specs.declared.connection.Cause.{Cause};
 ghost use Rattle.lfi_model.specs.Items.{ItemsOf, items_of, modules, share_of, after_message, is_of};
 ghost use Rattle.lfi_model.specs.Modules.{Member, IsModule};
-ghost use Rattle.lfi_model.specs.Outcomes.{end_of, Placed};
+ghost use Rattle.lfi_model.specs.Outcomes.{end_of, Load, Placed};
 
 /// The items that a connection makes of a module are numbered in order, and nothing follows their
 /// End. Where there are any, there is an End.
@@ -44,4 +45,10 @@ pub fn one_items()
         ItemsOf bytes cause claimed items found strays → ItemsOf bytes cause claimed other last more → found ≡ last }
     ensures strays { (bytes : List ℕ) (cause : Cause) (claimed : ℕ → Bool) (items other : ℕ → List ItemView) (found last : Option FrameFault) (strays more : ℕ) →
         ItemsOf bytes cause claimed items found strays → ItemsOf bytes cause claimed other last more → strays ≡ more }
+{}
+
+/// A module's items have one outcome, and their pages one longest lawful beginning.
+pub fn one_load()
+    ensures outcome { (extent : ExtentView) (items : List ItemView) (one other : Outcome) → Load extent items one → Load extent items other → one ≡ other }
+    ensures placed { (extent : ExtentView) (pages us vs : List (List ℕ)) → Placed extent pages us → Placed extent pages vs → us ≡ vs }
 {}

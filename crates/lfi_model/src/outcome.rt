@@ -20,7 +20,7 @@ pub enum Outcome {
     Incomplete { pages: u32, of: u32 },
     /// Its connection came to this fault while the module was open.
     Lost(FrameFault),
-    /// This page, by its index, wasn't the one due, or hadn't its length.
+    /// This page, by its index, wasn't the one due, or hadn't its length or its size.
     PageFault(u32),
     /// There was no memory for it.
     NoMemory,

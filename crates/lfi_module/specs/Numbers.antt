@@ -9,13 +9,13 @@ module_count = 16
 abbrev pub most_words : ℕ
 most_words = 4194304
 
--- the words of a full page
-abbrev pub page_words : ℕ
-page_words = 1024
+-- the words of a full small page
+abbrev pub small_page : ℕ
+small_page = 1024
 
--- the bytes of a full page
-abbrev pub page_bytes : ℕ
-page_bytes = 4096
+-- the words of a full large page
+abbrev pub large_page : ℕ
+large_page = 4096
 
 -- where a slot begins
 abbrev pub base_of : ℕ → ℕ

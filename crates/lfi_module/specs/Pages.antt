@@ -1,6 +1,17 @@
 -- A module's words, cut into pages of `size` words, of which only the last may have fewer. Source: this project's
 -- profile, docs/PROFILE.md.
-use Rattle.std.specs.Prelude.{ℕ, ◌+◌, ◌-◌, ◌*◌, ◌/◌, ◌==◌, ◌&&◌, nat_lt, min, Bool}
+use Rattle.std.specs.Prelude.{◌≡◌, ◌⊎◌, ℕ, ◌+◌, ◌-◌, ◌*◌, ◌/◌, ◌==◌, ◌&&◌, nat_lt, min, Bool, true}
+use Rattle.lfi_module.specs.Numbers.{small_page, large_page}
+use Rattle.lfi_module.specs.declared.profile.Profile.{Profile}
+use Rattle.lfi_module.specs.Profiles.{is_two}
+
+-- pages are small or large
+abbrev pub IsPageSize : (size : ℕ) → Type 0
+IsPageSize size = (size ≡ small_page) ⊎ (size ≡ large_page)
+
+-- the pages that a module of a profile can have: small ones, and in the second profile large ones too
+abbrev pub HasPages : Profile → (size : ℕ) → Type 0
+HasPages profile size = (size ≡ small_page) ⊎ ((is_two profile ≡ true) × (size ≡ large_page))
 
 -- how many pages n words take
 abbrev pub page_count : (size n : ℕ) → ℕ

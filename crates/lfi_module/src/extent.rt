@@ -2,7 +2,7 @@
 
 ghost use Rattle.std.specs.Prelude.{◌≡◌, ◌≤◌, ◌<◌, ◌⊎◌, IfSome, IfNone};
 ghost use Rattle.lfi_module.specs.Numbers.{most_words};
-ghost use Rattle.lfi_module.specs.Pages.{page_count, words_due, bytes_in_page, is_due};
+ghost use Rattle.lfi_module.specs.Pages.{HasPages, IsPageSize, page_count, words_due, bytes_in_page, is_due};
 
 use crate::page_size::PageSize;
 use crate::profile::Profile;
@@ -92,12 +92,14 @@ impl WordCount {
     }
 }
 
-/// How many words a module has, the one at which it is entered, and the profile that it goes by.
+/// How many words a module has, the one at which it is entered, the profile that it goes by, and how large its pages are:
+/// small, or in the second profile small or large.
 #[derive(Clone, Copy, PartialEq, Eq, Debug)]
 pub struct Extent {
     words: WordCount,
     entry: u32,
     profile: Profile,
+    pages: PageSize,
 }
 
 impl Model for Extent {
@@ -105,41 +107,44 @@ impl Model for Extent {
 
     ghost Value = { ExtentView };
 
-    ghost view = { λ e. record { words = e.words; entry = e.entry; profile = e.profile } };
+    ghost view = { λ e. record { words = e.words; entry = e.entry; profile = e.profile; pages = e.pages } };
 
-    ghost invariant = { λ e. IsExtent (record { words = e.words; entry = e.entry; profile = e.profile }) };
+    ghost invariant = { λ e. IsExtent (record { words = e.words; entry = e.entry; profile = e.profile; pages = e.pages }) };
 
-    ghost inverse = { λ v. record { words = v.words; entry = v.entry; profile = v.profile } };
+    ghost inverse = { λ v. record { words = v.words; entry = v.entry; profile = v.profile; pages = v.pages } };
 }
 
 impl Extent {
-    /// A module of so many words that is entered at the word `entry` and goes by a profile; `None` where that isn't one
-    /// of its words.
-    pub fn new(words: WordCount, entry: u32, profile: Profile) -> Option<Extent>
-        ensures some { IfSome result (λ extent. extent ≡ record { words = words; entry = entry; profile = profile }) }
-        ensures none { IfNone result (words ≤ entry) }
+    /// A module of so many words that is entered at the word `entry`, goes by a profile and has pages of this size;
+    /// `None` where that isn't one of its words, or the profile hasn't such pages.
+    pub fn new(words: WordCount, entry: u32, profile: Profile, pages: PageSize) -> Option<Extent>
+        ensures some { IfSome result (λ extent. extent ≡ record { words = words; entry = entry; profile = profile; pages = pages }) }
+        ensures none { IfNone result ((words ≤ entry) ⊎ ¬ (HasPages profile pages)) }
     {
-        if entry < words.number() {
+        if entry < words.number() && profile.has_pages(pages) {
             Some(Extent {
                 words,
                 entry,
                 profile,
+                pages,
             })
         } else {
             None
         }
     }
 
-    /// A module of so many words that is entered at the word `entry`, which is known to be one of them, and goes by a
-    /// profile.
-    pub fn of(words: WordCount, entry: u32, profile: Profile) -> Extent
-        requires { entry < words }
-        ensures { result ≡ record { words = words; entry = entry; profile = profile } }
+    /// A module of so many words that is entered at the word `entry`, which is known to be one of them, goes by a
+    /// profile, and has pages of a size that is known to be one of the profile's.
+    pub fn of(words: WordCount, entry: u32, profile: Profile, pages: PageSize) -> Extent
+        requires entry { entry < words }
+        requires pages { HasPages profile pages }
+        ensures { result ≡ record { words = words; entry = entry; profile = profile; pages = pages } }
     {
         Extent {
             words,
             entry,
             profile,
+            pages,
         }
     }
 
@@ -163,5 +168,13 @@ impl Extent {
         ensures { result ≡ self.profile }
     {
         self.profile
+    }
+
+    /// How large its pages are, the last one apart.
+    pub fn pages(self) -> PageSize
+        ensures value { result ≡ self.pages }
+        ensures fits { HasPages self.profile self.pages }
+    {
+        self.pages
     }
 }

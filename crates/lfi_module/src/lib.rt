@@ -18,16 +18,17 @@
 //!   to its definitions: the bytes of a page (page_buf), the most bytes of code (lfi_commands), and those of the plain
 //!   program.
 //! - **A module's number is its slot's.** There is one type for both, `ModuleNumber`, and no table between them.
-//! - **`Extent` keeps that the entry is one of the words**, and has the profile beside them: what an Open says of a
-//!   module. A header's answer, each item and a new builder have one.
+//! - **`Extent` keeps that the entry is one of the words**, and has the profile and the pages' size beside them: what an
+//!   Open says of a module. A header's answer, each item and a new builder have one. It keeps too that large pages are
+//!   those of a module of the second profile (`HasPages`).
 //! - **`ModuleNumber`, `WordCount` and `Extent` have two ways in**: `new`, which tests and answers an `Option`, for
 //!   numbers from outside; and `at` or `of`, with a condition, for numbers that are known to be in range.
-//! - **The page's size is a parameter** of the page arithmetic, in code (`PageSize`) and in definitions. This profile's
-//!   is `PageSize::PROFILE`; a full page of any size has at most 4,096 words.
+//! - **The page's size is a parameter** of the page arithmetic, in code (`PageSize`) and in definitions: it is
+//!   `PageSize::SMALL`, 1,024 words, or `PageSize::LARGE`, 4,096. So laws are stated once, for any size.
 //! - **`Profile` stands here**, at the bottom: words are decoded by it, modules are judged by it, and image files and
 //!   command lines name it by its number.
-//! - **`page_buf` names the page's numbers of `lfi_module` in its contracts**, and nothing else of modules: a page of
-//!   raw memory has this profile's size, and no module.
+//! - **`page_buf` names the pages' numbers of `lfi_module` in its contracts**, and nothing else of modules: a page of
+//!   raw memory has one of the two sizes, and no module.
 #![tactic(auto)]
 
 mod extent;

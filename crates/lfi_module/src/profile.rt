@@ -1,7 +1,10 @@
 //! Which instructions and rules a module goes by.
 
-ghost use Rattle.std.specs.Prelude.{◌≡◌, ℕ, IfSome, Some};
+ghost use Rattle.std.specs.Prelude.{◌≡◌, ◌↔◌, ℕ, IfSome, Some, IsTrue};
 ghost use Rattle.lfi_module.specs.Profiles.{profile_number};
+ghost use Rattle.lfi_module.specs.Pages.{HasPages};
+
+use crate::page_size::PageSize;
 
 /// Which instructions and rules a module goes by: docs/PROFILE.md.
 #[derive(Clone, Copy, PartialEq, Eq, Debug)]
@@ -34,5 +37,12 @@ impl Profile {
             Profile::One => 1,
             Profile::Two => 2,
         }
+    }
+
+    /// Whether its modules can have pages of this size: small ones in both, large ones in the second.
+    pub fn has_pages(self, pages: PageSize) -> bool
+        ensures { IsTrue result ↔ HasPages self pages }
+    {
+        pages == PageSize::SMALL || self == Profile::Two
     }
 }

@@ -6,7 +6,6 @@ use Rattle.std.proofs.lemmas.Grind.{flat_map-append}
 use Rattle.std.proofs.lemmas.List.Elements.{All-nil, All-append, filter-append}
 use Rattle.std.proofs.lemmas.List.Sums.{sum_by-cons}
 use Rattle.a64_word.specs.Words.{words_of}
-use Rattle.lfi_module.specs.Numbers.{page_words}
 use Rattle.lfi_module.specs.Pages.{page_count}
 use Rattle.lfi_frame.specs.declared.fault.FrameFault.TheVariants as fault
 use Rattle.lfi_frame.specs.Streams.{Message, Cut, IsMessage, spelling, short, whole}
@@ -23,7 +22,7 @@ use Rattle.lfi_pack.proofs.Shares.{filter_mine, filter_other, items_made, share_
 -- the messages of one module among those of a text
 pub record Stands (messages : List Message) (p : PackedView) : Type 0 where
   pub pages : List (List ℕ)
-  pub all : AreFirst p.extent.words (page_count page_words p.extent.words) pages
+  pub all : AreFirst p.extent.pages p.extent.words (page_count p.extent.pages p.extent.words) pages
   pub bytes : joined pages ≡ p.code
   pub mine : filter (is_of p.number) messages ≡ messages_of p.number p.extent pages
 
@@ -116,7 +115,7 @@ module _ (ps : List PackedView) (text : List ℕ) (claimed : ℕ → Bool) (is :
       let stands = all.each p member in
       ap (λ b. fold (λ s message. after_message b p.number s s.progress message) nothing_yet (filter (is_of p.number) messages)) (mine p member)
       ∙ ap (λ l. fold (λ s message. after_message true p.number s s.progress message) nothing_yet l) stands.mine
-      ∙ share_made p.number p.extent stands.pages (among_all p.extent.words stands.pages stands.all)
+      ∙ share_made p.number p.extent stands.pages (among_all p.extent.pages p.extent.words stands.pages stands.all)
 
   share_of_none : (m : ℕ) → NoneIs m ps → share m ≡ nothing_yet
   share_of_none m none = ap (λ l. fold (λ s message. after_message (claimed m) m s s.progress message) nothing_yet l) (all.none m none)
@@ -155,7 +154,7 @@ module _ (ps : List PackedView) (text : List ℕ) (claimed : ℕ → Bool) (is :
   heard p member =
       let stands = all.each p member in
       let pages = stands.pages in
-      let among = among_all p.extent.words pages stands.all in
+      let among = among_all p.extent.pages p.extent.words pages stands.all in
       let is_made : items p.number ≡ items_made p.number p.extent pages = items_by p.number (made p stands) (share_of_one p member) ∙ append-nil (items_made p.number p.extent pages) in
       subst (IsHeard p) (sym is_made) (record {
         opened = (_, refl);

@@ -6,7 +6,7 @@ use Rattle.std.proofs.KnownBytes.{Appends-trans, Appends-nil}
 use Rattle.std.proofs.lemmas.Grind.{flat_map-append}
 use Rattle.std.proofs.lemmas.List.{length-replicate}
 use Rattle.lfi_module.specs.Extents.{ExtentView}
-use Rattle.lfi_module.specs.Numbers.{page_words, most_words}
+use Rattle.lfi_module.specs.Numbers.{most_words}
 use Rattle.lfi_module.specs.Pages.{page_count, bytes_in_page}
 use Rattle.lfi_frame.specs.Feeds.{page_header}
 use Rattle.lfi_frame.specs.Streams.{page_message, open_message, close_message, header_bytes, spelling, IsMessage}
@@ -42,76 +42,76 @@ abbrev zeros : ℕ → List ℕ
 zeros n = replicate n 0
 
 -- nothing of a page was written
-pub nothing_begun : (m index len : ℕ) (a : Option (List ℕ)) → BeginsPage m index len a a
-nothing_begun m index len a = record {
+pub nothing_begun : (m size index len : ℕ) (a : Option (List ℕ)) → BeginsPage m size index len a a
+nothing_begun m size index len a = record {
   page = zeros len;
-  size = length-replicate len 0;
-  written = ([], spelling (page_message m index (zeros len)), refl, omega arith, Appends-nil a);
+  long = length-replicate len 0;
+  written = ([], spelling (page_message m size index (zeros len)), refl, omega arith, Appends-nil a);
 }
 
 -- a part of a page's header was
-pub header_begun : (m index : ℕ) (page head : List ℕ) (a b : Option (List ℕ)) (len : ℕ) → length page ≡ len → head ≡ header_bytes (page_header m index len) → AppendsBeginning a b head → BeginsPage m index len a b
-header_begun m index page head a b len size is begun =
-    let same : head ≡ header_bytes (page_header m index (length page)) = is ∙ ap (λ n. header_bytes (page_header m index n)) (sym size) in
+pub header_begun : (m size index : ℕ) (page head : List ℕ) (a b : Option (List ℕ)) (len : ℕ) → length page ≡ len → head ≡ header_bytes (page_header m size index len) → AppendsBeginning a b head → BeginsPage m size index len a b
+header_begun m size index page head a b len long is begun =
+    let same : head ≡ header_bytes (page_header m size index (length page)) = is ∙ ap (λ n. header_bytes (page_header m size index n)) (sym long) in
     record {
       page = page;
-      size = size;
-      written = begins_more a b (header_bytes (page_header m index (length page))) page (subst (AppendsBeginning a b) same begun);
+      long = long;
+      written = begins_more a b (header_bytes (page_header m size index (length page))) page (subst (AppendsBeginning a b) same begun);
     }
 
 -- the header was, and a part of the page
-pub page_begun : (m index : ℕ) (page head : List ℕ) (a b c : Option (List ℕ)) (len : ℕ) → length page ≡ len → head ≡ header_bytes (page_header m index len) → Appends a b head → AppendsBeginning b c page → BeginsPage m index len a c
-page_begun m index page head a b c len size is wrote begun =
-    let same : head ≡ header_bytes (page_header m index (length page)) = is ∙ ap (λ n. header_bytes (page_header m index n)) (sym size) in
+pub page_begun : (m size index : ℕ) (page head : List ℕ) (a b c : Option (List ℕ)) (len : ℕ) → length page ≡ len → head ≡ header_bytes (page_header m size index len) → Appends a b head → AppendsBeginning b c page → BeginsPage m size index len a c
+page_begun m size index page head a b c len long is wrote begun =
+    let same : head ≡ header_bytes (page_header m size index (length page)) = is ∙ ap (λ n. header_bytes (page_header m size index n)) (sym long) in
     record {
       page = page;
-      size = size;
-      written = begins_after a b c (header_bytes (page_header m index (length page))) page (subst (Appends a b) same wrote) begun;
+      long = long;
+      written = begins_after a b c (header_bytes (page_header m size index (length page))) page (subst (Appends a b) same wrote) begun;
     }
 
 -- so many pages more
-fill_up : (n k count : ℕ) (pages : List (List ℕ)) → AreFirst n k pages → (more : List (List ℕ)) × AreFirst n (k + count) (pages ++ more)
-fill_up n k zero pages first = ([], subst (λ l. AreFirst n (k + 0) l) (sym (append-nil pages)) (subst (λ j. AreFirst n j pages) (let e : k ≡ k + 0 = omega arith in e) first))
-fill_up n k (suc count) pages first =
-    let page : List ℕ = replicate (bytes_in_page page_words n k) 0 in
-    let rest : (more : List (List ℕ)) × AreFirst n ((k + 1) + count) ((pages ++ page ∷ []) ++ more) = fill_up n (k + 1) count (pages ++ page ∷ []) (page_added n k pages page first (length-replicate (bytes_in_page page_words n k) 0)) in
-    (page ∷ rest.0, subst (λ j. AreFirst n j (pages ++ page ∷ rest.0)) (let e : (k + 1) + count ≡ k + suc count = omega arith in e) (subst (λ l. AreFirst n ((k + 1) + count) l) (append_assoc pages (page ∷ []) rest.0) rest.1))
+fill_up : (size n k count : ℕ) (pages : List (List ℕ)) → AreFirst size n k pages → (more : List (List ℕ)) × AreFirst size n (k + count) (pages ++ more)
+fill_up size n k zero pages first = ([], subst (λ l. AreFirst size n (k + 0) l) (sym (append-nil pages)) (subst (λ j. AreFirst size n j pages) (let e : k ≡ k + 0 = omega arith in e) first))
+fill_up size n k (suc count) pages first =
+    let page : List ℕ = replicate (bytes_in_page size n k) 0 in
+    let rest : (more : List (List ℕ)) × AreFirst size n ((k + 1) + count) ((pages ++ page ∷ []) ++ more) = fill_up size n (k + 1) count (pages ++ page ∷ []) (page_added size n k pages page first (length-replicate (bytes_in_page size n k) 0)) in
+    (page ∷ rest.0, subst (λ j. AreFirst size n j (pages ++ page ∷ rest.0)) (let e : (k + 1) + count ≡ k + suc count = omega arith in e) (subst (λ l. AreFirst size n ((k + 1) + count) l) (append_assoc pages (page ∷ []) rest.0) rest.1))
 
 -- some pages were written, and a part of the next one
-pub pages_begun : (m n k : ℕ) (left rest old half new : Option (List ℕ)) → k < page_count page_words n → CopiesFirst m n k left rest old half → BeginsPage m k (bytes_in_page page_words n k) half new → BeginsPages m n old new
-pages_begun m n k left rest old half new within some begun =
+pub pages_begun : (m size n k : ℕ) (left rest old half new : Option (List ℕ)) → k < page_count size n → CopiesFirst m size n k left rest old half → BeginsPage m size k (bytes_in_page size n k) half new → BeginsPages m size n old new
+pages_begun m size n k left rest old half new within some begun =
     let pages = some.pages in
     let page = begun.page in
-    let here = page_added n k pages page some.first begun.size in
-    let count = page_count page_words n - (k + 1) in
-    let end : (k + 1) + count ≡ page_count page_words n = omega arith in
-    let filled = fill_up n (k + 1) count (pages ++ page ∷ []) here in
+    let here = page_added size n k pages page some.first begun.long in
+    let count = page_count size n - (k + 1) in
+    let end : (k + 1) + count ≡ page_count size n = omega arith in
+    let filled = fill_up size n (k + 1) count (pages ++ page ∷ []) here in
     let at : 0 + length pages ≡ k = (let long = some.first.all in omega arith) in
-    let done = flat_map spelling (numbered m 0 pages) in
-    let next = spelling (page_message m k page) in
-    let spelled : flat_map spelling (numbered m 0 (pages ++ page ∷ [])) ≡ done ++ next =
-    ap (λ l. flat_map spelling l) (numbered_snoc m 0 pages page ∙ ap (λ j. numbered m 0 pages ++ page_message m j page ∷ []) at)
-    ∙ flat_map-append spelling (numbered m 0 pages) (page_message m k page ∷ []) ∙ ap (λ l. done ++ l) (append-nil next) in
-    let split = numbered_split m 0 (pages ++ page ∷ []) filled.0 in
+    let done = flat_map spelling (numbered m size 0 pages) in
+    let next = spelling (page_message m size k page) in
+    let spelled : flat_map spelling (numbered m size 0 (pages ++ page ∷ [])) ≡ done ++ next =
+    ap (λ l. flat_map spelling l) (numbered_snoc m size 0 pages page ∙ ap (λ j. numbered m size 0 pages ++ page_message m size j page ∷ []) at)
+    ∙ flat_map-append spelling (numbered m size 0 pages) (page_message m size k page ∷ []) ∙ ap (λ l. done ++ l) (append-nil next) in
+    let split = numbered_split m size 0 (pages ++ page ∷ []) filled.0 in
     record {
       pages = (pages ++ page ∷ []) ++ filled.0;
-      all = subst (λ j. AreFirst n j ((pages ++ page ∷ []) ++ filled.0)) end filled.1;
+      all = subst (λ j. AreFirst size n j ((pages ++ page ∷ []) ++ filled.0)) end filled.1;
       written = subst (AppendsBeginning old new) (sym (split.1 ∙ ap (λ l. l ++ split.0) spelled)) (begins_more old new (done ++ next) split.0 (begins_after old half new done next some.written begun.written));
     }
   where
-    numbered_split : (m j : ℕ) (xs ys : List (List ℕ)) → (tail : List ℕ) × (flat_map spelling (numbered m j (xs ++ ys)) ≡ flat_map spelling (numbered m j xs) ++ tail)
-    numbered_split m j [] ys = (flat_map spelling (numbered m j ys), refl)
-    numbered_split m j (x ∷ xs) ys =
-        let rest = numbered_split m (j + 1) xs ys in
-        let head = spelling (page_message m j x) in
-        (rest.0, ap (λ l. head ++ l) rest.1 ∙ sym (append_assoc head (flat_map spelling (numbered m (j + 1) xs)) rest.0))
+    numbered_split : (m size j : ℕ) (xs ys : List (List ℕ)) → (tail : List ℕ) × (flat_map spelling (numbered m size j (xs ++ ys)) ≡ flat_map spelling (numbered m size j xs) ++ tail)
+    numbered_split m size j [] ys = (flat_map spelling (numbered m size j ys), refl)
+    numbered_split m size j (x ∷ xs) ys =
+        let rest = numbered_split m size (j + 1) xs ys in
+        let head = spelling (page_message m size j x) in
+        (rest.0, ap (λ l. head ++ l) rest.1 ∙ sym (append_assoc head (flat_map spelling (numbered m size (j + 1) xs)) rest.0))
 
 -- some pages of so many words
-any_pages : (n : ℕ) → (pages : List (List ℕ)) × AreFirst n (page_count page_words n) pages
-any_pages n =
-    let none : AreFirst n 0 [] = record { all = refl; each = λ i page at. absurd cc } in
-    let filled = fill_up n 0 (page_count page_words n) [] none in
-    (filled.0, subst (λ j. AreFirst n j filled.0) (let e : 0 + page_count page_words n ≡ page_count page_words n = omega arith in e) filled.1)
+any_pages : (size n : ℕ) → (pages : List (List ℕ)) × AreFirst size n (page_count size n) pages
+any_pages size n =
+    let none : AreFirst size n 0 [] = record { all = refl; each = λ i page at. absurd cc } in
+    let filled = fill_up size n 0 (page_count size n) [] none in
+    (filled.0, subst (λ j. AreFirst size n j filled.0) (let e : 0 + page_count size n ≡ page_count size n = omega arith in e) filled.1)
 
 module _ (m : ℕ) (extent : ExtentView) (few : extent.words ≤ most_words) (open_is : IsMessage (open_message m extent)) where
   abbrev first : List ℕ
@@ -120,10 +120,10 @@ module _ (m : ℕ) (extent : ExtentView) (few : extent.words ≤ most_words) (op
   abbrev last : List ℕ
   last = spelling (close_message m)
 
-  part_of : (pages : List (List ℕ)) → AreFirst extent.words (page_count page_words extent.words) pages → (old new : Option (List ℕ)) → AppendsBeginning old new (first ++ (flat_map spelling (numbered m 0 pages) ++ last)) → PacksPart m extent old new
+  part_of : (pages : List (List ℕ)) → AreFirst extent.pages extent.words (page_count extent.pages extent.words) pages → (old new : Option (List ℕ)) → AppendsBeginning old new (first ++ (flat_map spelling (numbered m extent.pages 0 pages) ++ last)) → PacksPart m extent old new
   part_of pages all old new begun = record {
     code = joined pages;
-    text = first ++ (flat_map spelling (numbered m 0 pages) ++ last);
+    text = first ++ (flat_map spelling (numbered m extent.pages 0 pages) ++ last);
     packed = packed_text m extent pages few open_is all;
     written = begun;
   }
@@ -131,19 +131,19 @@ module _ (m : ℕ) (extent : ExtentView) (few : extent.words ≤ most_words) (op
   -- where writing stops in the Open, in the pages, after them, and in the Close
   pub part_in_open : (head : List ℕ) (old new : Option (List ℕ)) → head ≡ first → AppendsBeginning old new head → PacksPart m extent old new
   part_in_open head old new is begun =
-      let some = any_pages extent.words in
-      part_of some.0 some.1 old new (begins_more old new first (flat_map spelling (numbered m 0 some.0) ++ last) (subst (AppendsBeginning old new) is begun))
+      let some = any_pages extent.pages extent.words in
+      part_of some.0 some.1 old new (begins_more old new first (flat_map spelling (numbered m extent.pages 0 some.0) ++ last) (subst (AppendsBeginning old new) is begun))
 
-  pub part_in_pages : (head : List ℕ) (old mid new : Option (List ℕ)) → head ≡ first → Appends old mid head → BeginsPages m extent.words mid new → PacksPart m extent old new
+  pub part_in_pages : (head : List ℕ) (old mid new : Option (List ℕ)) → head ≡ first → Appends old mid head → BeginsPages m extent.pages extent.words mid new → PacksPart m extent old new
   part_in_pages head old mid new is wrote begun =
-      part_of begun.pages begun.all old new (begins_after old mid new first (flat_map spelling (numbered m 0 begun.pages) ++ last) (subst (Appends old mid) is wrote) (begins_more mid new (flat_map spelling (numbered m 0 begun.pages)) last begun.written))
+      part_of begun.pages begun.all old new (begins_after old mid new first (flat_map spelling (numbered m extent.pages 0 begun.pages) ++ last) (subst (Appends old mid) is wrote) (begins_more mid new (flat_map spelling (numbered m extent.pages 0 begun.pages)) last begun.written))
 
-  pub part_after_pages : (head : List ℕ) (left rest old mid new : Option (List ℕ)) → head ≡ first → Appends old mid head → CopiesPages m extent.words left rest mid new → PacksPart m extent old new
+  pub part_after_pages : (head : List ℕ) (left rest old mid new : Option (List ℕ)) → head ≡ first → Appends old mid head → CopiesPages m extent.pages extent.words left rest mid new → PacksPart m extent old new
   part_after_pages head left rest old mid new is wrote copied =
-      let middle = flat_map spelling (numbered m 0 copied.pages) in
+      let middle = flat_map spelling (numbered m extent.pages 0 copied.pages) in
       part_of copied.pages copied.first old new (begins_after old mid new first (middle ++ last) (subst (Appends old mid) is wrote) (begins_with mid new middle last (omega arith) copied.written))
 
-  pub part_in_close : (head tail : List ℕ) (left rest old mid half new : Option (List ℕ)) → head ≡ first → Appends old mid head → CopiesPages m extent.words left rest mid half → tail ≡ last → AppendsBeginning half new tail → PacksPart m extent old new
+  pub part_in_close : (head tail : List ℕ) (left rest old mid half new : Option (List ℕ)) → head ≡ first → Appends old mid head → CopiesPages m extent.pages extent.words left rest mid half → tail ≡ last → AppendsBeginning half new tail → PacksPart m extent old new
   part_in_close head tail left rest old mid half new is wrote copied closes begun =
-      let middle = flat_map spelling (numbered m 0 copied.pages) in
+      let middle = flat_map spelling (numbered m extent.pages 0 copied.pages) in
       part_of copied.pages copied.first old new (begins_after old mid new first (middle ++ last) (subst (Appends old mid) is wrote) (begins_after mid half new middle last copied.written (subst (AppendsBeginning half new) closes begun)))

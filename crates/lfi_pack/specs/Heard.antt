@@ -18,12 +18,12 @@ pub record PackedView : Type 0 where
   pub extent : ExtentView
   pub code : List ℕ
 
--- the code of files, a module each, all by one profile: numbered from this number on, and all entered at the same word
-abbrev pub modules_from : Profile → (number entry : ℕ) → List (List ℕ) → List PackedView
-modules_from profile number entry [] = []
-modules_from profile number entry (code ∷ files) =
-    record { number = number; extent = record { words = length (words_of code); entry = entry; profile = profile }; code = code }
-    ∷ modules_from profile (number + 1) entry files
+-- the code of files, a module each, all by one profile and with pages of one size: numbered from this number on, and all entered at the same word
+abbrev pub modules_from : Profile → (size number entry : ℕ) → List (List ℕ) → List PackedView
+modules_from profile size number entry [] = []
+modules_from profile size number entry (code ∷ files) =
+    record { number = number; extent = record { words = length (words_of code); entry = entry; profile = profile; pages = size }; code = code }
+    ∷ modules_from profile size (number + 1) entry files
 
 -- The text is these modules, packed one after another.
 abbrev pub IsStream : List PackedView → List ℕ → Type 0
@@ -43,7 +43,7 @@ AreDistinct (p ∷ ps) = NoneIs p.number ps × AreDistinct ps
 abbrev pub AreClaimed : (ℕ → Bool) → List PackedView → Type 0
 AreClaimed claimed ps = (p : PackedView) → Member ps p → claimed p.number ≡ true
 
--- The items are the whole module: its Open first, with its words, entry and profile, pages whose words are those of its code, and an End by its Close.
+-- The items are the whole module: its Open first, with its words, entry, profile and pages' size, pages whose words are those of its code, and an End by its Close.
 pub record IsHeard (p : PackedView) (items : List ItemView) : Type 0 where
   pub opened : (later : List ItemView) × (items ≡ item_of p.number 0 p.extent Open ∷ later)
   pub words : all_words (pages_of items) ≡ words_of p.code

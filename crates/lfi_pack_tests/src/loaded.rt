@@ -1,7 +1,7 @@
 //! Packed modules, loaded by the stage.
 
 use crate::devices::{CodeReader, StreamWriter, code};
-use lfi_module::{Extent, ModuleNumber, Profile, WordCount};
+use lfi_module::{Extent, ModuleNumber, PageSize, Profile, WordCount};
 use lfi_pack::pack_module;
 use lfi_place::OpenGate;
 use lfi_receive::Input;
@@ -23,7 +23,7 @@ fn three_files(rt: HostRuntime) -> Result<(), Fail> {
         let module = ModuleNumber::new(number).ok_or("no such module")?;
         let packed = pack_module(
             module,
-            Extent::of(count, 0, profile),
+            Extent::of(count, 0, profile, PageSize::SMALL),
             &mut code,
             &mut stream,
         );

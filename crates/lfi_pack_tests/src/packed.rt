@@ -1,7 +1,7 @@
 //! Packed streams, byte by byte.
 
 use crate::devices::{CodeReader, StreamWriter, code};
-use lfi_module::{Extent, ModuleNumber, Profile, WordCount};
+use lfi_module::{Extent, ModuleNumber, PageSize, Profile, WordCount};
 use lfi_pack::{PackFault, pack_module};
 use std::io::ErrorKind;
 use std::test::Fail;
@@ -14,7 +14,7 @@ const ONE_RET: [u8; 40] = [
 
 /// One word, entered there.
 fn one_word() -> Extent {
-    Extent::of(WordCount::of(1), 0, Profile::One)
+    Extent::of(WordCount::of(1), 0, Profile::One, PageSize::SMALL)
 }
 
 #[test]
@@ -57,13 +57,30 @@ fn a_module_of_the_second_profile(rt: HostRuntime) -> Result<(), Fail> {
     let bytes: &[u8] = &[0xC0, 0x03, 0x5F, 0xD6];
     let mut code = CodeReader::new(bytes, 4);
     let mut stream = StreamWriter::new(rt.alloc(), 1000, 4096);
-    let extent = Extent::of(WordCount::of(1), 0, Profile::Two);
+    let extent = Extent::of(WordCount::of(1), 0, Profile::Two, PageSize::SMALL);
     let packed = pack_module(ModuleNumber::at(0), extent, &mut code, &mut stream);
     assert!(rt; packed == Ok(()));
     let taken = stream.taken.as_slice();
     assert_eq!(rt; taken.len(), 40);
     assert!(rt; stands(taken, 0, &[4, 0, 0, 0, 1, 0, 0, 0, 0, 0, 0, 0]));
     assert!(rt; stands(taken, 12, &ONE_RET[12..]));
+    Ok(())
+}
+
+#[test]
+fn a_module_of_large_pages(rt: HostRuntime) -> Result<(), Fail> {
+    let file = code(rt.alloc(), 4097)?;
+    let mut code = CodeReader::new(file.as_slice(), 5000);
+    let mut stream = StreamWriter::new(rt.alloc(), 20_000, 700);
+    let extent = Extent::of(WordCount::of(4097), 0, Profile::Two, PageSize::LARGE);
+    let packed = pack_module(ModuleNumber::at(0), extent, &mut code, &mut stream);
+    assert!(rt; packed == Ok(()));
+    let taken = stream.taken.as_slice();
+    assert_eq!(rt; taken.len(), 16_436);
+    assert!(rt; stands(taken, 0, &[4, 2, 0, 0, 1, 0x10, 0, 0, 0, 0, 0, 0]));
+    assert!(rt; stands(taken, 12, &[5, 0, 0, 0, 0, 0, 0, 0, 0, 0x40, 0, 0]));
+    assert!(rt; stands(taken, 16_408, &[5, 0, 0, 0, 1, 0, 0, 0, 4, 0, 0, 0]));
+    assert!(rt; stands(taken, 16_420, &ONE_RET[24..]));
     Ok(())
 }
 
@@ -77,7 +94,7 @@ fn headers_of_two_pages(rt: HostRuntime) -> Result<(), Fail> {
     let words = code(rt.alloc(), 1025)?;
     let mut code = CodeReader::new(words.as_slice(), 1000);
     let mut stream = StreamWriter::new(rt.alloc(), 10_000, 999);
-    let extent = Extent::of(WordCount::of(1025), 1024, Profile::One);
+    let extent = Extent::of(WordCount::of(1025), 1024, Profile::One, PageSize::SMALL);
     let packed = pack_module(ModuleNumber::at(3), extent, &mut code, &mut stream);
     assert!(rt; packed == Ok(()));
     let taken = stream.taken.as_slice();
@@ -112,7 +129,7 @@ fn code_that_is_not_as_told(rt: HostRuntime) -> Result<(), Fail> {
         let mut code = CodeReader::new(&words.as_slice()[..len.min(words.len())], 4096);
         code.fails = fails;
         let mut stream = StreamWriter::new(rt.alloc(), 10_000, 4096);
-        let extent = Extent::of(WordCount::of(1025), 0, Profile::One);
+        let extent = Extent::of(WordCount::of(1025), 0, Profile::One, PageSize::SMALL);
         let packed = pack_module(ModuleNumber::at(0), extent, &mut code, &mut stream);
         assert!(rt; packed == Err(want), "{len} bytes");
         assert!(rt; stream.taken.len() <= 4136, "{len} bytes");

@@ -18,7 +18,7 @@ use Rattle.lfi_place.proofs.Chain.{arrives, nothing_arrives, permuted_come}
 -- a module that isn't claimed stays so, and makes nothing
 idle_step : (m : ℕ) (s : Share) (message : Message) → ((after_message false m s Unclaimed message).progress ≡ s.progress) × ((after_message false m s Unclaimed message).items ≡ s.items)
 idle_step m s (open_message k extent) = (refl, refl)
-idle_step m s (page_message k index payload) = (refl, refl)
+idle_step m s (page_message k size index payload) = (refl, refl)
 idle_step m s (close_message k) = (refl, refl)
 
 abbrev fold_share : ℕ → List Message → Share → Share
@@ -37,12 +37,12 @@ idle_rest : (m : ℕ) (s : Share) (rest : Rest) → s.progress ≡ Unclaimed →
 idle_rest m s short e = (e, refl)
 idle_rest m s (faulty fault) e = (e, refl)
 idle_rest m s whole e = (e, refl)
-idle_rest m s (unfinished k index len) e = by (k == m)
+idle_rest m s (unfinished k size index len) e = by (k == m)
   where
-    here : (after_header m s s.progress index len) ≡ with_stray s
-    here = ap (λ q. after_header m s q index len) e
+    here : (after_header m s s.progress size index len) ≡ with_stray s
+    here = ap (λ q. after_header m s q size index len) e
 
-    by : (b : Bool) → ((if b then after_header m s s.progress index len else s).progress ≡ Unclaimed) × ((if b then after_header m s s.progress index len else s).items ≡ s.items)
+    by : (b : Bool) → ((if b then after_header m s s.progress size index len else s).progress ≡ Unclaimed) × ((if b then after_header m s s.progress size index len else s).items ≡ s.items)
     by true = (ap (λ z. z.progress) here ∙ e, ap (λ z. z.items) here)
     by false = (e, refl)
 

@@ -41,8 +41,8 @@ pub fn module() -> ModuleNumber
 }
 
 /// The code of a page of the module: NOPs and this word.
-fn code(alloc: Global, words: WordCount, index: u32, last: u32) -> Result<Vec<u8>, Fail> {
-    let bytes = words.bytes_in_page(PageSize::PROFILE, index) as usize;
+fn code(alloc: Global, extent: Extent, index: u32, last: u32) -> Result<Vec<u8>, Fail> {
+    let bytes = extent.words().bytes_in_page(extent.pages(), index) as usize;
     let mut code = Vec::new(alloc);
     for _ in 1..bytes / 4 {
         code.extend_from_slice(&NOP.to_le_bytes())?;
@@ -55,7 +55,8 @@ fn code(alloc: Global, words: WordCount, index: u32, last: u32) -> Result<Vec<u8
 fn page(extent: Extent, index: u32, page: SealedPage) -> Result<Item, Fail> {
     let words = extent.words();
     let bytes = page.bytes().len();
-    if index > 4095 || !words.is_due(PageSize::PROFILE, index, index, bytes) {
+    let pages = extent.pages();
+    if index > 4095 || page.size() != pages || !words.is_due(pages, index, index, bytes) {
         return Err(Fail::from("no page of the module"));
     }
     Ok(Item {
@@ -79,10 +80,10 @@ fn end(extent: Extent, pages: u32, reason: Reason) -> Result<Item, Fail> {
     })
 }
 
-/// A module of so many words, entered at word 7, or its last one, that goes by a profile.
+/// A module of so many words, entered at word 7, or its last one, that goes by a profile and has small pages.
 pub fn extent_of(words: WordCount, profile: Profile) -> Result<Extent, Fail> {
     let entry = 7.min(words.number() - 1);
-    let extent = Extent::new(words, entry, profile).ok_or("no such word")?;
+    let extent = Extent::new(words, entry, profile, PageSize::SMALL).ok_or("no such word")?;
     Ok(extent)
 }
 
@@ -96,11 +97,12 @@ pub fn item_of(alloc: Global, extent: Extent, part: Part) -> Result<Item, Fail> 
             kind: ItemKind::Open,
         }),
         Part::Page(index, last) => {
-            let code = code(alloc, extent.words(), index, last)?;
-            if code.is_empty() || code.len() > 4096 || code.len() % 4 != 0 {
+            let code = code(alloc, extent, index, last)?;
+            let size = extent.pages();
+            if code.is_empty() || code.len() > size.bytes() as usize || code.len() % 4 != 0 {
                 return Err(Fail::from("the code is no page"));
             }
-            page(extent, index, SealedPage::of(alloc, code.as_slice())?)
+            page(extent, index, SealedPage::of(alloc, size, code.as_slice())?)
         }
         Part::End(pages, reason) => end(extent, pages, reason),
     }

@@ -3,7 +3,7 @@
 use crate::items::{NOP, Part, UNKNOWN, WORDS, extent_of, item_of, judged, mark, module};
 use lfi_image::CompleteImage;
 use lfi_model::{Outcome, Reason};
-use lfi_module::{Extent, Profile, WordCount};
+use lfi_module::{Extent, PageSize, Profile, WordCount};
 use lfi_place::{ImageState, ModuleReport, RefusedWord, Sequence};
 use lfi_rules::{Fault, Rule};
 use page_buf::PoolMember;
@@ -246,7 +246,7 @@ fn items_of_other_extents_never_come(rt: HostRuntime) -> Result<(), Fail> {
     for other in [
         extent_of(WordCount::of(1030), Profile::One)?,
         extent_of(WordCount::of(WORDS), Profile::Two)?,
-        Extent::new(WordCount::of(WORDS), 8, Profile::One).ok_or("no such word")?,
+        Extent::new(WordCount::of(WORDS), 8, Profile::One, PageSize::SMALL).ok_or("no such word")?,
     ] {
         let mut sequence = Sequence::new(rt.alloc(), module(), PoolMember::new(rt.alloc())?)?;
         let first = item_of(rt.alloc(), other, Part::Page(0, mark(99)))?;
@@ -264,5 +264,42 @@ fn no_item_is_no_module(rt: HostRuntime) -> Result<(), Fail> {
     let report = placed(rt.alloc(), &[])?;
     assert!(rt; report.outcome == Outcome::Unused);
     assert!(rt; matches!(report.image, ImageState::Absent));
+    Ok(())
+}
+
+/// The module by the second profile, in pages of this size.
+fn in_pages(pages: PageSize) -> Result<Extent, Fail> {
+    let extent = Extent::new(WordCount::of(WORDS), 7, Profile::Two, pages);
+    Ok(extent.ok_or("no such extent")?)
+}
+
+#[test]
+fn a_large_page_is_placed_at_once(rt: HostRuntime) -> Result<(), Fail> {
+    let extent = in_pages(PageSize::LARGE)?;
+    let page = Part::Page(0, mark(1));
+    let end = Part::End(1, Reason::Close);
+    for parts in [[Part::Open, page, end], [end, page, Part::Open]] {
+        let mut sequence = Sequence::new(rt.alloc(), module(), PoolMember::new(rt.alloc())?)?;
+        for part in parts {
+            sequence.handle(item_of(rt.alloc(), extent, part)?.judge());
+        }
+        let image = whole(sequence.into_report())?;
+        assert!(rt; image.placed() == 2049 && image.word(2048) == mark(1));
+    }
+    Ok(())
+}
+
+#[test]
+fn pages_of_the_other_size_never_come(rt: HostRuntime) -> Result<(), Fail> {
+    for (own, other) in [
+        (PageSize::SMALL, PageSize::LARGE),
+        (PageSize::LARGE, PageSize::SMALL),
+    ] {
+        let mut sequence = Sequence::new(rt.alloc(), module(), PoolMember::new(rt.alloc())?)?;
+        let page = Part::Page(0, mark(1));
+        sequence.handle(item_of(rt.alloc(), in_pages(own)?, Part::Open)?.judge());
+        sequence.handle(item_of(rt.alloc(), in_pages(other)?, page)?.judge());
+        assert_eq!(rt; part(sequence.into_report())?, 0);
+    }
     Ok(())
 }

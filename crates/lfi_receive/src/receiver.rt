@@ -1,7 +1,6 @@
 //! The receiver, which turns the bytes of one connection into items.
 
-ghost use Rattle.std.specs.Prelude.{◌≡◌, ◌≢◌, ℕ, ◌+◌, ◌-◌, ◌<◌, ◌≤◌, ◌==◌, ◌%◌, ◌^◌, ◌⊎◌, min, ◌↔◌, List, [], ◌∷◌, ◌++◌, length, take, drop, true, false, Some, None, is_some, IsSome, IsNone, IsTrue, option_to_list, if◌then◌else◌, flat_map, ◌||◌, ◌&&◌, not, nat_le};
-ghost use Rattle.lfi_module.specs.Numbers.{page_bytes};
+ghost use Rattle.std.specs.Prelude.{◌≡◌, ◌≢◌, ℕ, ◌+◌, ◌-◌, ◌*◌, ◌<◌, ◌≤◌, ◌==◌, ◌%◌, ◌^◌, ◌⊎◌, min, ◌↔◌, List, [], ◌∷◌, ◌++◌, length, take, drop, true, false, Some, None, is_some, IsSome, IsNone, IsTrue, option_to_list, if◌then◌else◌, flat_map, ◌||◌, ◌&&◌, not, nat_le};
 ghost use Rattle.lfi_board.specs.Known.{board_id, board_of, known_by};
 ghost use Rattle.lfi_board.specs.Calls.{Saw, number_of};
 ghost use Rattle.lfi_receive.specs.Claims.{is_mine};
@@ -12,7 +11,7 @@ ghost use Rattle.lfi_frame.specs.Streams.{Message, open_message, page_message, c
 ghost use Rattle.lfi_model.specs.declared.item.ItemKind.TheVariants.{End};
 ghost use Rattle.lfi_model.specs.declared.connection.Progress.{Progress};
 ghost use Rattle.lfi_model.specs.declared.connection.Progress.TheVariants.{Going, Ended};
-ghost use Rattle.lfi_model.specs.Items.{item_of, reason_of, fault_by_cause, share_of};
+ghost use Rattle.lfi_model.specs.Items.{is_page_due, item_of, reason_of, fault_by_cause, share_of};
 ghost use Rattle.lfi_receive.specs.Places.{progress_at, IsPossible};
 
 use crate::ahead::PageMemory;
@@ -61,6 +60,15 @@ fn reason_of(fault: FrameFault) -> Reason
         FrameFault::NoMemory => Reason::NoMemory,
         fault => Reason::Lost(fault),
     }
+}
+
+/// Whether page `index` of `len` bytes, of pages of this size, is the one that has to come next of a module of which the
+/// first `come` pages have come.
+fn is_page_due(extent: Extent, come: u32, size: PageSize, index: u32, len: u32) -> bool
+    ensures { result ≡ is_page_due extent come size index len }
+{
+    let pages = extent.pages();
+    size == pages && extent.words().is_due(pages, come, index, len as usize)
 }
 
 /// The receiver of one connection.
@@ -217,15 +225,15 @@ impl Receiver {
         }
     }
 
-    /// The header of page `index` with `len` payload bytes: it is the one due of an open module
+    /// The header of page `index`, of pages of this size, with `len` payload bytes: it is the one due of an open module
     /// and its payload is awaited, or it ends its module; or it is a stray.
-    fn page(&mut self, module: ModuleNumber, index: u32, len: u32) -> Begun
+    fn page(&mut self, module: ModuleNumber, size: PageSize, index: u32, len: u32) -> Begun
         requires free { self.old.hand ≡ None }
-        requires in_range { (0 < len) × (len ≤ page_bytes) × (len % 4 ≡ 0) }
-        ensures agrees { (messages : List Message) → Holds self.old messages [] → Agrees self.new.modules (made_by self.new) self.new.strays messages (unfinished «module» index len) }
-        ensures holds { result ≢ begun.Starved → (messages : List Message) (rest : List ℕ) → Holds self.old messages [] → rest_of rest ≡ unfinished «module» index len → drop 12 rest ≡ [] → Holds self.new messages rest }
+        requires in_range { (0 < len) × (len ≤ 4 * size) × (len % 4 ≡ 0) }
+        ensures agrees { (messages : List Message) → Holds self.old messages [] → Agrees self.new.modules (made_by self.new) self.new.strays messages (unfinished «module» size index len) }
+        ensures holds { result ≢ begun.Starved → (messages : List Message) (rest : List ℕ) → Holds self.old messages [] → rest_of rest ≡ unfinished «module» size index len → drop 12 rest ≡ [] → Holds self.new messages rest }
         ensures claims { (messages : List Message) → Holds self.old messages [] → KnowsClaims (knows self.new) self.new.modules messages }
-        ensures starved { result ≡ begun.Starved → (messages : List Message) → Holds self.old messages [] → IsDuePage (share_of (claimed_by self.new «module») «module» messages short).progress index len }
+        ensures starved { result ≡ begun.Starved → (messages : List Message) → Holds self.old messages [] → IsDuePage (share_of (claimed_by self.new «module») «module» messages short).progress size index len }
         ensures hand { result ≡ begun.Stray → self.new.hand ≡ None }
         ensures stray { result ≡ begun.Stray → self.new.strays ≡ min (self.old.strays + 1) (2 ^ 64 - 1) }
         ensures strays { result ≢ begun.Stray → self.new.strays ≡ self.old.strays }
@@ -240,14 +248,11 @@ impl Receiver {
             extent,
             pages,
         };
-        if !extent
-            .words()
-            .is_due(PageSize::PROFILE, pages, index, len as usize)
-        {
+        if !is_page_due(extent, pages, size, index, len) {
             self.end_module(ended, Reason::PageFault(index));
             return Begun::Awaited;
         }
-        match self.memory.page() {
+        match self.memory.page(size) {
             Ok(page) => {
                 self.coming = Some(Coming {
                     module,
@@ -265,10 +270,10 @@ impl Receiver {
     /// Payload bytes of the page whose header came last.
     fn payload(&mut self, bytes: &[u8])
         requires free { self.old.hand ≡ None }
-        ensures goes_on { (messages : List Message) (rest : List ℕ) (m index len : ℕ) → Holds self.old messages rest → rest_of rest ≡ unfinished m index len → rest_of (rest ++ bytes.now) ≡ unfinished m index len
+        ensures goes_on { (messages : List Message) (rest : List ℕ) (m size index len : ℕ) → Holds self.old messages rest → rest_of rest ≡ unfinished m size index len → rest_of (rest ++ bytes.now) ≡ unfinished m size index len
             → Holds self.new messages (rest ++ bytes.now) }
-        ensures ends { (messages : List Message) (rest : List ℕ) (m index len : ℕ) → Holds self.old messages rest → rest_of rest ≡ unfinished m index len → length (drop 12 rest ++ bytes.now) ≡ len
-            → Holds self.new (messages ++ page_message m index (drop 12 rest ++ bytes.now) ∷ []) [] }
+        ensures ends { (messages : List Message) (rest : List ℕ) (m size index len : ℕ) → Holds self.old messages rest → rest_of rest ≡ unfinished m size index len → length (drop 12 rest ++ bytes.now) ≡ len
+            → Holds self.new (messages ++ page_message m size index (drop 12 rest ++ bytes.now) ∷ []) [] }
         ensures rest { self.new ≡ record self.old { modules = self.new.modules; coming = self.new.coming; hand = self.new.hand } }
     {
         let Some(coming) = self.coming.take() else {
@@ -310,7 +315,12 @@ impl Receiver {
             Ok(Step { used, got }) => match got {
                 Got::More => (used, false),
                 Got::Open { module, extent } => (used, self.open(board, module, extent)),
-                Got::Page { module, index, len } => (used, self.begin(module, index, len)),
+                Got::Page {
+                    module,
+                    size,
+                    index,
+                    len,
+                } => (used, self.begin(module, size, index, len)),
                 Got::Payload { .. } => {
                     self.payload(&piece[..used]);
                     (used, false)
@@ -327,20 +337,20 @@ impl Receiver {
 
     /// The header of a page; where there is no memory for its payload the input is over. The
     /// answer tells whether it is a stray.
-    fn begin(&mut self, module: ModuleNumber, index: u32, len: u32) -> bool
+    fn begin(&mut self, module: ModuleNumber, size: PageSize, index: u32, len: u32) -> bool
         requires free { self.old.hand ≡ None }
         requires running { self.old.cause ≡ None }
-        requires in_range { (0 < len) × (len ≤ page_bytes) × (len % 4 ≡ 0) }
+        requires in_range { (0 < len) × (len ≤ 4 * size) × (len % 4 ≡ 0) }
         ensures stands { (messages : List Message) (rest : List ℕ) → Holds self.old messages [] → FeedStands self.old.feed messages rest → feed_fault self.old.feed ≡ None
-            → length rest ≡ 12 → rest_of rest ≡ unfinished «module» index len → StandsFor self.new (flat_map spelling messages ++ rest) }
-        ensures over { (messages : List Message) (rest : List ℕ) → Holds self.old messages [] → FeedStands self.old.feed messages rest → length rest ≡ 12 → rest_of rest ≡ unfinished «module» index len
+            → length rest ≡ 12 → rest_of rest ≡ unfinished «module» size index len → StandsFor self.new (flat_map spelling messages ++ rest) }
+        ensures over { (messages : List Message) (rest : List ℕ) → Holds self.old messages [] → FeedStands self.old.feed messages rest → length rest ≡ 12 → rest_of rest ≡ unfinished «module» size index len
             → IsOver (claimed_by self.new) self.new.cause (flat_map spelling messages ++ rest) }
         ensures pass { self.new.pass ≡ self.old.pass }
         ensures stray { IsTrue result → self.new.hand ≡ None }
         ensures seat { self.new.seat ≡ self.old.seat }
         ensures strays { self.new.strays ≡ (if result then min (self.old.strays + 1) (2 ^ 64 - 1) else self.old.strays) }
     {
-        match self.page(module, index, len) {
+        match self.page(module, size, index, len) {
             Begun::Stray => true,
             Begun::Awaited => false,
             Begun::Starved => {

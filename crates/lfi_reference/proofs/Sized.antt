@@ -1,6 +1,6 @@
 -- How many words and pages the items of a module bring.
-use Rattle.std.proofs.Common.{◌≡◌, ℕ, ◌+◌, ◌*◌, ◌<◌, ◌≤◌, List, [], ◌∷◌, ◌++◌, length, refl, sym, ◌∙◌, ap, subst, arith, Option, Some, None, Bool, true, false, cond, length-append, append_assoc}
-use Rattle.std.specs.Prelude.{◌==◌, ◌&&◌, ◌||◌, nat_lt, nat_le, if◌then◌else◌, All}
+use Rattle.std.proofs.Common.{◌≡◌, ℕ, ◌+◌, ◌*◌, ◌/◌, ◌<◌, ◌≤◌, List, [], ◌∷◌, ◌++◌, length, refl, sym, ◌∙◌, ap, subst, arith, Option, Some, None, Bool, true, false, cond, length-append, append_assoc, mul-add, inl, inr}
+use Rattle.std.specs.Prelude.{◌==◌, ◌&&◌, ◌||◌, not, nat_lt, nat_le, if◌then◌else◌, All}
 use Rattle.std.specs.List.{filter, fold}
 use Rattle.std.proofs.lemmas.Bool.{eqb-true, ltb-true, ltb-false}
 use Rattle.std.proofs.lemmas.List.{append-nil}
@@ -8,7 +8,7 @@ use Rattle.std.proofs.lemmas.List.Concat.{flat_map-append}
 use Rattle.std.proofs.lemmas.List.Elements.{All-head, All-tail}
 use Rattle.lfi_frame.specs.declared.fault.FrameFault.{FrameFault}
 use Rattle.lfi_frame.specs.declared.fault.FrameFault.TheVariants as fault
-use Rattle.lfi_frame.specs.Streams.{Message, open_message, page_message, close_message, IsMessage, Rest, short, faulty, unfinished, whole, rest_of}
+use Rattle.lfi_frame.specs.Streams.{Message, open_message, page_message, close_message, IsMessage, Rest, short, faulty, unfinished, whole, rest_of, is_second, second_byte}
 use Rattle.lfi_model.specs.Item.{ItemView}
 use Rattle.lfi_model.specs.declared.item.ItemKind.TheVariants.{Open, Page, End}
 use Rattle.lfi_model.specs.declared.item.Reason.{Reason}
@@ -21,8 +21,8 @@ use Rattle.lfi_model.specs.Items.{Share, nothing_yet, with_stray, with_item, ite
 use Rattle.lfi_module.specs.Extents.{ExtentView}
 use Rattle.lfi_module.specs.declared.profile.Profile.{Profile}
 use Rattle.lfi_module.specs.declared.profile.Profile.TheVariants.{One, Two}
-use Rattle.lfi_module.specs.Numbers.{page_words}
-use Rattle.lfi_module.specs.Pages.{page_count, bytes_in_page, is_due}
+use Rattle.lfi_module.specs.Numbers.{small_page, large_page}
+use Rattle.lfi_module.specs.Pages.{HasPages, page_count, bytes_in_page, is_due}
 use Rattle.lfi_model.specs.Outcomes.{page_of, pages_of}
 use Rattle.lfi_model.proofs.Faults.{all_words-append}
 use Rattle.a64_word.specs.Words.{words_of}
@@ -39,9 +39,10 @@ pages_in items = length (pages_of items)
 record Grows (items : List ItemView) (n : ExtentView) (p : ℕ) : Type 0 where
   most : n.words ≤ 4194304
   fits : words_in items ≤ n.words
-  few : words_in items ≤ 1024 * p
+  few : words_in items ≤ n.pages * p
   pages : pages_in items ≤ p
-  within : 1024 * p ≤ n.words + 1023
+  within : p ≤ n.words
+  sized : HasPages n.profile n.pages
   count : (more : List ItemView) → extent_of (items ++ more) ≡ n
 
 abbrev Stands : Progress → List ItemView → Type 0
@@ -62,13 +63,25 @@ end_more m k n p items reason g =
     record {
       most = g.most;
       fits = subst (λ l. length (all_words l) ≤ n.words) (sym same) g.fits;
-      few = subst (λ l. length (all_words l) ≤ 1024 * p) (sym same) g.few;
+      few = subst (λ l. length (all_words l) ≤ n.pages * p) (sym same) g.few;
       pages = subst (λ l. length l ≤ p) (sym same) g.pages;
       within = g.within;
+      sized = g.sized;
       count = counted items x n g.count;
     }
 
-page_more : (m k : ℕ) (n : ExtentView) (p : ℕ) (items : List ItemView) (bytes : List ℕ) → p < page_count page_words n.words → length bytes ≡ bytes_in_page page_words n.words p → Grows items n p → Grows (items ++ item_of m k n (Page bytes) ∷ []) n (p + 1)
+-- the words of a page that a module has, and those of the pages before it
+page_words : (profile : Profile) (size n p len words : ℕ) → HasPages profile size → p < page_count size n → len ≡ bytes_in_page size n p → 4 * words ≤ len → (words ≤ size) × (words + size * p ≤ n) × (p + 1 ≤ n)
+page_words profile size n p len words (inl is) below long fit =
+    let below_is : p < (n + 1023) / 1024 = subst (λ s. p < page_count s n) is below in
+    let long_is : len ≡ bytes_in_page small_page n p = long ∙ ap (λ s. bytes_in_page s n p) is in
+    subst (λ s. (words ≤ s) × (words + s * p ≤ n) × (p + 1 ≤ n)) (sym is) (omega (arith, below_is, long_is, fit), omega (arith, below_is, long_is, fit), omega (arith, below_is, long_is, fit))
+page_words profile size n p len words (inr is) below long fit =
+    let below_is : p < (n + 4095) / 4096 = subst (λ s. p < page_count s n) is.1 below in
+    let long_is : len ≡ bytes_in_page large_page n p = long ∙ ap (λ s. bytes_in_page s n p) is.1 in
+    subst (λ s. (words ≤ s) × (words + s * p ≤ n) × (p + 1 ≤ n)) (sym is.1) (omega (arith, below_is, long_is, fit), omega (arith, below_is, long_is, fit), omega (arith, below_is, long_is, fit))
+
+page_more : (m k : ℕ) (n : ExtentView) (p : ℕ) (items : List ItemView) (bytes : List ℕ) → p < page_count n.pages n.words → length bytes ≡ bytes_in_page n.pages n.words p → Grows items n p → Grows (items ++ item_of m k n (Page bytes) ∷ []) n (p + 1)
 page_more m k n p items bytes below len g =
     let x = item_of m k n (Page bytes) in
     let pages : pages_of (items ++ x ∷ []) ≡ pages_of items ++ words_of bytes ∷ [] = added items x in
@@ -78,14 +91,18 @@ page_more m k n p items bytes below len g =
     let many : pages_in (items ++ x ∷ []) ≡ pages_in items + 1 = ap length pages ∙ length-append (pages_of items) (words_of bytes ∷ []) in
     let fit = words_fit bytes in
     let fits = g.fits in let few = g.few in let some = g.pages in let within = g.within in
-    let small : length (words_of bytes) ≤ 1024 = omega arith in
-    let left : length (words_of bytes) + 1024 * p ≤ n.words = omega arith in
+    let here = page_words n.profile n.pages n.words p (length bytes) (length (words_of bytes)) g.sized below len (omega (arith, fit)) in
+    let small = here.0 in
+    let left = here.1 in
+    let room = here.2 in
+    let step = mul-add n.pages p 1 in
     record {
       most = g.most;
       fits = omega arith;
       few = omega arith;
       pages = omega arith;
-      within = omega arith;
+      within = room;
+      sized = g.sized;
       count = counted items x n g.count;
     }
 
@@ -97,20 +114,26 @@ second : (b c : Bool) → (b || c) ≡ false → c ≡ false
 second true c e = absurd (cc)
 second false c e = e
 
-words_most : (profile : Profile) (m words entry : ℕ) → IsMessage (open_message m (record { words = words; entry = entry; profile = profile })) → words ≤ 4194304
-words_most One m words entry is =
-    let one = passed (nat_le 16 m) fault.Module (if words == 0 || nat_lt 4194304 words then Some fault.WordCount else if nat_le words entry then Some fault.Entry else None) is.faultless in
-    let two = passed (words == 0 || nat_lt 4194304 words) fault.WordCount (if nat_le words entry then Some fault.Entry else None) one.1 in
-    ltb-false 4194304 words (second (words == 0) (nat_lt 4194304 words) two.0)
-words_most Two m words entry is =
-    let one = passed (nat_le 16 m) fault.Module (if words == 0 || nat_lt 4194304 words then Some fault.WordCount else if nat_le words entry then Some fault.Entry else None) is.faultless in
-    let two = passed (words == 0 || nat_lt 4194304 words) fault.WordCount (if nat_le words entry then Some fault.Entry else None) one.1 in
-    ltb-false 4194304 words (second (words == 0) (nat_lt 4194304 words) two.0)
+words_most : (profile : Profile) (m words entry pages : ℕ) → IsMessage (open_message m (record { words = words; entry = entry; profile = profile; pages = pages })) → words ≤ 4194304
+words_most One m words entry pages is =
+    let wrong = not (is_second 1 (second_byte pages)) in
+    let count = words == 0 || nat_lt 4194304 words in
+    let one = passed wrong fault.SecondByte (if nat_le 16 m then Some fault.Module else if count then Some fault.WordCount else if nat_le words entry then Some fault.Entry else None) is.faultless in
+    let two = passed (nat_le 16 m) fault.Module (if count then Some fault.WordCount else if nat_le words entry then Some fault.Entry else None) one.1 in
+    let three = passed count fault.WordCount (if nat_le words entry then Some fault.Entry else None) two.1 in
+    ltb-false 4194304 words (second (words == 0) (nat_lt 4194304 words) three.0)
+words_most Two m words entry pages is =
+    let wrong = not (is_second 4 (second_byte pages)) in
+    let count = words == 0 || nat_lt 4194304 words in
+    let one = passed wrong fault.SecondByte (if nat_le 16 m then Some fault.Module else if count then Some fault.WordCount else if nat_le words entry then Some fault.Entry else None) is.faultless in
+    let two = passed (nat_le 16 m) fault.Module (if count then Some fault.WordCount else if nat_le words entry then Some fault.Entry else None) one.1 in
+    let three = passed count fault.WordCount (if nat_le words entry then Some fault.Entry else None) two.1 in
+    ltb-false 4194304 words (second (words == 0) (nat_lt 4194304 words) three.0)
 
-opened : (m : ℕ) (extent : ExtentView) (items : List ItemView) → extent.words ≤ 4194304 → items ≡ [] → Grows (items ++ item_of m 0 extent Open ∷ []) extent 0
-opened m extent items most none =
+opened : (m : ℕ) (extent : ExtentView) (items : List ItemView) → extent.words ≤ 4194304 → HasPages extent.profile extent.pages → items ≡ [] → Grows (items ++ item_of m 0 extent Open ∷ []) extent 0
+opened m extent items most sized none =
     let x = item_of m 0 extent Open in
-    subst (λ l. Grows (l ++ x ∷ []) extent 0) (sym none) (record { most = most; fits = omega arith; few = omega arith; pages = omega arith; within = omega arith; count = λ more. refl })
+    subst (λ l. Grows (l ++ x ∷ []) extent 0) (sym none) (record { most = most; fits = omega arith; few = omega arith; pages = omega arith; within = omega arith; sized = sized; count = λ more. refl })
 
 either : (b : Bool) (s t : Share) → (b ≡ true → Stands s.progress s.items) → Stands t.progress t.items → Stands (cond b s t).progress (cond b s t).items
 either true s t hs ht = hs refl
@@ -120,33 +143,38 @@ both : (b c : Bool) → (b && c) ≡ true → (b ≡ true) × (c ≡ true)
 both true c e = (refl, e)
 both false c e = absurd (cc)
 
-due_says : (n : ExtentView) (p index len : ℕ) → is_due page_words n.words p index len ≡ true → (index ≡ p) × ((p < page_count page_words n.words) × (len ≡ bytes_in_page page_words n.words p))
-due_says n p index len e =
-    let one = both (index == p && nat_lt index (page_count page_words n.words)) (len == bytes_in_page page_words n.words index) e in
-    let two = both (index == p) (nat_lt index (page_count page_words n.words)) one.0 in
+-- the page is the one due: it has its module's size, and its index and length are those of the next page
+abbrev next_by : ExtentView → (p size index len : ℕ) → Bool
+next_by n p size index len = size == n.pages && is_due n.pages n.words p index len
+
+due_says : (n : ExtentView) (p size index len : ℕ) → next_by n p size index len ≡ true → (index ≡ p) × ((p < page_count n.pages n.words) × (len ≡ bytes_in_page n.pages n.words p))
+due_says n p size index len e =
+    let sized = both (size == n.pages) (is_due n.pages n.words p index len) e in
+    let one = both (index == p && nat_lt index (page_count n.pages n.words)) (len == bytes_in_page n.pages n.words index) sized.1 in
+    let two = both (index == p) (nat_lt index (page_count n.pages n.words)) one.0 in
     let same : index ≡ p = eqb-true index p two.0 in
-    (same, (subst (λ i. i < page_count page_words n.words) same (ltb-true index (page_count page_words n.words) two.1), subst (λ i. len ≡ bytes_in_page page_words n.words i) same (eqb-true len (bytes_in_page page_words n.words index) one.1)))
+    (same, (subst (λ i. i < page_count n.pages n.words) same (ltb-true index (page_count n.pages n.words) two.1), subst (λ i. len ≡ bytes_in_page n.pages n.words i) same (eqb-true len (bytes_in_page n.pages n.words index) one.1)))
 
 same_stands : (s : Share) (progress : Progress) → s.progress ≡ progress → Stands progress s.items → Stands s.progress s.items
 same_stands s progress e h = subst (λ q. Stands q s.items) (sym e) h
 
-page_stands : (m : ℕ) (n : ExtentView) (p : ℕ) (s : Share) (index len : ℕ) (due : Share) → Grows s.items n p → (is_due page_words n.words p index len ≡ true → Stands due.progress due.items) →
-    Stands (after_page m n p s index len due).progress (after_page m n p s index len due).items
-page_stands m n p s index len due g d = either (is_due page_words n.words p index len) due (with_item s (item_of m (p + 1) n (End (PageFault index))) Ended) d (n, p, end_more m (p + 1) n p s.items (PageFault index) g)
+page_stands : (m : ℕ) (n : ExtentView) (p : ℕ) (s : Share) (size index len : ℕ) (due : Share) → Grows s.items n p → (next_by n p size index len ≡ true → Stands due.progress due.items) →
+    Stands (after_page m n p s size index len due).progress (after_page m n p s size index len due).items
+page_stands m n p s size index len due g d = either (next_by n p size index len) due (with_item s (item_of m (p + 1) n (End (PageFault index))) Ended) d (n, p, end_more m (p + 1) n p s.items (PageFault index) g)
 
 message_stands : (claimed : Bool) (m : ℕ) (s : Share) (progress : Progress) (message : Message) → IsMessage message → s.progress ≡ progress → Stands progress s.items →
     Stands (after_message claimed m s progress message).progress (after_message claimed m s progress message).items
 message_stands claimed m s Unclaimed (open_message k extent) is e h =
-    either claimed (with_item s (item_of m 0 extent Open) (Going extent 0)) (with_stray s) (λ _. opened m extent s.items (words_most extent.profile k extent.words extent.entry is) h) (same_stands s Unclaimed e h)
-message_stands claimed m s Unclaimed (page_message k index payload) is e h = same_stands s Unclaimed e h
+    either claimed (with_item s (item_of m 0 extent Open) (Going extent 0)) (with_stray s) (λ _. opened m extent s.items (words_most extent.profile k extent.words extent.entry extent.pages is) is.sizes h) (same_stands s Unclaimed e h)
+message_stands claimed m s Unclaimed (page_message k size index payload) is e h = same_stands s Unclaimed e h
 message_stands claimed m s Unclaimed (close_message k) is e h = same_stands s Unclaimed e h
 message_stands claimed m s (Going n p) (open_message k extent) is e h = same_stands s (Going n p) e h
-message_stands claimed m s (Going n p) (page_message k index payload) is e h =
-    page_stands m n p s index (length payload) (with_item s (item_of m (p + 1) n (Page payload)) (Going n (p + 1))) h
-    (λ due. (let says = due_says n p index (length payload) due in page_more m (p + 1) n p s.items payload says.1.0 says.1.1 h))
+message_stands claimed m s (Going n p) (page_message k size index payload) is e h =
+    page_stands m n p s size index (length payload) (with_item s (item_of m (p + 1) n (Page payload)) (Going n (p + 1))) h
+    (λ due. (let says = due_says n p size index (length payload) due in page_more m (p + 1) n p s.items payload says.1.0 says.1.1 h))
 message_stands claimed m s (Going n p) (close_message k) is e h = (n, p, end_more m (p + 1) n p s.items Close h)
 message_stands claimed m s Ended (open_message k extent) is e h = same_stands s Ended e h
-message_stands claimed m s Ended (page_message k index payload) is e h = same_stands s Ended e h
+message_stands claimed m s Ended (page_message k size index payload) is e h = same_stands s Ended e h
 message_stands claimed m s Ended (close_message k) is e h = same_stands s Ended e h
 
 abbrev StandsAs : Share → Type 0
@@ -166,15 +194,15 @@ module _ (claimed : Bool) (m : ℕ) where
       let more = All-tail IsMessage x xs all in
       kept_by (is_of m x) s x (filter (is_of m) xs) (messages_stand xs (step s x) more (message_stands claimed m s s.progress x (All-head IsMessage x xs all) refl h)) (messages_stand xs s more h)
 
-header_stands : (m : ℕ) (s : Share) (progress : Progress) (index len : ℕ) → s.progress ≡ progress → Stands progress s.items → Stands (after_header m s progress index len).progress (after_header m s progress index len).items
-header_stands m s Unclaimed index len e h = same_stands s Unclaimed e h
-header_stands m s (Going n p) index len e h = page_stands m n p s index len s h (λ _. same_stands s (Going n p) e h)
-header_stands m s Ended index len e h = same_stands s Ended e h
+header_stands : (m : ℕ) (s : Share) (progress : Progress) (size index len : ℕ) → s.progress ≡ progress → Stands progress s.items → Stands (after_header m s progress size index len).progress (after_header m s progress size index len).items
+header_stands m s Unclaimed size index len e h = same_stands s Unclaimed e h
+header_stands m s (Going n p) size index len e h = page_stands m n p s size index len s h (λ _. same_stands s (Going n p) e h)
+header_stands m s Ended size index len e h = same_stands s Ended e h
 
 rest_stands : (m : ℕ) (s : Share) (rest : Rest) → StandsAs s → StandsAs (after_rest m s rest)
 rest_stands m s short h = h
 rest_stands m s (faulty found) h = h
-rest_stands m s (unfinished k index len) h = either (k == m) (after_header m s s.progress index len) s (λ _. header_stands m s s.progress index len refl h) h
+rest_stands m s (unfinished k size index len) h = either (k == m) (after_header m s s.progress size index len) s (λ _. header_stands m s s.progress size index len refl h) h
 rest_stands m s whole h = h
 
 sized : (items : List ItemView) (n : ExtentView) (p : ℕ) → Grows items n p → IsSized items

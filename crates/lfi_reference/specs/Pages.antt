@@ -7,7 +7,6 @@ use Rattle.lfi_model.specs.declared.item.Reason.TheVariants.{Close, Lost, PageFa
 use Rattle.lfi_rules.specs.declared.fault.Fault.{Fault}
 use Rattle.lfi_model.specs.declared.outcome.Outcome.{Outcome}
 use Rattle.lfi_model.specs.declared.outcome.Outcome.TheVariants as outcome
-use Rattle.lfi_module.specs.Numbers.{page_words}
 use Rattle.lfi_module.specs.Pages.{page_count}
 use Rattle.lfi_model.specs.Outcomes.{end_of}
 
@@ -20,15 +19,15 @@ abbrev pub IsEnded : List ItemView → Type 0
 IsEnded [] = Unit {0}
 IsEnded (item ∷ items) = IsSome (end_of (item ∷ items))
 
--- the outcome of a module of n words by its End, where so many words and pages came and have no fault
-abbrev pub outcome_by : (n words pages : ℕ) → Reason → Outcome
-outcome_by n words pages Close = if words == n then outcome.Complete n else outcome.Incomplete pages (page_count page_words n)
-outcome_by n words pages (Lost fault) = outcome.Lost fault
-outcome_by n words pages (PageFault index) = outcome.PageFault index
-outcome_by n words pages NoMemory = outcome.NoMemory
+-- the outcome of a module of n words, in pages of `size`, by its End, where so many words and pages came and have no fault
+abbrev pub outcome_by : (size n words pages : ℕ) → Reason → Outcome
+outcome_by size n words pages Close = if words == n then outcome.Complete n else outcome.Incomplete pages (page_count size n)
+outcome_by size n words pages (Lost fault) = outcome.Lost fault
+outcome_by size n words pages (PageFault index) = outcome.PageFault index
+outcome_by size n words pages NoMemory = outcome.NoMemory
 
 -- the same, by their first fault and why it ended, where it has
-abbrev pub told_by : ℕ → Option Fault → Option Reason → (words pages : ℕ) → Outcome
-told_by n (Some fault) end words pages = outcome.Refused fault
-told_by n None (Some reason) words pages = outcome_by n words pages reason
-told_by n None None words pages = outcome.Unused
+abbrev pub told_by : (size n : ℕ) → Option Fault → Option Reason → (words pages : ℕ) → Outcome
+told_by size n (Some fault) end words pages = outcome.Refused fault
+told_by size n None (Some reason) words pages = outcome_by size n words pages reason
+told_by size n None None words pages = outcome.Unused

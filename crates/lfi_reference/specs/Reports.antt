@@ -1,6 +1,6 @@
 -- What the plain program reports of several streams.
 use Rattle.std.specs.Prelude.{◌≡◌, ℕ, ◌+◌, ◌≤◌, List, [], ◌∷◌, length, Option, Some, None, position, slice_get}
-use Rattle.lfi_module.specs.Numbers.{module_count, most_words}
+use Rattle.lfi_module.specs.Numbers.{module_count, most_words, small_page}
 use Rattle.lfi_module.specs.Extents.{ExtentView}
 use Rattle.lfi_module.specs.declared.profile.Profile.TheVariants.{One}
 use Rattle.lfi_model.specs.Item.{ItemView}
@@ -17,7 +17,7 @@ use Rattle.lfi_reference.specs.Pages.{pages_by}
 
 -- the extent of the module with these items; where there are none, that of no words
 abbrev pub extent_of : List ItemView → ExtentView
-extent_of [] = record { words = 0; entry = 0; profile = One }
+extent_of [] = record { words = 0; entry = 0; profile = One; pages = small_page }
 extent_of (item ∷ items) = item.extent
 
 -- no more words than the module has, and no more than a module may have

@@ -4,7 +4,7 @@ ghost use Rattle.std.specs.Prelude.{◌≡◌, ◌≤◌, ◌⊎◌, [], map, ta
 ghost use Rattle.lfi_module.specs.Numbers.{most_words};
 ghost use Rattle.lfi_rules.specs.Verdicts.{all_words};
 ghost use Rattle.lfi_model.specs.Outcomes.{Load, Placed, pages_of, end_of, by_end};
-ghost use Rattle.lfi_reference.specs.Messages.{extent_by};
+ghost use Rattle.lfi_reference.specs.Messages.{size_of, extent_by};
 ghost use Rattle.lfi_reference.specs.Shares.{items_by};
 ghost use Rattle.lfi_reference.specs.Pages.{pages_by, outcome_by, told_by, IsEnded};
 
@@ -36,16 +36,17 @@ pub fn end_of(items: &[PlainItem]) -> Option<Reason>
     None
 }
 
-/// The outcome of a module of n words by its End, where there is no fault in the words that came.
-fn by_end(n: u32, words: usize, pages: usize, reason: Reason) -> Outcome
+/// The outcome of a module of this extent by its End, where there is no fault in the words that came.
+fn by_end(extent: PlainExtent, words: usize, pages: usize, reason: Reason) -> Outcome
     requires { pages ≤ most_words }
-    ensures { result ≡ outcome_by n words pages reason }
+    ensures { result ≡ outcome_by (size_of extent.large) extent.words words pages reason }
 {
+    let n = extent.words;
     match reason {
         Reason::Close if words == n as usize => Outcome::Complete { words: n },
         Reason::Close => Outcome::Incomplete {
             pages: pages as u32,
-            of: page_count(n),
+            of: page_count(extent.large, n),
         },
         Reason::Lost(fault) => Outcome::Lost(fault),
         Reason::PageFault(index) => Outcome::PageFault(index),
@@ -53,15 +54,21 @@ fn by_end(n: u32, words: usize, pages: usize, reason: Reason) -> Outcome
     }
 }
 
-/// The outcome of a module of n words, of which so many words and pages came, by their first fault
+/// The outcome of a module of this extent, of which so many words and pages came, by their first fault
 /// and why it ended.
-fn outcome(n: u32, fault: Option<Fault>, end: Option<Reason>, words: usize, pages: usize) -> Outcome
+fn outcome(
+    extent: PlainExtent,
+    fault: Option<Fault>,
+    end: Option<Reason>,
+    words: usize,
+    pages: usize,
+) -> Outcome
     requires { pages ≤ most_words }
-    ensures { result ≡ told_by n fault end words pages }
+    ensures { result ≡ told_by (size_of extent.large) extent.words fault end words pages }
 {
     match (fault, end) {
         (Some(fault), _) => Outcome::Refused(fault),
-        (None, Some(reason)) => by_end(n, words, pages, reason),
+        (None, Some(reason)) => by_end(extent, words, pages, reason),
         (None, None) => Outcome::Unused,
     }
 }
@@ -86,7 +93,7 @@ pub fn load_module(
     let mut pages = pages_of(alloc, items)?;
     let words = all_words(alloc, pages.as_slice())?;
     let fault = first_fault(&words, extent.words, extent.profile);
-    let outcome = outcome(extent.words, fault, end_of(items), words.len(), pages.len());
+    let outcome = outcome(extent, fault, end_of(items), words.len(), pages.len());
     let count = placed(alloc, extent, pages.as_slice())?;
     pages.truncate(count);
     Ok(Loaded {

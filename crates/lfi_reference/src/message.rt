@@ -5,12 +5,12 @@ ghost use Rattle.lfi_frame.specs.Streams.{Cut, rest_of, whole, header_of};
 ghost use Rattle.lfi_frame.specs.Feeds.{opened};
 ghost use Rattle.lfi_reference.specs.Messages.{extent_by, message_of, Begins};
 
-use crate::rest::{PlainRest, rest_at};
+use crate::rest::{PlainRest, is_large, is_page, rest_at};
 use lfi_frame::{HEADER_BYTES, Header};
 use lfi_module::Profile;
 use std::alloc::{AllocError, Global};
 
-/// How large a module is, the word at which it is entered, and the profile that it goes by.
+/// How large a module is, the word at which it is entered, the profile that it goes by, and whether its pages are large.
 #[derive(Clone, Copy, PartialEq, Eq, Debug)]
 pub struct PlainExtent {
     /// How many words it has.
@@ -19,6 +19,8 @@ pub struct PlainExtent {
     pub entry: u32,
     /// The profile that it goes by.
     pub profile: Profile,
+    /// Whether its pages are large, of 4,096 words, or small, of 1,024.
+    pub large: bool,
 }
 
 /// A whole message.
@@ -29,9 +31,10 @@ pub enum PlainMessage {
         module: u16,
         extent: PlainExtent,
     },
-    /// A page of a module.
+    /// A page of a module, a large one or a small one.
     Page {
         module: u16,
+        large: bool,
         index: u32,
         payload: Vec<u8>,
     },
@@ -54,7 +57,8 @@ impl PlainMessage {
     }
 }
 
-/// The extent that the header of an Open tells: kind 4 opens a module of the second profile.
+/// The extent that the header of an Open tells: kind 4 opens a module of the second profile, and second byte 2 one of large
+/// pages.
 fn extent_of(header: &Header) -> PlainExtent
     ensures { extent_by result ≡ opened header.now }
 {
@@ -66,6 +70,7 @@ fn extent_of(header: &Header) -> PlainExtent
         } else {
             Profile::One
         },
+        large: header.second == 2,
     }
 }
 
@@ -91,28 +96,25 @@ pub fn first_message(
     let header = Header::read(head);
     let module = header.module;
     let after = &bytes[HEADER_BYTES..];
-    match header.kind {
-        2 => {
-            let (front, more) = after.split_at(header.b as usize);
-            let payload = Vec::from_slice(alloc, front)?;
-            Ok(Some((
-                PlainMessage::Page {
-                    module,
-                    index: header.a,
-                    payload,
-                },
-                more,
-            )))
-        }
-        3 => Ok(Some((PlainMessage::Close { module }, after))),
-        _ => Ok(Some((
-            PlainMessage::Open {
-                module,
-                extent: extent_of(&header),
-            },
-            after,
-        ))),
+    if is_page(header.kind) {
+        let (front, more) = after.split_at(header.b as usize);
+        let payload = Vec::from_slice(alloc, front)?;
+        let page = PlainMessage::Page {
+            module,
+            large: is_large(header.kind),
+            index: header.a,
+            payload,
+        };
+        return Ok(Some((page, more)));
     }
+    if header.kind == 3 {
+        return Ok(Some((PlainMessage::Close { module }, after)));
+    }
+    let opening = PlainMessage::Open {
+        module,
+        extent: extent_of(&header),
+    };
+    Ok(Some((opening, after)))
 }
 
 /// The messages of a text, and the rest in which no whole message stands.

@@ -87,6 +87,7 @@ pub fn extent_of(items: &[PlainItem]) -> PlainExtent
             words: 0,
             entry: 0,
             profile: Profile::One,
+            large: false,
         },
     }
 }

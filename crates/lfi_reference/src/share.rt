@@ -1,13 +1,13 @@
 //! What one module gets of a connection.
 
-ghost use Rattle.std.specs.Prelude.{◌≡◌, ◌+◌, ◌++◌, true, ◌<◌, ◌≤◌, ◌^◌, ℕ, map, IfOk};
+ghost use Rattle.std.specs.Prelude.{◌≡◌, ◌+◌, ◌++◌, ◌==◌, ◌&&◌, true, ◌<◌, ◌≤◌, ◌^◌, ℕ, map, IfOk};
 ghost use Rattle.lfi_model.specs.Items.{item_of, reason_of, is_going, nothing_yet, with_stray, with_item, after_message, after_rest, share_of, ends_of};
-ghost use Rattle.lfi_module.specs.Numbers.{page_words};
+ghost use Rattle.lfi_module.specs.Numbers.{small_page, large_page};
 ghost use Rattle.lfi_module.specs.Pages.{page_count, is_due};
 ghost use Rattle.lfi_model.specs.declared.item.ItemKind.TheVariants as kind;
 ghost use Rattle.lfi_model.specs.declared.connection.Progress.TheVariants.{Unclaimed, Going, Ended};
 ghost use Rattle.lfi_reference.specs.Shares.{progress_by, share_by, item_by, items_by};
-ghost use Rattle.lfi_reference.specs.Messages.{extent_by, message_of, rest_by};
+ghost use Rattle.lfi_reference.specs.Messages.{size_of, extent_by, message_of, rest_by};
 
 use crate::message::{PlainExtent, PlainMessage};
 use crate::rest::PlainRest;
@@ -61,20 +61,44 @@ pub struct PlainShare {
     pub progress: PlainProgress,
 }
 
-/// How many pages a module of so many words has.
-pub fn page_count(words: u32) -> u32
-    ensures { result ≡ page_count page_words words }
+/// How many pages a module of so many words has, large ones or small ones.
+pub fn page_count(large: bool, words: u32) -> u32
+    ensures { result ≡ page_count (size_of large) words }
 {
-    words.div_ceil(1024)
+    if large {
+        words.div_ceil(4096)
+    } else {
+        words.div_ceil(1024)
+    }
 }
 
-/// Whether page `index` of `len` bytes is the one that has to come after the first `pages` pages
-/// of a module of so many words.
-pub fn is_due(words: u32, pages: u32, index: u32, len: usize) -> bool
-    ensures { result ≡ is_due page_words words pages index len }
+/// Whether page `index` of `len` bytes is the one that has to come after the first `pages` small
+/// pages of a module of so many words.
+fn is_due_small(words: u32, pages: u32, index: u32, len: usize) -> bool
+    ensures { result ≡ is_due small_page words pages index len }
 {
     let left = (4 * u64::from(words)).saturating_sub(4096 * u64::from(pages));
-    index == pages && index < page_count(words) && len as u64 == left.min(4096)
+    index == pages && index < page_count(false, words) && len as u64 == left.min(4096)
+}
+
+/// The same of large pages.
+fn is_due_large(words: u32, pages: u32, index: u32, len: usize) -> bool
+    ensures { result ≡ is_due large_page words pages index len }
+{
+    let left = (4 * u64::from(words)).saturating_sub(16_384 * u64::from(pages));
+    index == pages && index < page_count(true, words) && len as u64 == left.min(16_384)
+}
+
+/// Whether page `index` of `len` bytes, a large one or a small one, is the one that has to come
+/// after the first `pages` pages of a module of this extent.
+pub fn is_due(extent: PlainExtent, pages: u32, large: bool, index: u32, len: usize) -> bool
+    ensures { result ≡ (size_of large == size_of extent.large && is_due (size_of extent.large) extent.words pages index len) }
+{
+    match (large, extent.large) {
+        (false, false) => is_due_small(extent.words, pages, index, len),
+        (true, true) => is_due_large(extent.words, pages, index, len),
+        _ => false,
+    }
 }
 
 impl PlainShare {
@@ -173,9 +197,14 @@ impl PlainShare {
     {
         match message {
             PlainMessage::Open { .. } => Ok(self.stray()),
-            PlainMessage::Page { index, payload, .. } => {
+            PlainMessage::Page {
+                large,
+                index,
+                payload,
+                ..
+            } => {
                 let index = *index;
-                if !is_due(extent.words, pages, index, payload.len()) {
+                if !is_due(extent, pages, *large, index, payload.len()) {
                     return self.with_end(module, extent, pages, Reason::PageFault(index));
                 }
                 let page = Vec::from_slice(alloc, payload.as_slice())?;
@@ -220,6 +249,7 @@ impl PlainShare {
     {
         let PlainRest::Unfinished {
             module: of,
+            large,
             index,
             len,
         } = rest
@@ -231,7 +261,7 @@ impl PlainShare {
         }
         match self.progress {
             PlainProgress::Going { extent, pages } => {
-                if is_due(extent.words, pages, index, len as usize) {
+                if is_due(extent, pages, large, index, len as usize) {
                     Ok(self)
                 } else {
                     self.with_end(module, extent, pages, Reason::PageFault(index))

@@ -24,9 +24,8 @@ impl Text {
         }
     }
 
-    fn header(&mut self, kind: u8, module: u16, a: u32, b: u32) -> Result<(), AllocError> {
-        self.bytes.push(kind)?;
-        self.bytes.push(0)?;
+    fn header(&mut self, kind: [u8; 2], module: u16, a: u32, b: u32) -> Result<(), AllocError> {
+        self.bytes.extend_from_slice(&kind)?;
         self.bytes.extend_from_slice(&module.to_le_bytes())?;
         self.bytes.extend_from_slice(&a.to_le_bytes())?;
         self.bytes.extend_from_slice(&b.to_le_bytes())?;
@@ -35,21 +34,36 @@ impl Text {
 
     /// A module of so many words, entered at word 0.
     pub fn open(&mut self, module: u16, words: u32) -> Result<(), AllocError> {
-        self.header(1, module, words, 0)
+        self.header([1, 0], module, words, 0)
     }
 
     /// A page of a module, of at most 1,024 words.
     pub fn page(&mut self, module: u16, index: u32, words: &[u32]) -> Result<(), AllocError> {
-        self.header(2, module, index, 4 * words.len().min(1024) as u32)?;
+        self.header([2, 0], module, index, 4 * words.len().min(1024) as u32)?;
+        self.words(words)
+    }
+
+    fn words(&mut self, words: &[u32]) -> Result<(), AllocError> {
         for word in words {
             self.bytes.extend_from_slice(&word.to_le_bytes())?;
         }
         Ok(())
     }
 
+    /// A module of so many words, entered at word 0, by the second profile, with large pages.
+    pub fn open_large(&mut self, module: u16, words: u32) -> Result<(), AllocError> {
+        self.header([4, 2], module, words, 0)
+    }
+
+    /// A large page of a module, of at most 4,096 words.
+    pub fn large_page(&mut self, module: u16, index: u32, words: &[u32]) -> Result<(), AllocError> {
+        self.header([5, 0], module, index, 4 * words.len().min(4096) as u32)?;
+        self.words(words)
+    }
+
     /// The end of a module.
     pub fn close(&mut self, module: u16) -> Result<(), AllocError> {
-        self.header(3, module, 0, 0)
+        self.header([3, 0], module, 0, 0)
     }
 }
 

@@ -33,13 +33,19 @@ enum Sent {
     Pages(u16, u32),
     /// A page 0 of a module, of so many words: NOP, and RET as the last.
     Short(u16, usize),
+    /// Opens a module of so many words, with large pages.
+    OpenLarge(u16, u32),
+    /// A large page of a module, of one word.
+    LargeWord(u16, u32, u32),
+    /// A large page of a module, of 4,096 words: NOP, but for the last one.
+    FullLarge(u16, u32, u32),
     /// Closes a module.
     Close(u16),
     /// Nothing.
     Nothing,
 }
 
-use Sent::{Close, Full, Nothing, Open, Pages, Short, Word};
+use Sent::{Close, Full, FullLarge, LargeWord, Nothing, Open, OpenLarge, Pages, Short, Word};
 
 impl Sent {
     /// Adds it to a text.
@@ -65,10 +71,20 @@ impl Sent {
                 }
                 text.page(module, 0, &words[..count])
             }
+            OpenLarge(module, count) => text.open_large(module, count),
+            LargeWord(module, index, word) => text.large_page(module, index, &[word]),
+            FullLarge(module, index, last) => send_large(text, module, index, last),
             Close(module) => text.close(module),
             Nothing => Ok(()),
         }
     }
+}
+
+/// Adds a large page of 4,096 words: NOP, but for the last one.
+fn send_large(text: &mut Text, module: u16, index: u32, last: u32) -> Result<(), AllocError> {
+    let mut words = [NOP; 4096];
+    words[4095] = last;
+    text.large_page(module, index, &words)
 }
 
 /// What is sent, and what is told of it.
@@ -307,6 +323,76 @@ const OTHERS: [Row; 10] = [
     },
 ];
 
+/// Modules of large pages.
+const LARGE: [Row; 6] = [
+    Row {
+        sent: [
+            OpenLarge(0, 4097),
+            FullLarge(0, 0, NOP),
+            LargeWord(0, 1, NOP),
+            Close(0),
+            Nothing,
+            Nothing,
+        ],
+        want: "module 0: complete, 4097 words\nstrays 0\n",
+    },
+    Row {
+        sent: [
+            OpenLarge(0, 4097),
+            FullLarge(0, 0, NOP),
+            Close(0),
+            Nothing,
+            Nothing,
+            Nothing,
+        ],
+        want: "module 0: incomplete, 1 of 2 pages\nstrays 0\n",
+    },
+    Row {
+        sent: [
+            OpenLarge(0, 4097),
+            FullLarge(0, 0, LOAD_LINK),
+            LargeWord(0, 1, NOP),
+            Close(0),
+            Nothing,
+            Nothing,
+        ],
+        want: "module 0: refused, word 4096 rule 10\nstrays 0\n",
+    },
+    Row {
+        sent: [
+            OpenLarge(0, 4097),
+            Full(0, 0, 0, NOP),
+            Close(0),
+            Nothing,
+            Nothing,
+            Nothing,
+        ],
+        want: "module 0: page fault, index 0\nstrays 1\n",
+    },
+    Row {
+        sent: [
+            Open(0, 1),
+            LargeWord(0, 0, NOP),
+            Close(0),
+            Nothing,
+            Nothing,
+            Nothing,
+        ],
+        want: "module 0: page fault, index 0\nstrays 1\n",
+    },
+    Row {
+        sent: [
+            LargeWord(1, 0, NOP),
+            Nothing,
+            Nothing,
+            Nothing,
+            Nothing,
+            Nothing,
+        ],
+        want: "strays 1\n",
+    },
+];
+
 /// All modules.
 const ALL: [u16; 16] = [0, 1, 2, 3, 4, 5, 6, 7, 8, 9, 10, 11, 12, 13, 14, 15];
 
@@ -321,7 +407,7 @@ fn text_of(alloc: Global, row: &Row) -> Result<Text, AllocError> {
 
 #[test]
 fn rows_of_one_connection(rt: HostRuntime) -> Result<(), Fail> {
-    for rows in [MODULES.as_slice(), OTHERS.as_slice()] {
+    for rows in [MODULES.as_slice(), OTHERS.as_slice(), LARGE.as_slice()] {
         for row in rows {
             let text = text_of(rt.alloc(), row)?;
             let want = row.want;

@@ -8,6 +8,9 @@ use Rattle.a64_word.specs.declared.instruction.Instruction.{Instruction}
 use Rattle.a64_word.specs.declared.instruction.Instruction.TheVariants as instructions
 use Rattle.a64_word.specs.declared.operands.Width.{Width}
 use Rattle.a64_word.specs.declared.operands.Width.TheVariants as widths
+use Rattle.a64_word.specs.declared.operands.Logical.{Logical}
+use Rattle.a64_word.specs.declared.operands.Logical.TheVariants as logical
+use Rattle.a64_word.specs.Operands.{bit, logical_code}
 use Rattle.a64_word.specs.Encoding.{Spells}
 use Rattle.a64_word.specs.inner.Bits.{bits_at}
 use Rattle.a64_word.proofs.FieldLaws.{reads-from_IsWordOf}
@@ -75,13 +78,38 @@ straight w (instructions.Breakpoint i) s other =
     absurd (other (by_six w (omega arith)))
 straight w i s other = record { branches = refl; breakpoint = refl }
 
--- ---- words whose low field isn't 31 write sp only as the base of an access
+-- ---- words whose low field isn't 31 write sp only as the base of an access; nor do others with bit 29, but ORR of an immediate
+pub data IsSpared (w : ℕ) : Type 0 where
+  by_register : bits_at w 0 5 ≢ 31 → IsSpared w
+  by_flags : bits_at w 29 1 ≡ 1 → bits_at w 23 8 ≢ 100 → IsSpared w
+
 or_sp_free : (r : ℕ) (width : Width) → r ≢ 31 → width_in (or_sp r width []) 31 ≡ None
 or_sp_free r width other = rw (ne_eqb r 31 other) refl
 
-either_free : (flags : Bool) (r : ℕ) (width : Width) → r ≢ 31 → width_in (if flags then general r width [] else or_sp r width []) 31 ≡ None
-either_free true r width other = no_stack r width [] refl
-either_free false r width other = or_sp_free r width other
+sum_free : (w : ℕ) (flags : Bool) (r : ℕ) (width : Width) → IsSpared w → bits_at w 29 1 ≡ bit flags → bits_at w 0 5 ≡ r
+    → width_in (if flags then general r width [] else or_sp r width []) 31 ≡ None
+sum_free w true r width spared flag at = no_stack r width [] refl
+sum_free w false r width (by_register other) flag at = or_sp_free r width (λ e. other (at ∙ e))
+sum_free w false r width (by_flags set shape) flag at = let clear : bits_at w 29 1 ≡ 0 = flag in absurd (omega arith)
+
+mask_free : (w : ℕ) (operation : Logical) (r : ℕ) (width : Width) → IsSpared w → bits_at w 29 2 ≡ logical_code operation → bits_at w 23 6 ≡ 36 → bits_at w 0 5 ≡ r
+    → width_in (if is_ands operation then general r width [] else or_sp r width []) 31 ≡ None
+mask_free w logical.Ands r width spared code group at = no_stack r width [] refl
+mask_free w logical.And r width (by_register other) code group at = or_sp_free r width (λ e. other (at ∙ e))
+mask_free w logical.Orr r width (by_register other) code group at = or_sp_free r width (λ e. other (at ∙ e))
+mask_free w logical.Eor r width (by_register other) code group at = or_sp_free r width (λ e. other (at ∙ e))
+mask_free w logical.And r width (by_flags set shape) code group at =
+    let two : bits_at w 29 2 ≡ 0 = code in
+    let split : bits_at w 29 2 ≡ bits_at w 30 1 * 2 ^ 1 + bits_at w 29 1 = joined w 29 1 1 in
+    absurd (omega arith)
+mask_free w logical.Orr r width (by_flags set shape) code group at =
+    let two : bits_at w 29 2 ≡ 1 = code in
+    let split : bits_at w 23 8 ≡ bits_at w 29 2 * 2 ^ 6 + bits_at w 23 6 = joined w 23 2 6 in
+    absurd (shape (omega arith))
+mask_free w logical.Eor r width (by_flags set shape) code group at =
+    let two : bits_at w 29 2 ≡ 2 = code in
+    let split : bits_at w 29 2 ≡ bits_at w 30 1 * 2 ^ 1 + bits_at w 29 1 = joined w 29 1 1 in
+    absurd (omega arith)
 
 base_free : (changes : Bool) (r : ℕ) → r ≢ 31 → width_in (if changes then or_sp r widths.X [] else []) 31 ≡ None
 base_free true r other = or_sp_free r widths.X other
@@ -96,37 +124,37 @@ pair_free : (load : Bool) (rt rt2 : ℕ) (width : Width) (base : List Use) → w
 pair_free true rt rt2 width base e = no_stack rt width (general rt2 width base) (no_stack rt2 width base e)
 pair_free false rt rt2 width base e = e
 
-no_sp : (w : ℕ) (i : Instruction) → Spells i w → IsStraight i → bits_at w 0 5 ≢ 31 → is_at_stack (address_of i) ≡ false → width_in (writes_of i) 31 ≡ None
-no_sp w (instructions.AddSubImmediate i) s h other away =
-    let rd : bits_at w 0 5 ≡ i.rd = (reads-from_IsWordOf _ w s.word_of).1.1.1.1.1.1.1.0 in
-    either_free i.set_flags i.rd i.width (λ e. other (rd ∙ e))
-no_sp w (instructions.LogicalImmediate i) s h other away =
-    let rd : bits_at w 0 5 ≡ i.rd = (reads-from_IsWordOf _ w s.word_of).1.1.1.1.1.1.1.0 in
-    either_free (is_ands i.operation) i.rd i.width (λ e. other (rd ∙ e))
-no_sp w (instructions.AddSubExtended i) s h other away =
-    let rd : bits_at w 0 5 ≡ i.rd = (reads-from_IsWordOf _ w s.word_of).1.1.1.1.1.1.1.1.0 in
-    either_free i.set_flags i.rd i.width (λ e. other (rd ∙ e))
-no_sp w (instructions.MoveWide i) s h other away = no_stack i.rd i.width [] refl
-no_sp w (instructions.PcRelative i) s h other away = no_stack i.rd widths.X [] refl
-no_sp w (instructions.Bitfield i) s h other away = no_stack i.rd i.width [] refl
-no_sp w (instructions.LogicalShifted i) s h other away = no_stack i.rd i.width [] refl
-no_sp w (instructions.AddSubShifted i) s h other away = no_stack i.rd i.width [] refl
-no_sp w (instructions.ConditionalSelect i) s h other away = no_stack i.rd i.width [] refl
-no_sp w (instructions.TwoSource i) s h other away = no_stack i.rd i.width [] refl
-no_sp w (instructions.CountLeadingZeros i) s h other away = no_stack i.rd i.width [] refl
-no_sp w (instructions.MultiplyAdd i) s h other away = no_stack i.rd i.width [] refl
-no_sp w (instructions.MultiplyHigh i) s h other away = no_stack i.rd widths.X [] refl
-no_sp w (instructions.Branch i) s h other away = absurd (false≢true (sym h.branches))
-no_sp w (instructions.BranchRegister i) s h other away = absurd (false≢true (sym h.branches))
-no_sp w (instructions.UnsignedOffset i) s h other away = loaded_free (is_store i.transfer) i.rt (data_width i.size i.transfer) [] refl
-no_sp w (instructions.Ordered i) s h other away =
+no_sp : (w : ℕ) (i : Instruction) → Spells i w → IsStraight i → IsSpared w → is_at_stack (address_of i) ≡ false → width_in (writes_of i) 31 ≡ None
+no_sp w (instructions.AddSubImmediate i) s h spared away =
+    let r = reads-from_IsWordOf _ w s.word_of in
+    sum_free w i.set_flags i.rd i.width spared r.1.1.0 r.1.1.1.1.1.1.1.0
+no_sp w (instructions.LogicalImmediate i) s h spared away =
+    let r = reads-from_IsWordOf _ w s.word_of in
+    mask_free w i.operation i.rd i.width spared r.1.0 r.1.1.0 r.1.1.1.1.1.1.1.0
+no_sp w (instructions.AddSubExtended i) s h spared away =
+    let r = reads-from_IsWordOf _ w s.word_of in
+    sum_free w i.set_flags i.rd i.width spared r.1.1.0 r.1.1.1.1.1.1.1.1.0
+no_sp w (instructions.MoveWide i) s h spared away = no_stack i.rd i.width [] refl
+no_sp w (instructions.PcRelative i) s h spared away = no_stack i.rd widths.X [] refl
+no_sp w (instructions.Bitfield i) s h spared away = no_stack i.rd i.width [] refl
+no_sp w (instructions.LogicalShifted i) s h spared away = no_stack i.rd i.width [] refl
+no_sp w (instructions.AddSubShifted i) s h spared away = no_stack i.rd i.width [] refl
+no_sp w (instructions.ConditionalSelect i) s h spared away = no_stack i.rd i.width [] refl
+no_sp w (instructions.TwoSource i) s h spared away = no_stack i.rd i.width [] refl
+no_sp w (instructions.CountLeadingZeros i) s h spared away = no_stack i.rd i.width [] refl
+no_sp w (instructions.MultiplyAdd i) s h spared away = no_stack i.rd i.width [] refl
+no_sp w (instructions.MultiplyHigh i) s h spared away = no_stack i.rd widths.X [] refl
+no_sp w (instructions.Branch i) s h spared away = absurd (false≢true (sym h.branches))
+no_sp w (instructions.BranchRegister i) s h spared away = absurd (false≢true (sym h.branches))
+no_sp w (instructions.UnsignedOffset i) s h spared away = loaded_free (is_store i.transfer) i.rt (data_width i.size i.transfer) [] refl
+no_sp w (instructions.Ordered i) s h spared away =
     loaded_free (is_store (ordered_transfer i.load)) i.rt (data_width i.size (ordered_transfer i.load)) [] refl
-no_sp w (instructions.RegisterOffset i) s h other away = loaded_free (is_store i.transfer) i.rt (data_width i.size i.transfer) [] refl
-no_sp w (instructions.SignedOffset i) s h other away =
+no_sp w (instructions.RegisterOffset i) s h spared away = loaded_free (is_store i.transfer) i.rt (data_width i.size i.transfer) [] refl
+no_sp w (instructions.SignedOffset i) s h spared away =
     loaded_free (is_store i.transfer) i.rt (data_width i.size i.transfer) _ (base_free (changes_base (form_of_mode i.mode)) i.rn (eqb-false i.rn 31 away))
-no_sp w (instructions.Pair i) s h other away =
+no_sp w (instructions.Pair i) s h spared away =
     pair_free i.load i.rt i.rt2 i.width _ (base_free (changes_base (form_of_pair_mode i.mode)) i.rn (eqb-false i.rn 31 away))
-no_sp w i s h other away = refl
+no_sp w i s h spared away = refl
 
 -- ---- an access whose base isn't 31 isn't at sp; words of others have bit 27 clear, or bit 25 set
 pub data IsAway (w : ℕ) : Type 0 where
@@ -185,12 +213,12 @@ off_stack w (instructions.Pair i) s away = let r = reads-from_IsWordOf _ w s.wor
 off_stack w (instructions.Ordered i) s away = let r = reads-from_IsWordOf _ w s.word_of in ordered_register w i.rn away r.1.0 r.1.1.1.1.0
 off_stack w i s away = refl
 
-pub calm_by_bits : (p : Profile) (w : ℕ) (i : Instruction) → Spells i w → bits_at w 26 3 ≢ 5 → bits_at w 0 5 ≢ 31 → IsAway w → opens_of p i ≡ Nothing → is_calm p i ≡ true
+pub calm_by_bits : (p : Profile) (w : ℕ) (i : Instruction) → Spells i w → bits_at w 26 3 ≢ 5 → IsSpared w → IsAway w → opens_of p i ≡ Nothing → is_calm p i ≡ true
 unfolding written
-calm_by_bits p w i s group register away opens =
+calm_by_bits p w i s group spared away opens =
     let h = straight w i s group in
     let off = off_stack w i s away in
-    let free : written i 31 ≡ None = no_sp w i s h register off in
+    let free : written i 31 ≡ None = no_sp w i s h spared off in
     and_from _ _ (and_from _ _ (and_from _ _ (and_from _ _ (ap not h.branches) (ap not h.breakpoint)) (ap (λ o. not (is_some o)) free)) (ap not off)) (ap is_nothing opens)
 
 -- the word is calm that is quiet by its class

@@ -1,13 +1,14 @@
 -- Of marked places those are kept whose words aren't told.
-use Rattle.std.proofs.Common.{◌≡◌, ℕ, ◌+◌, ◌<◌, ◌≤◌, ◌⊎◌, List, length, set, refl, subst, sym, ap, arith, inl, inr}
+use Rattle.std.proofs.Common.{◌≡◌, ◌≢◌, ℕ, ◌+◌, ◌<◌, ◌≤◌, ◌⊎◌, List, length, set, refl, subst, sym, ap, ◌∙◌, arith, inl, inr}
 use Rattle.std.specs.Prelude.{slice_index}
 use Rattle.std.proofs.lemmas.Bool.{cases_lt}
+use Rattle.std.proofs.lemmas.List.{get_or-set_other}
 use Rattle.lfi_module.specs.declared.profile.Profile.{Profile}
-use Rattle.lfi_rules.specs.inner.Passing.{IsFine, AreMarked, IsNextMarked}
+use Rattle.lfi_rules.specs.inner.Passing.{IsFine, AreMarked, IsNextMarked, AreKept}
 use Rattle.lfi_rules.proofs.Marked.{fine_more, marked_more}
 
 -- words more that are fine
-pub fine_up_to : (profile : Profile) (ws : List ℕ) (first n start i stop : ℕ) (places : List ℕ) (count : ℕ) → AreMarked profile ws first n start i places count → i ≤ stop
+fine_up_to : (profile : Profile) (ws : List ℕ) (first n start i stop : ℕ) (places : List ℕ) (count : ℕ) → AreMarked profile ws first n start i places count → i ≤ stop
     → ((j : ℕ) → i ≤ j → j < stop → IsFine profile ws first n j) → AreMarked profile ws first n start stop places count
 fine_up_to profile ws first n start i stop places count m up fine = record {
   fine = λ j low high. elim (cases_lt j i) [
@@ -28,7 +29,7 @@ not_above profile ws first n start stop places count p q m less within = elim (c
 ]
 
 -- no word between two places that are marked one after another is marked
-pub fine_between : (profile : Profile) (ws : List ℕ) (first n start stop : ℕ) (places : List ℕ) (count at x j : ℕ) → AreMarked profile ws first n start stop places count → at < count
+fine_between : (profile : Profile) (ws : List ℕ) (first n start stop : ℕ) (places : List ℕ) (count at x j : ℕ) → AreMarked profile ws first n start stop places count → at < count
     → IsNextMarked places count stop (at + 1) x → slice_index places at + 1 ≤ j → j < x → IsFine profile ws first n j
 fine_between profile ws first n start stop places count at x j m within next low high =
     let from : start ≤ slice_index places at = m.low at within in
@@ -55,7 +56,7 @@ fine_between profile ws first n start stop places count at x j m within next low
     ]
 
 -- the words before the first marked place are fine
-pub none_kept : (profile : Profile) (ws : List ℕ) (first n start stop : ℕ) (places : List ℕ) (count x : ℕ) → AreMarked profile ws first n start stop places count
+none_kept : (profile : Profile) (ws : List ℕ) (first n start stop : ℕ) (places : List ℕ) (count x : ℕ) → AreMarked profile ws first n start stop places count
     → IsNextMarked places count stop 0 x → AreMarked profile ws first n start x places 0
 none_kept profile ws first n start stop places count x m next = record {
   fine = λ i low high. elim (cases_lt 0 count) [
@@ -81,7 +82,7 @@ none_kept profile ws first n start stop places count x m next = record {
 }
 
 -- One place more was looked at: its word is fine, or it is kept.
-pub one_more_kept : (profile : Profile) (ws : List ℕ) (first n start stop x : ℕ) (old new : List ℕ) (count at kept more : ℕ) → at < count → kept < length new
+one_more_kept : (profile : Profile) (ws : List ℕ) (first n start stop x : ℕ) (old new : List ℕ) (count at kept more : ℕ) → at < count → kept < length new
     → slice_index new at ≡ slice_index old at → ((y : ℕ) → IsNextMarked old count stop at y → AreMarked profile ws first n start y new kept)
     → AreMarked profile ws first n start stop old count → IsNextMarked old count stop (at + 1) x
     → ((more ≡ kept + 1) ⊎ ((more ≡ kept) × IsFine profile ws first n (slice_index old at)))
@@ -107,3 +108,31 @@ one_more_kept profile ws first n start stop x old new count at kept more within 
       | inr fine ↦ subst (λ c. AreMarked profile ws first n start (slice_index old at + 1) (set new kept (slice_index new at)) c) (sym fine.0)
           (fine_more profile ws first n start (slice_index old at) new kept (slice_index new at) so_far fine.1)
     ]
+
+-- no place was looked at
+pub kept_none : (profile : Profile) (ws : List ℕ) (first n : ℕ) (places : List ℕ) (count : ℕ) → AreKept profile ws first n places count 0 places 0
+kept_none profile ws first n places count = record {
+  rest = λ p low. refl;
+  marked = λ start stop x m next. none_kept profile ws first n start stop places count x m next;
+}
+
+-- one place more
+pub kept_more : (profile : Profile) (ws : List ℕ) (first n : ℕ) (old : List ℕ) (count at : ℕ) (new : List ℕ) (kept more : ℕ) → at < count → count ≤ length old → length new ≡ length old
+    → kept ≤ at → AreKept profile ws first n old count at new kept → ((more ≡ kept + 1) ⊎ ((more ≡ kept) × IsFine profile ws first n (slice_index new at)))
+    → AreKept profile ws first n old count (at + 1) (set new kept (slice_index new at)) more
+kept_more profile ws first n old count at new kept more within space size few so_far told = record {
+  rest = λ p low. let apart : p ≢ kept = omega arith in get_or-set_other new kept p (slice_index new at) 0 apart ∙ so_far.rest p (omega arith);
+  marked = λ start stop x m next. one_more_kept profile ws first n start stop x old new count at kept more within (omega arith) same
+      (λ y before. so_far.marked start stop y m before) m next (elim told [
+        | inl loud ↦ inl loud
+        | inr fine ↦ inr (fine.0, subst (λ i. IsFine profile ws first n i) same fine.1)
+      ]);
+}
+  where
+    same : slice_index new at ≡ slice_index old at
+    same = so_far.rest at (omega arith)
+
+-- all places
+pub kept_all : (profile : Profile) (ws : List ℕ) (first n : ℕ) (old : List ℕ) (count at : ℕ) (new : List ℕ) (kept start stop : ℕ) → AreKept profile ws first n old count at new kept → count ≤ at
+    → AreMarked profile ws first n start stop old count → AreMarked profile ws first n start stop new kept
+kept_all profile ws first n old count at new kept start stop so_far past m = so_far.marked start stop stop m (record { inside = λ less. absurd (omega arith); past = λ late. refl })

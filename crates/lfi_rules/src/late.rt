@@ -9,8 +9,9 @@ ghost use Rattle.lfi_rules.specs.inner.Passing.{IsFine, AreFine, OpensAt};
 use crate::calm::is_calm_word;
 use crate::fault::Fault;
 use crate::inspect::inspect;
-use crate::met::is_met;
+use crate::met::{is_met, is_plain_probe};
 use crate::needs::{Need, window};
+use crate::straight::is_surely_calm;
 use a64_word::Words;
 use lfi_classes::classes_of;
 use lfi_module::Profile;
@@ -38,6 +39,27 @@ pub fn is_told_late<W: Words>(words: &W, i: usize, first: u32, n: u32, profile: 
         }
     }
     false
+}
+
+/// Whether the word at a place moves sp, and calm words alone stand between it and its probe, two to four words behind it, where as
+/// many words follow: it is fine. Without a branch by what a word is.
+#[inline(always)]
+pub fn probes_late<W: Words>(words: &W, i: usize, first: u32, n: u32, profile: Profile) -> bool
+    requires within { i < length (W.words words.now) }
+    requires small { length (W.words words.now) ≤ most_words }
+    ensures { IsTrue result → IsFine profile (W.words words.now) first n i }
+{
+    if i + 4 >= words.count() {
+        return false;
+    }
+    let one = words.word(i + 1);
+    let two = words.word(i + 2);
+    let three = words.word(i + 3);
+    let four = words.word(i + 4);
+    let past_two = is_surely_calm(three) & is_plain_probe(four);
+    let past_one = is_surely_calm(two) & (is_plain_probe(three) | past_two);
+    let behind = is_surely_calm(one) & (is_plain_probe(two) | past_one);
+    classes_of(words.word(i)).opens_probe() & (window(profile) == 4) & behind
 }
 
 /// The first fault of the words after one that opens a need, up to the one that meets it or should have: what a word breaks by

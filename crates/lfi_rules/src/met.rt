@@ -62,3 +62,27 @@ fn probes_by_two(word: u32) -> bool
         & (word >> 5 & 31 == 31)
         & (stores | apart)
 }
+
+/// Whether a word is a load or store of one register at sp that extends no sign.
+#[inline(always)]
+fn probes_plainly_by_one(word: u32) -> bool
+    ensures { IsTrue result → IsMet word (Probe 1) }
+{
+    (word >> 24 & 0b111111 == 0b111001) & (word >> 23 & 1 == 0) & (word >> 5 & 0x1FFFF == 31)
+}
+
+/// Whether a word is a store of two registers at sp.
+#[inline(always)]
+fn probes_plainly_by_two(word: u32) -> bool
+    ensures { IsTrue result → IsMet word (Probe 1) }
+{
+    (word >> 22 & 0x1FF == 0b010100100) & (word >> 15 & 0x7F == 0) & (word >> 5 & 31 == 31)
+}
+
+/// Whether a word is one of those that nearly all probes are: told by two masked comparisons.
+#[inline(always)]
+pub fn is_plain_probe(word: u32) -> bool
+    ensures { (profile : Profile) → IsTrue result → Meets profile word (Probe 1) }
+{
+    probes_plainly_by_one(word) | probes_plainly_by_two(word)
+}

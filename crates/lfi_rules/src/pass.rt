@@ -15,7 +15,7 @@ ghost use Rattle.lfi_rules.specs.inner.Passing.{AreFarFromEnds, IsMetAfter, IsFi
 use crate::direct::stays_inside;
 use crate::fault::Fault;
 use crate::inspect::inspect;
-use crate::late::{fault_behind, is_told_late};
+use crate::late::{fault_behind, is_told_late, probes_late};
 use crate::met::is_met;
 use crate::needs::Need;
 use a64_word::Words;
@@ -224,6 +224,35 @@ fn keep_untold<W: Words>(
     kept
 }
 
+/// Of the first `count` places keeps those whose words aren't told by a probe two to four words behind, as `keep_untold` does.
+#[inline(never)]
+fn keep_unprobed<W: Words>(
+    words: &W,
+    places: &mut [u32],
+    count: usize,
+    first: u32,
+    n: u32,
+    profile: Profile,
+) -> usize
+    requires count { count ≤ length places.old }
+    requires within { (p : ℕ) → p < count → slice_index places.old p < length (W.words words.now) }
+    requires room { first + length (W.words words.now) ≤ n }
+    requires most { n ≤ most_words }
+    ensures count { result ≤ count }
+    ensures marked { (start stop : ℕ) → AreMarked profile (W.words words.now) first n start stop places.old count
+        → AreMarked profile (W.words words.now) first n start stop places.new result }
+{
+    let mut left = 0;
+    for at in 0..count {
+        let place = places[at];
+        places[left] = place;
+        if !probes_late(words, place as usize, first, n, profile) {
+            left += 1;
+        }
+    }
+    left
+}
+
 /// The first fault of the words from the place `first + i` on, up to the one that meets what the first opens: what that breaks
 /// by itself; else what those after it break.
 fn fault_at<W: Words>(words: &W, i: usize, first: u32, n: u32, profile: Profile) -> Option<Fault>
@@ -271,6 +300,32 @@ fn first_by_look<W: Words>(
     None
 }
 
+/// Marks the places from `start` on, up to `stop`, whose words aren't told, neither by the next word nor by a later probe; answers
+/// how many they are.
+#[inline(always)]
+fn mark_untold<W: Words>(
+    words: &W,
+    start: usize,
+    stop: usize,
+    first: u32,
+    n: u32,
+    profile: Profile,
+    places: &mut [u32],
+) -> usize
+    requires start { start ≤ stop }
+    requires stop { stop ≤ length (W.words words.now) }
+    requires room { first + length (W.words words.now) ≤ n }
+    requires most { n ≤ most_words }
+    requires space { stop ≤ start + length places.old }
+    ensures count { result ≤ length places.new }
+    ensures marked { AreMarked profile (W.words words.now) first n start stop places.new result }
+{
+    let reach = reach_between(first + start as u32, first + stop as u32, n, profile);
+    let count = mark_span(words, start, stop, reach, first, n, places);
+    let kept = keep_untold(words, places, count, first, n, profile);
+    keep_unprobed(words, places, kept, first, n, profile)
+}
+
 /// The first fault of the words from `start` on, up to `stop`, where none before has one.
 #[inline(always)]
 fn first_in_span<W: Words>(
@@ -290,10 +345,8 @@ fn first_in_span<W: Words>(
     ensures some { IfSome result (λ fault. AreFine profile (W.words words.now) first n 0 start → IsFirstInside profile (W.words words.now) first n (Some fault)) }
     ensures none { IfNone result (AreFine profile (W.words words.now) first n start stop) }
 {
-    let reach = reach_between(first + start as u32, first + stop as u32, n, profile);
-    let count = mark_span(words, start, stop, reach, first, n, places);
-    let kept = keep_untold(words, places, count, first, n, profile);
-    first_by_look(words, &places[..kept], first, n, profile)
+    let left = mark_untold(words, start, stop, first, n, profile, places);
+    first_by_look(words, &places[..left], first, n, profile)
 }
 
 /// The first fault of words, as many of them at once as there are places to mark.

@@ -11,14 +11,17 @@ ghost use Rattle.lfi_rules.specs.inner.Quiet.{IsQuietWord};
 
 use lfi_classes::{Reach, classes_of};
 
-/// Whether an instruction that a word spells, if it opens nothing, is surely calm: the word is no branch's, its low five bits
-/// aren't 31, and nor is its base, if it is an access's.
+/// Whether an instruction that a word spells, if it opens nothing, is surely calm: the word is no branch's, its base isn't 31, if it
+/// is an access's, and nor are its low five bits, but where bit 29 is set, as of a sum that sets flags or of an access, and it
+/// isn't ORR of an immediate. Each part is one masked comparison.
 #[inline(always)]
 fn is_straight(word: u32) -> bool
     ensures { (profile : Profile) (i : Instruction) → IsTrue result → Spells i word → opens_of profile i ≡ Nothing → is_calm profile i ≡ true }
 {
-    let away = (word >> 27 & 1 == 0) | (word >> 25 & 1 == 1) | (word >> 5 & 31 != 31);
-    (word >> 26 & 7 != 5) & (word & 31 != 31) & away
+    let sums = (word & 31 == 31) & (word >> 29 & 1 == 0);
+    let masks = (word & 31 == 31) & (word >> 23 & 255 == 0b01100100);
+    let accesses = (word >> 27 & 1 == 1) & (word >> 25 & 1 == 0) & (word >> 5 & 31 == 31);
+    (word >> 26 & 7 != 5) & !sums & !masks & !accesses
 }
 
 /// NOP, which has the bits of a branch.

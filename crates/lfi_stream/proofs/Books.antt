@@ -4,7 +4,7 @@ use Rattle.std.specs.Prelude.{◌&&◌, nat_lt}
 use Rattle.std.proofs.lemmas.Bool.{and_parts, eqb-true, eq-eqb, ltb-true}
 use Rattle.std.proofs.lemmas.Bool.Decides.{eqb_tells}
 use Rattle.lfi_module.specs.Extents.{ExtentView}
-use Rattle.lfi_module.specs.Numbers.{page_words, page_bytes}
+use Rattle.lfi_module.specs.Numbers.{large_page}
 use Rattle.lfi_module.specs.Pages.{is_due, page_count, bytes_in_page}
 use Rattle.lfi_frame.specs.Streams.{Message, open_message, page_message, close_message, short, unfinished, rest_of}
 use Rattle.lfi_model.specs.declared.item.ItemKind.TheVariants as item
@@ -14,27 +14,27 @@ use Rattle.lfi_model.specs.declared.connection.Progress.TheVariants.{Unclaimed, 
 use Rattle.lfi_model.specs.Items.{Share, after_message, after_header, item_of, with_item, with_stray}
 use Rattle.lfi_stream.specs.declared.event.Event.TheVariants.{Nothing, Open, Stray, End}
 use Rattle.lfi_stream.specs.declared.numbers.Coming.{Coming}
-use Rattle.lfi_stream.specs.declared.numbers.LfiStream.{LfiStream}
+use Rattle.lfi_stream.specs.declared.numbers.LfiStreamText.{LfiStreamText}
 use Rattle.lfi_stream.specs.Numbers.{page_at, progress_at}
 use Rattle.lfi_stream.specs.Streams.{made_of, IsDue, IsOver, Awaits, Holds}
 use Rattle.lfi_stream.specs.Events.{with_page, Grows, TellsCode, IsCodeAt}
 use Rattle.lfi_stream.proofs.Texts.{drop_append_left, unfinished_long}
-use Rattle.lfi_stream.proofs.Growth.{by_true, by_false, both_same, module_at, message_grows, header_grows, unfinished_own, moves, stays, page_passed, open_before}
+use Rattle.lfi_stream.proofs.Growth.{next_by, by_true, by_false, both_same, module_at, message_grows, header_grows, unfinished_own, moves, stays, page_passed, open_before}
 
 none_by : (o : Option Coming) (made : ℕ → Share) → Awaits o made [] → o ≡ None
 none_by (Some page) made h = absurd (let e = h.header in cc)
 none_by None made h = refl
 
 -- between two messages no page is coming
-pub none_coming : (s : LfiStream) (ms : List Message) → Holds s ms [] → page_at s.page ≡ None
+pub none_coming : (s : LfiStreamText) (ms : List Message) → Holds s ms [] → page_at s.page ≡ None
 none_coming s ms h = none_by (page_at s.page) (made_of ms short) h.awaits
 
 pub awaits_none : (o : Option Coming) (made : ℕ → Share) → o ≡ None → Awaits o made []
 awaits_none (Some page) made e = absurd (cc)
-awaits_none None made e = λ m index len f. absurd (cc)
+awaits_none None made e = λ m size index len f. absurd (cc)
 
 -- Module k is at another place now, by this message.
-pub message_moves : (old new : LfiStream) (ms : List Message) (message : Message) (F : ℕ → Share → Share) (q : Progress) → page_at new.page ≡ None
+pub message_moves : (old new : LfiStreamText) (ms : List Message) (message : Message) (F : ℕ → Share → Share) (q : Progress) → page_at new.page ≡ None
     → ((m : ℕ) → progress_at new.modules m ≡ (if m == module_at message then q else progress_at old.modules m)) → ((m : ℕ) (s : Share) → (F m s).progress ≡ q)
     → Holds old ms [] → ((m : ℕ) → made_of (ms ++ message ∷ []) short m ≡ (if m == module_at message then F m (made_of ms short m) else made_of ms short m))
     → Holds new (ms ++ message ∷ []) []
@@ -46,7 +46,7 @@ message_moves old new ms message F q none at to holds grows = record {
 }
 
 -- an Open of a module that wasn't opened
-pub opened : (old new : LfiStream) (ms : List Message) (payload : List ℕ) (k : ℕ) (extent : ExtentView) → progress_at old.modules k ≡ Unclaimed → new.page ≡ old.page
+pub opened : (old new : LfiStreamText) (ms : List Message) (payload : List ℕ) (k : ℕ) (extent : ExtentView) → progress_at old.modules k ≡ Unclaimed → new.page ≡ old.page
     → ((m : ℕ) → progress_at new.modules m ≡ (if m == k then Going extent 0 else progress_at old.modules m)) → Holds old ms []
     → let now = ms ++ open_message k extent ∷ [] in Holds new now [] × Grows (Open k extent) ms [] now [] payload
 opened old new ms payload k extent was page at holds =
@@ -57,7 +57,7 @@ opened old new ms payload k extent was page at holds =
     (message_moves old new ms message F (Going extent 0) (ap page_at page ∙ none_coming old ms holds) at (λ m s. refl) holds grows, grows)
 
 -- the Close of an open module
-pub closed : (old new : LfiStream) (ms : List Message) (payload : List ℕ) (k : ℕ) (extent : ExtentView) (p : ℕ) → progress_at old.modules k ≡ Going extent p → new.page ≡ old.page
+pub closed : (old new : LfiStreamText) (ms : List Message) (payload : List ℕ) (k : ℕ) (extent : ExtentView) (p : ℕ) → progress_at old.modules k ≡ Going extent p → new.page ≡ old.page
     → ((m : ℕ) → progress_at new.modules m ≡ (if m == k then Ended else progress_at old.modules m)) → Holds old ms []
     → let now = ms ++ close_message k ∷ [] in Holds new now [] × Grows (End k extent p Close) ms [] now [] payload
 closed old new ms payload k extent p was page at holds =
@@ -68,7 +68,7 @@ closed old new ms payload k extent p was page at holds =
     (message_moves old new ms message F Ended (ap page_at page ∙ none_coming old ms holds) at (λ m s. refl) holds grows, grows)
 
 -- a message that is passed over
-pub strayed : (old : LfiStream) (ms : List Message) (payload : List ℕ) (message : Message)
+pub strayed : (old : LfiStreamText) (ms : List Message) (payload : List ℕ) (message : Message)
     → ((s : Share) → after_message true (module_at message) s (progress_at old.modules (module_at message)) message ≡ with_stray s) → Holds old ms []
     → let now = ms ++ message ∷ [] in Holds old now [] × Grows (Stray (module_at message)) ms [] now [] payload
 strayed old ms payload message does holds =
@@ -83,76 +83,81 @@ strayed old ms payload message does holds =
     )
 
 -- where no page is coming, the header's module is over
-over_awaits : (o : Option Coming) (ms : List Message) (rest : List ℕ) (k index len : ℕ) → o ≡ None → rest_of rest ≡ unfinished k index len → IsOver (made_of ms (rest_of rest) k).progress → Awaits o (made_of ms (rest_of rest)) rest
-over_awaits (Some page) ms rest k index len e is over = absurd (cc)
-over_awaits None ms rest k index len e is over = λ m i l f.
-    let g : unfinished k index len ≡ unfinished m i l = sym is ∙ f in
+over_awaits : (o : Option Coming) (ms : List Message) (rest : List ℕ) (k size index len : ℕ) → o ≡ None → rest_of rest ≡ unfinished k size index len → IsOver (made_of ms (rest_of rest) k).progress → Awaits o (made_of ms (rest_of rest)) rest
+over_awaits (Some page) ms rest k size index len e is over = absurd (cc)
+over_awaits None ms rest k size index len e is over = λ m j i l f.
+    let g : unfinished k size index len ≡ unfinished m j i l = sym is ∙ f in
     let same : k ≡ m = cc in
     subst (λ z. IsOver (made_of ms (rest_of rest) z).progress) same over
 
 -- The header of a page that is passed over.
-pub header_strayed : (old : LfiStream) (ms : List Message) (rest payload : List ℕ) (k index len : ℕ) → ((s : Share) → after_header k s (progress_at old.modules k) index len ≡ with_stray s)
-    → IsOver (progress_at old.modules k) → Holds old ms [] → rest_of rest ≡ unfinished k index len → Holds old ms rest × Grows (Stray k) ms [] ms rest payload
-header_strayed old ms rest payload k index len does over holds is =
+pub header_strayed : (old : LfiStreamText) (ms : List Message) (rest payload : List ℕ) (k size index len : ℕ) → ((s : Share) → after_header k s (progress_at old.modules k) size index len ≡ with_stray s)
+    → IsOver (progress_at old.modules k) → Holds old ms [] → rest_of rest ≡ unfinished k size index len → Holds old ms rest × Grows (Stray k) ms [] ms rest payload
+header_strayed old ms rest payload k size index len does over holds is =
     let F : ℕ → Share → Share = (λ m s. with_stray s) in
-    let grown = header_grows ms k index len F (ap (λ q. after_header k (made_of ms short k) q index len) (sym (holds.progress k)) ∙ does (made_of ms short k)) in
+    let grown = header_grows ms k size index len F (ap (λ q. after_header k (made_of ms short k) q size index len) (sym (holds.progress k)) ∙ does (made_of ms short k)) in
     let grows : (m : ℕ) → made_of ms (rest_of rest) m ≡ (if m == k then with_stray (made_of ms short m) else made_of ms short m) = (λ m. ap (λ r. made_of ms r m) is ∙ grown m) in
     let progress : (m : ℕ) → progress_at old.modules m ≡ (made_of ms (rest_of rest) m).progress =
     (λ m. stays (m == k) (progress_at old.modules m) (made_of ms short m) (with_stray (made_of ms short m)) (holds.progress m) refl ∙ ap (λ s. s.progress) (sym (grows m))) in
-    (record { progress = progress; awaits = over_awaits (page_at old.page) ms rest k index len (none_coming old ms holds) is (subst IsOver (progress k) over) }, grows)
+    (record { progress = progress; awaits = over_awaits (page_at old.page) ms rest k size index len (none_coming old ms holds) is (subst IsOver (progress k) over) }, grows)
 
 -- The header of a page that isn't the one due.
-pub header_undue : (old new : LfiStream) (ms : List Message) (rest payload : List ℕ) (k : ℕ) (extent : ExtentView) (p index len : ℕ) → progress_at old.modules k ≡ Going extent p → is_due page_words extent.words p index len ≡ false → new.page ≡ old.page
-    → ((m : ℕ) → progress_at new.modules m ≡ (if m == k then Ended else progress_at old.modules m)) → Holds old ms [] → rest_of rest ≡ unfinished k index len
+pub header_undue : (old new : LfiStreamText) (ms : List Message) (rest payload : List ℕ) (k : ℕ) (extent : ExtentView) (p size index len : ℕ) → progress_at old.modules k ≡ Going extent p → next_by extent p size index len ≡ false → new.page ≡ old.page
+    → ((m : ℕ) → progress_at new.modules m ≡ (if m == k then Ended else progress_at old.modules m)) → Holds old ms [] → rest_of rest ≡ unfinished k size index len
     → Holds new ms rest × Grows (End k extent p (PageFault index)) ms [] ms rest payload
-header_undue old new ms rest payload k extent p index len was undue page at holds is =
+header_undue old new ms rest payload k extent p size index len was undue page at holds is =
     let F : ℕ → Share → Share = (λ m s. with_item s (item_of m (p + 1) extent (item.End (PageFault index))) Ended) in
     let share : (made_of ms short k).progress ≡ Going extent p = sym (holds.progress k) ∙ was in
-    let grown = header_grows ms k index len F (ap (λ q. after_header k (made_of ms short k) q index len) share ∙ by_false (is_due page_words extent.words p index len) _ _ undue) in
+    let grown = header_grows ms k size index len F (ap (λ q. after_header k (made_of ms short k) q size index len) share ∙ by_false (next_by extent p size index len) _ _ undue) in
     let grows : (m : ℕ) → made_of ms (rest_of rest) m ≡ (if m == k then F m (made_of ms short m) else made_of ms short m) = (λ m. ap (λ r. made_of ms r m) is ∙ grown m) in
     let progress : (m : ℕ) → progress_at new.modules m ≡ (made_of ms (rest_of rest) m).progress =
     (λ m. at m ∙ moves (m == k) (progress_at old.modules m) Ended (made_of ms short m) (F m (made_of ms short m)) (holds.progress m) refl ∙ ap (λ s. s.progress) (sym (grows m))) in
     let ended : Ended ≡ (made_of ms (rest_of rest) k).progress = sym (at k ∙ by_true (k == k) Ended (progress_at old.modules k) (eq-eqb k k refl)) ∙ progress k in
-    (record { progress = progress; awaits = over_awaits (page_at new.page) ms rest k index len (ap page_at page ∙ none_coming old ms holds) is (subst IsOver ended tt) }, grows)
+    (record { progress = progress; awaits = over_awaits (page_at new.page) ms rest k size index len (ap page_at page ∙ none_coming old ms holds) is (subst IsOver ended tt) }, grows)
 
-due_says : (n p index len : ℕ) → is_due page_words n p index len ≡ true → (index ≡ p) × (len ≡ bytes_in_page page_words n index)
-due_says n p index len due =
-    let last = and_parts (index == p && nat_lt index (page_count page_words n)) (len == bytes_in_page page_words n index) due in
-    let first = and_parts (index == p) (nat_lt index (page_count page_words n)) last.0 in
-    (eqb-true index p first.0, eqb-true len (bytes_in_page page_words n index) last.1)
+-- the page that is due has its module's size, the next index, and the bytes of the page there
+pub due_says : (extent : ExtentView) (p size index len : ℕ) → next_by extent p size index len ≡ true → (size ≡ extent.pages) × (index ≡ p) × (len ≡ bytes_in_page extent.pages extent.words index) × (is_due extent.pages extent.words p index len ≡ true)
+due_says extent p size index len due =
+    let count = page_count extent.pages extent.words in
+    let long = bytes_in_page extent.pages extent.words index in
+    let sized = and_parts (size == extent.pages) (is_due extent.pages extent.words p index len) due in
+    let last = and_parts (index == p && nat_lt index count) (len == long) sized.1 in
+    let first = and_parts (index == p) (nat_lt index count) last.0 in
+    (eqb-true size extent.pages sized.0, eqb-true index p first.0, eqb-true len long last.1, sized.1)
 
 -- a page that is due is one of its module's
-pub due_inside : (n p : ℕ) → is_due page_words n p p (bytes_in_page page_words n p) ≡ true → p < page_count page_words n
-due_inside n p due =
-    let last = and_parts (p == p && nat_lt p (page_count page_words n)) (bytes_in_page page_words n p == bytes_in_page page_words n p) due in
-    let first = and_parts (p == p) (nat_lt p (page_count page_words n)) last.0 in
-    ltb-true p (page_count page_words n) first.1
+pub due_inside : (size n p : ℕ) → is_due size n p p (bytes_in_page size n p) ≡ true → p < page_count size n
+due_inside size n p due =
+    let last = and_parts (p == p && nat_lt p (page_count size n)) (bytes_in_page size n p == bytes_in_page size n p) due in
+    let first = and_parts (p == p) (nat_lt p (page_count size n)) last.0 in
+    ltb-true p (page_count size n) first.1
 
-due_awaits : (o : Option Coming) (ms : List Message) (rest : List ℕ) (k : ℕ) (extent : ExtentView) (p index len : ℕ) → o ≡ Some (record { «module» = k; come = 0 }) → (made_of ms (rest_of rest) k).progress ≡ Going extent p
-    → is_due page_words extent.words p index len ≡ true → rest_of rest ≡ unfinished k index len → drop 12 rest ≡ [] → Awaits o (made_of ms (rest_of rest)) rest
-due_awaits None ms rest k extent p index len e going due is bare = absurd (cc)
-due_awaits (Some page) ms rest k extent p index len e going due is bare =
-    let says = due_says extent.words p index len due in
-    let at_index = says.0 in
-    let of_len : len ≡ bytes_in_page page_words extent.words p = says.1 ∙ ap (λ z. bytes_in_page page_words extent.words z) says.0 in
+due_awaits : (o : Option Coming) (ms : List Message) (rest : List ℕ) (k : ℕ) (extent : ExtentView) (p size index len : ℕ) → o ≡ Some (record { «module» = k; come = 0 }) → (made_of ms (rest_of rest) k).progress ≡ Going extent p
+    → next_by extent p size index len ≡ true → extent.pages ≤ large_page → rest_of rest ≡ unfinished k size index len → drop 12 rest ≡ [] → Awaits o (made_of ms (rest_of rest)) rest
+due_awaits None ms rest k extent p size index len e going due sized is bare = absurd (cc)
+due_awaits (Some page) ms rest k extent p size index len e going due sized is bare =
+    let says = due_says extent p size index len due in
+    let of_size = says.0 in
+    let at_index = says.1 in
+    let of_len : len ≡ bytes_in_page extent.pages extent.words p = says.2 ∙ ap (λ z. bytes_in_page extent.pages extent.words z) says.1 in
     let same : page ≡ record { «module» = k; come = 0 } = cc in
-    let there : unfinished k index len ≡ unfinished k p (bytes_in_page page_words extent.words p) = (λ i. unfinished k (at_index i) (of_len i)) in
-    let here : is_due page_words extent.words p index len ≡ is_due page_words extent.words p p (bytes_in_page page_words extent.words p) = (λ i. is_due page_words extent.words p (at_index i) (of_len i)) in
+    let there : unfinished k size index len ≡ unfinished k extent.pages p (bytes_in_page extent.pages extent.words p) = (λ i. unfinished k (of_size i) (at_index i) (of_len i)) in
+    let here : is_due extent.pages extent.words p index len ≡ is_due extent.pages extent.words p p (bytes_in_page extent.pages extent.words p) = (λ i. is_due extent.pages extent.words p (at_index i) (of_len i)) in
     subst (λ (z : Coming). IsDue z (made_of ms (rest_of rest) z.«module»).progress rest) (sym same)
-    (record { extent = extent; pages = p; going = going; header = is ∙ there; is_next = sym here ∙ due; come = sym (ap length bare) })
+    (record { extent = extent; pages = p; going = going; sized = sized; header = is ∙ there; is_next = sym here ∙ says.3; come = sym (ap length bare) })
 
 -- The header of the page that is due.
-pub header_due : (old new : LfiStream) (ms : List Message) (rest payload : List ℕ) (k : ℕ) (extent : ExtentView) (p index len : ℕ) → progress_at old.modules k ≡ Going extent p → is_due page_words extent.words p index len ≡ true
-    → page_at new.page ≡ Some (record { «module» = k; come = 0 }) → ((m : ℕ) → progress_at new.modules m ≡ progress_at old.modules m) → Holds old ms [] → rest_of rest ≡ unfinished k index len → drop 12 rest ≡ []
+pub header_due : (old new : LfiStreamText) (ms : List Message) (rest payload : List ℕ) (k : ℕ) (extent : ExtentView) (p size index len : ℕ) → progress_at old.modules k ≡ Going extent p → next_by extent p size index len ≡ true → extent.pages ≤ large_page
+    → page_at new.page ≡ Some (record { «module» = k; come = 0 }) → ((m : ℕ) → progress_at new.modules m ≡ progress_at old.modules m) → Holds old ms [] → rest_of rest ≡ unfinished k size index len → drop 12 rest ≡ []
     → Holds new ms rest × Grows Nothing ms [] ms rest payload
-header_due old new ms rest payload k extent p index len was due page at holds is bare =
+header_due old new ms rest payload k extent p size index len was due sized page at holds is bare =
     let F : ℕ → Share → Share = (λ m s. s) in
     let share : (made_of ms short k).progress ≡ Going extent p = sym (holds.progress k) ∙ was in
-    let grown = header_grows ms k index len F (ap (λ q. after_header k (made_of ms short k) q index len) share ∙ by_true (is_due page_words extent.words p index len) _ _ due) in
+    let grown = header_grows ms k size index len F (ap (λ q. after_header k (made_of ms short k) q size index len) share ∙ by_true (next_by extent p size index len) _ _ due) in
     let grows : (m : ℕ) → made_of ms (rest_of rest) m ≡ made_of ms short m = (λ m. ap (λ r. made_of ms r m) is ∙ grown m ∙ both_same (m == k) (made_of ms short m)) in (
       record {
         progress = λ m. at m ∙ holds.progress m ∙ ap (λ s. s.progress) (sym (grows m));
-        awaits = due_awaits (page_at new.page) ms rest k extent p index len page (ap (λ s. s.progress) (grows k) ∙ share) due is bare;
+        awaits = due_awaits (page_at new.page) ms rest k extent p size index len page (ap (λ s. s.progress) (grows k) ∙ share) due sized is bare;
       },
       grows,
     )
@@ -160,15 +165,15 @@ header_due old new ms rest payload k extent p index len was due page at holds is
 -- Payload bytes of a page that is passed over.
 passing : (o : Option Coming) (ms : List Message) (rest used : List ℕ) → o ≡ None → rest_of rest ≡ rest_of (rest ++ used) → Awaits o (made_of ms (rest_of rest)) rest → Awaits o (made_of ms (rest_of (rest ++ used))) (rest ++ used)
 passing (Some page) ms rest used e same h = absurd (cc)
-passing None ms rest used e same h = λ m i l f. subst (λ r. IsOver (made_of ms r m).progress) same (h m i l (same ∙ f))
+passing None ms rest used e same h = λ m j i l f. subst (λ r. IsOver (made_of ms r m).progress) same (h m j i l (same ∙ f))
 
-passed_code : (o : Option Coming) (ms : List Message) (rest : List ℕ) → o ≡ None → Awaits o (made_of ms (rest_of rest)) rest → (m index len : ℕ) → rest_of rest ≡ unfinished m index len → IsOver (made_of ms (rest_of rest) m).progress
+passed_code : (o : Option Coming) (ms : List Message) (rest : List ℕ) → o ≡ None → Awaits o (made_of ms (rest_of rest)) rest → (m size index len : ℕ) → rest_of rest ≡ unfinished m size index len → IsOver (made_of ms (rest_of rest) m).progress
 passed_code (Some page) ms rest e h = absurd (cc)
 passed_code None ms rest e h = h
 
-pub passing_more : (s : LfiStream) (ms : List Message) (rest used payload : List ℕ) (m index len : ℕ) → page_at s.page ≡ None → Holds s ms rest → rest_of rest ≡ unfinished m index len → rest_of (rest ++ used) ≡ unfinished m index len
+pub passing_more : (s : LfiStreamText) (ms : List Message) (rest used payload : List ℕ) (m size index len : ℕ) → page_at s.page ≡ None → Holds s ms rest → rest_of rest ≡ unfinished m size index len → rest_of (rest ++ used) ≡ unfinished m size index len
     → Holds s ms (rest ++ used) × Grows Nothing ms rest ms (rest ++ used) payload × TellsCode Nothing ms rest used
-passing_more s ms rest used payload m index len none holds is is' =
+passing_more s ms rest used payload m size index len none holds is is' =
     let same : rest_of rest ≡ rest_of (rest ++ used) = is ∙ sym is' in (
       record {
         progress = λ k. holds.progress k ∙ ap (λ r. (made_of ms r k).progress) same;
@@ -178,19 +183,19 @@ passing_more s ms rest used payload m index len none holds is is' =
       inr (passed_code (page_at s.page) ms rest none holds.awaits),
     )
 
-pub passing_ends : (s : LfiStream) (ms : List Message) (rest used : List ℕ) (k index len : ℕ) → page_at s.page ≡ None → Holds s ms rest → rest_of rest ≡ unfinished k index len → length (drop 12 rest ++ used) ≡ len
-    → let payload = drop 12 rest ++ used in let now = ms ++ page_message k index payload ∷ [] in Holds s now [] × Grows Nothing ms rest now [] payload × TellsCode Nothing ms rest used
-passing_ends s ms rest used k index len none holds is long =
+pub passing_ends : (s : LfiStreamText) (ms : List Message) (rest used : List ℕ) (k size index len : ℕ) → page_at s.page ≡ None → Holds s ms rest → rest_of rest ≡ unfinished k size index len → length (drop 12 rest ++ used) ≡ len
+    → let payload = drop 12 rest ++ used in let now = ms ++ page_message k size index payload ∷ [] in Holds s now [] × Grows Nothing ms rest now [] payload × TellsCode Nothing ms rest used
+passing_ends s ms rest used k size index len none holds is long =
     let payload : List ℕ = drop 12 rest ++ used in
-    let message : Message = page_message k index payload in
-    let F : ℕ → Share → Share = (λ m t. after_header m t t.progress index len) in
+    let message : Message = page_message k size index payload in
+    let F : ℕ → Share → Share = (λ m t. after_header m t t.progress size index len) in
     let code = passed_code (page_at s.page) ms rest none holds.awaits in
-    let over : IsOver (made_of ms (unfinished k index len) k).progress = subst (λ r. IsOver (made_of ms r k).progress) is (code k index len is) in
+    let over : IsOver (made_of ms (unfinished k size index len) k).progress = subst (λ r. IsOver (made_of ms r k).progress) is (code k size index len is) in
     let base : Share = made_of ms short k in
-    let own : made_of ms (unfinished k index len) k ≡ after_header k base base.progress index len = unfinished_own k index len ms in
-    let same : after_message true k base base.progress message ≡ after_header k base base.progress index len = page_passed k index len base base.progress payload refl long (subst (λ t. IsOver t.progress) own over) in
+    let own : made_of ms (unfinished k size index len) k ≡ after_header k base base.progress size index len = unfinished_own k size index len ms in
+    let same : after_message true k base base.progress message ≡ after_header k base base.progress size index len = page_passed k size index len base base.progress payload refl long (subst (λ t. IsOver t.progress) own over) in
     let grown = message_grows ms message F same in
-    let before = header_grows ms k index len F refl in
+    let before = header_grows ms k size index len F refl in
     let grows : (m : ℕ) → made_of (ms ++ message ∷ []) short m ≡ made_of ms (rest_of rest) m = (λ m. grown m ∙ sym (before m) ∙ ap (λ r. made_of ms r m) (sym is)) in (
       record {
         progress = λ m. holds.progress m ∙ ap (λ t. t.progress) (sym (grows m));
@@ -201,72 +206,88 @@ passing_ends s ms rest used k index len none holds is long =
     )
 
 -- the page that is coming is due
-pub is_due_now : (s : LfiStream) (ms : List Message) (rest : List ℕ) (page : Coming) → page_at s.page ≡ Some page → Holds s ms rest → IsDue page (made_of ms (rest_of rest) page.«module»).progress rest
+pub is_due_now : (s : LfiStreamText) (ms : List Message) (rest : List ℕ) (page : Coming) → page_at s.page ≡ Some page → Holds s ms rest → IsDue page (made_of ms (rest_of rest) page.«module»).progress rest
 is_due_now s ms rest page some holds = subst (λ o. Awaits o (made_of ms (rest_of rest)) rest) some holds.awaits
 
 -- Payload bytes of the page that is due: they belong after those that came.
-pub code_at : (s : LfiStream) (ms : List Message) (rest : List ℕ) (page : Coming) (extent : ExtentView) (p offset : ℕ) → page_at s.page ≡ Some page → progress_at s.modules page.«module» ≡ Going extent p → Holds s ms rest
-    → (page.come ≤ page_bytes → offset ≡ page_bytes * p + page.come) → IsCodeAt page.«module» offset ms rest
-code_at s ms rest page extent p offset some was holds is =
+pub code_at : (s : LfiStreamText) (ms : List Message) (rest used : List ℕ) (page : Coming) (extent : ExtentView) (p offset m size index len : ℕ) → page_at s.page ≡ Some page → progress_at s.modules page.«module» ≡ Going extent p → Holds s ms rest
+    → rest_of rest ≡ unfinished m size index len → length (drop 12 rest ++ used) ≤ len → (page.come ≤ 4 * extent.pages → offset ≡ 4 * extent.pages * p + page.come) → IsCodeAt page.«module» offset ms rest used
+code_at s ms rest used page extent p offset m size index len some was holds here within is =
     let d = is_due_now s ms rest page some holds in
     let same : Going extent p ≡ Going d.extent d.pages = sym was ∙ holds.progress page.«module» ∙ d.going in
+    let same_extent : extent ≡ d.extent = cc in
     let pages : p ≡ d.pages = cc in
     let come = d.come in
-    let less = (unfinished_long rest page.«module» d.pages (bytes_in_page page_words d.extent.words d.pages) d.header).1 in
-    let few : page.come ≤ page_bytes = omega arith in
-    record { extent = d.extent; pages = d.pages; len = bytes_in_page page_words d.extent.words d.pages; going = d.going; header = d.header; offset_is = is few ∙ (λ i. page_bytes * pages i + come i) }
+    let told : unfinished m size index len ≡ unfinished page.«module» d.extent.pages d.pages (bytes_in_page d.extent.pages d.extent.words d.pages) = sym here ∙ d.header in
+    let same_len : len ≡ bytes_in_page d.extent.pages d.extent.words d.pages = cc in
+    let less = (unfinished_long rest page.«module» d.extent.pages d.pages (bytes_in_page d.extent.pages d.extent.words d.pages) d.header).1 in
+    let fits : page.come ≤ 4 * d.extent.pages = omega arith in
+    let few : page.come ≤ 4 * extent.pages = subst (λ z. page.come ≤ 4 * z.pages) (sym same_extent) fits in
+    record {
+      extent = d.extent;
+      pages = d.pages;
+      going = d.going;
+      header = d.header;
+      offset_is = is few ∙ (λ i. 4 * (same_extent i).pages * pages i + come i);
+      within = subst (λ z. length (drop 12 rest ++ used) ≤ z) same_len within;
+    }
 
 -- more of them are to come
-pub coming_more : (old new : LfiStream) (ms : List Message) (rest used payload : List ℕ) (page : Coming) (m index len come : ℕ) → page_at old.page ≡ Some page
+pub coming_more : (old new : LfiStreamText) (ms : List Message) (rest used payload : List ℕ) (page : Coming) (m size index len come : ℕ) → page_at old.page ≡ Some page
     → page_at new.page ≡ Some (record { «module» = page.«module»; come = come }) → (page.come + length used < 2 ^ 64 → come ≡ page.come + length used) → ((k : ℕ) → progress_at new.modules k ≡ progress_at old.modules k)
-    → Holds old ms rest → rest_of rest ≡ unfinished m index len → rest_of (rest ++ used) ≡ unfinished m index len → Holds new ms (rest ++ used) × ((k : ℕ) → made_of ms (rest_of (rest ++ used)) k ≡ made_of ms (rest_of rest) k)
-coming_more old new ms rest used payload page m index len come some some' is_come at holds is is' =
+    → Holds old ms rest → rest_of rest ≡ unfinished m size index len → rest_of (rest ++ used) ≡ unfinished m size index len → Holds new ms (rest ++ used) × ((k : ℕ) → made_of ms (rest_of (rest ++ used)) k ≡ made_of ms (rest_of rest) k)
+coming_more old new ms rest used payload page m size index len come some some' is_come at holds is is' =
     let d = is_due_now old ms rest page some holds in
     let same : rest_of rest ≡ rest_of (rest ++ used) = is ∙ sym is' in
-    let before = unfinished_long rest m index len is in
-    let after = (unfinished_long (rest ++ used) page.«module» d.pages (bytes_in_page page_words d.extent.words d.pages) (sym same ∙ d.header)).1 in
+    let before = unfinished_long rest m size index len is in
+    let after = (unfinished_long (rest ++ used) page.«module» d.extent.pages d.pages (bytes_in_page d.extent.pages d.extent.words d.pages) (sym same ∙ d.header)).1 in
     let all : drop 12 (rest ++ used) ≡ drop 12 rest ++ used = drop_append_left 12 rest used before.0 in
-    let size : length (drop 12 (rest ++ used)) ≡ length (drop 12 rest) + length used = ap length all ∙ length-append (drop 12 rest) used in
+    let long : length (drop 12 (rest ++ used)) ≡ length (drop 12 rest) + length used = ap length all ∙ length-append (drop 12 rest) used in
     let was = d.come in
+    let bound = d.sized in
     let few : page.come + length used < 2 ^ 64 = omega arith in
     let now : come ≡ length (drop 12 (rest ++ used)) = (let c = is_come few in omega arith) in (
       record {
         progress = λ k. at k ∙ holds.progress k ∙ ap (λ r. (made_of ms r k).progress) same;
         awaits = subst (λ o. Awaits o (made_of ms (rest_of (rest ++ used))) (rest ++ used)) (sym some')
-            (record { extent = d.extent; pages = d.pages; going = ap (λ r. (made_of ms r page.«module»).progress) (sym same) ∙ d.going; header = sym same ∙ d.header; is_next = d.is_next; come = now });
+            (record { extent = d.extent; pages = d.pages; going = ap (λ r. (made_of ms r page.«module»).progress) (sym same) ∙ d.going; sized = d.sized; header = sym same ∙ d.header; is_next = d.is_next; come = now });
       },
       λ k. ap (λ r. made_of ms r k) (sym same),
     )
 
 -- the page is whole
-pub page_ended : (old new : LfiStream) (ms : List Message) (rest used : List ℕ) (page : Coming) (extent : ExtentView) (p m index len : ℕ) → page_at old.page ≡ Some page → progress_at old.modules page.«module» ≡ Going extent p
+pub page_ended : (old new : LfiStreamText) (ms : List Message) (rest used : List ℕ) (page : Coming) (extent : ExtentView) (p m size index len : ℕ) → page_at old.page ≡ Some page → progress_at old.modules page.«module» ≡ Going extent p
     → page_at new.page ≡ None → ((k : ℕ) → progress_at new.modules k ≡ (if k == page.«module» then Going extent (p + 1) else progress_at old.modules k))
-    → Holds old ms rest → rest_of rest ≡ unfinished m index len → length (drop 12 rest ++ used) ≡ len
-    → let payload = drop 12 rest ++ used in let now = ms ++ page_message m index payload ∷ [] in
+    → Holds old ms rest → rest_of rest ≡ unfinished m size index len → length (drop 12 rest ++ used) ≡ len
+    → let payload = drop 12 rest ++ used in let now = ms ++ page_message m size index payload ∷ [] in
     Holds new now [] × ((k : ℕ) → made_of now short k ≡ (if k == page.«module» then with_page k (made_of ms (rest_of rest) k) (made_of ms (rest_of rest) k).progress payload else made_of ms (rest_of rest) k))
-page_ended old new ms rest used page extent p m index len some was none at holds is long =
+page_ended old new ms rest used page extent p m size index len some was none at holds is long =
     let d = is_due_now old ms rest page some holds in
     let k : ℕ = page.«module» in
     let payload : List ℕ = drop 12 rest ++ used in
     let same_going : Going extent p ≡ Going d.extent d.pages = sym was ∙ holds.progress k ∙ d.going in
     let same_extent : extent ≡ d.extent = cc in
     let pages : p ≡ d.pages = cc in
-    let told : unfinished k d.pages (bytes_in_page page_words d.extent.words d.pages) ≡ unfinished m index len = sym d.header ∙ is in
+    let told : unfinished k d.extent.pages d.pages (bytes_in_page d.extent.pages d.extent.words d.pages) ≡ unfinished m size index len = sym d.header ∙ is in
     let same_module : k ≡ m = cc in
+    let same_size : d.extent.pages ≡ size = cc in
     let same_index : d.pages ≡ index = cc in
-    let same_len : bytes_in_page page_words d.extent.words d.pages ≡ len = cc in
-    let message : Message = page_message m index payload in
-    let due : is_due page_words extent.words p index len ≡ true = (λ i. is_due page_words (same_extent i).words (pages i) (sym same_index i) (sym same_len i)) ∙ d.is_next in
+    let same_len : bytes_in_page d.extent.pages d.extent.words d.pages ≡ len = cc in
+    let message : Message = page_message m size index payload in
+    let own_size : size ≡ extent.pages = sym same_size ∙ ap (λ e. e.pages) (sym same_extent) in
+    let sized : (size == extent.pages) ≡ true = eq-eqb size extent.pages own_size in
+    let due_here : is_due extent.pages extent.words p index len ≡ true = (λ i. is_due (same_extent i).pages (same_extent i).words (pages i) (sym same_index i) (sym same_len i)) ∙ d.is_next in
+    let due : next_by extent p size index len ≡ true = (λ i. sized i && due_here i) in
     let base : Share = made_of ms short m in
-    let here : made_of ms (rest_of rest) m ≡ after_header m base base.progress index len = ap (λ r. made_of ms r m) is ∙ unfinished_own m index len ms in
+    let here : made_of ms (rest_of rest) m ≡ after_header m base base.progress size index len = ap (λ r. made_of ms r m) is ∙ unfinished_own m size index len ms in
     let going : base.progress ≡ Going extent p =
-    open_before m extent p index len base base.progress refl (ap (λ s. s.progress) (sym here) ∙ subst (λ z. (made_of ms (rest_of rest) z).progress ≡ Going extent p) same_module (sym (holds.progress k) ∙ was)) in
-    let kept : made_of ms (rest_of rest) m ≡ base = here ∙ ap (λ q. after_header m base q index len) going ∙ by_true (is_due page_words extent.words p index len) _ _ due in
+    open_before m extent p size index len base base.progress refl (ap (λ s. s.progress) (sym here) ∙ subst (λ z. (made_of ms (rest_of rest) z).progress ≡ Going extent p) same_module (sym (holds.progress k) ∙ was)) in
+    let kept : made_of ms (rest_of rest) m ≡ base = here ∙ ap (λ q. after_header m base q size index len) going ∙ by_true (next_by extent p size index len) _ _ due in
     let F : ℕ → Share → Share = (λ z s. with_item s (item_of z (p + 1) extent (item.Page payload)) (Going extent (p + 1))) in
     let does : after_message true m base base.progress message ≡ F m base =
-    ap (λ q. after_message true m base q message) going ∙ by_true (is_due page_words extent.words p index (length payload)) _ _ (ap (λ l. is_due page_words extent.words p index l) long ∙ due) in
+    ap (λ q. after_message true m base q message) going ∙ by_true (next_by extent p size index (length payload)) _ _ (ap (λ l. next_by extent p size index l) long ∙ due) in
     let grown = message_grows ms message F does in
-    let before : (z : ℕ) → made_of ms (rest_of rest) z ≡ made_of ms short z = (λ z. ap (λ r. made_of ms r z) is ∙ header_grows ms m index len (λ y s. s) (sym (unfinished_own m index len ms) ∙ ap (λ r. made_of ms r m) (sym is) ∙ kept) z ∙ both_same (z == m) (made_of ms short z)) in
+    let before : (z : ℕ) → made_of ms (rest_of rest) z ≡ made_of ms short z = (λ z. ap (λ r. made_of ms r z) is ∙ header_grows ms m size index len (λ y s. s) (sym (unfinished_own m size index len ms) ∙ ap (λ r. made_of ms r m) (sym is) ∙ kept) z ∙ both_same (z == m) (made_of ms short z)) in
     let at' : (z : ℕ) → progress_at new.modules z ≡ (if z == m then Going extent (p + 1) else progress_at old.modules z) = subst (λ y. (z : ℕ) → progress_at new.modules z ≡ (if z == y then Going extent (p + 1) else progress_at old.modules z)) same_module at in
     let progress : (z : ℕ) → progress_at new.modules z ≡ (made_of (ms ++ message ∷ []) short z).progress =
     (λ z. at' z ∙ moves (z == m) (progress_at old.modules z) (Going extent (p + 1)) (made_of ms short z) (F z (made_of ms short z)) (holds.progress z ∙ ap (λ s. s.progress) (before z)) refl ∙ ap (λ s. s.progress) (sym (grown z))) in
@@ -285,10 +306,10 @@ page_ended old new ms rest used page extent p m index len some was none at holds
     )
 
 -- the page that is coming is one of its module's
-pub inside : (s : LfiStream) (ms : List Message) (rest : List ℕ) (page : Coming) (extent : ExtentView) (p : ℕ) → page_at s.page ≡ Some page → progress_at s.modules page.«module» ≡ Going extent p → Holds s ms rest → p < page_count page_words extent.words
+pub inside : (s : LfiStreamText) (ms : List Message) (rest : List ℕ) (page : Coming) (extent : ExtentView) (p : ℕ) → page_at s.page ≡ Some page → progress_at s.modules page.«module» ≡ Going extent p → Holds s ms rest → p < page_count extent.pages extent.words
 inside s ms rest page extent p some was holds =
     let d = is_due_now s ms rest page some holds in
     let same : Going extent p ≡ Going d.extent d.pages = sym was ∙ holds.progress page.«module» ∙ d.going in
     let same_extent : d.extent ≡ extent = cc in
     let pages : d.pages ≡ p = cc in
-    subst (λ z. p < page_count page_words z.words) same_extent (subst (λ z. z < page_count page_words d.extent.words) pages (due_inside d.extent.words d.pages d.is_next))
+    subst (λ z. p < page_count z.pages z.words) same_extent (subst (λ z. z < page_count d.extent.pages d.extent.words) pages (due_inside d.extent.pages d.extent.words d.pages d.is_next))

@@ -1,5 +1,6 @@
 -- What one more message, or the header of a page, makes of the modules.
 use Rattle.std.proofs.Common.{◌≡◌, ◌≢◌, ℕ, ◌+◌, ◌==◌, List, [], ◌∷◌, ◌++◌, length, refl, sym, ◌∙◌, ap, subst, inl, inr, ◌⊎◌, Bool, true, false, if◌then◌else◌}
+use Rattle.std.specs.Prelude.{◌&&◌}
 use Rattle.std.proofs.lemmas.Bool.{eq-eqb}
 use Rattle.std.proofs.lemmas.Bool.Decides.{eqb_tells}
 use Rattle.lfi_frame.specs.Streams.{Message, open_message, page_message, close_message, header_of, short, unfinished}
@@ -9,10 +10,13 @@ use Rattle.lfi_model.specs.declared.connection.Progress.{Progress}
 use Rattle.lfi_model.specs.declared.connection.Progress.TheVariants.{Unclaimed, Going, Ended}
 use Rattle.lfi_model.specs.Items.{Share, after_message, after_header, item_of, with_item, with_stray}
 use Rattle.lfi_module.specs.Extents.{ExtentView}
-use Rattle.lfi_module.specs.Numbers.{page_words}
 use Rattle.lfi_module.specs.Pages.{is_due}
 use Rattle.lfi_model.proofs.Growing.{share_snoc}
 use Rattle.lfi_stream.specs.Streams.{made_of, IsOver}
+
+-- the page of this size, index and length is the one due of a module of which the first p pages came
+abbrev pub next_by : ExtentView → (p size index len : ℕ) → Bool
+next_by extent p size index len = size == extent.pages && is_due extent.pages extent.words p index len
 
 pub by_true : {A : Type 0} (b : Bool) (s t : A) → b ≡ true → (if b then s else t) ≡ s
 by_true true s t e = refl
@@ -55,23 +59,23 @@ message_grows ms message F does m = elim (eqb_tells m (module_at message)) [
 ]
 
 -- the header of a page of module k, whose payload is to come
-unfinished_other : (k m index len : ℕ) (ms : List Message) → m ≢ k → made_of ms (unfinished k index len) m ≡ made_of ms short m
-unfinished_other k m index len ms apart = elim (eqb_tells k m) [
+unfinished_other : (k m size index len : ℕ) (ms : List Message) → m ≢ k → made_of ms (unfinished k size index len) m ≡ made_of ms short m
+unfinished_other k m size index len ms apart = elim (eqb_tells k m) [
   | inl e ↦ absurd (apart (sym e.1))
   | inr n ↦ by_false (k == m) _ _ n.0
 ]
 
-pub unfinished_own : (k index len : ℕ) (ms : List Message) → made_of ms (unfinished k index len) k ≡ after_header k (made_of ms short k) (made_of ms short k).progress index len
-unfinished_own k index len ms = by_true (k == k) _ _ (eq-eqb k k refl)
+pub unfinished_own : (k size index len : ℕ) (ms : List Message) → made_of ms (unfinished k size index len) k ≡ after_header k (made_of ms short k) (made_of ms short k).progress size index len
+unfinished_own k size index len ms = by_true (k == k) _ _ (eq-eqb k k refl)
 
-pub header_grows : (ms : List Message) (k index len : ℕ) (F : ℕ → Share → Share) → after_header k (made_of ms short k) (made_of ms short k).progress index len ≡ F k (made_of ms short k)
-    → (m : ℕ) → made_of ms (unfinished k index len) m ≡ (if m == k then F m (made_of ms short m) else made_of ms short m)
-header_grows ms k index len F does m = elim (eqb_tells m k) [
+pub header_grows : (ms : List Message) (k size index len : ℕ) (F : ℕ → Share → Share) → after_header k (made_of ms short k) (made_of ms short k).progress size index len ≡ F k (made_of ms short k)
+    → (m : ℕ) → made_of ms (unfinished k size index len) m ≡ (if m == k then F m (made_of ms short m) else made_of ms short m)
+header_grows ms k size index len F does m = elim (eqb_tells m k) [
   | inl e ↦
       let is = e.1 in
-      subst (λ z. made_of ms (unfinished k index len) z ≡ (if z == k then F z (made_of ms short z) else made_of ms short z)) (sym is)
-      (unfinished_own k index len ms ∙ does ∙ sym (by_true (k == k) (F k (made_of ms short k)) (made_of ms short k) (eq-eqb k k refl)))
-  | inr n ↦ unfinished_other k m index len ms n.1 ∙ sym (by_false (m == k) (F m (made_of ms short m)) (made_of ms short m) n.0)
+      subst (λ z. made_of ms (unfinished k size index len) z ≡ (if z == k then F z (made_of ms short z) else made_of ms short z)) (sym is)
+      (unfinished_own k size index len ms ∙ does ∙ sym (by_true (k == k) (F k (made_of ms short k)) (made_of ms short k) (eq-eqb k k refl)))
+  | inr n ↦ unfinished_other k m size index len ms n.1 ∙ sym (by_false (m == k) (F m (made_of ms short m)) (made_of ms short m) n.0)
 ]
 
 -- how far a module is after it
@@ -94,10 +98,10 @@ close_stray k s Unclaimed h = refl
 close_stray k s (Going extent p) h = absurd h
 close_stray k s Ended h = refl
 
-pub header_stray : (k index len : ℕ) (s : Share) (q : Progress) → IsOver q → after_header k s q index len ≡ with_stray s
-header_stray k index len s Unclaimed h = refl
-header_stray k index len s (Going extent p) h = absurd h
-header_stray k index len s Ended h = refl
+pub header_stray : (k size index len : ℕ) (s : Share) (q : Progress) → IsOver q → after_header k s q size index len ≡ with_stray s
+header_stray k size index len s Unclaimed h = refl
+header_stray k size index len s (Going extent p) h = absurd h
+header_stray k size index len s Ended h = refl
 
 pub over_by : (q : Progress) → ((extent : ExtentView) (pages : ℕ) → q ≡ Going extent pages → ⊥) → IsOver q
 over_by Unclaimed h = tt
@@ -105,27 +109,27 @@ over_by (Going extent p) h = absurd (h extent p refl)
 over_by Ended h = tt
 
 -- a page that is passed over has made what its header made
-pub page_passed : (k index len : ℕ) (s : Share) (q : Progress) (payload : List ℕ) → s.progress ≡ q → length payload ≡ len → IsOver (after_header k s q index len).progress
-    → after_message true k s q (page_message k index payload) ≡ after_header k s q index len
-page_passed k index len s Unclaimed payload is long over = refl
-page_passed k index len s (Going extent p) payload is long over = elim (tells (is_due page_words extent.words p index len)) [
-  | inl t ↦ absurd (subst IsOver is (subst (λ z. IsOver z.progress) (by_true (is_due page_words extent.words p index len) s (with_item s (item_of k (p + 1) extent (End (PageFault index))) Ended) t) over))
+pub page_passed : (k size index len : ℕ) (s : Share) (q : Progress) (payload : List ℕ) → s.progress ≡ q → length payload ≡ len → IsOver (after_header k s q size index len).progress
+    → after_message true k s q (page_message k size index payload) ≡ after_header k s q size index len
+page_passed k size index len s Unclaimed payload is long over = refl
+page_passed k size index len s (Going extent p) payload is long over = elim (tells (next_by extent p size index len)) [
+  | inl t ↦ absurd (subst IsOver is (subst (λ z. IsOver z.progress) (by_true (next_by extent p size index len) s (with_item s (item_of k (p + 1) extent (End (PageFault index))) Ended) t) over))
   | inr f ↦
-      by_false (is_due page_words extent.words p index (length payload)) _ _ (ap (λ l. is_due page_words extent.words p index l) long ∙ f)
-      ∙ sym (by_false (is_due page_words extent.words p index len) _ _ f)
+      by_false (next_by extent p size index (length payload)) _ _ (ap (λ l. next_by extent p size index l) long ∙ f)
+      ∙ sym (by_false (next_by extent p size index len) _ _ f)
 ]
   where
     tells : (b : Bool) → (b ≡ true) ⊎ (b ≡ false)
     tells true = inl refl
     tells false = inr refl
-page_passed k index len s Ended payload is long over = refl
+page_passed k size index len s Ended payload is long over = refl
 
 -- before its page's header a module that is open now was open just so
-pub open_before : (k : ℕ) (extent : ExtentView) (p index len : ℕ) (s : Share) (q : Progress) → s.progress ≡ q → (after_header k s q index len).progress ≡ Going extent p → q ≡ Going extent p
-open_before k extent p index len s Unclaimed e h = absurd (cc)
-open_before k extent p index len s (Going extent' p') e h = by (is_due page_words extent'.words p' index len) h
+pub open_before : (k : ℕ) (extent : ExtentView) (p size index len : ℕ) (s : Share) (q : Progress) → s.progress ≡ q → (after_header k s q size index len).progress ≡ Going extent p → q ≡ Going extent p
+open_before k extent p size index len s Unclaimed e h = absurd (cc)
+open_before k extent p size index len s (Going extent' p') e h = by (next_by extent' p' size index len) h
   where
     by : (b : Bool) → (if b then s else with_item s (item_of k (p' + 1) extent' (End (PageFault index))) Ended).progress ≡ Going extent p → Going extent' p' ≡ Going extent p
     by true h = sym e ∙ h
     by false h = absurd (cc)
-open_before k extent p index len s Ended e h = absurd (cc)
+open_before k extent p size index len s Ended e h = absurd (cc)

@@ -15,7 +15,7 @@ use Rattle.lfi_model.specs.declared.connection.Cause.TheVariants.{End}
 use Rattle.lfi_model.specs.declared.connection.Progress.TheVariants.{Going}
 use Rattle.lfi_model.specs.Modules.{Member}
 use Rattle.lfi_model.specs.Items.{is_going, modules, connection_fault, fault_by_cause, fault_of, is_inside}
-use Rattle.lfi_stream.specs.declared.numbers.LfiStream.{LfiStream}
+use Rattle.lfi_stream.specs.declared.numbers.LfiStreamText.{LfiStreamText}
 use Rattle.lfi_stream.specs.declared.numbers.LfiStreamModule.{LfiStreamModule}
 use Rattle.lfi_stream.specs.declared.numbers.OpenModule.{OpenModule}
 use Rattle.lfi_stream.specs.Numbers.{progress_at}
@@ -102,7 +102,7 @@ no_fault feed messages rest stands none fault e = by feed.position stands.positi
 fault_without : (rest : Rest) (inside : Bool) → ((fault : FrameFault) → rest ≡ faulty fault → ⊥) → fault_of rest End inside ≡ fault_by_cause End inside
 fault_without short inside h = refl
 fault_without (faulty fault) inside h = absurd (h fault refl)
-fault_without (unfinished m index len) inside h = refl
+fault_without (unfinished m size index len) inside h = refl
 fault_without whole inside h = refl
 
 none_pass : (p : ℕ → Bool) (xs : List ℕ) → ((x : ℕ) → p x ≡ false) → list_any p xs ≡ false
@@ -133,7 +133,7 @@ going_tells (Some found) places in_range going none = sym (some_passes (λ m. is
 going_tells None places in_range going none = sym (none_pass (λ m. is_going (progress_at places m)) modules none)
 
 -- What the stream's fault is where its input ends.
-pub ends : (s : LfiStream) (feed : Feed) (ms : List Message) (rest : List ℕ) (r : Result Unit FrameFault) (o : Option OpenModule) → Holds s ms rest → FeedStands feed ms rest → feed_fault feed ≡ None → IsAtEnd (feed_fault feed) rest r
+pub ends : (s : LfiStreamText) (feed : Feed) (ms : List Message) (rest : List ℕ) (r : Result Unit FrameFault) (o : Option OpenModule) → Holds s ms rest → FeedStands feed ms rest → feed_fault feed ≡ None → IsAtEnd (feed_fault feed) rest r
     → IfSome o (λ found. found.number < 16) → IfSome o (λ found. progress_at s.modules found.number ≡ Going found.extent found.pages) → IfNone o ((m : ℕ) → is_going (progress_at s.modules m) ≡ false)
     → (b : Bool) → (is_err r || is_some o) ≡ b → connection_fault ms rest End (λ _. true) ≡ fault_by_cause End b
 ends s feed ms rest r o holds stands faultless told in_range going none b is =

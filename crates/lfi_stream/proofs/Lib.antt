@@ -1,4 +1,4 @@
-mod Texts
+pub mod Texts
 mod Growth
 mod ProfileNumbers
 mod Books
@@ -7,3 +7,5 @@ mod InputEnds
 mod OneText
 mod Wholes
 mod Places
+mod Counted
+pub mod Paged

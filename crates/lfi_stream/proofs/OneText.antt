@@ -7,7 +7,7 @@ use Rattle.lfi_frame.specs.Feeds.{IsAt, fault_at}
 use Rattle.std.specs.Prelude.{None}
 use Rattle.lfi_frame.proofs.Cuts.{only, rest_short}
 use Rattle.lfi_frame.proofs.Feeding.{page_rest}
-use Rattle.lfi_stream.specs.declared.numbers.LfiStream.{LfiStream}
+use Rattle.lfi_stream.specs.declared.numbers.LfiStreamText.{LfiStreamText}
 use Rattle.lfi_stream.specs.Streams.{StandsFor, StandsForText}
 
 -- no whole message stands in the rest
@@ -18,10 +18,10 @@ stops (position.Header filled) held rest at n w =
 stops (position.Payload left) held rest at n w = absurd (let u = page_rest rest left at in cc)
 stops (position.Faulty f) held rest at n w = absurd (cc)
 
-cut_of : (stream : LfiStream) (messages : List Message) (rest : List ℕ) → StandsFor stream messages rest → Cut (flat_map spelling messages ++ rest) messages rest
+cut_of : (stream : LfiStreamText) (messages : List Message) (rest : List ℕ) → StandsFor stream messages rest → Cut (flat_map spelling messages ++ rest) messages rest
 cut_of stream messages rest stands = record { spelled = refl; each = stands.each; stops = stops stands.feed.position stream.feed.held rest stands.feed.holds stands.feed.faultless }
 
-pub one_text : (stream : LfiStream) (text : List ℕ) (messages : List Message) (rest : List ℕ) → StandsForText stream text → Cut text messages rest → StandsFor stream messages rest
+pub one_text : (stream : LfiStreamText) (text : List ℕ) (messages : List Message) (rest : List ℕ) → StandsForText stream text → Cut text messages rest → StandsFor stream messages rest
 one_text stream text messages rest known cut =
     let same = only text known.messages messages known.rest rest (subst (λ l. Cut l known.messages known.rest) (sym known.spelled) (cut_of stream known.messages known.rest known.stands)) cut in
     let stands : StandsFor stream messages known.rest = subst (λ ms. StandsFor stream ms known.rest) same.0 known.stands in

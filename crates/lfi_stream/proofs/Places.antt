@@ -1,13 +1,10 @@
 -- How many bytes of code came of an open module.
-use Rattle.std.proofs.Common.{◌≡◌, ℕ, ◌+◌, ◌-◌, ◌*◌, ◌<◌, ◌==◌, List, [], ◌∷◌, ◌++◌, length, refl, sym, ◌∙◌, ap, subst, inl, inr, ◌⊎◌, arith, Bool, true, false, if◌then◌else◌, min, length-append}
-use Rattle.std.specs.Prelude.{nat_lt, ◌&&◌}
+use Rattle.std.proofs.Common.{◌≡◌, ℕ, ◌+◌, ◌-◌, ◌*◌, ◌<◌, ◌≤◌, ◌==◌, List, [], ◌∷◌, ◌++◌, length, mul-add, mul_assoc, mul_comm, mul-le-mul_right, div-mul-le_self, refl, sym, ◌∙◌, ap, subst, inl, inr, ◌⊎◌, arith, Bool, true, false, if◌then◌else◌, min, length-append}
 use Rattle.std.specs.List.{filter, fold}
 use Rattle.std.proofs.lemmas.Grind.{flat_map-append}
 use Rattle.std.proofs.lemmas.List.{append-nil}
-use Rattle.std.proofs.lemmas.Bool.{and_parts, eqb-true}
 use Rattle.lfi_module.specs.Extents.{ExtentView}
-use Rattle.lfi_module.specs.Numbers.{page_words, page_bytes}
-use Rattle.lfi_module.specs.Pages.{is_due, page_count, bytes_in_page}
+use Rattle.lfi_module.specs.Pages.{page_count, bytes_in_page}
 use Rattle.lfi_frame.specs.Streams.{Message, open_message, page_message, close_message, Rest, short, faulty, unfinished, whole, rest_of}
 use Rattle.lfi_model.specs.Item.{ItemView}
 use Rattle.lfi_model.specs.declared.item.ItemKind.TheVariants.{Open, Page, End}
@@ -17,11 +14,13 @@ use Rattle.lfi_model.specs.declared.connection.Progress.TheVariants.{Unclaimed, 
 use Rattle.lfi_model.specs.Items.{Share, nothing_yet, after_message, after_header, after_rest, is_of, item_of, with_item}
 use Rattle.lfi_stream.specs.Streams.{made_of}
 use Rattle.lfi_stream.specs.Outcomes.{bytes_at, code_of}
+use Rattle.lfi_stream.proofs.Growth.{next_by}
+use Rattle.lfi_stream.proofs.Books.{due_says}
 
 -- so many bytes by how far a module is
 abbrev Came : Progress → List ItemView → Type 0
 Came Unclaimed items = length (code_of items) ≡ 0
-Came (Going extent p) items = length (code_of items) ≡ 4 * min (1024 * p) extent.words
+Came (Going extent p) items = length (code_of items) ≡ 4 * min (extent.pages * p) extent.words
 Came Ended items = Unit {0}
 
 one_more : (items : List ItemView) (item : ItemView) → length (code_of (items ++ item ∷ [])) ≡ length (code_of items) + length (bytes_at item.kind)
@@ -32,39 +31,42 @@ one_more items item =
 same_came : (q : Progress) (s : Share) → s.progress ≡ q → Came q s.items → Came s.progress s.items
 same_came q s e h = subst (λ z. Came z s.items) (sym e) h
 
-due_len : (n p index len : ℕ) → is_due page_words n p index len ≡ true → (index ≡ p) × (len ≡ bytes_in_page page_words n index)
-due_len n p index len due =
-    let last = and_parts (index == p && nat_lt index (page_count page_words n)) (len == bytes_in_page page_words n index) due in
-    let first = and_parts (index == p) (nat_lt index (page_count page_words n)) last.0 in
-    (eqb-true index p first.0, eqb-true len (bytes_in_page page_words n index) last.1)
+grown : (size n p c len : ℕ) → c ≡ 4 * min (size * p) n → len ≡ 4 * min size (n - size * p) → c + len ≡ 4 * min (size * (p + 1)) n
+grown size n p c len h k = omega (arith, h, k, mul-add size p 1)
 
-grown : (n p c len : ℕ) → c ≡ 4 * min (1024 * p) n → len ≡ 4 * min 1024 (n - 1024 * p) → c + len ≡ 4 * min (1024 * (p + 1)) n
-grown n p c len h k = omega (arith, h, k)
+-- a module that has page p has all words before it
+starts : (size n p : ℕ) → p < page_count size n → size * p ≤ n
+starts size n p less =
+    let all = div-mul-le_self (n + (size - 1)) size in
+    let more : p + 1 ≤ page_count size n = omega (arith, less) in
+    let mine = mul-le-mul_right size more in
+    let turned : (p + 1) * size ≡ size * (p + 1) = mul_comm (p + 1) size in
+    omega (arith, all, mine, turned, mul-add size p 1)
 
 tells : (b : Bool) → (b ≡ true) ⊎ (b ≡ false)
 tells true = inl refl
 tells false = inr refl
 
-page_came : (m : ℕ) (extent : ExtentView) (p : ℕ) (s : Share) (index : ℕ) (payload : List ℕ) (b : Bool) → is_due page_words extent.words p index (length payload) ≡ b → Came (Going extent p) s.items
+page_came : (m : ℕ) (extent : ExtentView) (p : ℕ) (s : Share) (size index : ℕ) (payload : List ℕ) (b : Bool) → next_by extent p size index (length payload) ≡ b → Came (Going extent p) s.items
     → let t = (if b then with_item s (item_of m (p + 1) extent (Page payload)) (Going extent (p + 1)) else with_item s (item_of m (p + 1) extent (End (PageFault index))) Ended) in Came t.progress t.items
-page_came m extent p s index payload true due h =
-    let says = due_len extent.words p index (length payload) due in
-    let len : length payload ≡ 4 * min 1024 (extent.words - 1024 * p) = says.1 ∙ ap (λ z. bytes_in_page page_words extent.words z) says.0 in
-    one_more s.items (item_of m (p + 1) extent (Page payload)) ∙ grown extent.words p (length (code_of s.items)) (length payload) h len
-page_came m extent p s index payload false due h = tt
+page_came m extent p s size index payload true due h =
+    let says = due_says extent p size index (length payload) due in
+    let len : length payload ≡ 4 * min extent.pages (extent.words - extent.pages * p) = says.2 ∙ ap (λ z. bytes_in_page extent.pages extent.words z) says.1 in
+    one_more s.items (item_of m (p + 1) extent (Page payload)) ∙ grown extent.pages extent.words p (length (code_of s.items)) (length payload) h len
+page_came m extent p s size index payload false due h = tt
 
 message_came : (m : ℕ) (s : Share) (q : Progress) (message : Message) → s.progress ≡ q → Came q s.items → Came (after_message true m s q message).progress (after_message true m s q message).items
 message_came m s Unclaimed (open_message k extent) e h =
     let l = one_more s.items (item_of m 0 extent Open) in
-    let none : min (1024 * 0) extent.words ≡ 0 = omega arith in
+    let none : min (extent.pages * 0) extent.words ≡ 0 = omega arith in
     omega (arith, l, h, none)
-message_came m s Unclaimed (page_message k index payload) e h = same_came Unclaimed s e h
+message_came m s Unclaimed (page_message k size index payload) e h = same_came Unclaimed s e h
 message_came m s Unclaimed (close_message k) e h = same_came Unclaimed s e h
 message_came m s (Going extent p) (open_message k other) e h = same_came (Going extent p) s e h
-message_came m s (Going extent p) (page_message k index payload) e h = page_came m extent p s index payload (is_due page_words extent.words p index (length payload)) refl h
+message_came m s (Going extent p) (page_message k size index payload) e h = page_came m extent p s size index payload (next_by extent p size index (length payload)) refl h
 message_came m s (Going extent p) (close_message k) e h = tt
 message_came m s Ended (open_message k extent) e h = same_came Ended s e h
-message_came m s Ended (page_message k index payload) e h = same_came Ended s e h
+message_came m s Ended (page_message k size index payload) e h = same_came Ended s e h
 message_came m s Ended (close_message k) e h = same_came Ended s e h
 
 fold_came : (m : ℕ) (ms : List Message) (s : Share) → Came s.progress s.items
@@ -76,21 +78,27 @@ either : (b : Bool) (s t : Share) → Came s.progress s.items → Came t.progres
 either true s t h k = h
 either false s t h k = k
 
-header_came : (m : ℕ) (s : Share) (q : Progress) (index len : ℕ) → s.progress ≡ q → Came q s.items → Came (after_header m s q index len).progress (after_header m s q index len).items
-header_came m s Unclaimed index len e h = same_came Unclaimed s e h
-header_came m s (Going extent p) index len e h = either (is_due page_words extent.words p index len) s _ (same_came (Going extent p) s e h) tt
-header_came m s Ended index len e h = same_came Ended s e h
+header_came : (m : ℕ) (s : Share) (q : Progress) (size index len : ℕ) → s.progress ≡ q → Came q s.items → Came (after_header m s q size index len).progress (after_header m s q size index len).items
+header_came m s Unclaimed size index len e h = same_came Unclaimed s e h
+header_came m s (Going extent p) size index len e h = either (next_by extent p size index len) s _ (same_came (Going extent p) s e h) tt
+header_came m s Ended size index len e h = same_came Ended s e h
 
 rest_came : (m : ℕ) (s : Share) (rest : Rest) → Came s.progress s.items → Came (after_rest m s rest).progress (after_rest m s rest).items
 rest_came m s short h = h
 rest_came m s (faulty fault) h = h
-rest_came m s (unfinished k index len) h = either (k == m) (after_header m s s.progress index len) s (header_came m s s.progress index len refl h) h
+rest_came m s (unfinished k size index len) h = either (k == m) (after_header m s s.progress size index len) s (header_came m s s.progress size index len refl h) h
 rest_came m s whole h = h
 
+-- so many bytes of code came of an open module
+pub code_came : (ms : List Message) (rest : Rest) (m : ℕ) (extent : ExtentView) (p : ℕ) → (made_of ms rest m).progress ≡ Going extent p → length (code_of (made_of ms rest m).items) ≡ 4 * min (extent.pages * p) extent.words
+code_came ms rest m extent p going =
+    subst (λ q. Came q (made_of ms rest m).items) going
+    (rest_came m (fold (λ t message. after_message true m t t.progress message) nothing_yet (filter (is_of m) ms)) rest (fold_came m (filter (is_of m) ms) nothing_yet refl))
+
 -- The next page of an open module begins where the code that came ends.
-pub next_place : (ms : List Message) (rest : List ℕ) (m : ℕ) (extent : ExtentView) (p : ℕ) → (made_of ms (rest_of rest) m).progress ≡ Going extent p → p < page_count page_words extent.words
-    → length (code_of (made_of ms (rest_of rest) m).items) ≡ page_bytes * p
+pub next_place : (ms : List Message) (rest : List ℕ) (m : ℕ) (extent : ExtentView) (p : ℕ) → (made_of ms (rest_of rest) m).progress ≡ Going extent p → p < page_count extent.pages extent.words
+    → length (code_of (made_of ms (rest_of rest) m).items) ≡ 4 * extent.pages * p
 next_place ms rest m extent p going less =
-    let s : Share = made_of ms (rest_of rest) m in
-    let h : Came (Going extent p) s.items = subst (λ q. Came q s.items) going (rest_came m (fold (λ t message. after_message true m t t.progress message) nothing_yet (filter (is_of m) ms)) (rest_of rest) (fold_came m (filter (is_of m) ms) nothing_yet refl)) in
-    omega (arith, h, less)
+    let h = code_came ms (rest_of rest) m extent p going in
+    let before = starts extent.pages extent.words p less in
+    omega (arith, h, before, mul_assoc 4 extent.pages p)

@@ -8,30 +8,32 @@ use Rattle.lfi_frame.specs.declared.feed.Position.{Position}
 use Rattle.lfi_frame.specs.declared.feed.Position.TheVariants as position
 use Rattle.lfi_frame.specs.Streams.{Message, IsMessage, spelling, short, faulty, unfinished, rest_of}
 use Rattle.lfi_frame.specs.Feeds.{FeedStands, IsAt, fault_at}
+use Rattle.lfi_model.specs.declared.connection.Progress.{Progress}
 use Rattle.lfi_model.specs.Items.{Share}
+use Rattle.std.proofs.lemmas.Bool.{cases_lt}
 use Rattle.lfi_stream.specs.declared.event.Event.{Event}
 use Rattle.lfi_stream.specs.declared.event.Event.TheVariants.{Nothing, Open, Code, Stray, End, Fault}
 use Rattle.lfi_stream.specs.declared.numbers.Coming.{Coming}
-use Rattle.lfi_stream.specs.declared.numbers.LfiStream.{LfiStream}
+use Rattle.lfi_stream.specs.declared.numbers.LfiStreamText.{LfiStreamText}
 use Rattle.lfi_stream.specs.declared.numbers.LfiStreamFeed.{LfiStreamFeed}
-use Rattle.lfi_stream.specs.Numbers.{position_at, page_at}
+use Rattle.lfi_stream.specs.Numbers.{position_at, page_at, progress_at}
 use Rattle.lfi_stream.specs.Streams.{made_of, IsIn, IsOver, Awaits, Holds}
-use Rattle.lfi_stream.specs.Events.{after_event, Grows, IsPlain, TellsCode, Moves, IsTold, Tells}
-use Rattle.lfi_stream.proofs.Texts.{shorter, short_before, whole_text}
+use Rattle.lfi_stream.specs.Events.{after_event, Grows, IsPlain, Follows, IsInMessage, TellsCode, Moves, IsTold, Tells}
+use Rattle.lfi_stream.proofs.Texts.{shorter, short_before, short_length, whole_text}
 
 -- before a header's end no page is awaited
 awaits_short : (o : Option Coming) (made made' : ℕ → Share) (rest other : List ℕ) → rest_of rest ≡ short → rest_of other ≡ short → Awaits o made rest → Awaits o made' other
 awaits_short (Some page) made made' rest other is is' h = absurd (let e = h.header in cc)
-awaits_short None made made' rest other is is' h = λ m index len e. absurd (cc)
+awaits_short None made made' rest other is is' h = λ m size index len e. absurd (cc)
 
-holds_short : (s : LfiStream) (ms : List Message) (rest other : List ℕ) → rest_of rest ≡ short → rest_of other ≡ short → Holds s ms rest → Holds s ms other
+holds_short : (s : LfiStreamText) (ms : List Message) (rest other : List ℕ) → rest_of rest ≡ short → rest_of other ≡ short → Holds s ms rest → Holds s ms other
 holds_short s ms rest other is is' h = record {
   progress = λ m. h.progress m ∙ ap (λ r. (made_of ms r m).progress) (is ∙ sym is');
   awaits = awaits_short (page_at s.page) (made_of ms (rest_of rest)) (made_of ms (rest_of other)) rest other is is' h.awaits;
 }
 
-no_page : (ms : List Message) (rest used : List ℕ) → rest_of rest ≡ short → (used ≡ []) ⊎ ((m index len : ℕ) → rest_of rest ≡ unfinished m index len → IsOver (made_of ms (rest_of rest) m).progress)
-no_page ms rest used is = inr (λ m index len e. absurd (cc))
+no_page : (ms : List Message) (rest used : List ℕ) → rest_of rest ≡ short → (used ≡ []) ⊎ ((m size index len : ℕ) → rest_of rest ≡ unfinished m size index len → IsOver (made_of ms (rest_of rest) m).progress)
+no_page ms rest used is = inr (λ m size index len e. absurd (cc))
 
 plain_code : (event : Event) (ms : List Message) (rest used : List ℕ) → IsPlain event → rest_of rest ≡ short → TellsCode event ms rest used
 plain_code Nothing ms rest used plain is = no_page ms rest used is
@@ -49,8 +51,33 @@ plain_sound (Stray k) plain fault e = absurd (cc)
 plain_sound (End k extent pages reason) plain fault e = absurd (cc)
 plain_sound (Fault f) plain fault e = absurd plain
 
+-- what an event follows is told by the numbers, and by the text
+pub follows_by : (event : Event) (was is : ℕ → Progress) → ((m : ℕ) → was m ≡ is m) → Follows event was → Follows event is
+follows_by Nothing was is same h = tt
+follows_by (Open k extent) was is same h = sym (same k) ∙ h
+follows_by (Code k offset ended) was is same h = tt
+follows_by (Stray k) was is same h = tt
+follows_by (End k extent pages reason) was is same h = sym (same k) ∙ h
+follows_by (Fault fault) was is same h = tt
+
+pub follows_held : (event : Event) (s : LfiStreamText) (ms : List Message) (rest : List ℕ) → Holds s ms rest → Follows event (progress_at s.modules) → Follows event (λ m. (made_of ms (rest_of rest) m).progress)
+follows_held event s ms rest holds h = follows_by event (progress_at s.modules) (λ m. (made_of ms (rest_of rest) m).progress) holds.progress h
+
+-- bytes in a header or in a payload
+pub in_header : (ms : List Message) (rest used : List ℕ) → length (rest ++ used) ≤ 12 → IsInMessage ms rest used ms (rest ++ used)
+in_header ms rest used few = inr (refl, refl, inl few)
+
+pub in_payload : (ms : List Message) (rest used : List ℕ) → 12 ≤ length rest → IsInMessage ms rest used ms (rest ++ used)
+in_payload ms rest used long = inr (refl, refl, inr long)
+
+in_either : (ms : List Message) (rest used : List ℕ) → used ≡ [] → IsInMessage ms rest used ms (rest ++ used)
+in_either ms rest used none = elim (cases_lt (length rest) 12) [
+  | inl less ↦ in_header ms rest used (let same : length (rest ++ used) ≡ length rest = ap (λ l. length (rest ++ l)) none ∙ ap length (append-nil rest) in omega (arith, less, same))
+  | inr long ↦ in_payload ms rest used long
+]
+
 -- more bytes of a header, or none
-pub more_moves : (feed : Feed) (s : LfiStream) (ms : List Message) (rest used : List ℕ) → Holds s ms rest → FeedStands feed ms (rest ++ used) → (rest_of (rest ++ used) ≡ short) ⊎ (used ≡ []) → Moves feed s ms rest used Nothing
+pub more_moves : (feed : Feed) (s : LfiStreamText) (ms : List Message) (rest used : List ℕ) → Holds s ms rest → FeedStands feed ms (rest ++ used) → (rest_of (rest ++ used) ≡ short) ⊎ (used ≡ []) → Moves feed s ms rest used Nothing
 more_moves feed s ms rest used holds stands (inl is) =
     let before : rest_of rest ≡ short = shorter rest used is in
     record {
@@ -61,6 +88,8 @@ more_moves feed s ms rest used holds stands (inl is) =
       text = refl;
       grows = λ m. ap (λ r. made_of ms r m) (is ∙ sym before);
       code = no_page ms rest used before;
+      follows = tt;
+      inside = in_header ms rest used (let few = short_length (rest ++ used) is in omega (arith, few));
       sound = plain_sound Nothing tt;
     }
 more_moves feed s ms rest used holds stands (inr none) =
@@ -73,14 +102,16 @@ more_moves feed s ms rest used holds stands (inr none) =
       text = refl;
       grows = λ m. ap (λ l. made_of ms (rest_of l) m) same;
       code = inl none;
+      follows = tt;
+      inside = in_either ms rest used none;
       sound = plain_sound Nothing tt;
     }
 
 -- a whole message that is no page
-pub message_moves : (feed : Feed) (old new : LfiStream) (ms : List Message) (rest used : List ℕ) (message : Message) (event : Event) → used ≢ [] → length (spelling message) ≤ 12 → rest ++ used ≡ spelling message
-    → FeedStands feed (ms ++ message ∷ []) [] → Holds old ms rest → IsPlain event
+pub message_moves : (feed : Feed) (old new : LfiStreamText) (ms : List Message) (rest used : List ℕ) (message : Message) (event : Event) → used ≢ [] → length (spelling message) ≤ 12 → rest ++ used ≡ spelling message
+    → FeedStands feed (ms ++ message ∷ []) [] → Holds old ms rest → IsPlain event → Follows event (progress_at old.modules)
     → ((payload : List ℕ) → Holds old ms [] → let now = ms ++ message ∷ [] in Holds new now [] × Grows event ms [] now [] payload) → Moves feed new ms rest used event
-message_moves feed old new ms rest used message event some twelve spells stands holds plain goes =
+message_moves feed old new ms rest used message event some twelve spells stands holds plain follows goes =
     let before : rest_of rest ≡ short = short_before rest used some (subst (λ l. length l ≤ 12) (sym spells) twelve) in
     let h : Holds old ms [] = holds_short old ms rest [] before refl holds in
     let payload : List ℕ = drop 12 rest ++ used in
@@ -93,14 +124,16 @@ message_moves feed old new ms rest used message event some twelve spells stands 
       text = whole_text ms message rest used spells;
       grows = subst (λ r. (m : ℕ) → made_of (ms ++ message ∷ []) short m ≡ after_event m event payload (made_of ms r m)) (sym before) g.1;
       code = plain_code event ms rest used plain before;
+      follows = follows_held event old ms rest holds follows;
+      inside = inl refl;
       sound = plain_sound event plain;
     }
 
 -- the header of a page
-pub header_moves : (feed : Feed) (old new : LfiStream) (ms : List Message) (rest used : List ℕ) (event : Event) → used ≢ [] → length (rest ++ used) ≡ 12
-    → FeedStands feed ms (rest ++ used) → Holds old ms rest → IsPlain event
+pub header_moves : (feed : Feed) (old new : LfiStreamText) (ms : List Message) (rest used : List ℕ) (event : Event) → used ≢ [] → length (rest ++ used) ≡ 12
+    → FeedStands feed ms (rest ++ used) → Holds old ms rest → IsPlain event → Follows event (progress_at old.modules)
     → ((payload : List ℕ) → Holds old ms [] → Holds new ms (rest ++ used) × Grows event ms [] ms (rest ++ used) payload) → Moves feed new ms rest used event
-header_moves feed old new ms rest used event some twelve stands holds plain goes =
+header_moves feed old new ms rest used event some twelve stands holds plain follows goes =
     let before : rest_of rest ≡ short = short_before rest used some (omega arith) in
     let h : Holds old ms [] = holds_short old ms rest [] before refl holds in
     let payload : List ℕ = drop 12 rest ++ used in
@@ -113,10 +146,12 @@ header_moves feed old new ms rest used event some twelve stands holds plain goes
       text = refl;
       grows = subst (λ r. (m : ℕ) → made_of ms (rest_of (rest ++ used)) m ≡ after_event m event payload (made_of ms r m)) (sym before) g.1;
       code = plain_code event ms rest used plain before;
+      follows = follows_held event old ms rest holds follows;
+      inside = in_header ms rest used (omega (arith, twelve));
       sound = plain_sound event plain;
     }
 
-told_by : (event : Event) (s : LfiStream) (ms : List Message) (rest used : List ℕ) → ((fault : FrameFault) → event ≢ Fault fault) → IsTold s ms rest used event → Tells event s ms rest used
+told_by : (event : Event) (s : LfiStreamText) (ms : List Message) (rest used : List ℕ) → ((fault : FrameFault) → event ≢ Fault fault) → IsTold s ms rest used event → Tells event s ms rest used
 told_by Nothing s ms rest used sound told = told
 told_by (Open k extent) s ms rest used sound told = told
 told_by (Code k offset ended) s ms rest used sound told = told
@@ -125,7 +160,7 @@ told_by (End k extent pages reason) s ms rest used sound told = told
 told_by (Fault fault) s ms rest used sound told = absurd (sound fault refl)
 
 -- the numbers of the feed are kept too
-pub told : (feed : Feed) (s : LfiStream) (kept : LfiStreamFeed) (ms : List Message) (rest used : List ℕ) (event : Event) → Moves feed s ms rest used event
+pub told : (feed : Feed) (s : LfiStreamText) (kept : LfiStreamFeed) (ms : List Message) (rest used : List ℕ) (event : Event) → Moves feed s ms rest used event
     → ((now : List Message) (left : List ℕ) → FeedStands feed now left → IsIn kept left) → Tells event (record s { feed = kept }) ms rest used
 told feed s kept ms rest used event moves keeps = told_by event (record s { feed = kept }) ms rest used moves.sound (record {
   now = moves.now;
@@ -138,10 +173,12 @@ told feed s kept ms rest used event moves keeps = told_by event (record s { feed
   text = moves.text;
   grows = moves.grows;
   code = moves.code;
+  follows = moves.follows;
+  inside = moves.inside;
 })
 
 -- a header with a fault
-pub at_fault : (s : LfiStream) (kept : LfiStreamFeed) (ms : List Message) (rest used : List ℕ) (fault : FrameFault) → used ≢ [] → length (rest ++ used) ≡ 12 → Holds s ms rest
+pub at_fault : (s : LfiStreamText) (kept : LfiStreamFeed) (ms : List Message) (rest used : List ℕ) (fault : FrameFault) → used ≢ [] → length (rest ++ used) ≡ 12 → Holds s ms rest
     → (rest_of (rest ++ used) ≡ faulty fault) ⊎ (used ≡ []) → position_at kept.place kept.number ≡ Some (position.Faulty fault) → Tells (Fault fault) (record s { feed = kept }) ms rest used
 at_fault s kept ms rest used fault some twelve holds or position =
     let is : rest_of (rest ++ used) ≡ faulty fault = (elim or [ inl is ↦ is | inr none ↦ absurd (some none) ]) in

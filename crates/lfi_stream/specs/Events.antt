@@ -1,7 +1,7 @@
 -- What the events of a stream tell of its text. Source: docs/PROFILE.md, "Streams".
-use Rattle.std.specs.Prelude.{◌≡◌, ◌≢◌, ℕ, ◌+◌, ◌*◌, ◌==◌, if◌then◌else◌, true, false, List, [], ◌++◌, length, drop, flat_map, ◌⊎◌, Some}
+use Rattle.std.specs.Prelude.{◌≡◌, ◌≢◌, ℕ, ◌+◌, ◌*◌, ◌≤◌, ◌==◌, if◌then◌else◌, true, false, List, [], ◌++◌, length, drop, flat_map, ◌⊎◌, Some}
 use Rattle.lfi_module.specs.Extents.{ExtentView}
-use Rattle.lfi_module.specs.Numbers.{page_bytes}
+use Rattle.lfi_module.specs.Pages.{bytes_in_page}
 use Rattle.lfi_frame.specs.Streams.{Message, spelling, rest_of, unfinished, faulty}
 use Rattle.lfi_frame.specs.Feeds.{FeedStands}
 use Rattle.lfi_frame.specs.declared.fault.FrameFault.{FrameFault}
@@ -9,11 +9,11 @@ use Rattle.lfi_frame.specs.declared.feed.Feed.{Feed}
 use Rattle.lfi_frame.specs.declared.feed.Position.TheVariants.{Faulty}
 use Rattle.lfi_model.specs.declared.item.ItemKind.TheVariants as item
 use Rattle.lfi_model.specs.declared.connection.Progress.{Progress}
-use Rattle.lfi_model.specs.declared.connection.Progress.TheVariants.{Going, Ended}
+use Rattle.lfi_model.specs.declared.connection.Progress.TheVariants.{Unclaimed, Going, Ended}
 use Rattle.lfi_model.specs.Items.{Share, with_item, with_stray, item_of}
 use Rattle.lfi_stream.specs.declared.event.Event.{Event}
 use Rattle.lfi_stream.specs.declared.event.Event.TheVariants.{Nothing, Open, Code, Stray, End, Fault}
-use Rattle.lfi_stream.specs.declared.numbers.LfiStream.{LfiStream}
+use Rattle.lfi_stream.specs.declared.numbers.LfiStreamText.{LfiStreamText}
 use Rattle.lfi_stream.specs.Numbers.{position_at, progress_at}
 use Rattle.lfi_stream.specs.Streams.{made_of, IsOver, Holds, StandsFor}
 
@@ -42,22 +42,32 @@ IsPlain (Code k offset ended) = ⊥
 IsPlain (Fault fault) = ⊥
 IsPlain event = Unit {0}
 
--- The bytes after this text are payload of the page that is due of the open module k, and belong at this byte of its code.
-pub record IsCodeAt (k offset : ℕ) (messages : List Message) (rest : List ℕ) : Type 0 where
+-- How far the module of an event was before it: one that opens wasn't opened; one that ends was open, so large, when so many of its pages had come.
+abbrev pub Follows : Event → (ℕ → Progress) → Type 0
+Follows (Open k extent) was = was k ≡ Unclaimed
+Follows (End k extent pages reason) was = was k ≡ Going extent pages
+Follows event was = Unit {0}
+
+-- The bytes used go on in one message: to its end, or in its header, or in its payload.
+abbrev pub IsInMessage : (messages : List Message) (rest used : List ℕ) → (now : List Message) (left : List ℕ) → Type 0
+IsInMessage messages rest used now left = (left ≡ []) ⊎ ((now ≡ messages) × (left ≡ rest ++ used) × ((length left ≤ 12) ⊎ (12 ≤ length rest)))
+
+-- The bytes used after this text are payload of the page that is due of the open module k, no more than is to come of it, and belong at this byte of its code.
+pub record IsCodeAt (k offset : ℕ) (messages : List Message) (rest used : List ℕ) : Type 0 where
   pub extent : ExtentView
   pub pages : ℕ
-  pub len : ℕ
   pub going : (made_of messages (rest_of rest) k).progress ≡ Going extent pages
-  pub header : rest_of rest ≡ unfinished k pages len
-  pub offset_is : offset ≡ page_bytes * pages + length (drop 12 rest)
+  pub header : rest_of rest ≡ unfinished k extent.pages pages (bytes_in_page extent.pages extent.words pages)
+  pub offset_is : offset ≡ 4 * extent.pages * pages + length (drop 12 rest)
+  pub within : length (drop 12 rest ++ used) ≤ bytes_in_page extent.pages extent.words pages
 
 -- Code is told where it belongs; and where none is told, none was used.
 abbrev pub TellsCode : Event → (messages : List Message) → (rest used : List ℕ) → Type 0
-TellsCode (Code k offset ended) messages rest used = IsCodeAt k offset messages rest
-TellsCode event messages rest used = (used ≡ []) ⊎ ((m index len : ℕ) → rest_of rest ≡ unfinished m index len → IsOver (made_of messages (rest_of rest) m).progress)
+TellsCode (Code k offset ended) messages rest used = IsCodeAt k offset messages rest used
+TellsCode event messages rest used = (used ≡ []) ⊎ ((m size index len : ℕ) → rest_of rest ≡ unfinished m size index len → IsOver (made_of messages (rest_of rest) m).progress)
 
 -- After an event the text is longer by the bytes used, and cut so; the feed and the other numbers stand for it.
-pub record Moves (feed : Feed) (stream : LfiStream) (messages : List Message) (rest used : List ℕ) (event : Event) : Type 0 where
+pub record Moves (feed : Feed) (stream : LfiStreamText) (messages : List Message) (rest used : List ℕ) (event : Event) : Type 0 where
   pub now : List Message
   pub left : List ℕ
   pub stands : FeedStands feed now left
@@ -65,24 +75,28 @@ pub record Moves (feed : Feed) (stream : LfiStream) (messages : List Message) (r
   pub text : flat_map spelling now ++ left ≡ flat_map spelling messages ++ (rest ++ used)
   pub grows : Grows event messages rest now left (drop 12 rest ++ used)
   pub code : TellsCode event messages rest used
+  pub follows : Follows event (λ m. (made_of messages (rest_of rest) m).progress)
+  pub inside : IsInMessage messages rest used now left
   pub sound : (fault : FrameFault) → event ≢ Fault fault
 
 -- After an event that is no fault the numbers stand for the text with the bytes used, and the event tells what they brought.
-pub record IsTold (stream : LfiStream) (messages : List Message) (rest used : List ℕ) (event : Event) : Type 0 where
+pub record IsTold (stream : LfiStreamText) (messages : List Message) (rest used : List ℕ) (event : Event) : Type 0 where
   pub now : List Message
   pub left : List ℕ
   pub stands : StandsFor stream now left
   pub text : flat_map spelling now ++ left ≡ flat_map spelling messages ++ (rest ++ used)
   pub grows : Grows event messages rest now left (drop 12 rest ++ used)
   pub code : TellsCode event messages rest used
+  pub follows : Follows event (λ m. (made_of messages (rest_of rest) m).progress)
+  pub inside : IsInMessage messages rest used now left
 
 -- The text has come to a header with this fault, and the numbers of the modules are those of it.
-pub record IsAtFault (stream : LfiStream) (messages : List Message) (rest : List ℕ) (fault : FrameFault) : Type 0 where
+pub record IsAtFault (stream : LfiStreamText) (messages : List Message) (rest : List ℕ) (fault : FrameFault) : Type 0 where
   pub shows : rest_of rest ≡ faulty fault
   pub position : position_at stream.feed.place stream.feed.number ≡ Some (Faulty fault)
   pub progress : (m : ℕ) → progress_at stream.modules m ≡ (made_of messages (rest_of rest) m).progress
 
 -- What an event tells of the bytes used.
-abbrev pub Tells : Event → LfiStream → (messages : List Message) → (rest used : List ℕ) → Type 0
+abbrev pub Tells : Event → LfiStreamText → (messages : List Message) → (rest used : List ℕ) → Type 0
 Tells (Fault fault) stream messages rest used = IsAtFault stream messages (rest ++ used) fault
 Tells event stream messages rest used = IsTold stream messages rest used event

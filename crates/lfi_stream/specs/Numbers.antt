@@ -1,8 +1,9 @@
 -- What the numbers stand for that a caller keeps of a stream. Source: include/lfi_verifier.h, docs/PROFILE.md.
-use Rattle.std.specs.Prelude.{ℕ, ◌≤◌, ◌==◌, ◌||◌, nat_lt, nat_le, if◌then◌else◌, List, get_or, Option, Some, None, option_map}
-use Rattle.lfi_module.specs.Numbers.{module_count, most_words, page_words}
+use Rattle.std.specs.Prelude.{ℕ, ◌≤◌, ◌==◌, ◌||◌, ◌&&◌, nat_lt, nat_le, if◌then◌else◌, List, get_or, Option, Some, None, option_map}
+use Rattle.lfi_module.specs.Numbers.{module_count, most_words, small_page, large_page}
 use Rattle.lfi_module.specs.declared.profile.Profile.{Profile}
 use Rattle.lfi_module.specs.declared.profile.Profile.TheVariants.{One, Two}
+use Rattle.lfi_module.specs.Profiles.{is_two}
 use Rattle.lfi_module.specs.Extents.{ExtentView}
 use Rattle.lfi_module.specs.Pages.{page_count}
 use Rattle.lfi_frame.specs.declared.fault.FrameFault.{FrameFault}
@@ -33,34 +34,42 @@ position_at place number =
 abbrev pub profile_at : ℕ → Option Profile
 profile_at number = if number == 1 then Some One else if number == 2 then Some Two else None
 
--- how large a module of so many words is that is entered at this one and goes by this profile, where these are a module's
-abbrev pub extent_by : (words entry : ℕ) → Option Profile → Option ExtentView
-extent_by words entry None = None
-extent_by words entry (Some profile) =
-    if words == 0 || nat_lt most_words words || nat_le words entry then None else Some (record { words = words; entry = entry; profile = profile })
+-- pages of so many words, where a module of a profile can have such
+abbrev pub pages_at : Profile → (words : ℕ) → Option ℕ
+pages_at profile words = if words == small_page then Some small_page else if words == large_page && is_two profile then Some large_page else None
 
-abbrev pub extent_at : (words entry profile : ℕ) → Option ExtentView
-extent_at words entry profile = extent_by words entry (profile_at profile)
+-- how large a module of so many words is that is entered at this one, goes by this profile and has pages of so many words, where these are a module's
+abbrev pub extent_of : (words entry : ℕ) → Profile → Option ℕ → Option ExtentView
+extent_of words entry profile None = None
+extent_of words entry profile (Some pages) =
+    if words == 0 || nat_lt most_words words || nat_le words entry then None else Some (record { words = words; entry = entry; profile = profile; pages = pages })
+
+abbrev pub extent_by : (words entry page_words : ℕ) → Option Profile → Option ExtentView
+extent_by words entry page_words None = None
+extent_by words entry page_words (Some profile) = extent_of words entry profile (pages_at profile page_words)
+
+abbrev pub extent_at : (words entry profile page_words : ℕ) → Option ExtentView
+extent_at words entry profile page_words = extent_by words entry page_words (profile_at profile)
 
 -- how far an open module is that is so large, of which so many pages came; numbers that no module has are those of one that has ended
 abbrev pub going_by : Option ExtentView → (pages : ℕ) → Progress
 going_by None pages = Ended
-going_by (Some extent) pages = if nat_lt (page_count page_words extent.words) pages then Ended else Going extent pages
+going_by (Some extent) pages = if nat_lt (page_count extent.pages extent.words) pages then Ended else Going extent pages
 
 -- how far a module with these numbers is
 abbrev pub progress_of : LfiStreamModule → Progress
 progress_of numbers =
     if numbers.phase == 0 then Unclaimed
-    else if numbers.phase == 1 then going_by (extent_at numbers.words numbers.entry numbers.profile) numbers.pages else Ended
+    else if numbers.phase == 1 then going_by (extent_at numbers.words numbers.entry numbers.profile numbers.page_words) numbers.pages else Ended
 
 -- no more pages of a module have come than it has
 abbrev pub IsPossible : Progress → Type 0
-IsPossible (Going extent pages) = pages ≤ page_count page_words extent.words
+IsPossible (Going extent pages) = pages ≤ page_count extent.pages extent.words
 IsPossible progress = Unit {0}
 
 -- the numbers of a module that wasn't opened
 abbrev pub untouched : LfiStreamModule
-untouched = record { phase = 0; words = 0; entry = 0; profile = 0; pages = 0 }
+untouched = record { phase = 0; words = 0; entry = 0; profile = 0; page_words = 0; pages = 0 }
 
 -- how far module m of a stream is
 abbrev pub progress_at : List LfiStreamModule → ℕ → Progress

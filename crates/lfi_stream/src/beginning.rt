@@ -5,7 +5,7 @@ ghost use Rattle.lfi_model.specs.declared.connection.Progress.TheVariants.{Uncla
 ghost use Rattle.lfi_stream.specs.Numbers.{progress_at};
 ghost use Rattle.lfi_stream.specs.Streams.{StandsFor};
 
-use crate::numbers::{LfiStream, LfiStreamFeed, LfiStreamModule, LfiStreamPage};
+use crate::numbers::{LfiStreamFeed, LfiStreamModule, LfiStreamPage, LfiStreamText};
 use lfi_frame::HEADER_BYTES;
 use lfi_module::ModuleNumber;
 
@@ -18,16 +18,17 @@ fn none_opened() -> [LfiStreamModule; ModuleNumber::COUNT]
         words: 0,
         entry: 0,
         profile: 0,
+        page_words: 0,
         pages: 0,
     };
     [untouched; ModuleNumber::COUNT]
 }
 
 /// A stream of which no byte came.
-pub fn begin() -> LfiStream
+pub fn begin() -> LfiStreamText
     ensures { StandsFor result [] [] }
 {
-    LfiStream {
+    LfiStreamText {
         feed: LfiStreamFeed {
             place: 0,
             number: 0,

@@ -12,7 +12,7 @@ ghost use Rattle.lfi_stream.specs.Streams.{IsIn, StandsFor};
 ghost use Rattle.lfi_stream.specs.Endings.{Loses, LosesOne, Ends};
 
 use crate::event::Event;
-use crate::numbers::{LfiStream, OpenModule, feed_at, position_of};
+use crate::numbers::{LfiStreamText, OpenModule, feed_at, position_of};
 use crate::stream::place;
 use lfi_frame::{Feed, FrameFault, Position};
 use lfi_model::{Progress, Reason};
@@ -29,7 +29,7 @@ fn reason_of(fault: FrameFault) -> Reason
 }
 
 /// The open module of the least number.
-fn first_going(stream: &LfiStream) -> Option<OpenModule>
+fn first_going(stream: &LfiStreamText) -> Option<OpenModule>
     ensures in_range { IfSome result (λ found. found.number < module_count) }
     ensures going { IfSome result (λ found. progress_at stream.now.modules found.number ≡ Going found.extent found.pages) }
     ensures least { IfSome result (λ found. (m : ℕ) → m < found.number → is_going (progress_at stream.now.modules m) ≡ false) }
@@ -48,7 +48,7 @@ fn first_going(stream: &LfiStream) -> Option<OpenModule>
 }
 
 /// The open module of the least number is lost by this fault.
-fn lose(stream: &mut LfiStream, fault: FrameFault) -> Event
+fn lose(stream: &mut LfiStreamText, fault: FrameFault) -> Event
     ensures { Loses fault stream.old stream.new result }
 {
     let Some(open) = first_going(stream) else {
@@ -66,7 +66,7 @@ fn lose(stream: &mut LfiStream, fault: FrameFault) -> Event
 /// Tells that the input has ended: the fault that this is inside a message, or where a module is open; else nothing. At the
 /// stream's fault it ends the modules that are open, one a call, and then tells nothing. `None` where the numbers are those
 /// of no stream.
-pub fn end(stream: &mut LfiStream) -> Option<Event>
+pub fn end(stream: &mut LfiStreamText) -> Option<Event>
     ensures told { IfSome result (λ event. (messages : List Message) (rest : List ℕ) → StandsFor stream.old messages rest →
         Ends event stream.old stream.new messages rest) }
     ensures over { (fault : FrameFault) → position_at stream.old.feed.place stream.old.feed.number ≡ Some (Faulty fault) →

@@ -9,7 +9,7 @@ use lfi_module::{Extent, ModuleNumber};
 pub enum Event {
     /// Nothing that a host has to do.
     Nothing,
-    /// This module opens: so many words, entered at this one, by this profile.
+    /// This module opens: so many words, entered at this one, by this profile, with pages of this size.
     Open {
         module: ModuleNumber,
         extent: Extent,

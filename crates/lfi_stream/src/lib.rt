@@ -1,9 +1,9 @@
-//! A connection's stream as it comes, in plain numbers that a caller keeps: which module opens and by which profile, where
+//! A connection's stream as it comes, in plain numbers that a caller keeps: which module opens, by which profile and with which pages, where
 //! the bytes of its code belong, how it ends.
 //!
 //! # How data flows
 //!
-//! A [`LfiStream`] is the numbers that are kept between two pieces. [`next`] goes on in a piece, up to the end of a
+//! A [`LfiStreamText`] is the numbers that are kept between two pieces. [`next`] goes on in a piece, up to the end of a
 //! header or a payload, and tells what the bytes that it used brought: an [`Event`]. [`end`] tells the end of the input,
 //! and then the modules that are lost by it.
 //!
@@ -22,5 +22,5 @@ mod stream;
 pub use beginning::begin;
 pub use ending::end;
 pub use event::Event;
-pub use numbers::{LfiStream, LfiStreamFeed, LfiStreamModule, LfiStreamPage};
+pub use numbers::{LfiStreamFeed, LfiStreamModule, LfiStreamPage, LfiStreamText};
 pub use stream::next;

@@ -1,11 +1,10 @@
 //! The numbers that a caller keeps of a stream between two pieces, and what they stand for.
 
-ghost use Rattle.std.specs.Prelude.{◌≡◌, ◌<◌, ◌≤◌, ◌==◌, ℕ, if◌then◌else◌, Some};
-ghost use Rattle.lfi_module.specs.Numbers.{page_words};
-ghost use Rattle.lfi_module.specs.Pages.{page_count};
+ghost use Rattle.std.specs.Prelude.{◌≡◌, ◌<◌, ◌≤◌, ◌==◌, ℕ, if◌then◌else◌, Some, IfSome};
+ghost use Rattle.lfi_module.specs.Pages.{HasPages, page_count};
 ghost use Rattle.lfi_model.specs.declared.connection.Progress.TheVariants.{Going};
 ghost use Rattle.lfi_frame.specs.inner.Positions.{filled_at};
-ghost use Rattle.lfi_stream.specs.Numbers.{fault_at_number, position_at, profile_at, extent_at, going_by, progress_of, untouched, IsPossible, page_at};
+ghost use Rattle.lfi_stream.specs.Numbers.{fault_at_number, position_at, profile_at, pages_at, extent_at, going_by, progress_of, untouched, IsPossible, page_at};
 
 use lfi_frame::{FrameFault, HEADER_BYTES, Position};
 use lfi_model::Progress;
@@ -35,6 +34,8 @@ pub struct LfiStreamModule {
     pub entry: u32,
     /// Where it is open, the number of its profile.
     pub profile: u32,
+    /// Where it is open, how many words a full page of it has: 1,024 or 4,096.
+    pub page_words: u32,
     /// Where it is open, how many of its pages came.
     pub pages: u32,
 }
@@ -52,7 +53,7 @@ pub struct LfiStreamPage {
 /// A stream of which some bytes came, as its caller keeps it.
 #[repr(C)]
 #[derive(Clone, Copy)]
-pub struct LfiStream {
+pub struct LfiStreamText {
     /// Where it is in its messages.
     pub feed: LfiStreamFeed,
     /// The page whose payload is coming.
@@ -137,16 +138,29 @@ fn profile_of(number: u32) -> Option<Profile>
     Profile::new(number)
 }
 
-/// How large a module of so many words is, entered at this one, by the profile with this number; `None` where these numbers
-/// are none of a module.
-fn extent_of(words: u32, entry: u32, profile: u32) -> Option<Extent>
-    ensures { result ≡ extent_at words entry profile }
+/// Pages of so many words; `None` where a module of the profile has none such.
+fn pages_of(profile: Profile, words: u32) -> Option<PageSize>
+    ensures value { result ≡ pages_at profile words }
+    ensures fits { IfSome result (HasPages profile) }
+{
+    match (words, profile) {
+        (1024, _) => Some(PageSize::SMALL),
+        (4096, Profile::Two) => Some(PageSize::LARGE),
+        _ => None,
+    }
+}
+
+/// How large a module of so many words is, entered at this one, by the profile with this number, with pages of so many
+/// words; `None` where these numbers are none of a module.
+fn extent_of(words: u32, entry: u32, profile: u32, page_words: u32) -> Option<Extent>
+    ensures { result ≡ extent_at words entry profile page_words }
 {
     let by = profile_of(profile)?;
+    let pages = pages_of(by, page_words)?;
     if words == 0 || words > WordCount::MOST.number() || entry >= words {
         return None;
     }
-    Some(Extent::of(WordCount::of(words), entry, by))
+    Some(Extent::of(WordCount::of(words), entry, by, pages))
 }
 
 /// How far an open module is that is so large, of which so many pages came. Where its numbers are none of a module, it is
@@ -157,7 +171,7 @@ fn going(size: Option<Extent>, pages: u32) -> Progress
     let Some(extent) = size else {
         return Progress::Ended;
     };
-    if pages > extent.words().pages(PageSize::PROFILE) {
+    if pages > extent.words().pages(extent.pages()) {
         return Progress::Ended;
     }
     Progress::Going { extent, pages }
@@ -171,14 +185,17 @@ impl LfiStreamModule {
     {
         match self.phase {
             0 => Progress::Unclaimed,
-            1 => going(extent_of(self.words, self.entry, self.profile), self.pages),
+            1 => going(
+                extent_of(self.words, self.entry, self.profile, self.page_words),
+                self.pages,
+            ),
             _ => Progress::Ended,
         }
     }
 
     /// The numbers of a module that is open.
     fn open(extent: Extent, pages: u32) -> LfiStreamModule
-        requires { pages ≤ page_count page_words extent.words }
+        requires { pages ≤ page_count extent.pages extent.words }
         ensures { progress_of result ≡ Going extent pages }
     {
         LfiStreamModule {
@@ -186,6 +203,7 @@ impl LfiStreamModule {
             words: extent.words().number(),
             entry: extent.entry(),
             profile: extent.profile().number(),
+            page_words: extent.pages().words(),
             pages,
         }
     }
@@ -199,6 +217,7 @@ impl LfiStreamModule {
             words: 0,
             entry: 0,
             profile: 0,
+            page_words: 0,
             pages: 0,
         }
     }

@@ -1,7 +1,8 @@
 //! A stream goes on.
 
-ghost use Rattle.std.specs.Prelude.{◌≡◌, ◌≢◌, ◌<◌, ◌≤◌, ◌+◌, ◌*◌, ◌==◌, ◌++◌, ◌∷◌, ℕ, true, false, List, [], length, take, drop, Some, None, IfSome, IfNone, if◌then◌else◌, ◌⊎◌, All};
-ghost use Rattle.lfi_module.specs.Numbers.{page_bytes};
+ghost use Rattle.std.specs.Prelude.{◌≡◌, ◌≢◌, ◌<◌, ◌≤◌, ◌+◌, ◌*◌, ◌==◌, ◌&&◌, ◌++◌, ◌∷◌, ℕ, true, false, List, [], length, take, drop, Some, None, IfSome, IfNone, if◌then◌else◌, ◌⊎◌, All};
+ghost use Rattle.lfi_module.specs.Numbers.{large_page};
+ghost use Rattle.lfi_module.specs.Pages.{is_due};
 ghost use Rattle.lfi_frame.specs.declared.feed.Feed.{Feed};
 ghost use Rattle.lfi_frame.specs.declared.feed.Position.TheVariants.{Faulty};
 ghost use Rattle.lfi_frame.specs.declared.fault.FrameFault.{FrameFault};
@@ -10,18 +11,18 @@ ghost use Rattle.lfi_frame.specs.Streams.{Message, open_message, page_message, c
 ghost use Rattle.lfi_frame.specs.Feeds.{FeedStands, IsTold, feed_fault};
 ghost use Rattle.lfi_stream.specs.Numbers.{position_at, progress_at, IsPossible};
 ghost use Rattle.lfi_stream.specs.Streams.{IsIn, Holds, StandsFor};
-ghost use Rattle.lfi_stream.specs.Events.{Grows, IsPlain, TellsCode, Moves, Tells};
+ghost use Rattle.lfi_stream.specs.Events.{Grows, IsPlain, Follows, TellsCode, Moves, Tells};
 
 use crate::event::Event;
 use crate::numbers::{
-    Coming, LfiStream, LfiStreamFeed, LfiStreamModule, LfiStreamPage, feed_at, position_of,
+    Coming, LfiStreamFeed, LfiStreamModule, LfiStreamPage, LfiStreamText, feed_at, position_of,
 };
 use lfi_frame::{Feed, Got, Position, Step};
 use lfi_model::{Progress, Reason};
 use lfi_module::{Extent, ModuleNumber, PageSize};
 
 /// How far a module is.
-fn progress_in(stream: &LfiStream, module: ModuleNumber) -> Progress
+fn progress_in(stream: &LfiStreamText, module: ModuleNumber) -> Progress
     ensures at { result ≡ progress_at stream.now.modules «module» }
     ensures possible { IsPossible result }
 {
@@ -29,7 +30,7 @@ fn progress_in(stream: &LfiStream, module: ModuleNumber) -> Progress
 }
 
 /// This module is so far now.
-pub(crate) fn place(stream: &mut LfiStream, module: ModuleNumber, progress: Progress)
+pub(crate) fn place(stream: &mut LfiStreamText, module: ModuleNumber, progress: Progress)
     requires { IsPossible progress }
     ensures at { (m : ℕ) → progress_at stream.new.modules m ≡ (if m == «module» then progress else progress_at stream.old.modules m) }
     ensures rest { stream.new ≡ record stream.old { modules = stream.new.modules } }
@@ -38,10 +39,11 @@ pub(crate) fn place(stream: &mut LfiStream, module: ModuleNumber, progress: Prog
 }
 
 /// An Open: it opens its module, where that wasn't opened before; else it is passed over.
-fn open(stream: &mut LfiStream, module: ModuleNumber, extent: Extent) -> Event
+fn open(stream: &mut LfiStreamText, module: ModuleNumber, extent: Extent) -> Event
     ensures holds { (messages : List Message) (payload : List ℕ) → Holds stream.old messages [] →
         let now = messages ++ open_message «module» extent ∷ [] in Holds stream.new now [] × Grows result messages [] now [] payload }
     ensures plain { IsPlain result }
+    ensures follows { Follows result (progress_at stream.old.modules) }
 {
     match progress_in(stream, module) {
         Progress::Unclaimed => {
@@ -53,10 +55,11 @@ fn open(stream: &mut LfiStream, module: ModuleNumber, extent: Extent) -> Event
 }
 
 /// A Close: it ends its module, where that is open; else it is passed over.
-fn close(stream: &mut LfiStream, module: ModuleNumber) -> Event
+fn close(stream: &mut LfiStreamText, module: ModuleNumber) -> Event
     ensures holds { (messages : List Message) (payload : List ℕ) → Holds stream.old messages [] →
         let now = messages ++ close_message «module» ∷ [] in Holds stream.new now [] × Grows result messages [] now [] payload }
     ensures plain { IsPlain result }
+    ensures follows { Follows result (progress_at stream.old.modules) }
 {
     match progress_in(stream, module) {
         Progress::Going { extent, pages } => {
@@ -72,18 +75,35 @@ fn close(stream: &mut LfiStream, module: ModuleNumber) -> Event
     }
 }
 
-/// The header of page `index` with `len` payload bytes: it is the one due of an open module, and is coming; or it ends its
-/// module; or it is passed over.
-fn page(stream: &mut LfiStream, module: ModuleNumber, index: u32, len: u32) -> Event
-    ensures holds { (messages : List Message) (rest payload : List ℕ) → Holds stream.old messages [] → rest_of rest ≡ unfinished «module» index len →
+/// Whether page `index` of this size, with `len` payload bytes, is the one due of an open module of which so many came.
+fn is_next(extent: Extent, pages: u32, size: PageSize, index: u32, len: u32) -> bool
+    ensures is { result ≡ (size == extent.pages && is_due extent.pages extent.words pages index len) }
+    ensures bounded { extent.pages ≤ large_page }
+{
+    size == extent.pages()
+        && extent
+            .words()
+            .is_due(extent.pages(), pages, index, len as usize)
+}
+
+/// The header of page `index` of this size with `len` payload bytes: it is the one due of an open module, and is coming; or
+/// it ends its module; or it is passed over.
+fn page(
+    stream: &mut LfiStreamText,
+    module: ModuleNumber,
+    size: PageSize,
+    index: u32,
+    len: u32,
+) -> Event
+    ensures holds { (messages : List Message) (rest payload : List ℕ) → Holds stream.old messages [] → rest_of rest ≡ unfinished «module» size index len →
         drop 12 rest ≡ [] → Holds stream.new messages rest × Grows result messages [] messages rest payload }
     ensures plain { IsPlain result }
+    ensures follows { Follows result (progress_at stream.old.modules) }
 {
     let Progress::Going { extent, pages } = progress_in(stream, module) else {
         return Event::Stray { module };
     };
-    let words = extent.words();
-    if !words.is_due(PageSize::PROFILE, pages, index, len as usize) {
+    if !is_next(extent, pages, size, index, len) {
         place(stream, module, Progress::Ended);
         return Event::End {
             module,
@@ -96,24 +116,25 @@ fn page(stream: &mut LfiStream, module: ModuleNumber, index: u32, len: u32) -> E
     Event::Nothing
 }
 
-/// Where in its module the next byte of a page is, of which so many came.
-fn offset_of(pages: u32, come: usize) -> usize
-    ensures { come ≤ page_bytes → result ≡ page_bytes * pages + come }
+/// Where in its module the next byte of a page is, of which so many came, after so many pages of this size.
+fn offset_of(size: PageSize, pages: u32, come: usize) -> usize
+    ensures { come ≤ 4 * size → result ≡ 4 * size * pages + come }
 {
-    (PageSize::PROFILE.bytes() as usize * pages as usize).saturating_add(come)
+    (size.bytes() as usize * pages as usize).saturating_add(come)
 }
 
 /// Payload bytes of the page whose header came last, after which more are to come.
-fn payload_more(stream: &mut LfiStream, count: usize) -> Event
-    ensures holds { (messages : List Message) (rest used : List ℕ) (m index len : ℕ) → length used ≡ count → Holds stream.old messages rest →
-        rest_of rest ≡ unfinished m index len → rest_of (rest ++ used) ≡ unfinished m index len →
+fn payload_more(stream: &mut LfiStreamText, count: usize) -> Event
+    ensures holds { (messages : List Message) (rest used : List ℕ) (m size index len : ℕ) → length used ≡ count → Holds stream.old messages rest →
+        rest_of rest ≡ unfinished m size index len → rest_of (rest ++ used) ≡ unfinished m size index len →
         Holds stream.new messages (rest ++ used) × Grows result messages rest messages (rest ++ used) (drop 12 rest ++ used) × TellsCode result messages rest used }
     ensures sound { (fault : FrameFault) → result ≢ Event.Fault fault }
+    ensures follows { Follows result (progress_at stream.old.modules) }
 {
     let Some(page) = stream.page.coming() else {
         return Event::Nothing;
     };
-    let Progress::Going { pages, .. } = progress_in(stream, page.module) else {
+    let Progress::Going { extent, pages } = progress_in(stream, page.module) else {
         return Event::Nothing;
     };
     stream.page = LfiStreamPage::of(Coming {
@@ -122,18 +143,19 @@ fn payload_more(stream: &mut LfiStream, count: usize) -> Event
     });
     Event::Code {
         module: page.module,
-        offset: offset_of(pages, page.come),
+        offset: offset_of(extent.pages(), pages, page.come),
         ended: false,
     }
 }
 
 /// The last payload bytes of the page whose header came last.
-fn payload_ended(stream: &mut LfiStream) -> Event
-    ensures holds { (messages : List Message) (rest used : List ℕ) (m index len : ℕ) → Holds stream.old messages rest →
-        rest_of rest ≡ unfinished m index len → length (drop 12 rest ++ used) ≡ len →
-        let now = messages ++ page_message m index (drop 12 rest ++ used) ∷ [] in
+fn payload_ended(stream: &mut LfiStreamText) -> Event
+    ensures holds { (messages : List Message) (rest used : List ℕ) (m size index len : ℕ) → Holds stream.old messages rest →
+        rest_of rest ≡ unfinished m size index len → length (drop 12 rest ++ used) ≡ len →
+        let now = messages ++ page_message m size index (drop 12 rest ++ used) ∷ [] in
         Holds stream.new now [] × Grows result messages rest now [] (drop 12 rest ++ used) × TellsCode result messages rest used }
     ensures sound { (fault : FrameFault) → result ≢ Event.Fault fault }
+    ensures follows { Follows result (progress_at stream.old.modules) }
 {
     let Some(page) = stream.page.coming() else {
         return Event::Nothing;
@@ -141,8 +163,7 @@ fn payload_ended(stream: &mut LfiStream) -> Event
     let Progress::Going { extent, pages } = progress_in(stream, page.module) else {
         return Event::Nothing;
     };
-    let words = extent.words();
-    if pages >= words.pages(PageSize::PROFILE) {
+    if pages >= extent.words().pages(extent.pages()) {
         return Event::Nothing;
     }
     place(
@@ -156,20 +177,25 @@ fn payload_ended(stream: &mut LfiStream) -> Event
     stream.page = LfiStreamPage::none();
     Event::Code {
         module: page.module,
-        offset: offset_of(pages, page.come),
+        offset: offset_of(extent.pages(), pages, page.come),
         ended: true,
     }
 }
 
 /// What is told of what so many bytes brought.
-fn brought(stream: &mut LfiStream, got: Got, count: usize) -> Event
+fn brought(stream: &mut LfiStreamText, got: Got, count: usize) -> Event
     ensures { (feed : Feed) (messages : List Message) (rest used : List ℕ) → length used ≡ count → (got ≢ More → used ≢ []) → Holds stream.old messages rest →
         IsTold got feed messages rest used → Moves feed stream.new messages rest used result }
 {
     match got {
         Got::More => Event::Nothing,
         Got::Open { module, extent } => open(stream, module, extent),
-        Got::Page { module, index, len } => page(stream, module, index, len),
+        Got::Page {
+            module,
+            size,
+            index,
+            len,
+        } => page(stream, module, size, index, len),
         Got::Payload { ended: false } => payload_more(stream, count),
         Got::Payload { ended: true } => payload_ended(stream),
         Got::Close { module } => close(stream, module),
@@ -186,7 +212,7 @@ fn kept(feed: &Feed) -> LfiStreamFeed
 }
 
 /// Goes on from where a feed is.
-fn go_on(stream: &mut LfiStream, start: Feed, piece: &[u8]) -> (usize, Event)
+fn go_on(stream: &mut LfiStreamText, start: Feed, piece: &[u8]) -> (usize, Event)
     requires { feed_fault start ≡ None }
     ensures told { (messages : List Message) (rest : List ℕ) → FeedStands start messages rest → Holds stream.old messages rest →
         Tells result.1 stream.new messages rest (take result.0 piece.now) }
@@ -210,7 +236,7 @@ fn go_on(stream: &mut LfiStream, start: Feed, piece: &[u8]) -> (usize, Event)
 /// Uses bytes of the next piece, up to the end of a header or of a payload, and tells how many it used and what they
 /// brought. Give it what it didn't use again. After the stream's fault it uses nothing, and tells the fault. `None` where
 /// the numbers are those of no stream.
-pub fn next(stream: &mut LfiStream, piece: &[u8]) -> Option<(usize, Event)>
+pub fn next(stream: &mut LfiStreamText, piece: &[u8]) -> Option<(usize, Event)>
     ensures told { IfSome result (λ answer. (messages : List Message) (rest : List ℕ) → StandsFor stream.old messages rest →
         Tells answer.1 stream.new messages rest (take answer.0 piece.now)) }
     ensures within { IfSome result (λ answer. answer.0 ≤ length piece.now) }

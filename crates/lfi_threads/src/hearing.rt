@@ -9,12 +9,14 @@ ghost use Rattle.lfi_stage.specs.Stages.{IsFresh};
 ghost use Rattle.lfi_threads.specs.declared.hearing.Leaving.TheVariants as leaving;
 ghost use Rattle.lfi_threads.specs.inner.Hearing.{IsHearing, IsAsBefore, IsHeardBy};
 
-use crate::ends::{Ends, Going, Rest, Stopped};
+use crate::bells::Teller;
+use crate::ends::{Ends, Going, Stopped};
 use crate::notices::{Notices, Told};
 use crate::promises::{Heard, Place};
 use lfi_receive::{Input, Receiver, ReceiverTurn};
 use std::io::Read;
 use std::sync::Wait;
+use std::time::Duration;
 
 /// In every so many turns of a receiver its thread looks at the modules' phases.
 const LOOK_TURNS: u32 = 64;
@@ -50,29 +52,41 @@ fn pull_one<R: Read + Drop>(
     receiver.pull(&shared.board, &shared.intake, input)
 }
 
+/// For how many items a receiver calls one more verifier, at the latest, where one waits.
+const EVERY: u32 = 32;
+
+/// After how many microseconds a receiver asks again for memory that was refused.
+const REFUSED_PAUSE: u64 = 200;
+
 /// What a receiver's thread keeps beside its receiver.
 #[derive(Drop)]
-struct Watch {
-    rest: Rest,
+struct Watch<'a> {
+    /// Of items.
+    items: Teller<'a>,
     told: Told,
     turns: u32,
 }
 
-impl Watch {
-    fn new() -> Watch {
+impl<'a> Watch<'a> {
+    fn new(ends: &'a Ends) -> Watch<'a> {
         Watch {
-            rest: Rest::until_there_is_room(),
+            items: Teller::new(&ends.bells().items, EVERY),
             told: Told::new(),
             turns: 0,
         }
     }
 
-    /// Rests after a turn that was refused.
-    fn rest_after<S: Wait>(&mut self, rt: &S, ends: &Ends, did: ReceiverTurn) {
-        if did == ReceiverTurn::Blocked {
-            self.rest.pause(rt, ends);
-        } else {
-            self.rest.end();
+    /// What follows a turn that did this: verifiers are called for an item, not for each at once
+    /// where one of them is awake. An item is refused only where memory is, which comes free without a
+    /// call: so its thread asks for it again after a time.
+    fn go_on<S: Wait>(&mut self, rt: &S, ends: &Ends, did: ReceiverTurn) {
+        match did {
+            ReceiverTurn::Put => self.items.brought_to_sleepers(),
+            ReceiverTurn::Blocked => {
+                self.items.tell();
+                ends.sleep(rt, Duration::from_micros(REFUSED_PAUSE));
+            }
+            ReceiverTurn::More | ReceiverTurn::Stray | ReceiverTurn::Finished => {}
         }
     }
 
@@ -122,7 +136,7 @@ fn hear_once<S: Wait, R: Read + Drop, N: Notices>(
     notices: &N,
     receiver: &mut Receiver,
     input: &mut Input<R>,
-    watch: &mut Watch,
+    watch: &mut Watch<'_>,
 ) -> Option<Leaving>
     requires is { IsReceiver place.shared.now place.number receiver.old }
     ensures is { IsReceiver place.entry.shared.now place.entry.number receiver.new }
@@ -134,7 +148,7 @@ fn hear_once<S: Wait, R: Read + Drop, N: Notices>(
     }
     let did = pull_one(place, receiver, input);
     watch.look_after(place, notices, receiver, did);
-    watch.rest_after(rt, going.ends(), did);
+    watch.go_on(rt, going.ends(), did);
     if did == ReceiverTurn::Finished {
         return Some(Leaving::Finished);
     }
@@ -155,7 +169,7 @@ fn hear_on<S: Wait, R: Read + Drop, N: Notices>(
     ensures hearing { (whole : Option (List ℕ)) → IsHearing R.remaining whole receiver.old input.old → IsHearing R.remaining whole receiver.new input.new }
     ensures finished { result ≡ leaving.Finished → IsFinished receiver.new }
 {
-    let mut watch = Watch::new();
+    let mut watch = Watch::new(going.ends());
     for _ in rt.forever() {
         if let Some(leaving) = hear_once(rt, place, going, notices, receiver, input, &mut watch) {
             return leaving;

@@ -8,6 +8,8 @@ mod clients;
 #[cfg(test)]
 mod gates;
 #[cfg(test)]
+mod growths;
+#[cfg(test)]
 mod inputs;
 #[cfg(test)]
 mod limits;

@@ -36,7 +36,7 @@ number_tells Two One e = absurd (omega arith)
 number_tells Two Two e = refl
 
 -- A state keeps one beginning.
-one : (s : LfiState) (a b : Beginning) → Keeps s a → Keeps s b → a ≡ b
+pub one : (s : LfiState) (a b : Beginning) → Keeps s a → Keeps s b → a ≡ b
 one s a b ka kb = parts a b (number_tells a.profile b.profile (sym ka.profile ∙ kb.profile)) (sym ka.words ∙ kb.words) (sym ka.judged ∙ kb.judged) (same_fault a.fault b.fault (sym ka.fault ∙ kb.fault)) (same_need a.tail b.tail (sym ka.need ∙ kb.need))
 
 -- what a state stands for begins the one that it keeps

@@ -1,3 +1,10 @@
 pub mod Told
 pub mod Kept
 pub mod One
+pub mod CutKept
+pub mod Ends
+pub mod Rests
+pub mod Shares
+pub mod Following
+pub mod Followed
+pub mod Losing

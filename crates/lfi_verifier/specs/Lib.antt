@@ -4,4 +4,8 @@ pub mod Faults
 pub mod Verdicts
 pub mod States
 pub mod Explained
+pub mod CutStates
+pub mod StreamVerdicts
 pub mod StreamEvents
+pub mod Streams
+pub mod inner

@@ -1,5 +1,5 @@
 -- The events of a stream as C sees them: include/lfi_verifier.h.
-use Rattle.std.specs.Prelude.{◌≡◌, ℕ, true, false, Bool, List}
+use Rattle.std.specs.Prelude.{◌≡◌, ℕ, ◌*◌, true, false, Bool, List}
 use Rattle.lfi_module.specs.Profiles.{profile_number}
 use Rattle.lfi_frame.specs.Streams.{Message}
 use Rattle.lfi_frame.specs.Faults.{number_of}
@@ -8,14 +8,17 @@ use Rattle.lfi_model.specs.declared.item.Reason.{Reason}
 use Rattle.lfi_model.specs.declared.item.Reason.TheVariants.{Close, Lost, PageFault, NoMemory}
 use Rattle.lfi_stream.specs.declared.event.Event.{Event}
 use Rattle.lfi_stream.specs.declared.event.Event.TheVariants.{Nothing, Open, Code, Stray, End, Fault}
-use Rattle.lfi_stream.specs.declared.numbers.LfiStream.{LfiStream}
+use Rattle.lfi_stream.specs.declared.numbers.LfiStreamText.{LfiStreamText}
 use Rattle.lfi_stream.specs.Events.{Tells}
 use Rattle.lfi_stream.specs.Endings.{Ends, Loses}
+use Rattle.lfi_verifier.specs.declared.finding.Finding.{Finding}
 use Rattle.lfi_verifier.specs.declared.stream.LfiEvent.{LfiEvent}
+use Rattle.lfi_verifier.specs.Faults.{fault_told}
+use Rattle.lfi_verifier.specs.Statuses.{status_number}
 
 -- the numbers of nothing
 abbrev pub nothing_told : LfiEvent
-nothing_told = record { kind = 0; «module» = 0; words = 0; entry = 0; profile = 0; pages = 0; reason = 0; number = 0; ended = 0; offset = 0 }
+nothing_told = record { kind = 0; «module» = 0; words = 0; entry = 0; profile = 0; page_bytes = 0; pages = 0; reason = 0; number = 0; ended = 0; verdict = 0; fault = record { word = 0; rule = 0 }; offset = 0 }
 
 -- the numbers are those of no stream
 abbrev pub no_stream : LfiEvent
@@ -36,26 +39,33 @@ one_if false = 0
 -- the numbers of an event
 abbrev pub event_numbers : Event → LfiEvent
 event_numbers Nothing = nothing_told
-event_numbers (Open k extent) = record nothing_told { kind = 1; «module» = k; words = extent.words; entry = extent.entry; profile = profile_number extent.profile }
+event_numbers (Open k extent) = record nothing_told { kind = 1; «module» = k; words = extent.words; entry = extent.entry; profile = profile_number extent.profile; page_bytes = 4 * extent.pages }
 event_numbers (Code k offset ended) = record nothing_told { kind = 2; «module» = k; ended = one_if ended; offset = offset }
 event_numbers (Stray k) = record nothing_told { kind = 3; «module» = k }
 event_numbers (End k extent pages reason) = record nothing_told { kind = 4; «module» = k; words = extent.words; pages = pages; reason = (reason_numbers reason).0; number = (reason_numbers reason).1 }
 event_numbers (Fault fault) = record nothing_told { kind = 5; number = number_of fault }
 
+-- the same with what is found of code
+abbrev pub with_finding : LfiEvent → Finding → LfiEvent
+with_finding told finding = record told { verdict = status_number finding.status; fault = fault_told finding.fault }
+
 -- The numbers tell an event that tells what the used bytes brought, after this text.
-pub record TellsNext (told : LfiEvent) (stream : LfiStream) (messages : List Message) (rest used : List ℕ) : Type 0 where
+pub record TellsNext (told : LfiEvent) (stream : LfiStreamText) (messages : List Message) (rest used : List ℕ) : Type 0 where
   pub event : Event
-  pub numbers : told ≡ event_numbers event
+  pub finding : Finding
+  pub numbers : told ≡ with_finding (event_numbers event) finding
   pub tells : Tells event stream messages rest used
 
 -- They tell what the end of the input makes of this text.
-pub record TellsEnd (told : LfiEvent) (old new : LfiStream) (messages : List Message) (rest : List ℕ) : Type 0 where
+pub record TellsEnd (told : LfiEvent) (old new : LfiStreamText) (messages : List Message) (rest : List ℕ) : Type 0 where
   pub event : Event
-  pub numbers : told ≡ event_numbers event
+  pub finding : Finding
+  pub numbers : told ≡ with_finding (event_numbers event) finding
   pub ends : Ends event old new messages rest
 
 -- They tell the next module that is lost by this fault, or that none is left.
-pub record TellsLost (fault : FrameFault) (told : LfiEvent) (old new : LfiStream) : Type 0 where
+pub record TellsLost (fault : FrameFault) (told : LfiEvent) (old new : LfiStreamText) : Type 0 where
   pub event : Event
-  pub numbers : told ≡ event_numbers event
+  pub finding : Finding
+  pub numbers : told ≡ with_finding (event_numbers event) finding
   pub loses : Loses fault old new event

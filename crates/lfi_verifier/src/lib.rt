@@ -4,14 +4,17 @@
 //! takes no memory.
 #![tactic(auto)]
 
+mod cut_state;
 mod explain;
 mod fault;
+mod finding;
 mod laws;
 mod pieces;
 mod profile;
 mod state;
 mod status;
 mod stream;
+mod verdicts;
 mod whole;
 
 pub use laws::one_answer;

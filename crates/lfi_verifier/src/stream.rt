@@ -3,20 +3,37 @@
 ghost use Rattle.std.specs.Prelude.{◌≡◌, ◌≢◌, ◌<◌, ◌≤◌, ℕ, List, [], length, take, Some, None};
 ghost use Rattle.lfi_frame.specs.declared.fault.FrameFault.{FrameFault};
 ghost use Rattle.lfi_frame.specs.declared.feed.Position.TheVariants.{Faulty};
-ghost use Rattle.lfi_frame.specs.Streams.{Message};
-ghost use Rattle.lfi_stream.specs.Numbers.{position_at};
-ghost use Rattle.lfi_stream.specs.Streams.{IsIn, StandsFor};
+ghost use Rattle.lfi_frame.specs.Streams.{Message, rest_of};
+ghost use Rattle.lfi_stream.specs.Streams.{IsIn, StandsFor, made_of};
 ghost use Rattle.lfi_stream.specs.declared.event.Event.TheVariants.{Fault};
 ghost use Rattle.lfi_module.specs.declared.profile.Profile.{Profile};
 ghost use Rattle.lfi_module.specs.Profiles.{profile_number};
 ghost use Rattle.lfi_verifier.specs.Profiles.{IsUnknown};
 ghost use Rattle.lfi_verifier.specs.Statuses.{status_number};
-ghost use Rattle.lfi_verifier.specs.StreamEvents.{reason_numbers, event_numbers, no_stream, TellsNext, TellsEnd, TellsLost};
+ghost use Rattle.lfi_model.specs.Item.{ItemView};
+ghost use Rattle.lfi_stream.specs.Numbers.{position_at, progress_at};
+ghost use Rattle.lfi_verifier.specs.StreamEvents.{reason_numbers, event_numbers, with_finding, no_stream, TellsNext, TellsEnd, TellsLost};
+ghost use Rattle.lfi_stream.specs.Endings.{Loses};
+ghost use Rattle.lfi_verifier.specs.StreamVerdicts.{AreJudged};
+ghost use Rattle.lfi_verifier.specs.Streams.{StandsForStream, JudgesNext, JudgesLost, FindsLost};
 
+use crate::fault::{LfiFault, NO_FAULT, told_of};
+use crate::finding::Finding;
 use crate::profile::profile_of;
 use crate::status::Status;
+use crate::verdicts::{LfiStreamVerdicts, end, follow};
 use lfi_model::Reason;
-use lfi_stream::{Event, LfiStream};
+use lfi_stream::{Event, LfiStreamText};
+
+/// A connection's stream of which some bytes came, as C keeps it.
+#[repr(C)]
+#[derive(Clone, Copy)]
+pub struct LfiStream {
+    /// What came of its text.
+    pub text: LfiStreamText,
+    /// What is judged of its code.
+    pub verdicts: LfiStreamVerdicts,
+}
 
 /// What the bytes of a stream brought, in numbers. What a kind doesn't tell is 0.
 #[repr(C)]
@@ -33,6 +50,8 @@ pub struct LfiEvent {
     pub entry: u32,
     /// The number of the profile by which it is to be judged, of kind 1.
     pub profile: u32,
+    /// How many bytes a full page of it has, of kind 1: 4,096 or 16,384.
+    pub page_bytes: u32,
     /// How many of its pages came, of kind 4.
     pub pages: u32,
     /// Why it ended, of kind 4: 1 a Close, 2 the stream's fault, 3 a page that isn't the one due, 4 no memory.
@@ -41,6 +60,10 @@ pub struct LfiEvent {
     pub number: u32,
     /// Whether a page ended with these bytes, of kind 2: 1 or 0.
     pub ended: u32,
+    /// What is found of the module's code, of kinds 2 and 4: the number of a status.
+    pub verdict: u32,
+    /// The first fault of the module's code, of kinds 2 and 4.
+    pub fault: LfiFault,
     /// Where in the module's code the used bytes belong, of kind 2.
     pub offset: usize,
 }
@@ -52,10 +75,13 @@ const NO_EVENT: LfiEvent = LfiEvent {
     words: 0,
     entry: 0,
     profile: 0,
+    page_bytes: 0,
     pages: 0,
     reason: 0,
     number: 0,
     ended: 0,
+    verdict: 0,
+    fault: NO_FAULT,
     offset: 0,
 };
 
@@ -83,6 +109,7 @@ fn numbers_of(event: Event) -> LfiEvent
             words: extent.words().number(),
             entry: extent.entry(),
             profile: extent.profile().number(),
+            page_bytes: extent.pages().bytes(),
             ..NO_EVENT
         },
         Event::Code {
@@ -126,39 +153,57 @@ fn numbers_of(event: Event) -> LfiEvent
     }
 }
 
+/// An event in numbers, with what is found of code.
+fn told(event: &Event, finding: Finding) -> LfiEvent
+    ensures { result ≡ with_finding (event_numbers event.now) finding }
+{
+    LfiEvent {
+        verdict: finding.status.number(),
+        fault: told_of(finding.fault),
+        ..numbers_of(*event)
+    }
+}
+
 /// Begins a stream. Each of its modules tells at its opening the profile by which its code is to be judged; the argument
 /// asks for one that is known.
 #[unsafe(no_mangle)]
 pub extern "C" fn lfi_stream_init(stream: &mut LfiStream, profile: u32) -> u32
-    ensures begun { (by : Profile) → profile_number by ≡ profile → StandsFor stream.new [] [] × (result ≡ status_number Status.Lawful) }
+    ensures begun { (by : Profile) → profile_number by ≡ profile → StandsForStream stream.new [] [] × (result ≡ status_number Status.Lawful) }
     ensures unknown { IsUnknown profile → (result ≡ status_number Status.UnknownProfile) × (stream.new ≡ stream.old) }
 {
     if profile_of(profile).is_none() {
         return Status::UnknownProfile.number();
     }
-    *stream = lfi_stream::begin();
+    *stream = LfiStream {
+        text: lfi_stream::begin(),
+        verdicts: LfiStreamVerdicts::none(),
+    };
     Status::Lawful.number()
 }
 
-/// Goes on in the next bytes, and tells how many it used and what they brought.
+/// Goes on in the next bytes, and tells how many it used and what they brought; where they are code, what is found of it so
+/// far, and where a module ended, what becomes of it.
 #[unsafe(no_mangle)]
 pub extern "C" fn lfi_stream_next(
     stream: &mut LfiStream,
     bytes: &[u8],
     event: &mut LfiEvent,
 ) -> usize
-    ensures told { (messages : List Message) (rest : List ℕ) → StandsFor stream.old messages rest →
-        TellsNext event.new stream.new messages rest (take result bytes.now) }
+    ensures judged { (messages : List Message) (rest : List ℕ) → StandsForStream stream.old messages rest →
+        JudgesNext event.new stream.new messages rest (take result bytes.now) }
+    ensures told { (messages : List Message) (rest : List ℕ) → StandsFor stream.old.text messages rest →
+        TellsNext event.new stream.new.text messages rest (take result bytes.now) }
     ensures within { result ≤ length bytes.now }
-    ensures moves { (rest : List ℕ) → IsIn stream.old.feed rest → bytes.now ≢ [] → 0 < result }
-    ensures over { (fault : FrameFault) → position_at stream.old.feed.place stream.old.feed.number ≡ Some (Faulty fault) →
+    ensures moves { (rest : List ℕ) → IsIn stream.old.text.feed rest → bytes.now ≢ [] → 0 < result }
+    ensures over { (fault : FrameFault) → position_at stream.old.text.feed.place stream.old.text.feed.number ≡ Some (Faulty fault) →
         (result ≡ 0) × (event.new ≡ event_numbers (Fault fault)) × (stream.new ≡ stream.old) }
-    ensures bad { event.new ≡ no_stream → (result ≡ 0) × (stream.new ≡ stream.old) × ((rest : List ℕ) → ¬ (IsIn stream.old.feed rest)) }
-    ensures no_feed { position_at stream.old.feed.place stream.old.feed.number ≡ None → event.new ≡ no_stream }
+    ensures bad { event.new ≡ no_stream → (result ≡ 0) × (stream.new ≡ stream.old) × ((rest : List ℕ) → ¬ (IsIn stream.old.text.feed rest)) }
+    ensures no_feed { position_at stream.old.text.feed.place stream.old.text.feed.number ≡ None → event.new ≡ no_stream }
 {
-    match lfi_stream::next(stream, bytes) {
+    match lfi_stream::next(&mut stream.text, bytes) {
         Some((used, brought)) => {
-            *event = numbers_of(brought);
+            let finding = follow(&mut stream.verdicts, brought, &bytes[..used]);
+            *event = told(&brought, finding);
             used
         }
         None => {
@@ -171,20 +216,38 @@ pub extern "C" fn lfi_stream_next(
     }
 }
 
-/// Tells the end of the input, and then the modules that are lost by the stream's fault, one a call.
+/// What an event of the input's end tells of code: what becomes of the module that is lost.
+fn lost(verdicts: &LfiStreamVerdicts, event: Event) -> Finding
+    ensures { (items : ℕ → List ItemView) (old new : LfiStreamText) (fault : FrameFault) → AreJudged verdicts.now.modules (progress_at old.modules) items →
+        Loses fault old new event → FindsLost event result items }
+{
+    match event {
+        Event::End { module, reason, .. } => end(verdicts, module, reason),
+        _ => Finding::nothing(),
+    }
+}
+
+/// Tells the end of the input, and then the modules that are lost by the stream's fault, one a call, with what becomes of
+/// each.
 #[unsafe(no_mangle)]
 pub extern "C" fn lfi_stream_end(stream: &mut LfiStream, event: &mut LfiEvent) -> u32
-    ensures told { (messages : List Message) (rest : List ℕ) → StandsFor stream.old messages rest →
-        TellsEnd event.new stream.old stream.new messages rest × (result ≡ status_number Status.Lawful) }
-    ensures over { (fault : FrameFault) → position_at stream.old.feed.place stream.old.feed.number ≡ Some (Faulty fault) →
-        TellsLost fault event.new stream.old stream.new × (result ≡ status_number Status.Lawful) }
+    ensures told { (messages : List Message) (rest : List ℕ) → StandsFor stream.old.text messages rest →
+        TellsEnd event.new stream.old.text stream.new.text messages rest × (result ≡ status_number Status.Lawful) }
+    ensures over { (fault : FrameFault) → position_at stream.old.text.feed.place stream.old.text.feed.number ≡ Some (Faulty fault) →
+        TellsLost fault event.new stream.old.text stream.new.text × (result ≡ status_number Status.Lawful) }
+    ensures ended { (messages : List Message) (rest : List ℕ) → StandsForStream stream.old messages rest →
+        AreJudged stream.new.verdicts.modules (progress_at stream.new.text.modules) (λ m. (made_of messages (rest_of rest) m).items) }
+    ensures judged { (items : ℕ → List ItemView) (fault : FrameFault) → AreJudged stream.old.verdicts.modules (progress_at stream.old.text.modules) items →
+        position_at stream.old.text.feed.place stream.old.text.feed.number ≡ Some (Faulty fault) → JudgesLost fault event.new stream.old stream.new items }
+    ensures kept { stream.new.verdicts ≡ stream.old.verdicts }
     ensures bad { result ≡ status_number Status.BadState →
-        (event.new ≡ no_stream) × (stream.new ≡ stream.old) × ((rest : List ℕ) → ¬ (IsIn stream.old.feed rest)) }
-    ensures no_feed { position_at stream.old.feed.place stream.old.feed.number ≡ None → result ≡ status_number Status.BadState }
+        (event.new ≡ no_stream) × (stream.new ≡ stream.old) × ((rest : List ℕ) → ¬ (IsIn stream.old.text.feed rest)) }
+    ensures no_feed { position_at stream.old.text.feed.place stream.old.text.feed.number ≡ None → result ≡ status_number Status.BadState }
 {
-    match lfi_stream::end(stream) {
-        Some(told) => {
-            *event = numbers_of(told);
+    match lfi_stream::end(&mut stream.text) {
+        Some(ending) => {
+            let finding = lost(&stream.verdicts, ending);
+            *event = told(&ending, finding);
             Status::Lawful.number()
         }
         None => {

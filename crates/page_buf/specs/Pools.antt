@@ -1,5 +1,5 @@
 -- What a clause sees of a pool and of its seats.
-use Rattle.std.specs.Prelude.{ℕ, List}
+use Rattle.std.specs.Prelude.{List}
 use Rattle.atomic_table.specs.Seated.{TableId}
 use Rattle.page_buf.specs.declared.hand.Sighting.{Sighting}
 use Rattle.page_buf.specs.declared.pool.Pool.{Pool}

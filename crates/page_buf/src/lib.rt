@@ -2,12 +2,13 @@
 //!
 //! # How data flows
 //!
-//! `OpenPage::new` asks the allocator for 4,096 bytes, `write` appends bytes to what is written, `seal` ends it: a
-//! `SealedPage` has 1 to 1,024 whole words, which are read and never written. Pages move from part to part; their bytes
+//! `OpenPage::new` asks the allocator for 4,096 bytes, or for 16,384 where the page is large, `write` appends bytes to
+//! what is written, `seal` ends it: a `SealedPage` has at least one whole word and at most a full page's, 1,024 or
+//! 4,096, which are read and never written. Pages move from part to part; their bytes
 //! stay where they were written.
 //!
-//! A `Pool` has room for 64 pages that nobody needs any more: `give` puts one there, `get` takes one, as an open page in
-//! which nothing is written. Threads share it by `&`, each by a seat of its own, and no call waits.
+//! A `Pool` has room for 64 small pages that nobody needs any more: `give` puts one there, `get` takes one, as an open
+//! page in which nothing is written. Large pages aren't pooled: they are made anew, and freed. Threads share it by `&`, each by a seat of its own, and no call waits.
 //!
 //! # What it may not know
 //!
@@ -22,7 +23,10 @@
 //!   of the written bytes; never freed twice, since the right to free (`Deed`) is used up by `free`; never written
 //!   after sealing, since no call of `SealedPage` takes `&mut self` and its block is private.
 //! - A byte or a word is read through the lent slice in safe code, so no pointer functions are needed for that.
-//! - `word(i)` has the condition that `i` is below the number of words, and `len_words` tells that this is 1 to 1,024.
+//! - `word(i)` has the condition that `i` is below the number of words, and `len_words` tells that this is 1 to 4,096.
+//! - **A page keeps the size that it was made with**, at its block, since the allocator wants it again. A contract sees
+//!   it of open and of sealed pages: what a pool takes is small, and no other page gets into a slot, since the rule of
+//!   the slots says that a full one has a small page in which nothing is written.
 //! - A sealed page of given bytes is one function, `SealedPage::of`. A block is given back in the `drop` of one private
 //!   struct that both kinds of page hold.
 //! - **A page is made empty only once a slot is won for it**, so that what `give` hands back is the page as it was.
@@ -43,5 +47,5 @@ mod tests;
 
 pub use hand::{Hand, Sighting};
 pub use member::PoolMember;
-pub use page::{OpenPage, PAGE_BYTES, SealedPage};
+pub use page::{OpenPage, SealedPage};
 pub use pool::{Pool, PoolSeat};

@@ -2,6 +2,7 @@
 //! call waits.
 
 ghost use Rattle.std.specs.Prelude.{◌≡◌, ◌<◌, ◌≤◌, [], IfSome, IfNone, IfOk, IfErr, OnOk, OnErr, All, length};
+ghost use Rattle.lfi_module.specs.Numbers.{small_page};
 
 use crate::hand::{Hand, PutBack, Sit, Slots, Try};
 use crate::page::{OpenPage, SealedPage};
@@ -22,7 +23,7 @@ const SLOTS: usize = 64;
 
 type Top = Shared<Option<OpenPage>, Hand, (), Slots>;
 
-/// A pool of pages, which threads share by `&`.
+/// A pool of small pages, which threads share by `&`.
 #[derive(Drop)]
 pub struct Pool {
     table: Table<Option<OpenPage>, Hand, (), Slots, Global>,
@@ -39,7 +40,8 @@ pub struct PoolSeat {
 /// One more seat at a table.
 fn sit(top: &Top) -> PoolSeat
     requires { 0 < top.now.table_id.words }
-    ensures { result.seat.table_id ≡ top.now.table_id }
+    ensures table { result.seat.table_id ≡ top.now.table_id }
+    ensures unused { result.seat.me.0.seen ≡ [] }
 {
     let seat = top.load_new_seat::<Sit>(0).1;
     PoolSeat { seat }
@@ -59,6 +61,7 @@ fn sit_all(alloc: Global, top: &Top, count: usize) -> Result<Vec<PoolSeat>, Allo
 }
 
 impl Pool {
+    ghost use Rattle.page_buf.specs.Page.{small_empty};
     ghost use Rattle.page_buf.specs.Sightings.{Found, Passed, empty, full};
     ghost use Rattle.page_buf.specs.Pools.{pool_id, pool_of, seen_by};
 
@@ -77,19 +80,20 @@ impl Pool {
         Ok((pool, all))
     }
 
-    /// One more seat. It takes no memory.
+    /// One more seat, which has found nothing yet. It takes no memory.
     pub fn seat(&self) -> PoolSeat
-        ensures { pool_of result ≡ pool_id self.now }
+        ensures pool { pool_of result ≡ pool_id self.now }
+        ensures unused { seen_by result ≡ [] }
     {
         sit(&self.table.shared)
     }
 
-    /// A page in which nothing is written. `None` only where each slot was found not full, at a
+    /// A small page in which nothing is written. `None` only where each slot was found not full, at a
     /// moment of the call.
     pub fn get(&self, seat: &mut PoolSeat) -> Option<OpenPage>
         requires pool { pool_of seat.old ≡ pool_id self.now }
         ensures pool { pool_of seat.new ≡ pool_of seat.old }
-        ensures empty { IfSome result (λ page. page ≡ []) }
+        ensures empty { IfSome result (λ page. page ≡ small_empty) }
         ensures some { IfSome result (λ _. Found full (seen_by seat.old) (seen_by seat.new)) }
         ensures none { IfNone result (Passed full 64 (seen_by seat.old) (seen_by seat.new)) }
     {
@@ -104,13 +108,14 @@ impl Pool {
         None
     }
 
-    /// Takes the page, whose bytes nobody reads again.
+    /// Takes a small page, whose bytes nobody reads again.
     ///
     /// # Errors
     ///
     /// The page as it was, only where each slot was found not empty, at a moment of the call.
     pub fn give(&self, seat: &mut PoolSeat, page: SealedPage) -> Result<(), SealedPage>
         requires pool { pool_of seat.old ≡ pool_id self.now }
+        requires small { page.size ≡ small_page }
         ensures pool { pool_of seat.new ≡ pool_of seat.old }
         ensures ok { OnOk result (Found empty (seen_by seat.old) (seen_by seat.new)) }
         ensures back { IfErr result (λ back. back ≡ page) }

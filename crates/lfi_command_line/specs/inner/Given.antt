@@ -1,11 +1,12 @@
 -- What is given to a subcommand. Only private clauses and proofs use it.
-use Rattle.std.specs.Prelude.{◌≡◌, ⊤, ℕ, ◌+◌, ◌<◌, List, [], codes, length, Some}
+use Rattle.std.specs.Prelude.{◌≡◌, ⊤, ℕ, ◌+◌, ◌<◌, List, [], codes, length, Some, None}
 use Rattle.clap.specs.Words.{IsUnsignedIn, Row, Text, all_of, fault_of, first_of, one_of, subcommand_of, subcommand_rows_of}
 use Rattle.lfi_command_line.specs.declared.fault.LineFault.{LineFault}
-use Rattle.lfi_command_line.specs.declared.fault.LineFault.TheVariants.{NoMemory, Help, Wrong, TooManyStreams, TooManyModules}
+use Rattle.lfi_command_line.specs.declared.fault.LineFault.TheVariants.{NoMemory, Help, Wrong, TooManyStreams, TooManyModules, NoPages}
 use Rattle.clap.specs.declared.parser.matches.ArgMatches.{ArgMatches}
 use Rattle.lfi_command_line.specs.Apps.{lfiload_app}
-use Rattle.lfi_command_line.specs.CommandLine.{IsNumberOr}
+use Rattle.lfi_module.specs.declared.profile.Profile.{Profile}
+use Rattle.lfi_command_line.specs.CommandLine.{IsNumberOr, IsProfile, pages_named}
 
 -- what is given to this argument, if anything, is a number in the range
 abbrev pub IsNumberGiven : (least most : ℕ) → (id : Text) → List Row → Type 0
@@ -18,8 +19,9 @@ IsFaultOfLoad given TooManyStreams = (streams : List Text) × (all_of (codes "ST
 IsFaultOfLoad given (Help error) = ⊥
 IsFaultOfLoad given (Wrong error) = ⊥
 IsFaultOfLoad given TooManyModules = ⊥
+IsFaultOfLoad given NoPages = ⊥
 
--- there are more files than modules from the first one's number on, or no memory for a list of them
+-- there are more files than modules from the first one's number on, pages of a size that there isn't, or no memory for a list of them
 abbrev pub IsFaultOfPack : List Row → LineFault → Type 0
 IsFaultOfPack given NoMemory = ⊤
 IsFaultOfPack given TooManyModules = (number : ℕ) × (files : List Text) × IsNumberOr 0 0 15 (first_of (codes "module") given) number
@@ -27,6 +29,7 @@ IsFaultOfPack given TooManyModules = (number : ℕ) × (files : List Text) × Is
 IsFaultOfPack given (Help error) = ⊥
 IsFaultOfPack given (Wrong error) = ⊥
 IsFaultOfPack given TooManyStreams = ⊥
+IsFaultOfPack given NoPages = (profile : Profile) × IsProfile given profile × (pages_named (first_of (codes "pages") given) profile ≡ None)
 
 -- the parser finds nothing wrong with the words, and these are its matches: those of the subcommand that the words name
 abbrev pub AreTakenBy : List Text → ArgMatches → Type 0

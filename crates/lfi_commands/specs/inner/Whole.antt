@@ -26,6 +26,6 @@ abbrev pub StopsAtOne : (entry : ℕ) → (paths : List (List ℕ)) → (List �
 StopsAtOne entry paths file_at stop = (c : ℕ) × (path : List ℕ) × (slice_get paths c ≡ Some path) × StopsAt entry path file_at stop
 
 -- one module was written
-abbrev pub WritesModule : Profile → (number entry : ℕ) → (code : List ℕ) → (old new : Option (List ℕ)) → Type 0
-WritesModule profile number entry code old new =
-    (text : List ℕ) × IsPacked number (record { words = length (words_of code); entry = entry; profile = profile }) code text × Appends old new text
+abbrev pub WritesModule : Profile → (pages number entry : ℕ) → (code : List ℕ) → (old new : Option (List ℕ)) → Type 0
+WritesModule profile pages number entry code old new =
+    (text : List ℕ) × IsPacked number (record { words = length (words_of code); entry = entry; profile = profile; pages = pages }) code text × Appends old new text

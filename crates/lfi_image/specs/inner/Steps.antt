@@ -1,7 +1,7 @@
 -- What the steps of reading a file do.
 use Rattle.std.specs.Prelude.{◌≡◌, ℕ, ◌*◌, ◌<◌, ◌≤◌, List, ◌++◌, length, Option, Some, None, IfSome, ⊤}
 use Rattle.std.specs.Io.KnownBytes.{Consumes}
-use Rattle.lfi_module.specs.Numbers.{page_words}
+use Rattle.lfi_module.specs.Numbers.{small_page}
 use Rattle.lfi_module.specs.declared.profile.Profile.{Profile}
 use Rattle.a64_word.specs.Words.{words_of}
 use Rattle.lfi_rules.specs.declared.fault.Fault.{Fault}
@@ -53,6 +53,7 @@ pub record IsSameModule (old new : Module) : Type 0 where
   pub words : new.words ≡ old.words
   pub entry : new.entry ≡ old.entry
   pub profile : new.profile ≡ old.profile
+  pub pages : new.pages ≡ old.pages
   pub slot : new.slot ≡ old.slot
 
 -- Of a module of `count` words, which goes by a profile, these have been read.
@@ -64,5 +65,5 @@ pub record IsRead (profile : Profile) (old new : Option (List ℕ)) (count : ℕ
   pub size : length code ≡ 4 * length words
   pub within : length words ≤ count
   pub pages : ℕ
-  pub whole : length words < count → length words ≡ page_words * pages
+  pub whole : length words < count → length words ≡ small_page * pages
   pub faultless : FirstFault profile words count None

@@ -1,7 +1,6 @@
 -- What the steps of packing do. Only private clauses and proofs use it.
 use Rattle.std.specs.Prelude.{◌≡◌, ℕ, ◌<◌, List, length, Option, IfSome, flat_map, ⊤}
 use Rattle.std.specs.Io.KnownBytes.{Consumes, Appends}
-use Rattle.lfi_module.specs.Numbers.{page_words}
 use Rattle.lfi_module.specs.Pages.{page_count}
 use Rattle.lfi_frame.specs.Streams.{page_message, spelling}
 use Rattle.lfi_pack.specs.declared.fault.PackFault.{PackFault}
@@ -21,32 +20,32 @@ IsPageFault left len Shorter = IfSome left (λ bytes. length bytes < len)
 IsPageFault left len Longer = ⊥
 IsPageFault left len fault = ⊤
 
--- a page of so many bytes was read, and written as page `index`
-pub record CopiesPage (m index len : ℕ) (left rest : Option (List ℕ)) (old new : Option (List ℕ)) : Type 0 where
+-- a page of so many bytes was read, and written as page `index`, a small or a large one
+pub record CopiesPage (m size index len : ℕ) (left rest : Option (List ℕ)) (old new : Option (List ℕ)) : Type 0 where
   pub page : List ℕ
-  pub size : length page ≡ len
+  pub long : length page ≡ len
   pub read : Consumes left rest page
-  pub written : Appends old new (spelling (page_message m index page))
+  pub written : Appends old new (spelling (page_message m size index page))
 
 -- the first pages of n words were read and written, so many
-pub record CopiesFirst (m n count : ℕ) (left rest : Option (List ℕ)) (old new : Option (List ℕ)) : Type 0 where
+pub record CopiesFirst (m size n count : ℕ) (left rest : Option (List ℕ)) (old new : Option (List ℕ)) : Type 0 where
   pub pages : List (List ℕ)
-  pub first : AreFirst n count pages
+  pub first : AreFirst size n count pages
   pub read : Consumes left rest (joined pages)
-  pub written : Appends old new (flat_map spelling (numbered m 0 pages))
+  pub written : Appends old new (flat_map spelling (numbered m size 0 pages))
 
 -- all pages of n words were
-abbrev pub CopiesPages : (m n : ℕ) (left rest : Option (List ℕ)) (old new : Option (List ℕ)) → Type 0
-CopiesPages m n left rest old new = CopiesFirst m n (page_count page_words n) left rest old new
+abbrev pub CopiesPages : (m size n : ℕ) (left rest : Option (List ℕ)) (old new : Option (List ℕ)) → Type 0
+CopiesPages m size n left rest old new = CopiesFirst m size n (page_count size n) left rest old new
 
 -- a beginning of page `index`, of so many bytes, was written, and not all of it
-pub record BeginsPage (m index len : ℕ) (old new : Option (List ℕ)) : Type 0 where
+pub record BeginsPage (m size index len : ℕ) (old new : Option (List ℕ)) : Type 0 where
   pub page : List ℕ
-  pub size : length page ≡ len
-  pub written : AppendsBeginning old new (spelling (page_message m index page))
+  pub long : length page ≡ len
+  pub written : AppendsBeginning old new (spelling (page_message m size index page))
 
 -- a beginning of all pages of n words was, and not all of it
-pub record BeginsPages (m n : ℕ) (old new : Option (List ℕ)) : Type 0 where
+pub record BeginsPages (m size n : ℕ) (old new : Option (List ℕ)) : Type 0 where
   pub pages : List (List ℕ)
-  pub all : AreFirst n (page_count page_words n) pages
-  pub written : AppendsBeginning old new (flat_map spelling (numbered m 0 pages))
+  pub all : AreFirst size n (page_count size n) pages
+  pub written : AppendsBeginning old new (flat_map spelling (numbered m size 0 pages))

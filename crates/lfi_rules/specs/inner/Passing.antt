@@ -92,6 +92,12 @@ pub record IsNextMarked (places : List ℕ) (count stop at x : ℕ) : Type 0 whe
   pub inside : at < count → x ≡ slice_index places at
   pub past : count ≤ at → x ≡ stop
 
+-- Of the places that a list marks those before the first `at` are looked at. The words of those that weren't kept are fine; the
+-- kept ones stand in front, and the others where they stood.
+pub record AreKept (profile : Profile) (ws : List ℕ) (first n : ℕ) (old : List ℕ) (count at : ℕ) (new : List ℕ) (kept : ℕ) : Type 0 where
+  pub rest : (p : ℕ) → at ≤ p → slice_index new p ≡ slice_index old p
+  pub marked : (start stop x : ℕ) → AreMarked profile ws first n start stop old count → IsNextMarked old count stop at x → AreMarked profile ws first n start x new kept
+
 -- each number of a list is below another
 pub record AreWithin (places : List ℕ) (stop : ℕ) : Type 0 where
   pub each : (p : ℕ) → p < length places → slice_index places p < stop

@@ -11,4 +11,5 @@ returns c =
     let first = with_argument new_is c.number_argument-module.ensures.rule c.number_argument-module.ensures.local c.in_ok-arg.ensures in
     let second = with_argument first c.number_argument-entry.ensures.rule c.number_argument-entry.ensures.local c.in_ok-arg-2.ensures in
     let third = with_argument second c.profile_argument-profile.ensures.rule c.profile_argument-profile.ensures.local c.in_ok-arg-3.ensures in
-    IfOk-weaker c.arg-4.result _ _ (λ made added. with_argument third c.several_arguments-codes.ensures.rule c.several_arguments-codes.ensures.local added) c.arg-4.ensures
+    let fourth = with_argument third c.option_argument-pages.ensures.rule c.option_argument-pages.ensures.local c.in_ok-arg-4.ensures in
+    IfOk-weaker c.arg-5.result _ _ (λ made added. with_argument fourth c.several_arguments-codes.ensures.rule c.several_arguments-codes.ensures.local added) c.arg-5.ensures

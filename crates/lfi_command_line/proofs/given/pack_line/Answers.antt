@@ -1,7 +1,8 @@
 use Rattle.std.proofs.Common.{◌≡◌, ◌∙◌, length, map, Some, codes, option_map, is_some, refl, sym, ap, arith}
 use Rattle.clap.specs.Words.{all_of, first_of, found_of, rows_of}
 use Rattle.clap.proofs.CallerLemmas.{some_of_text}
-use Rattle.clap.proofs.WalkLemmas.{raw_values-rows}
+use Rattle.clap.proofs.WalkLemmas.{first_value-rows, raw_values-rows}
+use Rattle.lfi_command_line.specs.CommandLine.{pages_named}
 use Rattle.lfi_command_line.proofs.Asked.{all_given, map_length, number_most, some_same}
 use Rattle.lfi_command_line.proofs.given.pack_line.Goals as goal
 
@@ -44,7 +45,15 @@ returns-clause-line c =
       c.number_or-module.ensures 0 15 c.requires.«module»,
       c.number_or-entry.ensures 0 4194303 c.requires.entry,
       c.profile_of-profile.ensures,
+      ap (λ o. pages_named o c.profile_of-profile.result) (sym (first_value-rows (found_of c.args.pack.now) (codes "pages")) ∙ sym c.get_str.ensures) ∙ sym c.pages_named.ensures ∙ c.in-Some.is,
       same ∙ ap (λ xs. Some (map (λ s. s.now) xs)) (sym items),
       rw items (omega (count, all.2, arith)),
       rw items (omega (c.if-module-paths-gt-MODULES.false, arith)),
     )
+
+pub returns-in_default-clause-fault : goal.returns-in_default-clause-fault
+returns-in_default-clause-fault c = (
+  c.profile_of-profile.result,
+  c.profile_of-profile.ensures,
+  ap (λ o. pages_named o c.profile_of-profile.result) (sym (first_value-rows (found_of c.args.pack.now) (codes "pages")) ∙ sym c.get_str.ensures) ∙ sym c.pages_named.ensures ∙ c.in_default.is,
+)

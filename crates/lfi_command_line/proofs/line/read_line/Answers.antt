@@ -77,7 +77,7 @@ returns-in-Some-subcommand_matches-3-clause-line c =
 pub pack_line-requires-clause-codes : goal.pack_line-requires-clause-codes
 pack_line-requires-clause-codes c =
     let given = given_for (map string_bytes c.args.words.now) c.in_ok-matches.matches (codes "pack") _ c.in_ok-matches.ensures.taken (c.in-Some-subcommand_matches-4.ensures.found.0 refl) c.in-Some-subcommand_matches-4.ensures.rows in
-    given.1.1.1.0.0 refl
+    given.1.1.1.1.0.0 refl
 
 pub pack_line-requires-clause-module : goal.pack_line-requires-clause-module
 pack_line-requires-clause-module c =

@@ -55,8 +55,8 @@ returns-in-Pack-clause-found g c =
     let lost = is_lost_of c.run_pack.new.errors in
     let told = g.E.Write.contents (writer_of c.run_pack.new.errors) in
     IfOk-weaker c.run_pack.result _ _ (λ ending finds. subst (λ line. CarriesOut line at (left out put was errors) (left new put lost told) ending) (sym c.in-Pack.is)
-    (subst (λ (paths : List (Bor (List ℕ))). HasPacked c.in-Pack.profile c.in-Pack.module c.in-Pack.entry (map (λ p. p.now) paths) at (left out put was errors) (left new put lost told) ending) c.deref-in-Pack.ensures.value
-    (packs_files out new put was lost errors told ending c.in-Pack.profile c.in-Pack.module c.in-Pack.entry (map (λ p. p.now) c.deref-in-Pack.result.now) at finds))) c.run_pack.ensures.found
+    (subst (λ (paths : List (Bor (List ℕ))). HasPacked c.in-Pack.profile c.in-Pack.pages c.in-Pack.module c.in-Pack.entry (map (λ p. p.now) paths) at (left out put was errors) (left new put lost told) ending) c.deref-in-Pack.ensures.value
+    (packs_files out new put was lost errors told ending c.in-Pack.profile c.in-Pack.pages c.in-Pack.module c.in-Pack.entry (map (λ p. p.now) c.deref-in-Pack.result.now) at finds))) c.run_pack.ensures.found
 
 pub returns-in-Load-clause-found : goal.returns-in-Load-clause-found
 returns-in-Load-clause-found g c =

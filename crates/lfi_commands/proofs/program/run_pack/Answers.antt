@@ -13,7 +13,7 @@ returns-in-Ok-write_stream-clause-found g c =
     let at = g.D.Disk.file_at c.args.disk.now in (
       files,
       subst (λ known. AreModulesOf c.args.entry known files) (sym (map_twice at (λ (p : Bor (List ℕ)). p.now) c.args.paths.now)) c.in-Ok.ensures.modules,
-      subst (λ items. WritesStream c.args.profile c.args.first c.args.entry (map (λ file. file.items) items) (g.O.Write.contents c.args.out.now) (g.O.Write.contents c.write_stream.new.writer))
+      subst (λ items. WritesStream c.args.profile c.args.pages c.args.first c.args.entry (map (λ file. file.items) items) (g.O.Write.contents c.args.out.now) (g.O.Write.contents c.write_stream.new.writer))
           c.deref.ensures.value c.in-Ok-write_stream.ensures,
       refl,
     )

@@ -1,10 +1,11 @@
-use Rattle.std.proofs.Common.{rules, ◌≡◌, ℕ, ◌<◌, Some, None, List, length, sym, subst}
+use Rattle.std.proofs.Common.{rules, ◌≡◌, ℕ, ◌<◌, Some, None, List, [], length, sym, subst, ap, ◌∙◌}
 use Rattle.std.specs.Option.{IfSome}
 use Rattle.std.proofs.lemmas.Result.{err_from_is_err_and}
 use Rattle.lfi_image.specs.declared.fault.ImageFault.{ImageFault}
 use Rattle.lfi_image.specs.declared.fault.ImageFault.TheVariants.{More}
 use Rattle.lfi_image.specs.Reading.{count_in, named_profile, header_fault, IsFault, IsRestUnread}
-use Rattle.lfi_image.proofs.Runs.{header_told, code_told, more_told, header_unread, file_unread, memory_told}
+use Rattle.lfi_image.proofs.Runs.{file_told, header_told, code_told, more_told, header_unread, file_unread, memory_told}
+use Rattle.lfi_image.specs.Image.{Image, header_of}
 use Rattle.lfi_image.proofs.reading.read_image.Goals as goal
 
 pub returns-in_err-header-clause-fault : goal.returns-in_err-header-clause-fault
@@ -63,3 +64,24 @@ returns-in_default-clause-fault g c =
     let header : List ℕ = c.read_bytes.new.bytes in
     let long : length header ≡ 24 = search rules in
     memory_told (g.R.Read.remaining c.args.reader.now) (g.R.Read.remaining c.read_bytes.new.reader) header c.in_ok-read_bytes.ensures.full long c.in_ok-header.ensures.fault
+
+pub returns-clause-file : goal.returns-clause-file
+returns-clause-file g c =
+    let header : List ℕ = c.read_bytes.new.bytes in
+    let image : Image = c.in-Ok-finish.image in
+    let last = c.read_code.new.builder in
+    let goes = c.in_ok-read_code.ensures.same in
+    let is : image ≡ record { profile = last.profile; entry = last.entry; slot = last.slot; words = last.placed } = c.in-Ok-finish.ensures.1 in
+    let count : c.in-Ok.builder.words ≡ c.in_ok-header.header.extent.words = search rules in
+    let entry : c.in-Ok.builder.entry ≡ c.in_ok-header.header.extent.entry = search rules in
+    let profile : c.in-Ok.builder.profile ≡ c.in_ok-header.header.extent.profile = search rules in
+    let slot : c.in-Ok.builder.slot ≡ c.in_ok-header.header.slot = search rules in
+    let words : last.placed ≡ image.words = sym (ap (λ (m : Image). m.words) is) in
+    let long : length image.words ≡ c.in_ok-header.header.extent.words = ap length (sym words) ∙ c.in_ok-read_code.ensures.whole ∙ count in
+    let enters : image.entry ≡ c.in_ok-header.header.extent.entry = ap (λ (m : Image). m.entry) is ∙ goes.entry ∙ entry in
+    let by : image.profile ≡ c.in_ok-header.header.extent.profile = ap (λ (m : Image). m.profile) is ∙ goes.profile ∙ profile in
+    let at : image.slot ≡ c.in_ok-header.header.slot = ap (λ (m : Image). m.slot) is ∙ goes.slot ∙ slot in
+    let first : header ≡ header_of (length image.words) image.entry image.profile image.slot = c.in_ok-header.ensures.bytes ∙ (λ i. header_of (sym long i) (sym enters i) (sym by i) (sym at i)) in
+    let ended : IfSome (g.R.Read.remaining c.read_code.new.reader) (λ rest. rest ≡ []) = search rules in
+    file_told c.in-Ok.builder.profile (g.R.Read.remaining c.args.reader.now) (g.R.Read.remaining c.read_bytes.new.reader) (g.R.Read.remaining c.read_code.new.reader) header c.in-Ok.builder.words last.placed image
+    c.in_ok-read_bytes.ensures.full c.in_ok-read_code.ensures.code ended first words

@@ -18,9 +18,9 @@ returns-clause-outcome c =
     let many : c.len-2.result ≡ length (pages_of items) = (let e : c.len-2.result ≡ length c.in_ok-pages.pages.items = omega (arith, c.len-2.ensures) in e ∙ pages) in
     load_is n items c.first_fault-fault.result _ (subst (λ ws. FirstFault n.profile ws n.words c.first_fault-fault.result) words c.first_fault-fault.ensures) c.requires.ended
     (c.outcome-outcome.ensures
-    ∙ ap (λ e. told_by n.words c.first_fault-fault.result e c.len.result c.len-2.result) c.end_of.ensures
-    ∙ ap (λ w. told_by n.words c.first_fault-fault.result (end_of items) w c.len-2.result) count
-    ∙ ap (λ p. told_by n.words c.first_fault-fault.result (end_of items) (length (all_words (pages_of items))) p) many)
+    ∙ ap (λ e. told_by n.pages n.words c.first_fault-fault.result e c.len.result c.len-2.result) c.end_of.ensures
+    ∙ ap (λ w. told_by n.pages n.words c.first_fault-fault.result (end_of items) w c.len-2.result) count
+    ∙ ap (λ p. told_by n.pages n.words c.first_fault-fault.result (end_of items) (length (all_words (pages_of items))) p) many)
 
 pub returns-clause-placed : goal.returns-clause-placed
 returns-clause-placed c =

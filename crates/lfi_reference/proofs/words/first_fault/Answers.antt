@@ -1,4 +1,4 @@
-use Rattle.std.proofs.Common.{[], refl, arith, None}
+use Rattle.std.proofs.Common.{[], arith, None}
 use Rattle.lfi_rules.specs.Faults.{FirstFault}
 use Rattle.lfi_rules.proofs.Following.{breaks_within}
 use Rattle.lfi_rules.proofs.Due.{open_at_start}

@@ -23,4 +23,5 @@ returns-in_default c = record {
       let over : IsOver (progress_at r.modules k) = subst IsOver c.progress_in.ensures.at (over_by _ c.in_default.not-Going) in
       strayed r ms payload (close_message k) (λ s. close_stray k s (progress_at r.modules k) over) holds;
   plain = tt;
+  follows = tt;
 }

@@ -20,4 +20,5 @@ returns-in_default c = record {
       strayed r ms payload (open_message c.args.«module» c.args.extent)
       (λ s. open_stray c.args.«module» c.args.extent s (progress_at r.modules c.args.«module») (λ e. c.in_default.not-Unclaimed (c.progress_in.ensures.at ∙ e))) holds;
   plain = tt;
+  follows = tt;
 }

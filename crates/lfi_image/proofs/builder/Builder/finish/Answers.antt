@@ -11,4 +11,4 @@ invariant_of-result c =
     let e : c.self.inside.entry ≡ c.args.self.entry = search rules in
     let s : c.self.inside.slot ≡ c.args.self.slot = search rules in
     let whole : c.self.inside.words ≤ c.self.inside.placed = search rules in
-    image_of _ _ _ _ _ _ _ _ _ c.self.invariant.0 w n _ _ _ p e s whole
+    image_of _ _ _ _ _ _ _ _ _ _ c.self.invariant.0 w n _ _ _ p e s whole

@@ -8,4 +8,4 @@ returns-clause-faultless c =
     let w : words_in c.self.inside.pages.items ≡ c.args.self.now.placed = search rules in
     let n : c.self.inside.words ≡ c.args.self.now.words = search rules in
     let p : c.self.inside.profile ≡ c.args.self.now.profile = search rules in
-    none_yet _ _ _ _ _ _ _ _ _ c.self.invariant.0 w n _ p
+    none_yet _ _ _ _ _ _ _ _ _ _ c.self.invariant.0 w n _ p
