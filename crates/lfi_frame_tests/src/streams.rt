@@ -1,6 +1,6 @@
 //! The stream of one module of one word, RET, in any pieces and cut anywhere.
 
-use crate::headers::{close, open, page};
+use crate::headers::{fed, is_close, is_open, is_page};
 use lfi_frame::{Feed, FrameFault, Got, Step};
 use std::alloc::{AllocError, Global};
 use std::test::Fail;
@@ -13,102 +13,150 @@ const ONE_RET: [u8; 40] = [
     3, 0, 0, 0, 0, 0, 0, 0, 0, 0, 0, 0, // Close
 ];
 
-/// What a feed tells of bytes that come in pieces of this many, each used up before the next, and the fault that it ends with.
-fn told(
-    alloc: Global,
-    bytes: &[u8],
-    piece: usize,
-) -> Result<(Vec<Got>, Option<FrameFault>), AllocError> {
-    let mut feed = Feed::new();
-    let mut told = Vec::new(alloc);
-    let mut later = bytes;
-    for _ in 0..bytes.len() {
-        let mut rest = &later[..piece.min(later.len())];
-        later = &later[rest.len()..];
-        for _ in 0..piece {
-            match feed.feed(rest) {
-                Ok(Step { used, got }) => {
-                    if got != Got::More {
-                        told.push(got)?;
-                    }
-                    rest = &rest[used..];
+/// What a feed tells of bytes, and the fault that it ends with.
+#[derive(Drop)]
+struct Told {
+    got: Vec<Got>,
+    fault: Option<FrameFault>,
+}
+
+/// Feeds a piece until it is used up, and adds what it brings to a list. Gives the fault that it comes to.
+fn feed_all(
+    feed: &mut Feed,
+    piece: &[u8],
+    list: &mut Vec<Got>,
+) -> Result<Option<FrameFault>, AllocError> {
+    let mut rest = piece;
+    for _ in 0..piece.len() {
+        match feed.feed(rest) {
+            Ok(Step { used, got }) => {
+                if !matches!(got, Got::More) {
+                    list.push(got)?;
                 }
-                Err((_, fault)) => return Ok((told, Some(fault))),
+                rest = &rest[used..];
             }
+            Err((_, fault)) => return Ok(Some(fault)),
         }
     }
-    Ok((told, feed.end().err()))
+    Ok(None)
+}
+
+/// What a feed tells of bytes that come in pieces of this many, each used up before the next.
+fn feed_in_pieces(alloc: Global, bytes: &[u8], piece: usize) -> Result<Told, AllocError> {
+    let mut feed = Feed::new();
+    let mut got = Vec::new(alloc);
+    let mut later = bytes;
+    for _ in 0..bytes.len() {
+        let count = piece.min(later.len());
+        let fault = feed_all(&mut feed, &later[..count], &mut got)?;
+        if fault.is_some() {
+            return Ok(Told { got, fault });
+        }
+        later = &later[count..];
+    }
+    let fault = feed.end().err();
+    Ok(Told { got, fault })
+}
+
+/// Whether that is a piece of a payload, and the last one or not.
+fn is_payload(got: &Got, last: bool) -> bool {
+    match got {
+        Got::Payload { ended } => *ended == last,
+        _ => false,
+    }
 }
 
 #[test]
-fn call_by_call(rt: HostRuntime) {
+fn call_by_call(rt: HostRuntime) -> Result<(), Fail> {
     let mut feed = Feed::default();
-    for (from, used, got) in [
-        (0, 12, open(0, 1, 0)),
-        (12, 12, page(0, 0, 4)),
-        (24, 4, Got::Payload { ended: true }),
-        (28, 12, close(0)),
-        (40, 0, Got::More),
-    ] {
-        assert!(rt; from <= 40);
-        assert_eq!(rt;
-            feed.feed(&ONE_RET[from..]),
-            Ok(Step { used, got }),
-            "from {from}"
-        );
+    let open = fed(&mut feed, &ONE_RET, 12).ok_or("no open")?;
+    assert!(rt; is_open(&open, 0, 1, 0));
+    let page = fed(&mut feed, &ONE_RET[12..], 12).ok_or("no page")?;
+    assert!(rt; is_page(&page, 0, 0, 4));
+    let payload = fed(&mut feed, &ONE_RET[24..], 4).ok_or("no payload")?;
+    assert!(rt; is_payload(&payload, true));
+    let close = fed(&mut feed, &ONE_RET[28..], 12).ok_or("no close")?;
+    assert!(rt; is_close(&close, 0));
+    let none = fed(&mut feed, &[], 0).ok_or("no more")?;
+    assert!(rt; matches!(none, Got::More) && feed.end().is_ok());
+    Ok(())
+}
+
+/// Whether a feed tells first of the Open, then of the page, and of the Close last, and comes to no fault.
+fn is_whole(told: &Told) -> bool {
+    match told.got.as_slice() {
+        [first, second, .., last] => {
+            let opened = is_open(first, 0, 1, 0) && is_page(second, 0, 0, 4);
+            opened && is_close(last, 0) && told.fault.is_none()
+        }
+        _ => false,
     }
-    assert_eq!(rt; feed.end(), Ok(()));
 }
 
 #[test]
 fn in_pieces_of_any_size(rt: HostRuntime) -> Result<(), Fail> {
     for piece in 4..=40usize {
-        let (got, fault) = told(rt.alloc(), ONE_RET.as_slice(), piece)?;
-        assert_eq!(rt; fault, None, "in pieces of {piece}");
-        assert_eq!(rt; got.first(), Some(&open(0, 1, 0)), "in pieces of {piece}");
-        assert_eq!(rt; got.get(1), Some(&page(0, 0, 4)), "in pieces of {piece}");
-        assert_eq!(rt; got.last(), Some(&close(0)), "in pieces of {piece}");
+        let told = feed_in_pieces(rt.alloc(), ONE_RET.as_slice(), piece)?;
+        assert!(rt; is_whole(&told), "in pieces of {piece}");
     }
     Ok(())
 }
 
+/// Whether the payload comes in four pieces.
+fn is_in_four(got: &[Got]) -> bool {
+    match got {
+        [_, _, first, second, third, fourth, _] => {
+            let begun = is_payload(first, false) && is_payload(second, false);
+            begun && is_payload(third, false) && is_payload(fourth, true)
+        }
+        _ => false,
+    }
+}
+
 #[test]
 fn byte_by_byte(rt: HostRuntime) -> Result<(), Fail> {
-    let (got, fault) = told(rt.alloc(), ONE_RET.as_slice(), 1)?;
-    let wanted = [
-        open(0, 1, 0),
-        page(0, 0, 4),
-        Got::Payload { ended: false },
-        Got::Payload { ended: false },
-        Got::Payload { ended: false },
-        Got::Payload { ended: true },
-        close(0),
-    ];
-    assert_eq!(rt; got.as_slice(), wanted.as_slice());
-    assert_eq!(rt; fault, None);
+    let told = feed_in_pieces(rt.alloc(), ONE_RET.as_slice(), 1)?;
+    assert!(rt; is_whole(&told));
+    assert!(rt; is_in_four(told.got.as_slice()));
     Ok(())
+}
+
+/// How many messages came to their ends.
+fn whole_in(got: &[Got]) -> usize {
+    let mut count = 0usize;
+    for one in got {
+        if !matches!(one, Got::Page { .. } | Got::Payload { ended: false }) {
+            count = count.saturating_add(1);
+        }
+    }
+    count
+}
+
+/// Whether the first bytes make so many whole messages, and come to an end within one or not.
+fn is_cut(told: &Told, len: usize) -> bool {
+    let within = match told.fault {
+        Some(fault) => fault == FrameFault::Ended,
+        None => false,
+    };
+    let (whole, ends) = match len {
+        0 => (0, true),
+        1..12 => (0, false),
+        12 => (1, true),
+        13..28 => (1, false),
+        28 => (2, true),
+        29..40 => (2, false),
+        _ => (3, true),
+    };
+    whole_in(told.got.as_slice()) == whole && within == !ends && told.fault.is_none() == ends
 }
 
 #[test]
 fn every_cut(rt: HostRuntime) -> Result<(), Fail> {
     for len in 0..=40usize {
-        for piece in [1, 40] {
-            let (got, fault) = told(rt.alloc(), &ONE_RET[..len], piece)?;
-            let ends = [0, 12, 28, 40].contains(&len);
-            let wanted = if ends { None } else { Some(FrameFault::Ended) };
-            assert_eq!(rt; fault, wanted, "at {len} bytes in pieces of {piece}");
-            let whole = got
-                .iter()
-                .filter(|got| !matches!(got, Got::Page { .. } | Got::Payload { ended: false }))
-                .count();
-            let wanted = match len {
-                0..12 => 0,
-                12..28 => 1,
-                28..40 => 2,
-                _ => 3,
-            };
-            assert_eq!(rt; whole, wanted, "at {len} bytes in pieces of {piece}");
-        }
+        let slow = feed_in_pieces(rt.alloc(), &ONE_RET[..len], 1)?;
+        assert!(rt; is_cut(&slow, len), "at {len} bytes in pieces of 1");
+        let fast = feed_in_pieces(rt.alloc(), &ONE_RET[..len], 40)?;
+        assert!(rt; is_cut(&fast, len), "at {len} bytes in pieces of 40");
     }
     Ok(())
 }

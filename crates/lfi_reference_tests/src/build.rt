@@ -1,5 +1,7 @@
 //! Streams from words, and the text of the report on them.
 
+ghost use Rattle.std.specs.Prelude.{◌≤◌, length};
+
 use lfi_model::Cause;
 use lfi_reference::{PlainStream, report_on};
 use std::alloc::{AllocError, Global};
@@ -37,14 +39,35 @@ impl Text {
         self.header([1, 0], module, words, 0)
     }
 
-    /// A page of a module, of at most 1,024 words.
-    pub fn page(&mut self, module: u16, index: u32, words: &[u32]) -> Result<(), AllocError> {
-        self.header([2, 0], module, index, 4 * words.len().min(1024) as u32)?;
-        self.words(words)
+    /// A page of a module, of so many words, at most 1,024: NOPs, but for one at a place.
+    pub fn page(
+        &mut self,
+        module: u16,
+        index: u32,
+        count: u32,
+        at: u32,
+        word: u32,
+    ) -> Result<(), AllocError> {
+        self.header([2, 0], module, index, count.saturating_mul(4))?;
+        self.words(count, at, word)
     }
 
-    fn words(&mut self, words: &[u32]) -> Result<(), AllocError> {
-        for word in words {
+    /// A page of a module, of one word.
+    pub fn one(&mut self, module: u16, index: u32, word: u32) -> Result<(), AllocError> {
+        self.page(module, index, 1, 0, word)
+    }
+
+    /// So many full pages of a module, from index 0 on.
+    pub fn full_pages(&mut self, module: u16, count: u32) -> Result<(), AllocError> {
+        for index in 0..count {
+            self.page(module, index, 1024, 0, NOP)?;
+        }
+        Ok(())
+    }
+
+    fn words(&mut self, count: u32, at: u32, word: u32) -> Result<(), AllocError> {
+        for place in 0..count {
+            let word = if place == at { word } else { NOP };
             self.bytes.extend_from_slice(&word.to_le_bytes())?;
         }
         Ok(())
@@ -55,10 +78,17 @@ impl Text {
         self.header([4, 2], module, words, 0)
     }
 
-    /// A large page of a module, of at most 4,096 words.
-    pub fn large_page(&mut self, module: u16, index: u32, words: &[u32]) -> Result<(), AllocError> {
-        self.header([5, 0], module, index, 4 * words.len().min(4096) as u32)?;
-        self.words(words)
+    /// A large page of a module, of so many words, at most 4,096: NOPs, but for one at a place.
+    pub fn large_page(
+        &mut self,
+        module: u16,
+        index: u32,
+        count: u32,
+        at: u32,
+        word: u32,
+    ) -> Result<(), AllocError> {
+        self.header([5, 0], module, index, count.saturating_mul(4))?;
+        self.words(count, at, word)
     }
 
     /// The end of a module.
@@ -71,7 +101,7 @@ impl Text {
 pub fn one_word(alloc: Global, module: u16, word: u32) -> Result<Text, AllocError> {
     let mut text = Text::new(alloc);
     text.open(module, 1)?;
-    text.page(module, 0, &[word])?;
+    text.one(module, 0, word)?;
     text.close(module)?;
     Ok(text)
 }
@@ -105,6 +135,13 @@ pub fn told(
 ) -> Result<String, AllocError> {
     let mut streams = Vec::new(alloc);
     streams.push(stream(alloc, bytes, cause, modules)?)?;
-    let summary = report_on(alloc, streams.as_slice())?.summary();
+    told_of(alloc, streams.as_slice())
+}
+
+/// The text of the report on these streams.
+pub fn told_of(alloc: Global, streams: &[PlainStream]) -> Result<String, AllocError>
+    requires { length streams.now ≤ 8 }
+{
+    let summary = report_on(alloc, streams)?.summary();
     format!(in alloc; "{summary}")
 }

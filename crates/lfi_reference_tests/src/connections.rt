@@ -2,17 +2,31 @@
 
 ghost use Rattle.std.specs.Prelude.{◌≤◌};
 
-use crate::build::{NOP, RET, Text, one_word, stream};
+use crate::build::{NOP, RET, Text, one_word, stream, told_of};
 use crate::stage::Pieces;
 use lfi_model::Cause;
 use lfi_place::OpenGate;
 use lfi_receive::Input;
-use lfi_reference::report_on;
 use lfi_threads::{LoadError, NoNotices, load_all};
 use std::alloc::{AllocError, Global};
 use std::sync::Wait;
 use std::test::Fail;
 use std::thread::Threads;
+
+/// These texts as inputs, each in pieces of so many bytes.
+fn in_pieces(
+    alloc: Global,
+    texts: &[Text],
+    most: usize,
+) -> Result<Vec<Input<Pieces<'_>>>, AllocError> {
+    let mut inputs = Vec::new(alloc);
+    for text in texts {
+        let left = text.bytes.as_slice();
+        let rest = None;
+        inputs.push(Input::new(alloc, Pieces { left, most, rest })?)?;
+    }
+    Ok(inputs)
+}
 
 /// The text of the stage's report on these connections, of which it takes at most eight, each in
 /// pieces of so many bytes; nothing where there is none.
@@ -24,11 +38,7 @@ fn loaded_all(
 ) -> Result<String, LoadError>
     requires verifiers { (1 ≤ verifiers) × (verifiers ≤ 8) }
 {
-    let mut inputs = Vec::new(rt.alloc());
-    for text in texts {
-        let left = text.bytes.as_slice();
-        inputs.push(Input::new(rt.alloc(), Pieces { left, most })?)?;
-    }
+    let mut inputs = in_pieces(rt.alloc(), texts, most)?;
     inputs.truncate(8);
     if inputs.is_empty() {
         return Ok(String::new(rt.alloc()));
@@ -39,77 +49,114 @@ fn loaded_all(
 
 /// Two modules of 2,049 NOPs each, from this one on, whose pages come in turns.
 fn two_modules(alloc: Global, first: u16) -> Result<Text, AllocError> {
-    let words = [NOP; 1024];
     let second = first.saturating_add(1);
     let mut text = Text::new(alloc);
     text.open(first, 2049)?;
     text.open(second, 2049)?;
     for index in 0..2u32 {
-        text.page(first, index, &words)?;
-        text.page(second, index, &words)?;
+        text.page(first, index, 1024, 0, NOP)?;
+        text.page(second, index, 1024, 0, NOP)?;
     }
-    text.page(second, 2, &[NOP])?;
-    text.page(first, 2, &[NOP])?;
+    text.one(second, 2, NOP)?;
+    text.one(first, 2, NOP)?;
     text.close(first)?;
     text.close(second)?;
     Ok(text)
 }
 
+const SIXTEEN: &str = "\
+module 0: complete, 2049 words
+module 1: complete, 2049 words
+module 2: complete, 2049 words
+module 3: complete, 2049 words
+module 4: complete, 2049 words
+module 5: complete, 2049 words
+module 6: complete, 2049 words
+module 7: complete, 2049 words
+module 8: complete, 2049 words
+module 9: complete, 2049 words
+module 10: complete, 2049 words
+module 11: complete, 2049 words
+module 12: complete, 2049 words
+module 13: complete, 2049 words
+module 14: complete, 2049 words
+module 15: complete, 2049 words
+strays 0
+";
+
+/// The first number of verifiers with which these texts, in pieces of so many bytes, are told otherwise.
+fn first_verifiers_otherwise(
+    rt: &(impl Threads + Wait + Sync + AllocGlobal),
+    texts: &[Text],
+    most: usize,
+    want: &str,
+) -> Result<Option<usize>, LoadError> {
+    for verifiers in 1..=8usize {
+        if loaded_all(rt, texts, most, verifiers)?.as_str() != want {
+            return Ok(Some(verifiers));
+        }
+    }
+    Ok(None)
+}
+
 #[test]
 fn eight_streams_of_two_modules(rt: HostRuntime) -> Result<(), Fail> {
     let mut texts = Vec::new(rt.alloc());
-    let mut want = String::new(rt.alloc());
     for number in 0..8u16 {
         texts.push(two_modules(rt.alloc(), 2 * number)?)?;
     }
-    for module in 0..16 {
-        let line = format!(in rt.alloc(); "module {module}: complete, 2049 words\n")?;
-        want.push_str(line.as_str())?;
-    }
-    want.push_str("strays 0\n")?;
-    for verifiers in 1..=8usize {
-        let report = loaded_all(&rt, texts.as_slice(), 5000, verifiers)?;
-        assert_eq!(rt; report.as_str(), want.as_str(), "{verifiers} verifiers");
-    }
+    let other = first_verifiers_otherwise(&rt, texts.as_slice(), 5000, SIXTEEN)?;
+    assert!(rt; other.is_none(), "{other:?} verifiers");
     Ok(())
+}
+
+/// The first of these lengths of pieces in which texts are told otherwise by two verifiers.
+fn first_pieces_otherwise(
+    rt: &(impl Threads + Wait + Sync + AllocGlobal),
+    texts: &[Text],
+    lengths: &[usize],
+    want: &str,
+) -> Result<Option<usize>, LoadError> {
+    for most in lengths {
+        if loaded_all(rt, texts, *most, 2)?.as_str() != want {
+            return Ok(Some(*most));
+        }
+    }
+    Ok(None)
 }
 
 #[test]
 fn two_streams_of_module_3(rt: HostRuntime) -> Result<(), Fail> {
-    let mut texts = Vec::new(rt.alloc());
-    texts.push(one_word(rt.alloc(), 3, RET)?)?;
-    texts.push(one_word(rt.alloc(), 3, NOP)?)?;
-    for most in [1usize, 12, 13, 40] {
-        let report = loaded_all(&rt, texts.as_slice(), most, 2)?;
-        assert_eq!(rt;
-            report.as_str(),
-            "module 3: complete, 1 words\nstrays 3\n",
-            "pieces of {most}"
-        );
-    }
+    let texts = [one_word(rt.alloc(), 3, RET)?, one_word(rt.alloc(), 3, NOP)?];
+    let want = "module 3: complete, 1 words\nstrays 3\n";
+    let other = first_pieces_otherwise(&rt, &texts, &[1, 12, 13, 40], want)?;
+    assert!(rt; other.is_none(), "pieces of {other:?}");
     Ok(())
+}
+
+/// A whole stream, one that is cut off, and an empty one.
+fn one_cut_off(alloc: Global) -> Result<[Text; 3], AllocError> {
+    let mut cut = one_word(alloc, 0, RET)?;
+    cut.bytes.truncate(30);
+    Ok([one_word(alloc, 5, RET)?, cut, Text::new(alloc)])
+}
+
+/// The text of the plain program's report on three streams, for which modules 5, 0 and 1 are claimed.
+fn told_of_three(alloc: Global, texts: &[Text; 3]) -> Result<String, AllocError> {
+    let [first, second, third] = texts;
+    let mut streams = Vec::new(alloc);
+    streams.push(stream(alloc, first.bytes.as_slice(), Cause::End, &[5])?)?;
+    streams.push(stream(alloc, second.bytes.as_slice(), Cause::End, &[0])?)?;
+    streams.push(stream(alloc, third.bytes.as_slice(), Cause::End, &[1])?)?;
+    told_of(alloc, streams.as_slice())
 }
 
 #[test]
 fn one_that_is_cut_off_beside_others(rt: HostRuntime) -> Result<(), Fail> {
-    let mut cut = one_word(rt.alloc(), 0, RET)?;
-    cut.bytes.truncate(30);
-    let mut texts = Vec::new(rt.alloc());
-    texts.push(one_word(rt.alloc(), 5, RET)?)?;
-    texts.push(cut)?;
-    texts.push(Text::new(rt.alloc()))?;
+    let texts = one_cut_off(rt.alloc())?;
     let want =
         "module 0: lost, fault 9\nmodule 5: complete, 1 words\nconnection 1: fault 9\nstrays 0\n";
-    let report = loaded_all(&rt, texts.as_slice(), 7, 3)?;
-    assert_eq!(rt; report.as_str(), want);
-    let mut streams = Vec::new(rt.alloc());
-    for (text, module) in texts.iter().zip([5u16, 0, 1]) {
-        let bytes = text.bytes.as_slice();
-        streams.push(stream(rt.alloc(), bytes, Cause::End, &[module])?)?;
-    }
-    assert_eq!(rt; streams.len(), 3);
-    let plain = report_on(rt.alloc(), streams.as_slice())?.summary();
-    let plain = format!(in rt.alloc(); "{plain}")?;
-    assert_eq!(rt; plain.as_str(), want);
+    assert!(rt; loaded_all(&rt, &texts, 7, 3)?.as_str() == want);
+    assert!(rt; told_of_three(rt.alloc(), &texts)?.as_str() == want);
     Ok(())
 }

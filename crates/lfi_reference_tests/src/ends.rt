@@ -1,8 +1,8 @@
 //! The order in which a connection puts its items, by what a verifier takes of them.
 
 use crate::build::{RET, Text};
-use crate::settled::input;
-use crate::turned::{pair, receive_all, verify_told};
+use crate::settled::put_all;
+use crate::turned::{pair, verify_told};
 use lfi_model::{Item, Judged};
 use lfi_place::{Gate, VerifierTurn};
 use lfi_receive::ReceiverTurn;
@@ -34,7 +34,7 @@ fn three_open(alloc: Global) -> Result<Text, AllocError> {
     text.open(9, 1)?;
     text.open(3, 1)?;
     text.open(12, 1)?;
-    text.page(3, 0, &[RET])?;
+    text.one(3, 0, RET)?;
     Ok(text)
 }
 
@@ -42,14 +42,13 @@ fn three_open(alloc: Global) -> Result<Text, AllocError> {
 fn ends_come_in_the_order_of_the_modules(rt: HostRuntime) -> Result<(), Fail> {
     let mut stage = pair(rt.alloc())?;
     let text = three_open(rt.alloc())?;
-    let put = receive_all(&mut stage, 0, &mut input(rt.alloc(), &text)?);
-    assert!(rt; put == ReceiverTurn::Finished);
+    assert!(rt; put_all(rt.alloc(), &mut stage, 0, &text)? == ReceiverTurn::Finished);
     let gate = Digits {
         seen: AtomicU64::new(1),
     };
     for _ in 0..7 {
         assert!(rt; verify_told(&rt, &mut stage, 0, &gate) == VerifierTurn::Worked);
     }
-    assert_eq!(rt; gate.seen.load(Ordering::SeqCst), 0x193C_339C);
+    assert!(rt; gate.seen.load(Ordering::SeqCst) == 0x193C_339C);
     Ok(())
 }

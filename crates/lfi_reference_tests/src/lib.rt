@@ -19,4 +19,5 @@ mod settled;
 mod stage;
 #[cfg(test)]
 mod streams;
-pub mod turned;
+#[cfg(test)]
+mod turned;

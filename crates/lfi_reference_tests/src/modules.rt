@@ -19,44 +19,46 @@ const SVC: u32 = 0xD4000001;
 const WRITE_BASE: u32 = 0xAA0003F5;
 
 /// Module 0 of 1,025 words: NOPs, but for one word of page 0, and the one word of page 1.
-fn two_pages(alloc: Global, at: usize, word: u32, last: u32) -> Result<Text, AllocError> {
-    let mut words = [NOP; 1024];
-    if at < 1024 {
-        words[at] = word;
-    }
+fn two_pages(alloc: Global, at: u32, word: u32, last: u32) -> Result<Text, AllocError> {
     let mut text = Text::new(alloc);
     text.open(0, 1025)?;
-    text.page(0, 0, &words)?;
-    text.page(0, 1, &[last])?;
+    text.page(0, 0, 1024, at, word)?;
+    text.one(0, 1, last)?;
     text.close(0)?;
     Ok(text)
 }
 
-/// How many pages of module 0 are placed, and how many words the first of them has.
-fn placed(alloc: Global, text: &Text) -> Result<(usize, usize), AllocError> {
+/// Whether so many pages of module 0 are placed, and the first of them has so many words.
+fn are_placed(alloc: Global, text: &Text, pages: usize, words: usize) -> Result<bool, AllocError> {
     let mut streams = Vec::new(alloc);
     streams.push(stream(alloc, text.bytes.as_slice(), Cause::End, &[0])?)?;
     let report = report_on(alloc, streams.as_slice())?;
     let Some(loaded) = report.modules.first() else {
-        return Ok((0, 0));
+        return Ok(false);
     };
-    let words = match loaded.placed.first() {
+    let first = match loaded.placed.first() {
         Some(page) => page.len(),
         None => 0,
     };
-    Ok((loaded.placed.len(), words))
+    Ok(loaded.placed.len() == pages && first == words)
 }
 
 #[test]
-fn placed_pages(rt: HostRuntime) -> Result<(), Fail> {
-    let alloc = rt.alloc();
-    assert_eq!(rt; placed(alloc, &one_word(alloc, 0, RET)?)?, (1, 1));
-    assert_eq!(rt; placed(alloc, &one_word(alloc, 0, SVC)?)?, (0, 0));
-    let whole = two_pages(alloc, 1023, LOAD_LINK, GUARD_LINK)?;
-    assert_eq!(rt; placed(alloc, &whole)?, (2, 1024));
-    let late = two_pages(alloc, 1023, LOAD_LINK, NOP)?;
-    assert_eq!(rt; placed(alloc, &late)?, (1, 1024));
-    let early = two_pages(alloc, 5, SVC, WRITE_BASE)?;
-    assert_eq!(rt; placed(alloc, &early)?, (0, 0));
+fn placed_pages_of_one(rt: HostRuntime) -> Result<(), Fail> {
+    let lawful = one_word(rt.alloc(), 0, RET)?;
+    assert!(rt; are_placed(rt.alloc(), &lawful, 1, 1)?);
+    let unlawful = one_word(rt.alloc(), 0, SVC)?;
+    assert!(rt; are_placed(rt.alloc(), &unlawful, 0, 0)?);
+    Ok(())
+}
+
+#[test]
+fn placed_pages_of_two(rt: HostRuntime) -> Result<(), Fail> {
+    let whole = two_pages(rt.alloc(), 1023, LOAD_LINK, GUARD_LINK)?;
+    assert!(rt; are_placed(rt.alloc(), &whole, 2, 1024)?);
+    let late = two_pages(rt.alloc(), 1023, LOAD_LINK, NOP)?;
+    assert!(rt; are_placed(rt.alloc(), &late, 1, 1024)?);
+    let early = two_pages(rt.alloc(), 5, SVC, WRITE_BASE)?;
+    assert!(rt; are_placed(rt.alloc(), &early, 0, 0)?);
     Ok(())
 }
