@@ -31,11 +31,30 @@
 //!   can fail for want of memory here: that the push is never refused is proved. On the loop of `bench machine` it costs
 //!   at most 2 to 4 per cent (142 million steps a second beside 145, and 189 beside 196 in a quieter minute, the best
 //!   of 7 and of 5 in turn). Pages decoded one by one would spare the words before, at one more load a step.
-//! - **What a step costs**: 80 of the processor's instructions on the loop of `bench machine`, of which some 24 count the
-//!   step and fetch, 8 jump to the class and 4 go on to the next word; a plain interpreter without proofs, with the whole
-//!   slot in one mapping, takes 50. Tried: pc and the base read once a step, and not again after the call that decodes:
-//!   73 instructions, and as long by the clock (317 ms for 20 million steps, and 314 before), so it wasn't kept; a second
-//!   place that carries out, after that call: the compiler then leaves `carry_out` a call, and a step takes 110.
+//! - **What a step costs**: 64 of the processor's instructions on the loop of `bench machine`, 11 of them jumps. 10
+//!   count the step and fetch, 5 jump to the class and 3 go on to the next word. A plain interpreter without proofs,
+//!   with the whole slot in one mapping, takes 50. It was 78, with 14 jumps. What made it less: one test tells whether
+//!   a word begins at pc and whether it is decoded (`place_of`), and pc and the base are read once a step, before the
+//!   call that decodes; the classes that access memory are asked for one by one (`carry_out`), since of a match in a
+//!   match the compiler makes two jumps; two comparisons, and not three, tell that bytes may be written
+//!   (`is_all_data`). In turn with the program before and with the plain interpreter, in three races of 21, 21 and 41
+//!   runs of 10 million steps on a busy machine, it did at best 186, 177 and 190 million steps a second, where the
+//!   program before did 146, 140 and 143 and the plain one 210, 210 and 225; in the middle 163, 134 and 132, beside
+//!   126, 115 and 91, and 163, 169 and 133. So it is a quarter to a third faster, and at best does 0.84 to 0.89 of the
+//!   plain pace, where it did 0.64 to 0.70.
+//! - **What was tried for the pace of a step, and isn't kept**: the code's first address kept beside the base (63
+//!   instructions; 181 and 180 million at best, in the last two races above, so neither faster nor slower). In builds
+//!   of the same code without its proofs, which have the same instructions but for 2 or 3 a step: steps counted down as
+//!   well (1 fewer, no faster); operands cut to their width by an AND with a mask in a64_semantics (as many, with a
+//!   jump fewer; 162 million beside 167); a `perform` that answers whether it did anything, in place of the tests one
+//!   by one (as many, as long); a size in bytes made by a shift (1 more). Earlier: a second place that carries out,
+//!   after the call that decodes (the compiler then leaves `carry_out` a call: 110). Not tried: the mask of a logical
+//!   immediate made at decoding, which would save some 28 instructions at each; stores that ask once for their page.
+//! - **Instructions alone don't tell the time.** The processor of these measurements (Cascade Lake) is slow at a jump
+//!   that crosses or ends a line of 32 bytes, as 1 to 5 of a step's jumps do, and which ones changes with any change of
+//!   the code. A trial step of 71 instructions, with 5 such jumps, was a tenth slower than one of 80 with 2; laid out
+//!   so that none crosses, it was the faster one. So a change is measured in a build of its own, and a few per cent
+//!   show nothing.
 //! - **The map's numbers stand in lfi_machine::map**, and the reserved registers in lfi_rules::registers. What begins a
 //!   function with a base of its own (`base < 2^40`) is private to lfi_machine: callers there have the base from `Data`
 //!   or the image.

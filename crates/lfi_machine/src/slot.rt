@@ -160,10 +160,8 @@ impl Data {
         requires { bytes ≤ 16 }
         ensures { IsTrue result → (stores : Bool) → first_denied self.now.image stores bytes address ≡ None }
     {
-        if address < self.base {
-            return false;
-        }
-        let offset = address - self.base;
+        // Of an address below the slot the difference wraps to an offset above it, so that no test of its own is needed.
+        let offset = address.wrapping_sub(self.base);
         self.first <= offset && offset <= SLOT - u64::from(bytes)
     }
 
