@@ -37,7 +37,6 @@ use lfi_threads::Notices;
 use std::alloc::Global;
 use std::fs::Files;
 use std::io::Write;
-use std::mem::forget;
 use std::net::Net;
 use std::os::unix::net::UnixListener;
 use std::rt::Clock;
@@ -202,10 +201,7 @@ fn run_load<
         Err(error) => return Err(Failure::of_output(DeviceCause::of(&error))),
     }
     let all = write_asked_images(alloc, disk, folder, &report.modules, errors);
-    let ending = Ending::of_load(&report, true, all);
-    // The program ends now, and the system takes its memory back at once. To give back each page would hold its end up.
-    forget(report);
-    Ok(ending)
+    Ok(Ending::of_load(&report, true, all))
 }
 
 /// The limit of time of so many seconds, where they are said.
@@ -271,10 +267,7 @@ fn run_serve<
         Err(error) => return Err(Failure::of_output(DeviceCause::of(&error))),
     }
     let all = write_asked_images(alloc, disk, folder, &served.report.modules, errors);
-    let ending = Ending::of_load(&served.report, served.all_accepted, all);
-    // As in `run_load`.
-    forget(served);
-    Ok(ending)
+    Ok(Ending::of_load(&served.report, served.all_accepted, all))
 }
 
 /// Runs the image in a file for at most so many steps, and tells what comes of it.

@@ -20,5 +20,5 @@ returns-clause-found g c =
           (summary_text (summary_of c.in_ok-report.report)) told.0 c.in_ok-report.ensures.written told.2;
       all = c.write_asked_images-all.result;
       images = c.write_asked_images-all.ensures;
-      ends = c.of_load-ending.ensures;
+      ends = c.of_load.ensures;
     }
