@@ -48,8 +48,12 @@
 //!   well (1 fewer, no faster); operands cut to their width by an AND with a mask in a64_semantics (as many, with a
 //!   jump fewer; 162 million beside 167); a `perform` that answers whether it did anything, in place of the tests one
 //!   by one (as many, as long); a size in bytes made by a shift (1 more). Earlier: a second place that carries out,
-//!   after the call that decodes (the compiler then leaves `carry_out` a call: 110). Not tried: the mask of a logical
-//!   immediate made at decoding, which would save some 28 instructions at each; stores that ask once for their page.
+//!   after the call that decodes (the compiler then leaves `carry_out` a call: 110). Proved and measured: the mask of a
+//!   logical immediate made at decoding, and kept beside the instruction, of which contracts saw nothing (62.4
+//!   instructions where it was 63.4, since what is kept is then 24 bytes a word; 143 and 148 million at best in two races
+//!   of 60 and 21 runs, where the program without did 150 and 159). Not tried: stores that ask once for their page, which
+//!   would save less than one instruction a step of that loop, in which one word of twelve stores; two words decoded and
+//!   carried out as one (the guard and its access, a comparison and its branch); flags made only where they are read.
 //! - **Instructions alone don't tell the time.** The processor of these measurements (Cascade Lake) is slow at a jump
 //!   that crosses or ends a line of 32 bytes, as 1 to 5 of a step's jumps do, and which ones changes with any change of
 //!   the code. A trial step of 71 instructions, with 5 such jumps, was a tenth slower than one of 80 with 2; laid out
