@@ -1,7 +1,8 @@
 //! What a seat of the pool knows, the rule of the pool, and what each step tells.
 
 ghost use Rattle.page_buf.specs.inner.Slots.{Kept, idle};
-ghost use Rattle.page_buf.specs.inner.Steps.{sat, tried, done};
+ghost use Rattle.page_buf.specs.Sightings.{empty, full};
+ghost use Rattle.page_buf.specs.inner.Steps.{sat, looked, tried, done};
 
 use crate::page::OpenPage;
 use atomic_table::{Play, TableRule};
@@ -32,6 +33,18 @@ pub(crate) struct Sit;
 
 impl Play<Option<OpenPage>, Hand> for Sit {
     ghost then = { sat };
+}
+
+pub(crate) struct SeeFull;
+
+impl Play<Option<OpenPage>, Hand> for SeeFull {
+    ghost then = { looked full };
+}
+
+pub(crate) struct SeeEmpty;
+
+impl Play<Option<OpenPage>, Hand> for SeeEmpty {
+    ghost then = { looked empty };
 }
 
 pub(crate) struct Try;

@@ -35,6 +35,9 @@
 //!   it. A seat tries each slot once, from slot 0 on, and waits for none that another is at: so `None` of `get` and `Err`
 //!   of `give` say that each slot was found not full, or not empty, each at a moment of its own. One call could find so
 //!   much in a pool that is never empty, or never full; then a page is made anew, or freed.
+//! - **A slot is looked at before it is tried**: a compare-and-exchange takes the line of memory for its own thread also
+//!   where it fails, and so do the next 63. Of a load of 64 MiB without refused modules, whose pool is always empty, these
+//!   were two thirds of the receivers' turns and a thirteenth of all processor time (15 of 196 ms, under a profiler).
 #![tactic(auto)]
 
 mod hand;

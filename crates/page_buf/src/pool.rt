@@ -4,7 +4,7 @@
 ghost use Rattle.std.specs.Prelude.{◌≡◌, ◌<◌, ◌≤◌, [], IfSome, IfNone, IfOk, IfErr, OnOk, OnErr, All, length};
 ghost use Rattle.lfi_module.specs.Numbers.{small_page};
 
-use crate::hand::{Hand, PutBack, Sit, Slots, Try};
+use crate::hand::{Hand, PutBack, SeeEmpty, SeeFull, Sit, Slots, Try};
 use crate::page::{OpenPage, SealedPage};
 use atomic_table::{Seat, Shared, Table};
 use std::alloc::{AllocError, Global};
@@ -99,7 +99,9 @@ impl Pool {
     {
         let top = &self.table.shared;
         for k in 0..SLOTS {
-            if top.compare_exchange::<Try>(&mut seat.seat, k, FULL, BUSY) == FULL {
+            if top.load::<SeeFull>(&mut seat.seat, k) == FULL
+                && top.compare_exchange::<Try>(&mut seat.seat, k, FULL, BUSY) == FULL
+            {
                 let page = top.exchange(&mut seat.seat, k, None);
                 top.store::<PutBack>(&mut seat.seat, k, EMPTY);
                 return page;
@@ -123,7 +125,9 @@ impl Pool {
     {
         let top = &self.table.shared;
         for k in 0..SLOTS {
-            if top.compare_exchange::<Try>(&mut seat.seat, k, EMPTY, BUSY) == EMPTY {
+            if top.load::<SeeEmpty>(&mut seat.seat, k) == EMPTY
+                && top.compare_exchange::<Try>(&mut seat.seat, k, EMPTY, BUSY) == EMPTY
+            {
                 let _ = top.exchange(&mut seat.seat, k, Some(page.reopen()));
                 top.store::<PutBack>(&mut seat.seat, k, FULL);
                 return Ok(());
