@@ -16,8 +16,7 @@ x_or_sp_at r n = if n == 31 then r.sp else x_at r n
 
 -- how many values a register has, as W or as X
 abbrev pub modulus : Width → ℕ
-modulus widths.W = 2 ^ 32
-modulus widths.X = 2 ^ 64
+modulus = elim [ widths.W ↦ 2 ^ 32 | widths.X ↦ 2 ^ 64 ]
 
 -- the lowest bits of a value, 32 of them or 64
 abbrev pub low_bits : Width → ℕ → ℕ

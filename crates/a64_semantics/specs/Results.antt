@@ -56,8 +56,7 @@ bitwise logicals.Eor x y = bit_xor x y
 bitwise logicals.Ands x y = bit_and x y
 
 abbrev pub sets_flags : Logical → Bool
-sets_flags logicals.Ands = true
-sets_flags operation = false
+sets_flags = elim [ logicals.Ands ↦ true | operation ↦ false ]
 
 abbrev pub logical : Width → Logical → ℕ → ℕ → Computed
 logical width operation x y = record {

@@ -32,8 +32,7 @@ is_at_stack (Some address) = address.base == registers.stack
 is_at_stack None = false
 
 abbrev pub is_nothing : Need → Bool
-is_nothing needs.Nothing = true
-is_nothing _ = false
+is_nothing = elim [ needs.Nothing ↦ true | _ ↦ false ]
 
 -- An instruction is calm: it is no branch and no BRK, doesn't write sp, accesses nothing with base sp, and opens nothing.
 abbrev pub is_calm : Profile → Instruction → Bool

@@ -23,8 +23,7 @@ is_load_64 size transfer = false
 
 -- an access of a pair that doesn't change its base
 abbrev pub is_offset : PairMode → Bool
-is_offset pair_modes.Offset = true
-is_offset mode = false
+is_offset = elim [ pair_modes.Offset ↦ true | mode ↦ false ]
 
 abbrev pub is_zero : ℤ → Bool
 is_zero (pos n) = n == 0
@@ -53,8 +52,7 @@ moves_stack _ = false
 
 -- among how many words after an instruction that moves sp the probe has to come
 abbrev pub window : Profile → ℕ
-window One = 1
-window Two = 4
+window = elim [ One ↦ 1 | Two ↦ 4 ]
 
 -- the need that an instruction opens
 abbrev pub opens_of : Profile → Instruction → Need
