@@ -38,8 +38,7 @@ abbrev pub computes : Instruction → Bool
 computes i = (is_sum i || is_logical i) || (is_value i || compares i)
 
 abbrev pub is_ands : Logical → Bool
-is_ands Ands = true
-is_ands operation = false
+is_ands = elim [ Ands ↦ true | operation ↦ false ]
 
 -- it sets the flags
 abbrev pub sets_flags : Instruction → Bool

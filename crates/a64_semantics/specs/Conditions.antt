@@ -5,8 +5,7 @@ use Rattle.a64_word.specs.declared.operands.Condition.TheVariants as condition
 use Rattle.a64_semantics.specs.declared.flags.Flags.{Flags}
 
 abbrev pub is_same : Bool → Bool → Bool
-is_same true b = b
-is_same false b = not b
+is_same = elim [ true ↦ λ b. b | false ↦ not ]
 
 abbrev pub holds : Condition → Flags → Bool
 holds condition.Eq f = f.zero

@@ -20,9 +20,7 @@ difference width x y = (x + (2 ^ data_size width - y % 2 ^ data_size width)) % 2
 
 -- the number that the bits are as two's complement, and the bits of such a number
 abbrev pub signed : Width → ℕ → ℤ
-signed widths.W x = cast_signed w32 x
-signed widths.X x = cast_signed w64 x
+signed = elim [ widths.W ↦ cast_signed w32 | widths.X ↦ cast_signed w64 ]
 
 abbrev pub unsigned : Width → ℤ → ℕ
-unsigned widths.W z = cast_unsigned w32 z
-unsigned widths.X z = cast_unsigned w64 z
+unsigned = elim [ widths.W ↦ cast_unsigned w32 | widths.X ↦ cast_unsigned w64 ]

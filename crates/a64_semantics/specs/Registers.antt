@@ -16,8 +16,7 @@ x_or_sp_at r n = if n == 31 then r.sp else x_at r n
 
 -- how many values a register has, as W or as X
 abbrev pub modulus : Width → ℕ
-modulus widths.W = 2 ^ 32
-modulus widths.X = 2 ^ 64
+modulus = elim [ widths.W ↦ 2 ^ 32 | widths.X ↦ 2 ^ 64 ]
 
 -- the lowest bits of a value, 32 of them or 64
 abbrev pub low_bits : Width → ℕ → ℕ
@@ -31,9 +30,8 @@ pub record Write : Type 0 where
 -- A result written as W clears the upper half.
 abbrev pub put : Write → Registers → Registers
 put write r =
-    if write.place.register == 31
-    then record r { sp = low_bits write.place.width write.value }
-    else record r { x = slice_set r.x write.place.register (low_bits write.place.width write.value) }
+    let value = low_bits write.place.width write.value in
+    if write.place.register == 31 then record r { sp = value } else record r { x = slice_set r.x write.place.register value }
 
 -- results, written one after another
 abbrev pub put_all : List Write → Registers → Registers

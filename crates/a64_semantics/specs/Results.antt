@@ -37,33 +37,25 @@ use Rattle.a64_semantics.specs.Products.{high_product, signed_high_product, quot
 
 -- ADD, ADDS, SUB, SUBS
 abbrev pub add_sub_immediate : AddSubImmediate → (rn : ℕ) → Computed
-add_sub_immediate i rn =
-    add_sub i.width i.subtract i.set_flags (operand i.width rn) (if i.shifted then i.imm12 * 2 ^ 12 else i.imm12)
+add_sub_immediate i rn = add_sub i.width i.subtract i.set_flags (operand i.width rn) (if i.shifted then i.imm12 * 2 ^ 12 else i.imm12)
 
 abbrev pub add_sub_shifted : AddSubShifted → (rn rm : ℕ) → Computed
 add_sub_shifted i rn rm =
     add_sub i.width i.subtract i.set_flags (operand i.width rn) (shifted i.width i.shift (operand i.width rm) i.amount)
 
 abbrev pub add_sub_extended : AddSubExtended → (rn rm : ℕ) → Computed
-add_sub_extended i rn rm =
-    add_sub i.width i.subtract i.set_flags (operand i.width rn) (extended_operand i.width i.extend rm i.amount)
+add_sub_extended i rn rm = add_sub i.width i.subtract i.set_flags (operand i.width rn) (extended_operand i.width i.extend rm i.amount)
 
 -- AND, ORR, EOR and ANDS, bit by bit; ANDS sets flags
 abbrev pub bitwise : Logical → ℕ → ℕ → ℕ
-bitwise logicals.And x y = bit_and x y
-bitwise logicals.Orr x y = bit_or x y
-bitwise logicals.Eor x y = bit_xor x y
-bitwise logicals.Ands x y = bit_and x y
+bitwise = elim [ logicals.And ↦ bit_and | logicals.Orr ↦ bit_or | logicals.Eor ↦ bit_xor | logicals.Ands ↦ bit_and ]
 
 abbrev pub sets_flags : Logical → Bool
-sets_flags logicals.Ands = true
-sets_flags operation = false
+sets_flags = elim [ logicals.Ands ↦ true | operation ↦ false ]
 
 abbrev pub logical : Width → Logical → ℕ → ℕ → Computed
-logical width operation x y = record {
-  value = bitwise operation x y;
-  flags = flags_where (sets_flags operation) (flags_of_bits width (bitwise operation x y));
-}
+logical width operation x y =
+    let z = bitwise operation x y in record { value = z; flags = flags_where (sets_flags operation) (flags_of_bits width z) }
 
 abbrev pub logical_immediate : LogicalImmediate → (rn : ℕ) → Computed
 logical_immediate i rn = logical i.width i.operation (operand i.width rn) (mask_of i.width i.n i.immr i.imms)
@@ -131,8 +123,7 @@ leading_zeros_of i rn = count_leading_zeros (data_size i.width) (operand i.width
 abbrev pub multiply_add : MultiplyAdd → (rn rm ra : ℕ) → ℕ
 multiply_add i rn rm ra =
     let product = operand i.width rn * operand i.width rm in
-    if i.subtract then difference i.width (operand i.width ra) product
-    else (operand i.width ra + product) % 2 ^ data_size i.width
+    if i.subtract then difference i.width (operand i.width ra) product else (operand i.width ra + product) % 2 ^ data_size i.width
 
 -- SMULH and UMULH
 abbrev pub multiply_high : MultiplyHigh → (rn rm : ℕ) → ℕ

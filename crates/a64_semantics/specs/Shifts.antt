@@ -22,11 +22,10 @@ abbrev pub extended : Width → Extend → ℕ → ℕ
 extended width extends.Uxtb held = held % 2 ^ 8
 extended width extends.Uxth held = held % 2 ^ 16
 extended width extends.Uxtw held = held % 2 ^ 32
-extended width extends.Uxtx held = operand width held
 extended width extends.Sxtb held = unsigned width (cast_signed w8 (held % 2 ^ 8))
 extended width extends.Sxth held = unsigned width (cast_signed w16 (held % 2 ^ 16))
 extended width extends.Sxtw held = unsigned width (cast_signed w32 (held % 2 ^ 32))
-extended width extends.Sxtx held = operand width held
+extended width extend held = operand width held
 
 -- then shifted left
 abbrev pub extended_operand : Width → Extend → ℕ → ℕ → ℕ

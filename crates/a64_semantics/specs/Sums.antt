@@ -37,12 +37,7 @@ abbrev pub number_of_flags : Flags → ℕ
 number_of_flags f = 8 * bit f.negative + 4 * bit f.zero + 2 * bit f.carry + bit f.overflow
 
 abbrev pub flags_of_number : ℕ → Flags
-flags_of_number n = record {
-  negative = n / 8 % 2 == 1;
-  zero = n / 4 % 2 == 1;
-  carry = n / 2 % 2 == 1;
-  overflow = n % 2 == 1;
-}
+flags_of_number n = record { negative = n / 8 % 2 == 1; zero = n / 4 % 2 == 1; carry = n / 2 % 2 == 1; overflow = n % 2 == 1 }
 
 -- the second operand of a sum, and the carry: x - y is x, the complement of y, and 1
 abbrev pub addend : Width → (subtract : Bool) → ℕ → ℕ
@@ -53,7 +48,6 @@ flags_where set_flags flags = if set_flags then Some flags else None
 
 -- x + y or x - y, and its flags where they are set
 abbrev pub add_sub : Width → (subtract set_flags : Bool) → ℕ → ℕ → Computed
-add_sub width subtract set_flags x y = record {
-  value = sum_of width x (addend width subtract y) (bit subtract);
-  flags = flags_where set_flags (flags_of_sum width x (addend width subtract y) (bit subtract));
-}
+add_sub width subtract set_flags x y =
+    let z = addend width subtract y in
+    record { value = sum_of width x z (bit subtract); flags = flags_where set_flags (flags_of_sum width x z (bit subtract)) }

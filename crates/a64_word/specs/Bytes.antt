@@ -14,5 +14,4 @@ low_bytes (suc bytes) value = (value % 256) ∷ low_bytes bytes (value / 256)
 -- the memory after bytes were written from an address on, one after another
 abbrev pub written : (memory : ℕ → ℕ) → (address : ℕ) → List ℕ → ℕ → ℕ
 written memory address [] at = memory at
-written memory address (byte ∷ bytes) at =
-    written (λ other. if other == address then byte else memory other) (address + 1) bytes at
+written memory address (byte ∷ bytes) at = written (λ other. if other == address then byte else memory other) (address + 1) bytes at

@@ -33,12 +33,10 @@ abbrev pub line : List ℕ → List (List ℕ) → List ℕ
 line name operands = name ++ codes " " ++ joined operands
 
 abbrev pub width_letter : Width → List ℕ
-width_letter W = codes "w"
-width_letter X = codes "x"
+width_letter = elim [ W ↦ codes "w" | X ↦ codes "x" ]
 
 abbrev pub sp_name : Width → List ℕ
-sp_name W = codes "wsp"
-sp_name X = codes "sp"
+sp_name = elim [ W ↦ codes "wsp" | X ↦ codes "sp" ]
 
 -- a register, where number 31 is zr
 abbrev pub general : Width → ℕ → List ℕ
@@ -68,8 +66,7 @@ abbrev pub shifted_left : ℕ → List ℕ
 shifted_left amount = if amount == 0 then [] else codes ", lsl #" ++ decimal amount
 
 abbrev pub is_lsl : Shift → Bool
-is_lsl Lsl = true
-is_lsl _ = false
+is_lsl = elim [ Lsl ↦ true | _ ↦ false ]
 
 -- how a register is shifted, where it is
 abbrev pub shifted_by : Shift → ℕ → List ℕ
@@ -119,14 +116,11 @@ by_pair_mode pair_mode.PostIndex = post_indexed
 by_pair_mode pair_mode.PreIndex = pre_indexed
 
 abbrev pub is_unscaled : IndexMode → Bool
-is_unscaled index_mode.Unscaled = true
-is_unscaled _ = false
+is_unscaled = elim [ index_mode.Unscaled ↦ true | _ ↦ false ]
 
 -- the width of an index register
 abbrev pub index_width : IndexExtend → Width
-index_width index_extend.Uxtw = W
-index_width index_extend.Sxtw = W
-index_width _ = X
+index_width = elim [ index_extend.Uxtw ↦ W | index_extend.Sxtw ↦ W | _ ↦ X ]
 
 -- how an index is extended, and by how much it is shifted, where it is scaled; nothing where all its bits count bytes
 abbrev pub extended_index : IndexExtend → (scaled : Bool) → (amount : ℕ) → List ℕ
@@ -141,12 +135,10 @@ indexed base index extend scaled amount =
 
 -- the bytes of a register in a pair
 abbrev pub pair_bytes : Width → ℤ
-pair_bytes W = pos 4
-pair_bytes X = pos 8
+pair_bytes = elim [ W ↦ pos 4 | X ↦ pos 8 ]
 
 abbrev pub is_ands : Logical → Bool
-is_ands Ands = true
-is_ands _ = false
+is_ands = elim [ Ands ↦ true | _ ↦ false ]
 
 -- the second operand of a comparison: a register, or its number itself
 abbrev pub compared : (immediate : Bool) → Width → ℕ → List ℕ

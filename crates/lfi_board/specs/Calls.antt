@@ -11,10 +11,7 @@ use Rattle.lfi_board.specs.Hands.{sees, claims, Follows}
 
 -- the number that stands for a phase
 abbrev pub number_of : Phase → ℕ
-number_of Free = 0
-number_of Open = 1
-number_of Refused = 2
-number_of Done = 3
+number_of = elim [ Free ↦ 0 | Open ↦ 1 | Refused ↦ 2 | Done ↦ 3 ]
 
 -- `Mine` exactly where the word was free: the module is then the seat's own. After `Taken` the seat has seen that it isn't free
 abbrev pub Claimed : Hand → Hand → ℕ → Claim → Type 0

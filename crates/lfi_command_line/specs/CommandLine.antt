@@ -84,9 +84,7 @@ IsLine words line = (name : Text) × (given : List Row) × AreTakenFor words nam
 
 -- a wish for help, which is no mistake
 abbrev pub is_help : ErrorKind → Bool
-is_help kind.DisplayHelp = true
-is_help kind.DisplayVersion = true
-is_help _ = false
+is_help = elim [ kind.DisplayHelp ↦ true | kind.DisplayVersion ↦ true | _ ↦ false ]
 
 -- they name more than 8 streams
 abbrev pub NameTooMany : List Text → Type 0

@@ -43,5 +43,4 @@ cause_text Other = []
 
 -- what follows the failure in its line: a line of its own, or nothing
 abbrev pub cause_line : DeviceCause → List ℕ
-cause_line Other = []
-cause_line cause = codes "\n  " ++ cause_text cause
+cause_line = elim [ Other ↦ [] | cause ↦ codes "\n  " ++ cause_text cause ]

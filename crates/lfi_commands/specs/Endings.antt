@@ -17,10 +17,7 @@ use Rattle.lfi_stage.specs.Summaries.{summary_of}
 
 -- the exit status
 abbrev pub number_of : Ending → ℕ
-number_of Well = 0
-number_of NotWell = 1
-number_of WrongWords = 2
-number_of Failed = 3
+number_of = elim [ Well ↦ 0 | NotWell ↦ 1 | WrongWords ↦ 2 | Failed ↦ 3 ]
 
 -- a read of some connection failed
 abbrev pub IsReadFailed : List (Option FrameFault) → Type 0

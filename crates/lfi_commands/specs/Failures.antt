@@ -57,8 +57,7 @@ is_of_output _ = false
 
 -- the fault of a read that fails with an error of this kind
 abbrev pub fault_of_read : ErrorKind → CommandFault
-fault_of_read OutOfMemory = fault.NoMemory
-fault_of_read kind = fault.NotRead (cause_of kind)
+fault_of_read = elim [ OutOfMemory ↦ fault.NoMemory | kind ↦ fault.NotRead (cause_of kind) ]
 
 -- it names this path as one that can't be read, and this cause
 abbrev pub TellsRead : List ℕ → DeviceCause → Failure → Type 0

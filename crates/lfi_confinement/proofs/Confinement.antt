@@ -33,7 +33,7 @@ use Rattle.a64_semantics.proofs.Told.{places_told}
 use Rattle.lfi_rules.specs.declared.needs.Need.{Need}
 use Rattle.lfi_rules.specs.declared.needs.Need.TheVariants.{Nothing, Call, Guard, Probe}
 use Rattle.lfi_rules.specs.Registers.{holds_address}
-use Rattle.lfi_rules.specs.Guard.{is_guard, sets_stack, is_guard_sum, sets_stack_sum, guards_link, guards_link_sum}
+use Rattle.lfi_rules.specs.Guard.{is_guard, sets_stack, guards_link, adds_to_base, is_uxtw}
 use Rattle.lfi_module.specs.declared.profile.Profile.{Profile}
 use Rattle.lfi_rules.specs.Needs.{is_load_64, loads_link, loads_entry, calls_link, probes_stack, is_offset, is_zero, moves_stack, window, opens_of}
 use Rattle.lfi_rules.specs.Rules.{writes, links, is_indexed, is_confined, is_inside, is_ret}
@@ -353,14 +353,14 @@ from_free c s (instruction.AddSubShifted i) l st h =
 from_free c s (instruction.AddSubExtended i) l st h =
     let r = rules_at c s.registers (instruction.AddSubExtended i) l st in
     let b = bounds c l in
-    elim (both (is_guard_sum i)) [
+    elim (both (is_guard (instruction.AddSubExtended i))) [
       | inl t ↦ (let g = guards i t in carries_out c (instruction.AddSubExtended i) s 0 Nothing h.flags
           (keeps_all (base c) Nothing (results_of (instruction.AddSubExtended i) s.registers (memory_of c s.data_at)) s.registers h
           (guarded_fine (base c) Nothing i.set_flags i.rd i.width (extended_sum i s.registers) g.sum.flags (λ h. h)
           (guard_in (base c) i s.registers b.high h.base g) (base_avoided (instruction.AddSubExtended i) r.k (length c.words) r.keep)
           (offset_narrowed (instruction.AddSubExtended i) r.k (length c.words) r.keep)))
           r.within tt)
-      | inr t ↦ (elim (both (sets_stack_sum i)) [
+      | inr t ↦ (elim (both (sets_stack (instruction.AddSubExtended i))) [
         | inl u ↦ (let g = sets i u in carries_out c (instruction.AddSubExtended i) s 0 Nothing h.flags
             (sp_moved (base c) Nothing i.set_flags i.rd i.width (extended_sum i s.registers) s.registers g.sum.flags g.place h h.link
             (stack_in_slot (base c) Nothing (low_bits i.width (extended_sum i s.registers)) (sets_in (base c) i s.registers b.high h.base h.offset g)))
@@ -444,12 +444,12 @@ guard_left from false rd widths.W v r f e w h within = cc
 guard_left from false rd widths.X v r f e w h within = rw e (relinked from Guard Nothing v r h (record { low = h.stack.low; high = h.stack.high }) within)
 
 from_guard : (c : Image) (s : State) (i : AddSubExtended) → IsImage c → Stands c s.registers.pc (instruction.AddSubExtended i) → HeldFor (base c) Guard s.registers
-    → guards_link_sum i ≡ true → SafeMove c (performed c s (instruction.AddSubExtended i))
+    → guards_link (instruction.AddSubExtended i) ≡ true → SafeMove c (performed c s (instruction.AddSubExtended i))
 from_guard c s i l st h t =
     let r = rules_at c s.registers (instruction.AddSubExtended i) l st in
     let b = bounds c l in
-    let p = and_parts (is_guard_sum i && eqb i.rm 30) (eqb i.rd 30) t in
-    let q = and_parts (is_guard_sum i) (eqb i.rm 30) p.0 in
+    let p = and_parts (adds_to_base i && is_uxtw i.extend && eqb i.rm 30) (eqb i.rd 30) t in
+    let q = and_parts (is_guard (instruction.AddSubExtended i)) (eqb i.rm 30) p.0 in
     let g = guards i q.0 in
     carries_out c (instruction.AddSubExtended i) s 0 Nothing h.flags
     (guard_left (base c) i.set_flags i.rd i.width (extended_sum i s.registers) s.registers g.sum.flags (eqb-true i.rd 30 p.1) g.sum.width h (guard_in (base c) i s.registers b.high h.base g))
@@ -618,7 +618,7 @@ from_calm c s (instruction.Ordered i) count l st h q on =
 from_calm c s (instruction.AddSubExtended i) count l st h q on =
     let r = rules_at c s.registers (instruction.AddSubExtended i) l st in
     let b = bounds c l in
-    elim (both (is_guard_sum i)) [
+    elim (both (is_guard (instruction.AddSubExtended i))) [
       | inl t ↦ (let g = guards i t in falls c (instruction.AddSubExtended i) s 0 (Probe count) h.flags
           (keeps_all (base c) (Probe count) (results_of (instruction.AddSubExtended i) s.registers (memory_of c s.data_at)) s.registers h
           (guarded_fine (base c) (Probe count) i.set_flags i.rd i.width (extended_sum i s.registers) g.sum.flags (λ h. h)

@@ -32,7 +32,7 @@ use Rattle.a64_semantics.specs.Accesses.{displaced, first_byte, loaded, register
 use Rattle.a64_semantics.specs.Writes.{linked, to_base, to_loaded, with_loaded, results_at, results_of}
 use Rattle.lfi_rules.specs.declared.needs.Need.{Need}
 use Rattle.lfi_rules.specs.declared.needs.Need.TheVariants.{Nothing, Probe}
-use Rattle.lfi_rules.specs.Guard.{is_x, is_uxtw, is_uxtx, adds_to_base, is_guard_sum, sets_stack_sum}
+use Rattle.lfi_rules.specs.Guard.{is_x, is_uxtw, is_uxtx, adds_to_base, is_guard, sets_stack}
 use Rattle.lfi_rules.specs.Rules.{is_base, is_confined}
 use Rattle.lfi_confinement.specs.Slots.{InSlot, slot_size, guard_size}
 use Rattle.lfi_confinement.specs.inner.Invariant.{IsStackFor, HeldFor}
@@ -91,7 +91,7 @@ pub record Guards (i : AddSubExtended) : Type 0 where
   pub sum : Adds i
   pub extend : i.extend ≡ extends.Uxtw
 
-pub guards : (i : AddSubExtended) → is_guard_sum i ≡ true → Guards i
+pub guards : (i : AddSubExtended) → is_guard (instruction.AddSubExtended i) ≡ true → Guards i
 guards i h = let p = and_parts (adds_to_base i) (is_uxtw i.extend) h in record { sum = adds i p.0; extend = uxtw_extend i.extend p.1 }
 
 pub record SetsStack (i : AddSubExtended) : Type 0 where
@@ -100,7 +100,7 @@ pub record SetsStack (i : AddSubExtended) : Type 0 where
   pub second : i.rm ≡ 22
   pub place : i.rd ≡ 31
 
-pub sets : (i : AddSubExtended) → sets_stack_sum i ≡ true → SetsStack i
+pub sets : (i : AddSubExtended) → sets_stack (instruction.AddSubExtended i) ≡ true → SetsStack i
 sets i h =
     let p = and_parts (adds_to_base i && is_uxtx i.extend && eqb i.rm 22) (eqb i.rd 31) h in
     let q = and_parts (adds_to_base i && is_uxtx i.extend) (eqb i.rm 22) p.0 in

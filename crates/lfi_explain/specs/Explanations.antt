@@ -15,8 +15,7 @@ use Rattle.lfi_explain.specs.Sentences.{unmet_in, sentence_text}
 use Rattle.lfi_explain.specs.Mendings.{mending_text}
 
 abbrev pub is_need_met : Rule → Bool
-is_need_met NeedMet = true
-is_need_met _ = false
+is_need_met = elim [ NeedMet ↦ true | _ ↦ false ]
 
 -- the fault is that the word doesn't meet what one before opens
 abbrev pub is_unmet : Explanation → Bool

@@ -23,8 +23,7 @@ among_text need = codes "next"
 
 -- what a word asks of those after it
 abbrev pub opened_text : Need → List ℕ
-opened_text Nothing = []
-opened_text need = codes "  ; opens: " ++ among_text need ++ codes " is " ++ meeting_text need
+opened_text = elim [ Nothing ↦ [] | need ↦ codes "  ; opens: " ++ among_text need ++ codes " is " ++ meeting_text need ]
 
 -- a place in a column of seven, with spaces before it
 abbrev pub column : ℕ → List ℕ

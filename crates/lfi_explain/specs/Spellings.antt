@@ -36,8 +36,7 @@ opened_by spelling = of spelling.instruction
     of None = Nothing
 
 abbrev pub is_nothing : Need → Bool
-is_nothing Nothing = true
-is_nothing _ = false
+is_nothing = elim [ Nothing ↦ true | _ ↦ false ]
 
 abbrev pub is_met_by : Spelling → Need → Bool
 is_met_by spelling need = of spelling.instruction

@@ -22,8 +22,7 @@ pub data Message : Type 0 where
 
 -- the kind of a module's opening, by its profile
 abbrev pub open_kind : Profile → ℕ
-open_kind One = 1
-open_kind Two = 4
+open_kind = elim [ One ↦ 1 | Two ↦ 4 ]
 
 -- whether a kind is that of an opening, and of which profile it then is
 abbrev pub is_open : ℕ → Bool

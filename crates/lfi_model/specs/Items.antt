@@ -86,8 +86,7 @@ fault_of rest cause inside = fault_by_cause cause inside
 
 -- the End of a module that is still open at the connection's fault
 abbrev pub reason_of : FrameFault → Reason
-reason_of fault.NoMemory = NoMemory
-reason_of found = Lost found
+reason_of = elim [ fault.NoMemory ↦ NoMemory | found ↦ Lost found ]
 
 abbrev pub ends_of : ℕ → Progress → Option FrameFault → List ItemView
 ends_of m (Going extent p) (Some found) = item_of m (p + 1) extent (End (reason_of found)) ∷ []

@@ -5,10 +5,8 @@ use Rattle.lfi_module.specs.declared.profile.Profile.TheVariants.{One, Two}
 
 -- the number of a profile
 abbrev pub profile_number : Profile → ℕ
-profile_number One = 1
-profile_number Two = 2
+profile_number = elim [ One ↦ 1 | Two ↦ 2 ]
 
 -- whether it is the second profile
 abbrev pub is_two : Profile → Bool
-is_two One = false
-is_two Two = true
+is_two = elim [ One ↦ false | Two ↦ true ]

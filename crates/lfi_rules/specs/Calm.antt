@@ -1,11 +1,11 @@
 -- The words that may stand between an instruction that moves sp and its probe. Source: this project's profiles,
 -- docs/PROFILE.md.
-use Rattle.std.specs.Prelude.{◌≡◌, ℕ, ◌==◌, ◌&&◌, not, Bool, true, false, Option, Some, None}
+use Rattle.std.specs.Prelude.{◌≡◌, ℕ, ◌==◌, ◌&&◌, not, Bool, true, false, Option, Some, None, is_some}
 use Rattle.lfi_module.specs.declared.profile.Profile.{Profile}
 use Rattle.a64_word.specs.declared.instruction.Instruction.{Instruction}
 use Rattle.a64_word.specs.declared.instruction.Instruction.TheVariants as instructions
 use Rattle.a64_effects.specs.declared.access.Address.{Address}
-use Rattle.a64_effects.specs.Effects.{address_of}
+use Rattle.a64_effects.specs.Effects.{target_of, address_of}
 use Rattle.lfi_rules.specs.declared.needs.Need.{Need}
 use Rattle.lfi_rules.specs.declared.needs.Need.TheVariants as needs
 use Rattle.lfi_rules.specs.Registers as registers
@@ -15,25 +15,18 @@ use Rattle.lfi_rules.specs.Rules.{writes}
 
 -- a branch of any kind
 abbrev pub branches : Instruction → Bool
-branches (instructions.Branch i) = true
-branches (instructions.ConditionalBranch i) = true
-branches (instructions.CompareBranch i) = true
-branches (instructions.TestBranch i) = true
 branches (instructions.BranchRegister i) = true
-branches _ = false
+branches i = is_some (target_of i 0)
 
 abbrev pub is_breakpoint : Instruction → Bool
-is_breakpoint (instructions.Breakpoint i) = true
-is_breakpoint _ = false
+is_breakpoint = elim [ instructions.Breakpoint i ↦ true | _ ↦ false ]
 
 -- an access with base sp
 abbrev pub is_at_stack : Option Address → Bool
-is_at_stack (Some address) = address.base == registers.stack
-is_at_stack None = false
+is_at_stack = elim [ Some address ↦ address.base == registers.stack | None ↦ false ]
 
 abbrev pub is_nothing : Need → Bool
-is_nothing needs.Nothing = true
-is_nothing _ = false
+is_nothing = elim [ needs.Nothing ↦ true | _ ↦ false ]
 
 -- An instruction is calm: it is no branch and no BRK, doesn't write sp, accesses nothing with base sp, and opens nothing.
 abbrev pub is_calm : Profile → Instruction → Bool

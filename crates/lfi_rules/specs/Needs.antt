@@ -3,7 +3,7 @@ use Rattle.std.specs.Prelude.{ℕ, ◌-◌, ◌==◌, if◌then◌else◌, ◌&&
 use Rattle.lfi_module.specs.declared.profile.Profile.{Profile}
 use Rattle.lfi_module.specs.declared.profile.Profile.TheVariants.{One, Two}
 use Rattle.a64_word.specs.declared.instruction.Instruction.{Instruction}
-use Rattle.a64_word.specs.declared.instruction.Instruction.TheVariants as instructions
+use Rattle.a64_word.specs.declared.instruction.Instruction.TheVariants.{AddSubImmediate, BranchRegister, UnsignedOffset, SignedOffset, RegisterOffset, Ordered, Pair}
 use Rattle.a64_word.specs.declared.operands.Size.{Size}
 use Rattle.a64_word.specs.declared.operands.Size.TheVariants as sizes
 use Rattle.a64_word.specs.declared.operands.Transfer.{Transfer}
@@ -12,9 +12,9 @@ use Rattle.a64_word.specs.declared.operands.PairMode.{PairMode}
 use Rattle.a64_word.specs.declared.operands.PairMode.TheVariants as pair_modes
 use Rattle.a64_effects.specs.Effects.{is_blr, ordered_transfer}
 use Rattle.lfi_rules.specs.declared.needs.Need.{Need}
-use Rattle.lfi_rules.specs.declared.needs.Need.TheVariants as needs
+use Rattle.lfi_rules.specs.declared.needs.Need.TheVariants.{Nothing, Call, Guard, Probe}
 use Rattle.lfi_rules.specs.Guard.{is_x, guards_link}
-use Rattle.lfi_rules.specs.Registers as registers
+use Rattle.lfi_rules.specs.Registers.{base, link, stack}
 
 -- a single load of 64 bits
 abbrev pub is_load_64 : Size → Transfer → Bool
@@ -23,76 +23,64 @@ is_load_64 size transfer = false
 
 -- an access of a pair that doesn't change its base
 abbrev pub is_offset : PairMode → Bool
-is_offset pair_modes.Offset = true
-is_offset mode = false
+is_offset = elim [ pair_modes.Offset ↦ true | mode ↦ false ]
 
 abbrev pub is_zero : ℤ → Bool
-is_zero (pos n) = n == 0
-is_zero (negsuc n) = false
+is_zero = elim [ pos n ↦ n == 0 | negsuc n ↦ false ]
 
 -- A load of 64 bits into x30.
 abbrev pub loads_link : Instruction → Bool
-loads_link (instructions.UnsignedOffset i) = is_load_64 i.size i.transfer && i.rt == registers.link
-loads_link (instructions.SignedOffset i) = is_load_64 i.size i.transfer && i.rt == registers.link
-loads_link (instructions.RegisterOffset i) = is_load_64 i.size i.transfer && i.rt == registers.link
-loads_link (instructions.Pair i) = i.load && is_x i.width && (i.rt == registers.link || i.rt2 == registers.link)
-loads_link (instructions.Ordered i) = is_load_64 i.size (ordered_transfer i.load) && i.rt == registers.link
+loads_link (UnsignedOffset i) = is_load_64 i.size i.transfer && i.rt == link
+loads_link (SignedOffset i) = is_load_64 i.size i.transfer && i.rt == link
+loads_link (RegisterOffset i) = is_load_64 i.size i.transfer && i.rt == link
+loads_link (Pair i) = i.load && is_x i.width && (i.rt == link || i.rt2 == link)
+loads_link (Ordered i) = is_load_64 i.size (ordered_transfer i.load) && i.rt == link
 loads_link _ = false
 
 -- The load of a table entry into x30: one of the 512 from x21 up, of 8 bytes each.
 abbrev pub loads_entry : Instruction → Bool
-loads_entry (instructions.UnsignedOffset i) =
-    is_load_64 i.size i.transfer && i.rt == registers.link && i.rn == registers.base && nat_lt i.imm12 512
-loads_entry _ = false
+loads_entry = elim [ UnsignedOffset i ↦ is_load_64 i.size i.transfer && i.rt == link && i.rn == base && nat_lt i.imm12 512 | _ ↦ false ]
 
 -- ADD or SUB of an immediate, from sp to sp.
 abbrev pub moves_stack : Instruction → Bool
-moves_stack (instructions.AddSubImmediate i) =
-    is_x i.width && not i.set_flags && not i.shifted && i.rd == registers.stack && i.rn == registers.stack
-moves_stack _ = false
+moves_stack = elim [ AddSubImmediate i ↦ is_x i.width && not i.set_flags && not i.shifted && i.rd == stack && i.rn == stack | _ ↦ false ]
 
 -- among how many words after an instruction that moves sp the probe has to come
 abbrev pub window : Profile → ℕ
-window One = 1
-window Two = 4
+window = elim [ One ↦ 1 | Two ↦ 4 ]
 
 -- the need that an instruction opens
 abbrev pub opens_of : Profile → Instruction → Need
 opens_of profile i =
-    if loads_entry i then needs.Call
-    else (if loads_link i then needs.Guard else (if moves_stack i then needs.Probe (window profile) else needs.Nothing))
+    if loads_entry i then Call else (if loads_link i then Guard else (if moves_stack i then Probe (window profile) else Nothing))
 
 -- among how many words a need has to be met
 abbrev pub term_of : Need → ℕ
-term_of needs.Nothing = 0
-term_of needs.Call = 1
-term_of needs.Guard = 1
-term_of (needs.Probe count) = count
+term_of = elim [ Nothing ↦ 0 | Call ↦ 1 | Guard ↦ 1 | Probe count ↦ count ]
 
 -- what is left of a need after so many words that may go by
 abbrev pub rest_of : Need → ℕ → Need
-rest_of (needs.Probe count) gone = needs.Probe (count - gone)
+rest_of (Probe count) gone = Probe (count - gone)
 rest_of need gone = need
 
 -- what is left of a need after one such word: nothing, where that was the last that might
 abbrev pub waits : Need → Need
-waits (needs.Probe count) = if nat_lt 1 count then needs.Probe (count - 1) else needs.Nothing
-waits need = needs.Nothing
+waits (Probe count) = if nat_lt 1 count then Probe (count - 1) else Nothing
+waits need = Nothing
 
 -- BLR X30
 abbrev pub calls_link : Instruction → Bool
-calls_link (instructions.BranchRegister i) = is_blr i.kind && i.rn == registers.link
-calls_link _ = false
+calls_link = elim [ BranchRegister i ↦ is_blr i.kind && i.rn == link | _ ↦ false ]
 
 -- A load or store at sp.
 abbrev pub probes_stack : Instruction → Bool
-probes_stack (instructions.UnsignedOffset i) = i.rn == registers.stack && i.imm12 == 0
-probes_stack (instructions.Pair i) = is_offset i.mode && i.rn == registers.stack && is_zero i.imm7
+probes_stack (UnsignedOffset i) = i.rn == stack && i.imm12 == 0
+probes_stack (Pair i) = is_offset i.mode && i.rn == stack && is_zero i.imm7
 probes_stack _ = false
 
 -- whether an instruction meets a need
 abbrev pub meets_of : Instruction → Need → Bool
-meets_of i needs.Nothing = true
-meets_of i needs.Call = calls_link i
-meets_of i needs.Guard = guards_link i
-meets_of i (needs.Probe count) = probes_stack i
+meets_of i Nothing = true
+meets_of i Call = calls_link i
+meets_of i Guard = guards_link i
+meets_of i (Probe count) = probes_stack i

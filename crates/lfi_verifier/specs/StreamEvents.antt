@@ -33,8 +33,7 @@ reason_numbers NoMemory = (4, 0)
 
 -- 1 for yes
 abbrev pub one_if : Bool → ℕ
-one_if true = 1
-one_if false = 0
+one_if = elim [ true ↦ 1 | false ↦ 0 ]
 
 -- the numbers of an event
 abbrev pub event_numbers : Event → LfiEvent

@@ -63,5 +63,4 @@ pub record NoneBefore (profile : Profile) (ws : List ℕ) (first n i : ℕ) : Ty
 
 -- the rule that the last word breaks by what is open after it
 abbrev pub unclosed : Need → Option Rule
-unclosed Nothing = None
-unclosed opened = Some NeedMet
+unclosed = elim [ Nothing ↦ None | opened ↦ Some NeedMet ]
