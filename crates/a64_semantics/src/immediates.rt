@@ -9,13 +9,34 @@ use crate::results;
 use crate::writing::{finish, finish_to_sp};
 use a64_word::{AddSubImmediate, Bitfield, Logical, LogicalImmediate, MoveWide, PcRelative, Width};
 
+/// ADD, ADDS, SUB and SUBS of an immediate, of a width that is known.
+#[inline(always)]
+fn add_sub_immediate_as(
+    registers: &mut Registers,
+    i: &AddSubImmediate,
+    width: Width,
+    set_flags: bool,
+)
+    requires width { width ≡ i.now.width }
+    requires set_flags { set_flags ≡ i.now.set_flags }
+    ensures { Performs (Instruction.AddSubImmediate i.now) registers.old registers.new }
+{
+    let sum = results::add_sub_immediate(i, registers.x_or_sp(i.rn));
+    finish_to_sp(registers, set_flags, i.rd, width, sum);
+}
+
 /// ADD, ADDS, SUB and SUBS of an immediate.
 #[inline(always)]
 pub(crate) fn add_sub_immediate(registers: &mut Registers, i: &AddSubImmediate)
     ensures { Performs (Instruction.AddSubImmediate i.now) registers.old registers.new }
 {
-    let sum = results::add_sub_immediate(i, registers.x_or_sp(i.rn));
-    finish_to_sp(registers, i.set_flags, i.rd, i.width, sum);
+    // Each of these is compiled by itself, with no further test of what is asked here.
+    match (i.width, i.set_flags) {
+        (Width::W, false) => add_sub_immediate_as(registers, i, Width::W, false),
+        (Width::W, true) => add_sub_immediate_as(registers, i, Width::W, true),
+        (Width::X, false) => add_sub_immediate_as(registers, i, Width::X, false),
+        (Width::X, true) => add_sub_immediate_as(registers, i, Width::X, true),
+    }
 }
 
 /// AND, ORR, EOR and ANDS of a bitmask that is known.

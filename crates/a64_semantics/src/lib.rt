@@ -54,7 +54,7 @@ mod sums;
 mod writing;
 
 pub use computed::Computed;
-pub use dispatch::perform;
+pub use dispatch::{is_branch, perform, perform_branch, perform_straight};
 pub use far_ends::addresses_at_the_far_ends;
 pub use flags::Flags;
 pub use immediates::logical_immediate;

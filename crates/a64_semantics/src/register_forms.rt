@@ -1,3 +1,4 @@
+ghost use Rattle.std.specs.Prelude.{◌≡◌};
 ghost use Rattle.a64_word.specs.declared.instruction.Instruction.{Instruction};
 ghost use Rattle.a64_word.specs.Encoding.{IsLegal};
 ghost use Rattle.a64_semantics.specs.Performs.{Performs};
@@ -10,14 +11,39 @@ use a64_word::{
     LogicalShifted, MultiplyAdd, MultiplyHigh, TwoSource, Width,
 };
 
+/// AND, ORR, EOR and ANDS of a shifted register, and BIC, ORN, EON and BICS of its complement, of a width that is known.
+#[inline(always)]
+fn logical_shifted_as(registers: &mut Registers, i: &LogicalShifted, width: Width)
+    requires width { width ≡ i.now.width }
+    requires legal { IsLegal (Instruction.LogicalShifted i.now) }
+    ensures { Performs (Instruction.LogicalShifted i.now) registers.old registers.new }
+{
+    let bits = results::logical_shifted(i, registers.x(i.rn), registers.x(i.rm));
+    finish_with_flags(registers, i.rd, width, bits);
+}
+
 /// AND, ORR, EOR and ANDS of a shifted register, and BIC, ORN, EON and BICS of its complement.
 #[inline(always)]
 pub(crate) fn logical_shifted(registers: &mut Registers, i: &LogicalShifted)
     requires { IsLegal (Instruction.LogicalShifted i.now) }
     ensures { Performs (Instruction.LogicalShifted i.now) registers.old registers.new }
 {
-    let bits = results::logical_shifted(i, registers.x(i.rn), registers.x(i.rm));
-    finish_with_flags(registers, i.rd, i.width, bits);
+    // Each of these is compiled by itself, with no further test of what is asked here.
+    match i.width {
+        Width::W => logical_shifted_as(registers, i, Width::W),
+        Width::X => logical_shifted_as(registers, i, Width::X),
+    }
+}
+
+/// ADD, ADDS, SUB and SUBS of a shifted register, of a width that is known.
+#[inline(always)]
+fn add_sub_shifted_as(registers: &mut Registers, i: &AddSubShifted, width: Width)
+    requires width { width ≡ i.now.width }
+    requires legal { IsLegal (Instruction.AddSubShifted i.now) }
+    ensures { Performs (Instruction.AddSubShifted i.now) registers.old registers.new }
+{
+    let sum = results::add_sub_shifted(i, registers.x(i.rn), registers.x(i.rm));
+    finish_with_flags(registers, i.rd, width, sum);
 }
 
 /// ADD, ADDS, SUB and SUBS of a shifted register.
@@ -26,8 +52,23 @@ pub(crate) fn add_sub_shifted(registers: &mut Registers, i: &AddSubShifted)
     requires { IsLegal (Instruction.AddSubShifted i.now) }
     ensures { Performs (Instruction.AddSubShifted i.now) registers.old registers.new }
 {
-    let sum = results::add_sub_shifted(i, registers.x(i.rn), registers.x(i.rm));
-    finish_with_flags(registers, i.rd, i.width, sum);
+    // Each of these is compiled by itself, with no further test of what is asked here.
+    match i.width {
+        Width::W => add_sub_shifted_as(registers, i, Width::W),
+        Width::X => add_sub_shifted_as(registers, i, Width::X),
+    }
+}
+
+/// ADD, ADDS, SUB and SUBS of an extended register, of a width that is known.
+#[inline(always)]
+fn add_sub_extended_as(registers: &mut Registers, i: &AddSubExtended, width: Width, set_flags: bool)
+    requires width { width ≡ i.now.width }
+    requires set_flags { set_flags ≡ i.now.set_flags }
+    requires legal { IsLegal (Instruction.AddSubExtended i.now) }
+    ensures { Performs (Instruction.AddSubExtended i.now) registers.old registers.new }
+{
+    let sum = results::add_sub_extended(i, registers.x_or_sp(i.rn), registers.x(i.rm));
+    finish_to_sp(registers, set_flags, i.rd, width, sum);
 }
 
 /// ADD, ADDS, SUB and SUBS of an extended register.
@@ -36,8 +77,13 @@ pub(crate) fn add_sub_extended(registers: &mut Registers, i: &AddSubExtended)
     requires { IsLegal (Instruction.AddSubExtended i.now) }
     ensures { Performs (Instruction.AddSubExtended i.now) registers.old registers.new }
 {
-    let sum = results::add_sub_extended(i, registers.x_or_sp(i.rn), registers.x(i.rm));
-    finish_to_sp(registers, i.set_flags, i.rd, i.width, sum);
+    // Each of these is compiled by itself, with no further test of what is asked here.
+    match (i.width, i.set_flags) {
+        (Width::W, false) => add_sub_extended_as(registers, i, Width::W, false),
+        (Width::W, true) => add_sub_extended_as(registers, i, Width::W, true),
+        (Width::X, false) => add_sub_extended_as(registers, i, Width::X, false),
+        (Width::X, true) => add_sub_extended_as(registers, i, Width::X, true),
+    }
 }
 
 /// CCMN and CCMP.
@@ -78,13 +124,26 @@ pub(crate) fn count_leading_zeros(registers: &mut Registers, i: &CountLeadingZer
     finish(registers, i.rd, i.width, value);
 }
 
+/// MADD and MSUB, of a width that is known.
+#[inline(always)]
+fn multiply_add_as(registers: &mut Registers, i: &MultiplyAdd, width: Width)
+    requires width { width ≡ i.now.width }
+    ensures { Performs (Instruction.MultiplyAdd i.now) registers.old registers.new }
+{
+    let value = results::multiply_add(i, registers.x(i.rn), registers.x(i.rm), registers.x(i.ra));
+    finish(registers, i.rd, width, value);
+}
+
 /// MADD and MSUB.
 #[inline(always)]
 pub(crate) fn multiply_add(registers: &mut Registers, i: &MultiplyAdd)
     ensures { Performs (Instruction.MultiplyAdd i.now) registers.old registers.new }
 {
-    let value = results::multiply_add(i, registers.x(i.rn), registers.x(i.rm), registers.x(i.ra));
-    finish(registers, i.rd, i.width, value);
+    // Each of these is compiled by itself, with no further test of what is asked here.
+    match i.width {
+        Width::W => multiply_add_as(registers, i, Width::W),
+        Width::X => multiply_add_as(registers, i, Width::X),
+    }
 }
 
 /// SMULH and UMULH.

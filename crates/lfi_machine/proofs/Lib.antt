@@ -6,3 +6,4 @@ pub mod Stepping
 pub mod Starting
 pub mod Reached
 pub mod Keeping
+pub mod Rows

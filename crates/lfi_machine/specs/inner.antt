@@ -2,3 +2,4 @@
 pub mod Transfers
 pub mod Addresses
 pub mod Decoded
+pub mod Rows

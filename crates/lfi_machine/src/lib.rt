@@ -3,8 +3,9 @@
 //! # How data flows
 //!
 //! `Machine::new` takes an image and registers, and refuses registers that no run may start with (`StartFault`). `run`
-//! decodes the image's words once, as far as the run comes (`decoded`). A step takes the instruction at pc and carries
-//! it out: by a64_semantics where it accesses no memory, else by `singles` or `pairs` over `Data`. `Data` is the slot:
+//! decodes the image's words once, as far as the run comes (`decoded`), and goes along words that follow one another up
+//! to the first branch (`step_along`). A step carries out the instruction at pc: by a64_semantics where it accesses no
+//! memory, else by `singles` or `pairs` over `Data`. `Data` is the slot:
 //! the table of entries and the code, which are computed from the image's words, and the written bytes, each at its
 //! place by `map`. A branch to an entry of the table calls the `Runtime`, whose answer the run goes on with, or which
 //! ends it. Why a run stopped is a `Halt`.
@@ -31,17 +32,22 @@
 //!   can fail for want of memory here: that the push is never refused is proved. On the loop of `bench machine` it costs
 //!   at most 2 to 4 per cent (142 million steps a second beside 145, and 189 beside 196 in a quieter minute, the best
 //!   of 7 and of 5 in turn). Pages decoded one by one would spare the words before, at one more load a step.
-//! - **What a step costs**: 64 of the processor's instructions on the loop of `bench machine`, 11 of them jumps. 10
-//!   count the step and fetch, 5 jump to the class and 3 go on to the next word. A plain interpreter without proofs,
-//!   with the whole slot in one mapping, takes 50. It was 78, with 14 jumps. What made it less: one test tells whether
-//!   a word begins at pc and whether it is decoded (`place_of`), and pc and the base are read once a step, before the
-//!   call that decodes; the classes that access memory are asked for one by one (`carry_out`), since of a match in a
-//!   match the compiler makes two jumps; two comparisons, and not three, tell that bytes may be written
-//!   (`is_all_data`). In turn with the program before and with the plain interpreter, in three races of 21, 21 and 41
-//!   runs of 10 million steps on a busy machine, it did at best 186, 177 and 190 million steps a second, where the
-//!   program before did 146, 140 and 143 and the plain one 210, 210 and 225; in the middle 163, 134 and 132, beside
-//!   126, 115 and 91, and 163, 169 and 133. So it is a quarter to a third faster, and at best does 0.84 to 0.89 of the
-//!   plain pace, where it did 0.64 to 0.70.
+//! - **What a step costs**: 49 of the processor's instructions on the loop of `bench machine`, as many as of a plain
+//!   interpreter without proofs, with the whole slot in one mapping (50); it was 63. Of a word that no branch stands
+//!   before, 5 fetch it and jump to its class, and 4 go on to the next. What made it less: `run` looks for the place of
+//!   pc only after a branch, and one list, cut off at the steps that are left and at the last word decoded, tells where
+//!   both end (60; 33 instructions begin a list); sums, logicals of shifted registers and products are compiled once
+//!   for each width, and sums of an immediate or an extended register once for flags and once without (52); the list
+//!   gets shorter at its front, since by an index the compiler makes each place's address anew (49). The branches have
+//!   a function of their own in a64_semantics: of `carry_out`, or of `perform`, in two places the compiler makes a call
+//!   (107). Whether a word is a branch is asked class by class, since a match takes a jump of its own. In turn with the
+//!   interpreter as whole processes of 20 million steps, 31 runs each on a busy machine, it did at best 0.895 of its
+//!   pace and in the middle 0.899, where the program before did 0.743 and 0.744; of 60 million steps, in 15 runs, 0.93
+//!   at best and 0.78 in the middle, beside 0.85 and 0.63. In builds without proofs a loop of two words takes 2 fewer
+//!   instructions a step than before, and one of five words 8 fewer: the lists alone cost the former 4 more.
+//! - **What made it 64 before, from 78**: one test tells whether a word begins at pc and whether it is decoded
+//!   (`place_of`); the classes that access memory are asked for one by one (`carry_out`), since of a match in a match
+//!   the compiler makes two jumps; two comparisons, and not three, tell that bytes may be written (`is_all_data`).
 //! - **What was tried for the pace of a step, and isn't kept**: the code's first address kept beside the base (63
 //!   instructions; 181 and 180 million at best, in the last two races above, so neither faster nor slower). In builds
 //!   of the same code without its proofs, which have the same instructions but for 2 or 3 a step: steps counted down as
@@ -53,7 +59,8 @@
 //!   instructions where it was 63.4, since what is kept is then 24 bytes a word; 143 and 148 million at best in two races
 //!   of 60 and 21 runs, where the program without did 150 and 159). Not tried: stores that ask once for their page, which
 //!   would save less than one instruction a step of that loop, in which one word of twelve stores; two words decoded and
-//!   carried out as one (the guard and its access, a comparison and its branch); flags made only where they are read.
+//!   carried out as one (the guard and its access, a comparison and its branch); flags made only where they are read;
+//!   a mask of 32 or 64 bits by one rotation, which saves one instruction a step in a build without proofs.
 //! - **Instructions alone don't tell the time.** The processor of these measurements (Cascade Lake) is slow at a jump
 //!   that crosses or ends a line of 32 bytes, as 1 to 5 of a step's jumps do, and which ones changes with any change of
 //!   the code. A trial step of 71 instructions, with 5 such jumps, was a tenth slower than one of 80 with 2; laid out

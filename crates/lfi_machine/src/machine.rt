@@ -1,6 +1,6 @@
 //! Machines, and their runs.
 
-ghost use Rattle.std.specs.Prelude.{◌≡◌, ◌≤◌, ◌↔◌, ◌⊎◌, ℕ, IfOk, IfErr, None, Some};
+ghost use Rattle.std.specs.Prelude.{◌≡◌, ◌<◌, ◌≤◌, ◌↔◌, ◌⊎◌, ℕ, IfOk, IfErr, OnOk, OnErr, None, Some};
 ghost use Rattle.lfi_image.specs.Image.{IsImage};
 ghost use Rattle.sparse_memory.specs.Kept.{byte_at};
 ghost use Rattle.lfi_confinement.specs.Slots.{base};
@@ -8,12 +8,13 @@ ghost use Rattle.lfi_confinement.specs.Lawful.{Held};
 ghost use Rattle.lfi_machine.specs.Starts.{start_of, refusal_of};
 ghost use Rattle.lfi_machine.specs.Keeping.{KeepsByStep};
 ghost use Rattle.lfi_machine.specs.Runs.{Steps, IsConfined, RanThenHalts};
+ghost use Rattle.lfi_machine.specs.inner.Rows.{RanRow};
 
 use crate::halt::Halt;
 use crate::runtime::Runtime;
 use crate::slot::Data;
 use crate::start::{StartFault, refusal};
-use crate::step::step_on;
+use crate::step::{step_on, steps_on};
 use a64_semantics::Registers;
 use a64_word::Instruction;
 use lfi_image::CompleteImage;
@@ -114,6 +115,26 @@ impl Machine {
         )
     }
 
+    /// At least one step and at most so many, or a halt: words that follow one another, as far as the first branch.
+    #[inline(always)]
+    fn steps<R: Runtime>(&mut self, most: u64, runtime: &mut R) -> (Result<(), Halt>, u64)
+        requires { 1 ≤ most }
+        ensures ran { RanRow R.answers self.old runtime.old result.0 result.1 self.new runtime.new }
+        ensures image { self.new.owned.image ≡ self.old.owned.image }
+        ensures some { OnOk result.0 (1 ≤ result.1) }
+        ensures most { result.1 ≤ most }
+        ensures few { OnErr result.0 (result.1 < most) }
+        ensures confined { IsConfined self.new }
+    {
+        steps_on(
+            &mut self.slot,
+            &mut self.instructions,
+            &mut self.registers,
+            most,
+            runtime,
+        )
+    }
+
     /// So many steps, or until one is halted: why it ends, and how many were carried out.
     pub fn run<R: Runtime>(&mut self, steps: u64, runtime: &mut R) -> (Halt, u64)
         ensures within { result.1 ≤ steps }
@@ -122,8 +143,11 @@ impl Machine {
         ensures image { self.new.owned.image ≡ self.old.owned.image }
         ensures confined { IsConfined self.new }
     {
-        for count in 0..steps {
-            if let Err(halt) = self.step(runtime) {
+        let mut count = 0;
+        while count < steps {
+            let (result, done) = self.steps(steps - count, runtime);
+            count += done;
+            if let Err(halt) = result {
                 return (halt, count);
             }
         }

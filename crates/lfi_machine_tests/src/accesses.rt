@@ -1,7 +1,8 @@
 //! Loads and stores of all four classes, run in the machine.
 
-use crate::host::{Host, image};
-use lfi_machine::{Halt, Machine, start_registers};
+use crate::host::{Outcome, run, started};
+use lfi_machine::Halt;
+use lfi_module::Profile;
 use std::alloc::Global;
 use std::test::Fail;
 
@@ -81,36 +82,26 @@ const MOVED_DOWN: [Row; 1] = [
     (0xA9BF0BFF, 0xF94007E0, VALUE, INDEX), // STP XZR, X2, [SP, #-16]!; LDR X0, [SP, #8]
 ];
 
-/// A machine at a row's words, x0 being 9.
-fn machine_of(alloc: Global, first: u32, second: u32) -> Result<Machine, Fail> {
-    let image = image(alloc, &[first, second])?;
-    let mut registers = start_registers(&image);
-    registers.x[0] = 9;
-    registers.x[1] = INDEX;
-    registers.x[2] = VALUE;
-    registers.x[18] = DATA;
-    match Machine::new(alloc, image, registers) {
-        Ok(machine) => Ok(machine),
-        Err(_) => Err(Fail::from("the machine was refused")),
-    }
+/// The registers before a row's words, by their places.
+const BEFORE: [(usize, u64); 4] = [(0, 9), (1, INDEX), (2, VALUE), (18, DATA)];
+
+/// Whether a run was one step that left sp so far below the slot's end.
+fn is_one_step(ran: &Outcome, down: u8) -> bool {
+    let sp = BASE + (1 << 32) - u64::from(down);
+    ran.halt == Halt::StepsUsed && ran.count == 1 && ran.after.sp == sp
 }
 
 /// Whether both words of a row do so; and how far sp has moved down after each.
 fn is_right(alloc: Global, row: &Row, first: u8, second: u8) -> Result<bool, Fail> {
     let (store, load, x0, x1) = *row;
-    let mut machine = machine_of(alloc, store, load)?;
-    let end = BASE + (1 << 32);
-    let (halt, count) = machine.run(1, &mut Host);
-    let one = halt == Halt::StepsUsed
-        && count == 1
-        && machine.registers().sp == end - u64::from(first);
-    let (halt, count) = machine.run(1, &mut Host);
-    let two = halt == Halt::StepsUsed
-        && count == 1
-        && machine.registers().sp == end - u64::from(second);
-    let after = machine.registers();
+    let (one, two) = {
+        let mut machine = started(alloc, Profile::One, &[store, load], &BEFORE)?;
+        (run(&mut machine, 1), run(&mut machine, 1))
+    };
+    let after = two.after;
     let kept = after.x[2] == VALUE && after.x[18] == DATA && after.pc == BASE + 65536 + 8;
-    Ok(one && two && kept && after.x[0] == x0 && after.x[1] == x1)
+    let wanted = after.x[0] == x0 && after.x[1] == x1;
+    Ok(is_one_step(&one, first) && is_one_step(&two, second) && kept && wanted)
 }
 
 /// The place of the first row that is wrong, where sp has moved down so far after each word.

@@ -1,7 +1,8 @@
 //! Each class that accesses no memory, run in the machine: one step of a lawful image, at the edges of its values.
 
-use crate::host::{Host, image};
-use lfi_machine::{Cause, Halt, Machine, start_registers};
+use crate::host::{image, ran, run_image};
+use lfi_machine::{Cause, Halt, start_registers};
+use lfi_module::Profile;
 use std::alloc::Global;
 use std::test::Fail;
 
@@ -94,16 +95,11 @@ fn is_right(alloc: Global, row: &Row) -> Result<bool, Fail> {
     registers.nzcv = before;
     let mut wanted = registers;
     wanted.x[0] = value;
-    wanted.nzcv = flags;
-    wanted.pc = CODE.wrapping_add(far);
-    let Ok(mut machine) = Machine::new(alloc, image, registers) else {
-        return Ok(false);
-    };
-    let (halt, count) = machine.run(1, &mut Host);
-    let after = machine.registers();
+    let ran = run_image(alloc, image, registers, 1)?;
+    let after = ran.after;
     let same = after.x == wanted.x && after.sp == wanted.sp;
-    let moved = after.nzcv == wanted.nzcv && after.pc == wanted.pc;
-    Ok(halt == Halt::StepsUsed && count == 1 && same && moved)
+    let moved = after.nzcv == flags && after.pc == CODE.wrapping_add(far);
+    Ok(ran.halt == Halt::StepsUsed && ran.count == 1 && same && moved)
 }
 
 /// The place of the first row that is wrong.
@@ -133,17 +129,9 @@ const HOLDS: [u16; 16] = [
 fn branches_at(alloc: Global, condition: u8) -> Result<u16, Fail> {
     let mut taken = 0;
     for number in 0..16u8 {
-        let image = image(
-            alloc,
-            &[0x54000040 + u32::from(condition), 0xD503201F, 0xD503201F],
-        )?;
-        let mut registers = start_registers(&image);
-        registers.nzcv = number;
-        let Ok(mut machine) = Machine::new(alloc, image, registers) else {
-            return Err(Fail::from("the machine was refused"));
-        };
-        let _ = machine.run(1, &mut Host);
-        if machine.registers().pc == CODE + 8 {
+        let words = [0x54000040 + u32::from(condition), 0xD503201F, 0xD503201F];
+        let ran = ran(alloc, Profile::One, &words, &[(33, u64::from(number))], 1)?;
+        if ran.after.pc == CODE + 8 {
             taken |= 1 << number;
         }
     }
@@ -162,18 +150,13 @@ fn conditions(rt: HostRuntime) -> Result<(), Fail> {
 /// BL, BLR and BRK.
 #[test]
 fn links_and_breaks(rt: HostRuntime) -> Result<(), Fail> {
-    let mut machine = crate::host::started(rt.alloc(), &[0x94000002, 0xD4200020, 0xD65F03C0])?;
-    let (halt, count) = machine.run(1000, &mut Host);
-    assert!(rt; halt == Halt::Stopped(Cause::Breakpoint(CODE + 4)) && count == 2);
-    assert!(rt; machine.registers().x[30] == CODE + 4);
-    let image = image(rt.alloc(), &[0xD63F0240, 0xD4200020, 0xD65F03C0])?;
-    let mut registers = start_registers(&image);
-    registers.x[18] = CODE + 8;
-    let Ok(mut machine) = Machine::new(rt.alloc(), image, registers) else {
-        return Err(Fail::from("the machine was refused"));
-    };
-    let (halt, count) = machine.run(1000, &mut Host);
-    assert!(rt; halt == Halt::Stopped(Cause::Breakpoint(CODE + 4)) && count == 2);
-    assert!(rt; machine.registers().x[30] == CODE + 4);
+    let words = [0x94000002, 0xD4200020, 0xD65F03C0];
+    let near = ran(rt.alloc(), Profile::One, &words, &[], 1000)?;
+    assert!(rt; near.halt == Halt::Stopped(Cause::Breakpoint(CODE + 4)) && near.count == 2);
+    assert!(rt; near.after.x[30] == CODE + 4);
+    let words = [0xD63F0240, 0xD4200020, 0xD65F03C0];
+    let far = ran(rt.alloc(), Profile::One, &words, &[(18, CODE + 8)], 1000)?;
+    assert!(rt; far.halt == Halt::Stopped(Cause::Breakpoint(CODE + 4)) && far.count == 2);
+    assert!(rt; far.after.x[30] == CODE + 4);
     Ok(())
 }

@@ -1,9 +1,9 @@
 //! The edges of the map, a byte at a time, and those of the registers at the start.
 
-use crate::host::{Host, image, image_in};
+use crate::host::{image, image_in, ran, run, started, with};
 use a64_semantics::Registers;
 use lfi_machine::{Cause, Halt, Machine, StartFault, start_registers};
-use lfi_module::ModuleNumber;
+use lfi_module::{ModuleNumber, Profile};
 use std::alloc::Global;
 use std::test::Fail;
 
@@ -36,13 +36,8 @@ const EDGES: [Edge; 14] = [
 
 /// Runs one access of a byte: LDURB W0 or STURB W0 at x18 and an offset.
 fn access(alloc: Global, word: u32, x18: u64) -> Result<(Halt, u64), Fail> {
-    let image = image(alloc, &[word])?;
-    let mut registers = start_registers(&image);
-    registers.x[18] = x18;
-    match Machine::new(alloc, image, registers) {
-        Ok(mut machine) => Ok(machine.run(1, &mut Host)),
-        Err(_) => Err(Fail::from("the machine was refused")),
-    }
+    let ran = ran(alloc, Profile::One, &[word], &[(18, x18)], 1)?;
+    Ok((ran.halt, ran.count))
 }
 
 /// What an access of a byte ends with, where it may be done or not.
@@ -123,32 +118,31 @@ fn accesses_across_an_edge(rt: HostRuntime) -> Result<(), Fail> {
 /// A denied access changes neither sp nor memory: STR X0, [SP, #-4]!, with sp four bytes past the first data.
 #[test]
 fn a_denied_access_changes_nothing(rt: HostRuntime) -> Result<(), Fail> {
-    let image = image(rt.alloc(), &[0xF81FCFE0])?;
-    let mut registers = start_registers(&image);
-    registers.x[0] = u64::MAX;
-    registers.sp = BASE + 69632;
-    let Ok(mut machine) = Machine::new(rt.alloc(), image, registers) else {
-        return Err(Fail::from("the machine was refused"));
+    let changes = [(0, u64::MAX), (31, BASE + 69632)];
+    let (ran, byte) = {
+        let mut machine = started(rt.alloc(), Profile::One, &[0xF81FCFE0], &changes)?;
+        (run(&mut machine, 1000), machine.slot().read(BASE + 69632))
     };
-    let (halt, count) = machine.run(1000, &mut Host);
-    assert!(rt; halt == Halt::Stopped(Cause::NoAccess(BASE + 69628)));
-    assert!(rt; count == 0);
-    assert!(rt; machine.registers().sp == BASE + 69632);
-    assert!(rt; machine.registers().pc == BASE + 65536);
-    assert!(rt; machine.slot().read(BASE + 69632) == Some(0));
+    assert!(rt; ran.halt == Halt::Stopped(Cause::NoAccess(BASE + 69628)));
+    assert!(rt; ran.count == 0);
+    assert!(rt; ran.after.sp == BASE + 69632);
+    assert!(rt; ran.after.pc == BASE + 65536);
+    assert!(rt; byte == Some(0));
     Ok(())
+}
+
+/// The registers that an image of three words starts from in this slot, at its last word.
+fn registers_in(alloc: Global, slot: ModuleNumber) -> Result<Registers, Fail> {
+    let image = image_in(alloc, slot, 2, &[0xD503201F, 0xD503201F, 0xD65F03C0])?;
+    Ok(start_registers(&image))
 }
 
 /// The registers that an image starts from, in the first slot and in the last.
 #[test]
 fn registers_of_the_start(rt: HostRuntime) -> Result<(), Fail> {
-    for (slot, base) in [
-        (ModuleNumber::at(0), BASE),
-        (ModuleNumber::at(15), 0x1F_0000_0000u64),
-    ] {
-        let words = [0xD503201F, 0xD503201F, 0xD65F03C0];
-        let image = image_in(rt.alloc(), slot, 2, &words)?;
-        let registers = start_registers(&image);
+    for (slot, base) in &[(0, BASE), (15, 0x1F_0000_0000u64)] {
+        let base = *base;
+        let registers = registers_in(rt.alloc(), ModuleNumber::at(*slot))?;
         let mut wanted = [0; 31];
         wanted[18] = base;
         wanted[21] = base;
@@ -195,17 +189,6 @@ const HELD: [Held; 27] = [
     (33, 15, None),
     (0, u64::MAX, None),
 ];
-
-fn with(lawful: &Registers, place: usize, value: u64) -> Registers {
-    let mut registers = *lawful;
-    match place {
-        31 => registers.sp = value,
-        32 => registers.pc = value,
-        33 => registers.nzcv = (value % 256) as u8,
-        _ => registers.x[place % 31] = value,
-    }
-    registers
-}
 
 /// The place of the first row of registers that are refused for another reason, or taken or refused as they shouldn't be.
 fn first_otherwise(alloc: Global, rows: &[Held]) -> Result<Option<usize>, Fail> {

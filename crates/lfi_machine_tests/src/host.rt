@@ -1,10 +1,10 @@
 //! The runtime of the tests, and images of words.
 
-ghost use Rattle.std.specs.Prelude.{⊤};
+ghost use Rattle.std.specs.Prelude.{⊤, ◌≤◌, vec_len, IfOk};
 
 use a64_semantics::Registers;
 use lfi_image::{Builder, CompleteImage, JudgedPage};
-use lfi_machine::{Answer, Data, DataFault, Machine, Runtime};
+use lfi_machine::{Answer, Data, DataFault, Halt, Machine, Runtime, start_registers};
 use lfi_module::{Extent, ModuleNumber, PageSize, Profile, WordCount};
 use page_buf::SealedPage;
 use std::alloc::Global;
@@ -85,15 +85,7 @@ pub fn image_by(
     words: &[u32],
     profile: Profile,
 ) -> Result<CompleteImage, Fail> {
-    let mut code = Vec::new(alloc);
-    for word in words {
-        for byte in word.to_le_bytes() {
-            code.push(byte)?;
-        }
-    }
-    if code.len() > 16384 {
-        return Err(Fail::from("the code is too long"));
-    }
+    let code = code_of(alloc, words)?;
     let Some(count) = WordCount::new((code.len() / 4) as u32) else {
         return Err(Fail::from("no module has so many words"));
     };
@@ -101,13 +93,33 @@ pub fn image_by(
         return Err(Fail::from("the entry is no word of the module"));
     };
     let mut builder = Builder::new(alloc, extent, slot)?;
-    for bytes in code.chunks(4096) {
-        append(alloc, &mut builder, bytes)?;
-    }
+    append_all(alloc, &mut builder, &code)?;
     match builder.finish() {
         Ok(image) => Ok(image),
         Err(_) => Err(Fail::from("words are missing")),
     }
+}
+
+/// The bytes of these words.
+fn code_of(alloc: Global, words: &[u32]) -> Result<Vec<u8>, Fail>
+    ensures { IfOk result (λ code. vec_len code ≤ 16384) }
+{
+    let mut code = Vec::new(alloc);
+    for word in words {
+        code.extend_from_slice(&word.to_le_bytes())?;
+    }
+    if code.len() > 16384 {
+        return Err(Fail::from("the code is too long"));
+    }
+    Ok(code)
+}
+
+/// Appends these bytes, page by page.
+fn append_all(alloc: Global, builder: &mut Builder, code: &[u8]) -> Result<(), Fail> {
+    for bytes in code.chunks(4096) {
+        append(alloc, builder, bytes)?;
+    }
+    Ok(())
 }
 
 /// Appends a page of these bytes.
@@ -127,12 +139,83 @@ fn append(alloc: Global, builder: &mut Builder, bytes: &[u8]) -> Result<(), Fail
     Ok(())
 }
 
-/// A machine of these words, at the registers of the start.
-pub fn started(alloc: Global, words: &[u32]) -> Result<Machine, Fail> {
-    let image = image(alloc, words)?;
-    let registers = lfi_machine::start_registers(&image);
+/// The registers with another value in one: 31 is sp, 32 pc and 33 the flags.
+pub fn with(registers: &Registers, place: usize, value: u64) -> Registers {
+    let mut next = *registers;
+    match place {
+        31 => next.sp = value,
+        32 => next.pc = value,
+        33 => next.nzcv = (value % 256) as u8,
+        _ => next.x[place % 31] = value,
+    }
+    next
+}
+
+/// The image of these words in slot 0, by a profile, and the registers of its start but for these, by their places and values.
+fn start(
+    alloc: Global,
+    profile: Profile,
+    words: &[u32],
+    changes: &[(usize, u64)],
+) -> Result<(CompleteImage, Registers), Fail> {
+    let image = image_by(alloc, ModuleNumber::at(0), 0, words, profile)?;
+    let mut registers = start_registers(&image);
+    for (place, value) in changes {
+        registers = with(&registers, *place, *value);
+    }
+    Ok((image, registers))
+}
+
+/// A machine that is started so.
+pub fn started(
+    alloc: Global,
+    profile: Profile,
+    words: &[u32],
+    changes: &[(usize, u64)],
+) -> Result<Machine, Fail> {
+    let (image, registers) = start(alloc, profile, words, changes)?;
     match Machine::new(alloc, image, registers) {
         Ok(machine) => Ok(machine),
         Err(_) => Err(Fail::from("the machine was refused")),
     }
+}
+
+/// What a run came to: how it halted, after how many steps, and the registers then.
+#[derive(Clone, Copy)]
+pub struct Outcome {
+    pub halt: Halt,
+    pub count: u64,
+    pub after: Registers,
+}
+
+/// Runs a machine for at most so many steps.
+pub fn run(machine: &mut Machine, steps: u64) -> Outcome {
+    let (halt, count) = machine.run(steps, &mut Host);
+    let after = *machine.registers();
+    Outcome { halt, count, after }
+}
+
+/// Runs an image from these registers.
+pub fn run_image(
+    alloc: Global,
+    image: CompleteImage,
+    registers: Registers,
+    steps: u64,
+) -> Result<Outcome, Fail> {
+    match Machine::new(alloc, image, registers) {
+        Ok(mut machine) => Ok(run(&mut machine, steps)),
+        Err(_) => Err(Fail::from("the machine was refused")),
+    }
+}
+
+/// Runs a machine that is started so.
+pub fn ran(
+    alloc: Global,
+    profile: Profile,
+    words: &[u32],
+    changes: &[(usize, u64)],
+    steps: u64,
+) -> Result<Outcome, Fail> {
+    let (image, registers) = start(alloc, profile, words, changes)?;
+    run_image(alloc, image, registers, steps)
 }

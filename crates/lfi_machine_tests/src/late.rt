@@ -1,8 +1,8 @@
 //! Probes that come late, with sp at both ends of its range, run in the machine by the second profile.
 
-use crate::host::{Host, image_by};
-use lfi_machine::{Cause, Halt, Machine, start_registers};
-use lfi_module::{ModuleNumber, Profile};
+use crate::host::ran;
+use lfi_machine::{Cause, Halt};
+use lfi_module::Profile;
 use std::alloc::Global;
 use std::test::Fail;
 
@@ -84,22 +84,11 @@ const ROWS: [Row; 8] = [
     ),
 ];
 
-/// How a row's words end, run from the start with its sp.
-fn ending(alloc: Global, row: &Row) -> Result<(Halt, u64), Fail> {
-    let image = image_by(alloc, ModuleNumber::at(0), 0, &row.0, Profile::Two)?;
-    let mut registers = start_registers(&image);
-    registers.sp = row.1;
-    match Machine::new(alloc, image, registers) {
-        Ok(mut machine) => Ok(machine.run(9, &mut Host)),
-        Err(_) => Err(Fail::from("the machine was refused")),
-    }
-}
-
-/// The place of the first row that ends otherwise.
+/// The place of the first row that ends otherwise, run from the start with its sp.
 fn first_otherwise(alloc: Global, rows: &[Row]) -> Result<Option<usize>, Fail> {
     for (place, row) in rows.iter().enumerate() {
-        let (halt, steps) = ending(alloc, row)?;
-        if halt != Halt::Stopped(row.2) || steps != row.3 {
+        let ran = ran(alloc, Profile::Two, &row.0, &[(31, row.1)], 9)?;
+        if ran.halt != Halt::Stopped(row.2) || ran.count != row.3 {
             return Ok(Some(place));
         }
     }

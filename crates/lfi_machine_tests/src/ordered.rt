@@ -1,8 +1,8 @@
 //! Ordered loads and stores of each size, run in the machine by the second profile.
 
-use crate::host::{Host, image_by};
-use lfi_machine::{Cause, Halt, Machine, start_registers};
-use lfi_module::{ModuleNumber, Profile};
+use crate::host::{Outcome, ran};
+use lfi_machine::{Cause, Halt};
+use lfi_module::Profile;
 use std::alloc::Global;
 use std::test::Fail;
 
@@ -40,17 +40,23 @@ const ROWS: [Row; 10] = [
     (0xC89FFE5F, LOADED, 0), // STLR XZR, [X18]
 ];
 
-/// A machine of these words by the second profile; x0, x2 and x18 are 9, VALUE and the last argument.
-fn machine_of(alloc: Global, words: &[u32], x18: u64) -> Result<Machine, Fail> {
-    let image = image_by(alloc, ModuleNumber::at(0), 0, words, Profile::Two)?;
-    let mut registers = start_registers(&image);
-    registers.x[0] = 9;
-    registers.x[2] = VALUE;
-    registers.x[18] = x18;
-    match Machine::new(alloc, image, registers) {
-        Ok(machine) => Ok(machine),
-        Err(_) => Err(Fail::from("the machine was refused")),
-    }
+/// Runs these words by the second profile; x0, x2 and x18 are 9, VALUE and this.
+fn ran_at(alloc: Global, words: &[u32], x18: u64, steps: u64) -> Result<Outcome, Fail> {
+    ran(
+        alloc,
+        Profile::Two,
+        words,
+        &[(0, 9), (2, VALUE), (18, x18)],
+        steps,
+    )
+}
+
+/// Whether a row does so with x18 so.
+fn is_right(alloc: Global, row: &Row, x18: u64) -> Result<bool, Fail> {
+    let (first, second, want) = *row;
+    let ran = ran_at(alloc, &[first, second], x18, 2)?;
+    let done = ran.halt == Halt::StepsUsed && ran.count == 2;
+    Ok(done && ran.after.x[0] == want && ran.after.pc == BASE + 65536 + 8)
 }
 
 /// Across the end of a page, at an address that only a byte's access is aligned to.
@@ -58,13 +64,8 @@ fn machine_of(alloc: Global, words: &[u32], x18: u64) -> Result<Machine, Fail> {
 fn across_a_seam(rt: HostRuntime) -> Result<(), Fail> {
     for offset in 0..8u64 {
         for (place, row) in ROWS.iter().enumerate() {
-            let (first, second, want) = *row;
-            let mut machine = machine_of(rt.alloc(), &[first, second], SEAM.wrapping_add(offset))?;
-            let (halt, count) = machine.run(2, &mut Host);
-            let after = machine.registers();
-            assert!(rt; halt == Halt::StepsUsed && count == 2, "row {place}");
-            assert!(rt; after.x[0] == want, "row {place}");
-            assert!(rt; after.pc == BASE + 65536 + 8, "row {place}");
+            let right = is_right(rt.alloc(), row, SEAM.wrapping_add(offset))?;
+            assert!(rt; right, "row {place}");
         }
     }
     Ok(())
@@ -92,8 +93,8 @@ const REGIONS: [Region; 3] = [
 
 /// How an access of one word ends with x18 so.
 fn ending(alloc: Global, word: u32, x18: u64) -> Result<(Halt, u64), Fail> {
-    let mut machine = machine_of(alloc, &[word], x18)?;
-    Ok(machine.run(1, &mut Host))
+    let ran = ran_at(alloc, &[word], x18, 1)?;
+    Ok((ran.halt, ran.count))
 }
 
 /// How one ends that is denied at an address.
@@ -153,30 +154,10 @@ fn at_the_edges_of_the_map(rt: HostRuntime) -> Result<(), Fail> {
 /// A module of one word, run from the registers of the start: it loads the table's first entry, and may not store there.
 #[test]
 fn at_the_start(rt: HostRuntime) -> Result<(), Fail> {
-    let load = image_by(
-        rt.alloc(),
-        ModuleNumber::at(0),
-        0,
-        &[0xC8DFFE40],
-        Profile::Two,
-    )?;
-    let registers = start_registers(&load);
-    let Ok(mut machine) = Machine::new(rt.alloc(), load, registers) else {
-        return Err(Fail::from("the machine was refused"));
-    };
-    assert!(rt; machine.run(2, &mut Host) == (Halt::Stopped(Cause::NoFetch(0x1_0001_0004)), 1));
-    assert!(rt; machine.registers().x[0] == 0x0000_0100_0000_0000);
-    let store = image_by(
-        rt.alloc(),
-        ModuleNumber::at(0),
-        0,
-        &[0xC89FFE40],
-        Profile::Two,
-    )?;
-    let registers = start_registers(&store);
-    let Ok(mut machine) = Machine::new(rt.alloc(), store, registers) else {
-        return Err(Fail::from("the machine was refused"));
-    };
-    assert!(rt; machine.run(2, &mut Host) == denied(BASE));
+    let load = ran(rt.alloc(), Profile::Two, &[0xC8DFFE40], &[], 2)?;
+    assert!(rt; load.halt == Halt::Stopped(Cause::NoFetch(0x1_0001_0004)) && load.count == 1);
+    assert!(rt; load.after.x[0] == 0x0000_0100_0000_0000);
+    let store = ran(rt.alloc(), Profile::Two, &[0xC89FFE40], &[], 2)?;
+    assert!(rt; store.halt == Halt::Stopped(Cause::NoAccess(BASE)) && store.count == 0);
     Ok(())
 }

@@ -1,7 +1,8 @@
 -- Passes that are placed in a row, one after the other.
-use Rattle.std.proofs.Common.{◌≡◌, ◌≢◌, ℕ, zero, suc, ◌+◌, ◌<◌, ◌≤◌, List, [], ◌∷◌, length, get_or, set, ap, refl, arith}
+use Rattle.std.proofs.Common.{◌≡◌, ◌≢◌, ℕ, zero, suc, ◌+◌, ◌<◌, ◌≤◌, List, [], ◌∷◌, ◌++◌, length, get_or, set, ap, refl, sym, subst, ◌∙◌, arith}
 use Rattle.std.specs.Prelude.{Option, Some, None, MatchOption}
-use Rattle.lfi_queues.specs.Passes.{QueueId, PassView, IsPass, AreAllPasses}
+use Rattle.lfi_queues.specs.Passes.{QueueId, PassView, IsPass, AreAllPasses, new_pass, new_passes}
+use Rattle.lfi_queues.proofs.New.{new_length}
 
 -- what holds at a place after one place was written
 set_at : {A : Type 0} (P : A → Type 0) (xs : List A) (n k : ℕ) (x d : A) → n < length xs → (k ≡ n → P x) → (k ≢ n → P (get_or xs k d)) → P (get_or (set xs n x) k d)
@@ -36,3 +37,22 @@ module _ {X : Type 0} where
   one_take q pass is (suc (suc (suc (suc (suc (suc zero)))))) = omega arith
   one_take q pass is (suc (suc (suc (suc (suc (suc (suc zero))))))) = omega arith
   one_take q pass is (suc (suc (suc (suc (suc (suc (suc (suc k)))))))) = omega arith
+
+  -- two lists with one more at their ends are alike where these are
+  snoc_same : (xs ys : List (PassView X)) (x y : PassView X) → length xs ≡ length ys → xs ++ x ∷ [] ≡ ys ++ y ∷ [] → (xs ≡ ys) × (x ≡ y)
+  snoc_same [] [] x y same e = (refl, cc)
+  snoc_same [] (w ∷ ys) x y same e = absurd (omega (arith, same))
+  snoc_same (v ∷ xs) [] x y same e = absurd (omega (arith, same))
+  snoc_same (v ∷ xs) (w ∷ ys) x y same e = (let h = snoc_same xs ys x y (omega (arith, same)) cc in (cc, h.1))
+
+  -- a new queue has as many passes as were asked for
+  pub count_of_new : (q : QueueId) (n : ℕ) (passes : List (PassView X)) → passes ≡ new_passes q n → length passes ≡ n
+  count_of_new q n passes e = ap length e ∙ new_length X q n
+
+  -- the last of the first new passes, and those before it
+  pub last_new : (q : QueueId) (n : ℕ) (before : List (PassView X)) (pass : PassView X) → before ++ pass ∷ [] ≡ new_passes q n → length before + 1 ≡ n → (before ≡ new_passes q (length before)) × (pass ≡ new_pass q (length before))
+  last_new q zero before pass e counted = absurd (omega (arith, counted))
+  last_new q (suc n) before pass e counted =
+      let same : length before ≡ n = omega (arith, counted) in
+      let h = snoc_same before (new_passes q n) pass (new_pass q n) (same ∙ sym (new_length X q n)) e in
+      subst (λ k. (before ≡ new_passes q k) × (pass ≡ new_pass q k)) (sym same) h

@@ -6,11 +6,11 @@ ghost use Rattle.lfi_board.specs.Rows.{AllOn};
 
 use lfi_board::{Board, Claim, ReceiverSeat};
 use lfi_module::ModuleNumber;
-use std::alloc::Global;
+use std::alloc::{AllocError, Global};
+use std::process::Abort;
 use std::sync::Wait;
-use std::test::Fail;
 use std::thread;
-use std::thread::{JoinHandle, Scope, Threads};
+use std::thread::{Scope, Threads};
 
 /// The modules that a seat was answered Mine for, by their numbers.
 type Mine = [bool; ModuleNumber::COUNT];
@@ -28,89 +28,75 @@ fn claim_all(board: &Board, mut seat: ReceiverSeat, from: usize) -> Mine
     mine
 }
 
-/// A thread for each seat of a row that claims all modules: each begins at another one. Whether all
-/// were started.
-fn start_claims<'s, 'e>(
+/// Counts a module more for each that was a seat's.
+fn count_mine(counts: &mut [u32; ModuleNumber::COUNT], mine: Mine) {
+    for module in 0..ModuleNumber::COUNT {
+        counts[module] = counts[module].saturating_add(u32::from(mine[module]));
+    }
+}
+
+/// A thread for each seat of a row that claims all modules: each begins at another one. Once all are
+/// joined, it is counted how often each module was answered Mine.
+fn count_claims<'s, 'e, R: Threads + Abort>(
     scope: &Scope<'s, &'e ()>,
+    rt: &R,
     board: &'e Board,
     seats: &mut [Option<ReceiverSeat>],
     from: usize,
-    claims: &mut Vec<JoinHandle<Mine>>,
-) -> bool
+    counts: &mut [u32; ModuleNumber::COUNT],
+)
     requires seats { AllOn (board_id board.now) seats.old }
     requires from { from ≤ 16 }
 {
     let Some((slot, later)) = seats.split_first_mut() else {
-        return true;
+        return;
     };
     let Some(seat) = slot.take() else {
-        return true;
+        return;
     };
     let Ok(thread) = scope.spawn(
         move || -> Mine
             requires { (board_of seat ≡ board_id board.now) × (from ≤ 16) }
         { claim_all(board, seat, from) },
     ) else {
-        return false;
+        panic!(rt; "no thread")
     };
-    if claims.push(thread).is_err() {
-        return false;
-    }
-    start_claims(
+    count_claims(
         scope,
+        rt,
         board,
         later,
         (from + 5) % ModuleNumber::COUNT,
-        claims,
-    )
+        counts,
+    );
+    count_mine(counts, thread.join(rt));
 }
 
-/// How often each module was answered Mine, over all seats.
-fn count_claims<'s, 'e, R: Threads>(
-    scope: &Scope<'s, &'e ()>,
+/// Eight seats that claim sixteen modules at once: how often each module was answered Mine.
+#[tactic(auto, using(crate::proofs::Seats::new_on))]
+fn claim_at_once<R: Threads + Wait + Sync + Abort>(
     rt: &R,
     alloc: Global,
-    board: &'e Board,
-    mut seats: [Option<ReceiverSeat>; 8],
-) -> Option<[u32; ModuleNumber::COUNT]>
-    requires { AllOn (board_id board.now) seats }
-{
-    let mut claims = Vec::new(alloc);
-    let started = start_claims(scope, board, &mut seats, 0, &mut claims);
-    let mut counts = [0u32; ModuleNumber::COUNT];
-    for claim in claims {
-        let mine = claim.join(rt);
-        for module in 0..ModuleNumber::COUNT {
-            if mine[module] {
-                counts[module] = counts[module].saturating_add(1);
-            }
-        }
-    }
-    if started { Some(counts) } else { None }
-}
-
-/// Eight seats that claim sixteen modules at once.
-#[tactic(auto, using(crate::proofs::Seats::new_on))]
-fn claim_at_once<R: Threads + Wait + Sync + AllocGlobal>(
-    rt: &R,
-) -> Result<Option<[u32; ModuleNumber::COUNT]>, Fail> {
-    let (board, seats) = Board::new(rt.alloc(), 8, 1)?;
+) -> Result<[u32; ModuleNumber::COUNT], AllocError> {
+    let (board, seats) = Board::new(alloc, 8, 1)?;
     let board = &board;
-    let receivers = seats.receivers;
+    let mut receivers = seats.receivers;
     Ok(thread::scope(
         thread::scope_env(),
         rt,
-        move |scope| -> Option<[u32; ModuleNumber::COUNT]>
+        move |scope| -> [u32; ModuleNumber::COUNT]
             requires { AllOn (board_id board.now) receivers }
-        { count_claims(scope, rt, rt.alloc(), board, receivers) },
+        {
+            let mut counts = [0u32; ModuleNumber::COUNT];
+            count_claims(scope, rt, board, &mut receivers, 0, &mut counts);
+            counts
+        },
     ))
 }
 
 #[test]
-fn each_module_is_claimed_once(rt: HostRuntime) -> Result<(), Fail> {
+fn each_module_is_claimed_once(rt: HostRuntime) {
     for _ in 0..50u64 {
-        let counts = claim_at_once(&rt)?.ok_or("no memory")?;
-        assert!(rt; counts == [1u32; ModuleNumber::COUNT]);
+        assert!(rt; claim_at_once(&rt, rt.alloc()) == Ok([1u32; ModuleNumber::COUNT]));
     }
-    Ok(())
 }

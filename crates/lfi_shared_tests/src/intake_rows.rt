@@ -21,7 +21,7 @@ fn fill(rt: &impl Abort, intake: &Intake<u64>, pass: &mut PutPass<u64>, first: u
     }
 }
 
-/// Takes the numbers from 0 on, so many.
+/// Takes the numbers from 0 on, so many, and there are no more.
 fn empty(rt: &impl Abort, intake: &Intake<u64>, pass: &mut TakePass<u64>, count: u64)
     requires { pass.old.queue ≡ intake.now }
     ensures { pass.new.queue ≡ intake.now }
@@ -32,12 +32,13 @@ fn empty(rt: &impl Abort, intake: &Intake<u64>, pass: &mut TakePass<u64>, count:
             "{number}"
         );
     }
+    assert!(rt; matches!(intake.take(pass), Taken::Empty));
 }
 
 #[test]
 fn room_for_256(rt: HostRuntime) -> Result<(), Fail> {
     let (intake, mut puts, mut takes) = Intake::<u64>::new(rt.alloc(), 2, 1)?;
-    assert!(rt; matches!(intake.take(&mut takes[0]), Taken::Empty));
+    empty(&rt, &intake, &mut takes[0], 0);
     fill(&rt, &intake, &mut puts[1], 0, 256);
     fill(&rt, &intake, &mut puts[0], 1000, 256);
     Ok(())
@@ -46,23 +47,18 @@ fn room_for_256(rt: HostRuntime) -> Result<(), Fail> {
 #[test]
 fn more_than_256(rt: HostRuntime) -> Result<(), Fail> {
     let (intake, mut puts, mut takes) = Intake::<u64>::new(rt.alloc(), 1, 1)?;
-    let (put, take) = (&mut puts[0], &mut takes[0]);
-    fill(&rt, &intake, put, 0, 1000);
-    empty(&rt, &intake, take, 1000);
-    assert!(rt; matches!(intake.take(take), Taken::Empty));
+    fill(&rt, &intake, &mut puts[0], 0, 1000);
+    empty(&rt, &intake, &mut takes[0], 1000);
     Ok(())
 }
 
 #[test]
 fn parts_by_turns(rt: HostRuntime) -> Result<(), Fail> {
     let (intake, mut puts, mut takes) = Intake::<u64>::new(rt.alloc(), 2, 1)?;
-    fill(&rt, &intake, &mut puts[0], 11, 2);
-    fill(&rt, &intake, &mut puts[1], 21, 1);
-    let take = &mut takes[0];
-    assert!(rt; matches!(intake.take(take), Taken::Item(11)));
-    assert!(rt; matches!(intake.take(take), Taken::Item(21)));
-    assert!(rt; matches!(intake.take(take), Taken::Item(12)));
-    assert!(rt; matches!(intake.take(take), Taken::Empty));
+    fill(&rt, &intake, &mut puts[0], 0, 1);
+    fill(&rt, &intake, &mut puts[0], 2, 1);
+    fill(&rt, &intake, &mut puts[1], 1, 1);
+    empty(&rt, &intake, &mut takes[0], 3);
     Ok(())
 }
 
@@ -141,7 +137,7 @@ fn rest_from(
 {
     for next in first..1001 {
         match intake.rest(puts, takes) {
-            Some(item) => assert_eq!(rt; item, next),
+            Some(item) => assert!(rt; item == next, "{next}"),
             None => return next,
         }
     }
@@ -171,7 +167,7 @@ fn two_threads_that_may_not_wait(rt: HostRuntime) -> Result<(), Fail> {
     let (intake, mut puts, mut takes) = Intake::<u64>::new(rt.alloc(), 1, 1)?;
     let (put, take) = (puts.swap_remove(0), takes.swap_remove(0));
     let ((done, put), (taken, take)) = put_and_take(&rt, &intake, put, take);
-    assert_eq!(rt; done, 1000);
-    assert_eq!(rt; rest_of(&rt, &intake, put, take, taken), 1000);
+    assert!(rt; done == 1000);
+    assert!(rt; rest_of(&rt, &intake, put, take, taken) == 1000);
     Ok(())
 }

@@ -7,8 +7,10 @@ pub mod ends;
 #[cfg(test)]
 mod intake_rows;
 #[cfg(test)]
+mod passes;
+#[cfg(test)]
 mod queue_rows;
-pub mod relay;
 #[cfg(test)]
 mod thread_rows;
-pub mod threads;
+#[cfg(test)]
+mod workers;

@@ -1,21 +1,21 @@
 //! Lanes, and queues of other sizes, on one thread.
 
-ghost use Rattle.std.specs.Prelude.{◌≡◌, ◌<◌, ◌≤◌, vec_len};
-ghost use Rattle.lfi_shared_tests.specs.Relayed.{ArePasses, AreTakers};
+ghost use Rattle.std.specs.Prelude.{◌≡◌, ◌<◌, ◌≤◌};
+ghost use Rattle.lfi_queues.specs.Passes.{AreAllPasses};
 
-use crate::relay::{Queue, Taker, drain, row_of_puts, row_of_takes, take_one, takers_of};
-use crate::threads::new_queue;
+use crate::passes::{PutRow, Queue, TakeRow, row_of_puts, row_of_takes};
 use lfi_queues::{Lane, LanePut, LaneTake, RuledQueue};
 use std::process::Abort;
 use std::sync::Wait;
 use std::test::Fail;
 
-/// Puts the numbers from 0 on, so many.
+/// Puts the numbers from 0 on, so many, and one more, which is handed back.
 fn fill<const CAPACITY: usize>(
     rt: &(impl Abort + Wait),
     queue: &RuledQueue<u64, CAPACITY>,
     pass: &mut LanePut<u64>,
     count: u64,
+    more: u64,
 )
     requires { pass.old.queue ≡ queue.now }
     ensures { pass.new.queue ≡ queue.now }
@@ -23,9 +23,10 @@ fn fill<const CAPACITY: usize>(
     for number in 0..count {
         assert!(rt; queue.put(rt, pass, number).is_ok(), "{number}");
     }
+    assert!(rt; queue.put(rt, pass, more) == Err(more));
 }
 
-/// Takes the numbers from 0 on, so many.
+/// Takes the numbers from 0 on, so many, and there are no more.
 fn empty<const CAPACITY: usize>(
     rt: &(impl Abort + Wait),
     queue: &RuledQueue<u64, CAPACITY>,
@@ -36,8 +37,9 @@ fn empty<const CAPACITY: usize>(
     ensures { pass.new.queue ≡ queue.now }
 {
     for number in 0..count {
-        assert_eq!(rt; queue.take(rt, pass), Some(number));
+        assert!(rt; queue.take(rt, pass) == Some(number), "{number}");
     }
+    assert!(rt; queue.take(rt, pass).is_none());
 }
 
 /// Fills a queue, which then hands back what comes, and empties it; and again.
@@ -46,12 +48,9 @@ fn fill_and_empty<const CAPACITY: usize>(rt: &(impl Abort + Wait + AllocGlobal))
 {
     let (queue, mut puts, mut takes) = RuledQueue::<u64, CAPACITY>::new(rt.alloc(), 1, 1)?;
     let (put, take) = (&mut puts[0], &mut takes[0]);
-    fill(rt, &queue, put, CAPACITY as u64);
-    assert_eq!(rt; queue.put(rt, put, 1000), Err(1000));
+    fill(rt, &queue, put, CAPACITY as u64, 1000);
     empty(rt, &queue, take, CAPACITY as u64);
-    assert_eq!(rt; queue.take(rt, take), None);
-    fill(rt, &queue, put, CAPACITY as u64);
-    assert_eq!(rt; queue.put(rt, put, 1001), Err(1001));
+    fill(rt, &queue, put, CAPACITY as u64, 1001);
     empty(rt, &queue, take, CAPACITY as u64);
     Ok(())
 }
@@ -68,53 +67,66 @@ fn full_at_its_capacity(rt: HostRuntime) -> Result<(), Fail> {
 fn a_lane_holds_64(rt: HostRuntime) -> Result<(), Fail> {
     let (lane, mut puts, mut takes) = Lane::<u64>::new(rt.alloc(), 1, 1)?;
     let (put, take) = (&mut puts[0], &mut takes[0]);
-    fill(&rt, &lane, put, 64);
-    assert_eq!(rt; lane.put(&rt, put, 64), Err(64));
-    assert_eq!(rt; lane.take(&rt, take), Some(0));
-    assert_eq!(rt; lane.put(&rt, put, 65), Ok(()));
+    fill(&rt, &lane, put, 64, 64);
+    assert!(rt; lane.take(&rt, take) == Some(0));
+    assert!(rt; lane.put(&rt, put, 65).is_ok());
     Ok(())
 }
 
-/// Puts by the pass at a place.
-fn put_at(
-    rt: &(impl Abort + Wait),
-    queue: &Queue,
-    passes: &mut Vec<LanePut<u64>>,
-    at: usize,
-    number: u64,
-)
-    requires { ArePasses queue.now passes.old.items × (at < vec_len passes.old) }
-    ensures { ArePasses queue.now passes.new.items × (vec_len passes.new ≡ vec_len passes.old) }
+/// What is put by three putters, in this order: by which, and the number.
+const PUTS: [(usize, u64); 5] = [(2, 31), (0, 11), (1, 21), (0, 12), (2, 32)];
+
+/// Puts by the passes at their places.
+fn put_each(rt: &(impl Abort + Wait), queue: &Queue, puts: &mut PutRow)
+    requires { AreAllPasses queue.now 3 puts.old }
+    ensures { AreAllPasses queue.now 3 puts.new }
 {
-    assert!(rt; queue.put(rt, &mut passes[at], number).is_ok(), "{number}");
+    for (at, number) in &PUTS {
+        let Some(pass) = &mut puts[*at] else {
+            panic!(rt; "no pass {at}")
+        };
+        assert!(rt; queue.put(rt, pass, *number).is_ok(), "{number}");
+    }
 }
 
-/// Takes by the taker at a place.
-fn take_at(rt: &(impl Abort + Wait), queue: &Queue, takers: &mut Vec<Taker>, at: usize)
-    requires { AreTakers queue.now takers.old.items × (at < vec_len takers.old) }
-    ensures { AreTakers queue.now takers.new.items × (vec_len takers.new ≡ vec_len takers.old) }
+/// Takes a number, by the pass at a place.
+fn take_at(rt: &(impl Abort + Wait), queue: &Queue, takes: &mut TakeRow, at: usize, number: u64)
+    requires { AreAllPasses queue.now 2 takes.old × (at < 2) }
+    ensures { AreAllPasses queue.now 2 takes.new }
 {
-    assert!(rt; take_one(rt, queue, &mut takers[at]), "taker {at}");
+    let Some(pass) = &mut takes[at] else {
+        panic!(rt; "no pass {at}")
+    };
+    assert!(rt; queue.take(rt, pass) == Some(number), "{number}");
+}
+
+/// Takes what is left: these numbers, and no more.
+fn rest_is(
+    rt: &(impl Abort + Wait),
+    queue: &Queue,
+    puts: &mut PutRow,
+    takes: &mut TakeRow,
+    numbers: &[u64],
+)
+    requires counts { (queue.now.putters ≡ 3) × (queue.now.takers ≡ 2) }
+    requires puts { AreAllPasses queue.now 3 puts.old }
+    requires takes { AreAllPasses queue.now 2 takes.old }
+{
+    for number in numbers {
+        assert!(rt; queue.rest(rt, puts, takes) == Some(*number), "{number}");
+    }
+    assert!(rt; queue.rest(rt, puts, takes).is_none());
 }
 
 #[test]
+#[tactic(auto, using(crate::proofs::Rows::count_of_new))]
 fn rest_takes_what_is_left(rt: HostRuntime) -> Result<(), Fail> {
-    let (queue, mut puts, takes) = new_queue(rt.alloc(), 3, 2).ok_or("no memory")?;
-    let mut takers = takers_of(rt.alloc(), &queue, takes)?;
-    put_at(&rt, &queue, &mut puts, 2, 31);
-    put_at(&rt, &queue, &mut puts, 0, 11);
-    put_at(&rt, &queue, &mut puts, 1, 21);
-    put_at(&rt, &queue, &mut puts, 0, 12);
-    put_at(&rt, &queue, &mut puts, 2, 32);
-    take_at(&rt, &queue, &mut takers, 1);
-    take_at(&rt, &queue, &mut takers, 0);
-    let (mut lists, mut left) = (Vec::new(rt.alloc()), Vec::new(rt.alloc()));
+    let (queue, puts, takes) = Queue::new(rt.alloc(), 3, 2)?;
     let mut puts = row_of_puts(&queue, puts);
-    let mut takes = row_of_takes(&queue, takers, &mut lists).ok_or("no memory")?;
-    drain(&rt, &queue, &mut puts, &mut takes, &mut left)?;
-    assert!(rt; left.as_slice() == [21, 12, 32].as_slice());
-    assert_eq!(rt; lists.len(), 2);
-    assert!(rt; lists[0].as_slice() == [11].as_slice());
-    assert!(rt; lists[1].as_slice() == [31].as_slice());
+    let mut takes = row_of_takes(&queue, takes);
+    put_each(&rt, &queue, &mut puts);
+    take_at(&rt, &queue, &mut takes, 1, 31);
+    take_at(&rt, &queue, &mut takes, 0, 11);
+    rest_is(&rt, &queue, &mut puts, &mut takes, &[21, 12, 32]);
     Ok(())
 }
