@@ -41,10 +41,10 @@
 //!   gets shorter at its front, since by an index the compiler makes each place's address anew (49). The branches have
 //!   a function of their own in a64_semantics: of `carry_out`, or of `perform`, in two places the compiler makes a call
 //!   (107). Whether a word is a branch is asked class by class, since a match takes a jump of its own. In turn with the
-//!   interpreter as whole processes of 20 million steps, 31 runs each on a busy machine, it did at best 0.895 of its
-//!   pace and in the middle 0.899, where the program before did 0.743 and 0.744; of 60 million steps, in 15 runs, 0.93
-//!   at best and 0.78 in the middle, beside 0.85 and 0.63. In builds without proofs a loop of two words takes 2 fewer
-//!   instructions a step than before, and one of five words 8 fewer: the lists alone cost the former 4 more.
+//!   interpreter as whole processes of 60 million steps, 31 runs each on idle cores, it did at best 0.99 of its pace
+//!   and in the middle 1.02, where the program before did 0.75 and 0.70. In builds without proofs a loop of two words
+//!   takes 2 fewer instructions a step than before, and one of five words 8 fewer: the lists alone cost the former 4
+//!   more.
 //! - **What made it 64 before, from 78**: one test tells whether a word begins at pc and whether it is decoded
 //!   (`place_of`); the classes that access memory are asked for one by one (`carry_out`), since of a match in a match
 //!   the compiler makes two jumps; two comparisons, and not three, tell that bytes may be written (`is_all_data`).
