@@ -1,5 +1,6 @@
 //! The text of instructions, class by class at its edges. The words are those to which an assembler of others (LLVM's) takes
 //! these texts; ADRP's are by the fields of the manual.
+use a64_text::Assembly;
 use a64_word::decode;
 use lfi_module::Profile;
 use std::alloc::{AllocError, Global};
@@ -119,7 +120,7 @@ const TEXTS: [(u32, &str); 107] = [
 /// Whether a word's instruction prints as this text.
 fn prints_as(alloc: Global, word: u32, text: &str) -> Result<bool, AllocError> {
     match decode(word, Profile::Two) {
-        Some(instruction) => Ok(instruction.to_string(alloc)?.as_str() == text),
+        Some(instruction) => Ok(Assembly(instruction).to_string(alloc)?.as_str() == text),
         None => Ok(false),
     }
 }

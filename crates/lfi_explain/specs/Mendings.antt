@@ -2,7 +2,7 @@
 -- any that the text says; free are those of which no rule speaks.
 use Rattle.std.specs.Prelude.{ℕ, ◌==◌, ◌||◌, if◌then◌else◌, Bool, true, false, List, [], ◌++◌, codes, decimal, Option, Some, None}
 use Rattle.a64_word.specs.declared.operands.Width.TheVariants.{W, X}
-use Rattle.a64_word.specs.Texts.{general, or_sp}
+use Rattle.a64_text.specs.Texts.{general, or_sp}
 use Rattle.a64_effects.specs.declared.access.Form.{Form}
 use Rattle.a64_effects.specs.declared.access.Form.TheVariants as forms
 use Rattle.a64_effects.specs.declared.access.Address.{Address}

@@ -6,8 +6,8 @@ use Rattle.a64_word.specs.declared.instruction.Instruction.TheVariants.{Ordered}
 use Rattle.a64_word.specs.declared.operands.Size.{Size}
 use Rattle.a64_word.specs.declared.operands.Size.TheVariants.{Byte, Half}
 use Rattle.a64_word.specs.declared.operands.Width.TheVariants.{X}
-use Rattle.a64_word.specs.Names.{index_extend_name}
-use Rattle.a64_word.specs.Texts.{general, or_sp, index_width}
+use Rattle.a64_text.specs.Names.{index_extend_name}
+use Rattle.a64_text.specs.Texts.{general, or_sp, index_width}
 use Rattle.a64_effects.specs.declared.access.Form.{Form}
 use Rattle.a64_effects.specs.declared.access.Form.TheVariants as forms
 use Rattle.a64_effects.specs.declared.access.Address.{Address}

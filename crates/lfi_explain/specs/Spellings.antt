@@ -6,7 +6,7 @@ use Rattle.a64_word.specs.declared.instruction.Instruction.TheVariants.{BranchRe
 use Rattle.lfi_module.specs.declared.profile.Profile.{Profile}
 use Rattle.lfi_module.specs.declared.profile.Profile.TheVariants.{Two}
 use Rattle.a64_word.specs.Profiles.{SpellsIn}
-use Rattle.a64_word.specs.Texts.{text}
+use Rattle.a64_text.specs.Texts.{text}
 use Rattle.a64_effects.specs.declared.access.Address.{Address}
 use Rattle.a64_effects.specs.Effects.{address_of, target_of}
 use Rattle.lfi_module.specs.Numbers.{base_of}

@@ -5,7 +5,8 @@ ghost use Rattle.lfi_explain.specs.Mendings as spec;
 
 use crate::explanation::Explanation;
 use a64_effects::{Address, Form};
-use a64_word::{GeneralRegister, Register, RegisterOrStack, Width};
+use a64_text::{GeneralRegister, RegisterOrStack};
+use a64_word::{Register, Width};
 use lfi_rules::registers::{BASE, holds_address};
 use lfi_rules::{Need, Rule};
 use std::fmt;

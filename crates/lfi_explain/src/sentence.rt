@@ -5,7 +5,8 @@ ghost use Rattle.lfi_explain.specs.Sentences as spec;
 
 use crate::explanation::Explanation;
 use a64_effects::{Address, Form};
-use a64_word::{GeneralRegister, IndexExtend, Instruction, Register, RegisterOrStack, Size, Width};
+use a64_text::{Assembly, GeneralRegister, RegisterOrStack};
+use a64_word::{IndexExtend, Instruction, Register, Size, Width};
 use lfi_rules::{Need, Rule};
 use std::fmt;
 
@@ -66,8 +67,9 @@ impl fmt::Display for ByForm {
                 let shifted = if scaled { ", shifted" } else { "" };
                 write!(
                     f,
-                    " by {}, {extend}{shifted}",
-                    GeneralRegister(width, register)
+                    " by {}, {}{shifted}",
+                    GeneralRegister(width, register),
+                    Assembly(extend)
                 )
             }
         }

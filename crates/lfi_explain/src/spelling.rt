@@ -6,6 +6,7 @@ ghost use Rattle.lfi_explain.specs.Spellings as spec;
 
 use crate::digits::WordDigits;
 use a64_effects::{Address, address_of, target, writes};
+use a64_text::Assembly;
 use a64_word::{Instruction, Register, decode};
 use lfi_module::Profile;
 use lfi_rules::registers::{FIRST_ADDRESS, SECOND_ADDRESS, THIRD_ADDRESS};
@@ -130,8 +131,8 @@ impl fmt::Display for Spelling {
 
     /// Writes the assembly text, or `.inst 0x00000000` with the word where no instruction spells it.
     fn fmt<W: fmt::Write>(&self, f: &mut fmt::Formatter<W>) -> fmt::Result {
-        match &self.instruction {
-            Some(instruction) => write!(f, "{instruction}"),
+        match self.instruction {
+            Some(instruction) => write!(f, "{}", Assembly(instruction)),
             None => write!(f, ".inst 0x{}", WordDigits(self.word)),
         }
     }

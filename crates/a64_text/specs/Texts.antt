@@ -18,7 +18,7 @@ use Rattle.a64_word.specs.declared.operands.IndexMode.TheVariants as index_mode
 use Rattle.a64_word.specs.declared.operands.PairMode.{PairMode}
 use Rattle.a64_word.specs.declared.operands.PairMode.TheVariants as pair_mode
 use Rattle.a64_word.specs.Operands.{size_code}
-use Rattle.a64_word.specs.Names.{condition_name, shift_name, extend_name, index_extend_name, add_sub_name, logical_name, move_wide_name, bitfield_name, two_source_name, branch_name, select_name, access_name, access_width, size_name}
+use Rattle.a64_text.specs.Names.{condition_name, shift_name, extend_name, index_extend_name, add_sub_name, logical_name, move_wide_name, bitfield_name, two_source_name, branch_name, select_name, access_name, access_width, size_name}
 use Rattle.a64_word.specs.declared.operands.Transfer.TheVariants as transfer
 use Rattle.a64_word.specs.Bitmask.{mask_if_any}
 

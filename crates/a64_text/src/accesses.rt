@@ -2,65 +2,68 @@
 
 ghost use Rattle.std.specs.Prelude.{◌≡◌, ◌*ℤ◌, Some};
 ghost use Rattle.a64_word.specs.declared.instruction.Instruction.{Instruction};
-ghost use Rattle.a64_word.specs.Texts as spec;
-ghost use Rattle.a64_word.specs.inner.Addresses.{based};
+ghost use Rattle.a64_text.specs.Texts as spec;
+ghost use Rattle.a64_text.specs.inner.Addresses.{based};
 
-use super::names::Access;
-use super::operands::{Based, ExtendedIndex, GeneralRegister, RegisterOrStack};
-use crate::load_store::{Ordered, Pair, RegisterOffset, SignedOffset, UnsignedOffset};
-use crate::operands::{IndexExtend, IndexMode, Transfer, Width};
+use crate::assembly::Assembly;
+use crate::names::Access;
+use crate::operands::{Based, ExtendedIndex, GeneralRegister, RegisterOrStack};
+use a64_word::{
+    IndexExtend, IndexMode, Ordered, Pair, RegisterOffset, SignedOffset, Transfer, UnsignedOffset,
+    Width,
+};
 use std::fmt;
 
-impl fmt::Display for UnsignedOffset {
-    ghost output = { λ i. Some (spec.text (Instruction.UnsignedOffset i)) };
+impl fmt::Display for Assembly<UnsignedOffset> {
+    ghost output = { λ i. Some (spec.text (Instruction.UnsignedOffset i.0)) };
 
     /// Writes the instruction, as `ldr w1, [x19]`.
     fn fmt<W: fmt::Write>(&self, f: &mut fmt::Formatter<W>) -> fmt::Result {
         let name = Access {
             unscaled: false,
-            transfer: self.transfer,
-            size: self.size,
+            transfer: self.0.transfer,
+            size: self.0.size,
         };
-        let rt = GeneralRegister(name.width(), self.rt);
-        let bytes = i64::from(self.imm12) << self.size.code();
-        write!(f, "{name} {rt}, {}", Based::Offset(self.rn, bytes))
+        let rt = GeneralRegister(name.width(), self.0.rt);
+        let bytes = i64::from(self.0.imm12) << self.0.size.code();
+        write!(f, "{name} {rt}, {}", Based::Offset(self.0.rn, bytes))
     }
 }
 
-impl fmt::Display for Ordered {
-    ghost output = { λ i. Some (spec.text (Instruction.Ordered i)) };
+impl fmt::Display for Assembly<Ordered> {
+    ghost output = { λ i. Some (spec.text (Instruction.Ordered i.0)) };
 
     /// Writes the instruction, as `ldar x0, [x18]`.
     fn fmt<W: fmt::Write>(&self, f: &mut fmt::Formatter<W>) -> fmt::Result {
         let access = Access {
             unscaled: false,
             transfer: Transfer::Load,
-            size: self.size,
+            size: self.0.size,
         };
-        let name = if self.load { "ldar" } else { "stlr" };
-        let rt = GeneralRegister(access.width(), self.rt);
+        let name = if self.0.load { "ldar" } else { "stlr" };
+        let rt = GeneralRegister(access.width(), self.0.rt);
         write!(
             f,
             "{name}{} {rt}, {}",
             access.end(),
-            Based::Offset(self.rn, 0)
+            Based::Offset(self.0.rn, 0)
         )
     }
 }
 
-impl fmt::Display for SignedOffset {
-    ghost output = { λ i. Some (spec.text (Instruction.SignedOffset i)) };
+impl fmt::Display for Assembly<SignedOffset> {
+    ghost output = { λ i. Some (spec.text (Instruction.SignedOffset i.0)) };
 
     /// Writes the instruction, as `str x0, [sp, #-16]!`.
     fn fmt<W: fmt::Write>(&self, f: &mut fmt::Formatter<W>) -> fmt::Result {
-        let unscaled = self.mode == IndexMode::Unscaled;
+        let unscaled = self.0.mode == IndexMode::Unscaled;
         let name = Access {
             unscaled,
-            transfer: self.transfer,
-            size: self.size,
+            transfer: self.0.transfer,
+            size: self.0.size,
         };
-        let rt = GeneralRegister(name.width(), self.rt);
-        let address = Based::by_index_mode(self.mode, self.rn, i64::from(self.imm9));
+        let rt = GeneralRegister(name.width(), self.0.rt);
+        let address = Based::by_index_mode(self.0.mode, self.0.rn, i64::from(self.0.imm9));
         write!(f, "{name} {rt}, {address}")
     }
 }
@@ -97,18 +100,18 @@ impl fmt::Display for Indexed {
     }
 }
 
-impl fmt::Display for RegisterOffset {
-    ghost output = { λ i. Some (spec.text (Instruction.RegisterOffset i)) };
+impl fmt::Display for Assembly<RegisterOffset> {
+    ghost output = { λ i. Some (spec.text (Instruction.RegisterOffset i.0)) };
 
     /// Writes the instruction, as `ldr x0, [x21, w1, uxtw]`.
     fn fmt<W: fmt::Write>(&self, f: &mut fmt::Formatter<W>) -> fmt::Result {
         let name = Access {
             unscaled: false,
-            transfer: self.transfer,
-            size: self.size,
+            transfer: self.0.transfer,
+            size: self.0.size,
         };
-        let rt = GeneralRegister(name.width(), self.rt);
-        write!(f, "{name} {rt}, {}", Indexed(*self))
+        let rt = GeneralRegister(name.width(), self.0.rt);
+        write!(f, "{name} {rt}, {}", Indexed(self.0))
     }
 }
 
@@ -129,14 +132,14 @@ fn pair_address(i: &Pair) -> Based
     Based::by_pair_mode(i.mode, i.rn, pair_offset(i))
 }
 
-impl fmt::Display for Pair {
-    ghost output = { λ i. Some (spec.text (Instruction.Pair i)) };
+impl fmt::Display for Assembly<Pair> {
+    ghost output = { λ i. Some (spec.text (Instruction.Pair i.0)) };
 
     /// Writes the instruction, as `stp x29, x30, [sp, #-16]!`.
     fn fmt<W: fmt::Write>(&self, f: &mut fmt::Formatter<W>) -> fmt::Result {
-        let name = if self.load { "ldp" } else { "stp" };
-        let rt = GeneralRegister(self.width, self.rt);
-        let rt2 = GeneralRegister(self.width, self.rt2);
-        write!(f, "{name} {rt}, {rt2}, {}", pair_address(self))
+        let name = if self.0.load { "ldp" } else { "stp" };
+        let rt = GeneralRegister(self.0.width, self.0.rt);
+        let rt2 = GeneralRegister(self.0.width, self.0.rt2);
+        write!(f, "{name} {rt}, {rt2}, {}", pair_address(&self.0))
     }
 }
