@@ -34,8 +34,6 @@ mod hand;
 mod holds;
 mod makes;
 mod seats;
-#[cfg(test)]
-mod tests;
 
 pub use board::Board;
 pub use hand::{Hand, Sighting};

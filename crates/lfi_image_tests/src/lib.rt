@@ -10,4 +10,6 @@ mod faults;
 #[cfg(test)]
 mod files;
 #[cfg(test)]
+mod raw_pages;
+#[cfg(test)]
 mod rows;

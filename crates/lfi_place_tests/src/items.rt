@@ -18,7 +18,7 @@ pub const NOP: u32 = 0xD503_201F;
 pub const UNKNOWN: u32 = 0xD400_0001;
 
 /// What an item of the module brings.
-#[derive(Clone, Copy, Debug, PartialEq, Eq)]
+#[derive(Clone, Copy)]
 pub enum Part {
     /// The Open, with entry 7, or that of the last word.
     Open,

@@ -70,6 +70,21 @@ impl Row {
         Ok(self.board.look(&mut self.seat, module()))
     }
 
+    /// Does so with each of these parts: whether the module is in this phase after each.
+    fn stays<R: Wait + AllocGlobal>(
+        &mut self,
+        rt: &R,
+        parts: &[Part],
+        phase: Phase,
+    ) -> Result<bool, Fail> {
+        for part in parts {
+            if self.phase_after(rt, *part)? != phase {
+                return Ok(false);
+            }
+        }
+        Ok(true)
+    }
+
     fn turn<R: Wait>(&mut self, rt: &R) -> SequencerTurn {
         self.sequencer.turn(rt, &self.lane, &self.board)
     }
@@ -79,15 +94,10 @@ impl Row {
 fn the_last_item_of_a_lawful_module_ends_it(rt: HostRuntime) -> Result<(), Fail> {
     let mut row = Row::new(rt.alloc())?;
     assert!(rt; row.turn(&rt) == SequencerTurn::Idle);
-    for part in [
-        Part::End(3, Reason::Close),
-        Part::Page(2, mark(3)),
-        Part::Page(0, mark(1)),
-        Part::Open,
-    ] {
-        assert_eq!(rt; row.phase_after(&rt, part)?, Phase::Open, "{part:?}");
-    }
-    assert_eq!(rt; row.phase_after(&rt, Part::Page(1, mark(2)))?, Phase::Done);
+    let end = Part::End(3, Reason::Close);
+    let pages = [Part::Page(2, mark(3)), Part::Page(0, mark(1))];
+    assert!(rt; row.stays(&rt, &[end, pages[0], pages[1], Part::Open], Phase::Open)?);
+    assert!(rt; row.phase_after(&rt, Part::Page(1, mark(2)))? == Phase::Done);
     assert!(rt; row.turn(&rt) == SequencerTurn::Idle);
     Ok(())
 }
@@ -95,15 +105,9 @@ fn the_last_item_of_a_lawful_module_ends_it(rt: HostRuntime) -> Result<(), Fail>
 #[test]
 fn the_first_fault_refuses_a_module(rt: HostRuntime) -> Result<(), Fail> {
     let mut row = Row::new(rt.alloc())?;
-    for part in [Part::Page(1, UNKNOWN), Part::Open] {
-        assert_eq!(rt; row.phase_after(&rt, part)?, Phase::Open, "{part:?}");
-    }
-    for part in [
-        Part::Page(0, mark(1)),
-        Part::Page(2, mark(3)),
-        Part::End(3, Reason::Close),
-    ] {
-        assert_eq!(rt; row.phase_after(&rt, part)?, Phase::Refused, "{part:?}");
-    }
+    let pages = [Part::Page(0, mark(1)), Part::Page(2, mark(3))];
+    let end = Part::End(3, Reason::Close);
+    assert!(rt; row.stays(&rt, &[Part::Page(1, UNKNOWN), Part::Open], Phase::Open)?);
+    assert!(rt; row.stays(&rt, &[pages[0], pages[1], end], Phase::Refused)?);
     Ok(())
 }

@@ -63,12 +63,29 @@ impl Row {
     }
 }
 
-/// Whether the item brings a page with a fault.
-fn has_fault(item: &Judged) -> bool {
+/// What an item brings.
+#[derive(Clone, Copy, PartialEq, Eq)]
+enum Brought {
+    Nothing,
+    Open,
+    /// A page of the module with this ordinal, and whether it has a fault.
+    Page(u32, bool),
+    End(Reason),
+}
+
+/// What an item of module 3 brings, if there is one.
+fn brought(item: Option<Judged>) -> Brought {
+    let Some(item) = item else {
+        return Brought::Nothing;
+    };
     match &item.kind {
-        ItemKind::Page(page) => page.verdict().inner.is_some(),
-        ItemKind::Open => false,
-        ItemKind::End(_) => false,
+        ItemKind::Page(page) if item.module.number() == 3 => Brought::Page(
+            item.ordinal,
+            page.verdict().inner.is_some(),
+        ),
+        ItemKind::Page(_) => Brought::Nothing,
+        ItemKind::Open => Brought::Open,
+        ItemKind::End(reason) => Brought::End(*reason),
     }
 }
 
@@ -80,13 +97,9 @@ fn items_are_judged_into_their_lane(rt: HostRuntime) -> Result<(), Fail> {
     row.put(&rt, Part::End(0, Reason::Close))?;
     assert!(rt; row.turn(&rt) == VerifierTurn::Worked);
     assert!(rt; row.turn(&rt) == VerifierTurn::Worked);
-    let page = row.take(&rt).ok_or("no item")?;
-    assert!(rt; has_fault(&page));
-    let module = page.module.number();
-    assert!(rt; page.ordinal == 2 && module == 3);
-    let end = row.take(&rt).ok_or("no item")?;
-    assert!(rt; matches!(end.kind, ItemKind::End(Reason::Close)));
-    assert!(rt; row.take(&rt).is_none());
+    assert!(rt; brought(row.take(&rt)) == Brought::Page(2, true));
+    assert!(rt; brought(row.take(&rt)) == Brought::End(Reason::Close));
+    assert!(rt; brought(row.take(&rt)) == Brought::Nothing);
     assert!(rt; row.turn(&rt) == VerifierTurn::Idle);
     Ok(())
 }
@@ -97,13 +110,17 @@ fn a_full_lane_blocks(rt: HostRuntime) -> Result<(), Fail> {
     for _ in 0..66 {
         row.put(&rt, Part::Page(0, mark(1)))?;
     }
-    for turn in 0..64 {
-        assert!(rt; row.turn(&rt) == VerifierTurn::Worked, "{turn}");
+    for _ in 0..64 {
+        assert!(rt; row.turn(&rt) == VerifierTurn::Worked);
     }
     assert!(rt; row.turn(&rt) == VerifierTurn::Blocked && row.turn(&rt) == VerifierTurn::Blocked);
-    assert!(rt; row.take(&rt).is_some() && row.turn(&rt) == VerifierTurn::Worked);
+    assert!(rt;
+        brought(row.take(&rt)) == Brought::Page(1, false) && row.turn(&rt) == VerifierTurn::Worked
+    );
     assert!(rt; row.turn(&rt) == VerifierTurn::Blocked);
-    assert!(rt; row.take(&rt).is_some() && row.turn(&rt) == VerifierTurn::Worked);
+    assert!(rt;
+        brought(row.take(&rt)) == Brought::Page(1, false) && row.turn(&rt) == VerifierTurn::Worked
+    );
     assert!(rt; row.turn(&rt) == VerifierTurn::Idle);
     Ok(())
 }

@@ -2,6 +2,8 @@
 #![tactic(auto)]
 
 #[cfg(test)]
+mod board_alone;
+#[cfg(test)]
 mod board_rows;
 pub mod ends;
 #[cfg(test)]

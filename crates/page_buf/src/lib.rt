@@ -45,8 +45,6 @@ mod member;
 mod page;
 mod pool;
 mod raw_bytes;
-#[cfg(test)]
-mod tests;
 
 pub use hand::{Hand, Sighting};
 pub use member::PoolMember;

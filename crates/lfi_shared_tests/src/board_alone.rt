@@ -4,7 +4,7 @@ ghost use Rattle.std.specs.Prelude.{◌≡◌, IfOk};
 ghost use Rattle.lfi_board.specs.Known.{board_id};
 ghost use Rattle.lfi_board.specs.Rows.{NewReceivers, IsNewReceiver};
 
-use crate::{Board, Change, Claim, Phase, ReceiverSeat, Seats};
+use lfi_board::{Board, Change, Claim, Phase, ReceiverSeat, Seats};
 use lfi_module::ModuleNumber;
 use std::test::Fail;
 
