@@ -78,7 +78,7 @@ fn ends_of(image: &CompleteImage) -> Result<[u32; 3], Fail> {
 }
 
 /// What a report tells.
-fn seen(report: ModuleReport) -> Result<Seen, Fail> {
+fn told(report: ModuleReport) -> Result<Seen, Fail> {
     let left = match &report.image {
         ImageState::Absent => Left::Nothing,
         ImageState::Part(builder) => Left::Part(builder.placed()),
@@ -97,7 +97,7 @@ fn placed_in(alloc: Global, items: &[(Extent, Part)]) -> Result<Seen, Fail> {
     for (extent, part) in items {
         sequence.handle(item_of(alloc, *extent, *part)?.judge());
     }
-    seen(sequence.into_report())
+    told(sequence.into_report())
 }
 
 /// What became of a module of this extent whose items came in this order.
@@ -106,7 +106,7 @@ fn placed(alloc: Global, extent: Extent, parts: &[Part]) -> Result<Seen, Fail> {
     for part in parts {
         sequence.handle(item_of(alloc, extent, *part)?.judge());
     }
-    seen(sequence.into_report())
+    told(sequence.into_report())
 }
 
 /// The module of the items, in pages of this size.

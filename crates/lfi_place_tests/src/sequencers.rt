@@ -58,31 +58,23 @@ impl Row {
         })
     }
 
-    /// Puts an item in the lane, and turns the sequencer: the module's phase then.
+    /// Puts an item in the lane where the sequencer finds nothing, and turns it: the module's phase then, where one turn
+    /// takes the item and the next one finds nothing again.
     fn phase_after<R: Wait + AllocGlobal>(&mut self, rt: &R, part: Part) -> Result<Phase, Fail> {
         let item = judged(rt.alloc(), part)?;
-        if self.lane.put(rt, &mut self.put, item).is_err() {
-            return Err(Fail::from("the lane is full"));
+        let before = self.turn(rt);
+        let is_put = self.lane.put(rt, &mut self.put, item).is_ok();
+        let took = self.turn(rt);
+        let after = self.turn(rt);
+        if before == SequencerTurn::Idle
+            && is_put
+            && took == SequencerTurn::Worked
+            && after == SequencerTurn::Idle
+        {
+            Ok(self.board.look(&mut self.seat, module()))
+        } else {
+            Err(Fail::from("another turn"))
         }
-        if self.turn(rt) != SequencerTurn::Worked {
-            return Err(Fail::from("the item isn't taken"));
-        }
-        Ok(self.board.look(&mut self.seat, module()))
-    }
-
-    /// Does so with each of these parts: whether the module is in this phase after each.
-    fn stays<R: Wait + AllocGlobal>(
-        &mut self,
-        rt: &R,
-        parts: &[Part],
-        phase: Phase,
-    ) -> Result<bool, Fail> {
-        for part in parts {
-            if self.phase_after(rt, *part)? != phase {
-                return Ok(false);
-            }
-        }
-        Ok(true)
     }
 
     fn turn<R: Wait>(&mut self, rt: &R) -> SequencerTurn {
@@ -90,24 +82,44 @@ impl Row {
     }
 }
 
+/// The module's phase after each of five items.
+fn phases<R: Wait + AllocGlobal>(rt: &R, parts: [Part; 5]) -> Result<[Phase; 5], Fail> {
+    let mut row = Row::new(rt.alloc())?;
+    let mut phases = [Phase::Free; 5];
+    for (place, part) in parts.into_iter().enumerate() {
+        phases[place] = row.phase_after(rt, part)?;
+    }
+    Ok(phases)
+}
+
 #[test]
 fn the_last_item_of_a_lawful_module_ends_it(rt: HostRuntime) -> Result<(), Fail> {
-    let mut row = Row::new(rt.alloc())?;
-    assert!(rt; row.turn(&rt) == SequencerTurn::Idle);
-    let end = Part::End(3, Reason::Close);
-    let pages = [Part::Page(2, mark(3)), Part::Page(0, mark(1))];
-    assert!(rt; row.stays(&rt, &[end, pages[0], pages[1], Part::Open], Phase::Open)?);
-    assert!(rt; row.phase_after(&rt, Part::Page(1, mark(2)))? == Phase::Done);
-    assert!(rt; row.turn(&rt) == SequencerTurn::Idle);
+    let phases = phases(
+        &rt,
+        [
+            Part::End(3, Reason::Close),
+            Part::Page(2, mark(3)),
+            Part::Page(0, mark(1)),
+            Part::Open,
+            Part::Page(1, mark(2)),
+        ],
+    )?;
+    assert!(rt; phases[..4] == [Phase::Open; 4] && phases[4] == Phase::Done);
     Ok(())
 }
 
 #[test]
 fn the_first_fault_refuses_a_module(rt: HostRuntime) -> Result<(), Fail> {
-    let mut row = Row::new(rt.alloc())?;
-    let pages = [Part::Page(0, mark(1)), Part::Page(2, mark(3))];
-    let end = Part::End(3, Reason::Close);
-    assert!(rt; row.stays(&rt, &[Part::Page(1, UNKNOWN), Part::Open], Phase::Open)?);
-    assert!(rt; row.stays(&rt, &[pages[0], pages[1], end], Phase::Refused)?);
+    let phases = phases(
+        &rt,
+        [
+            Part::Page(1, UNKNOWN),
+            Part::Open,
+            Part::Page(0, mark(1)),
+            Part::Page(2, mark(3)),
+            Part::End(3, Reason::Close),
+        ],
+    )?;
+    assert!(rt; phases[..2] == [Phase::Open; 2] && phases[2..] == [Phase::Refused; 3]);
     Ok(())
 }

@@ -43,23 +43,51 @@ impl Row {
         })
     }
 
-    /// Puts an item to the intake.
-    fn put<R: AllocGlobal>(&mut self, rt: &R, part: Part) -> Result<(), Fail> {
+    /// Puts an item to the intake, so many times.
+    fn put<R: AllocGlobal>(&mut self, rt: &R, part: Part, times: usize) -> Result<(), Fail> {
         let extent = extent_of(WordCount::of(WORDS), Profile::One)?;
-        let item = item_of(rt.alloc(), extent, part)?;
-        if self.intake.put(&mut self.put, item).is_err() {
-            return Err(Fail::from("the intake refused it"));
+        for _ in 0..times {
+            let item = item_of(rt.alloc(), extent, part)?;
+            if self.intake.put(&mut self.put, item).is_err() {
+                return Err(Fail::from("the intake refused it"));
+            }
         }
         Ok(())
     }
 
-    fn turn<R: Wait>(&mut self, rt: &R) -> VerifierTurn {
-        self.verifier.turn(rt, &self.intake, &self.lanes, &OpenGate)
+    /// Whether the next turns, so many, did this.
+    fn did<R: Wait>(&mut self, rt: &R, turns: usize, did: VerifierTurn) -> bool {
+        let mut all = true;
+        for _ in 0..turns {
+            all = self.verifier.turn(rt, &self.intake, &self.lanes, &OpenGate) == did && all;
+        }
+        all
     }
 
-    /// The next item of the lane.
-    fn take<R: Wait>(&mut self, rt: &R) -> Option<Judged> {
-        self.lanes[3].take(rt, &mut self.take)
+    /// What the next item of the lane brings.
+    fn take<R: Wait>(&mut self, rt: &R) -> Brought {
+        brings(self.lanes[3].take(rt, &mut self.take))
+    }
+
+    /// Whether the verifier judges two items, a page with a fault and an End, into their lane, and then finds nothing.
+    fn judges_two<R: Wait>(&mut self, rt: &R) -> bool {
+        self.did(rt, 2, VerifierTurn::Worked)
+            && self.take(rt) == Brought::Page(2, true)
+            && self.take(rt) == Brought::End(Reason::Close)
+            && self.take(rt) == Brought::Nothing
+            && self.did(rt, 1, VerifierTurn::Idle)
+    }
+
+    /// Whether the verifier puts 64 items of 66 in the lane, and each other one only once one is taken.
+    fn is_blocked_after_64<R: Wait>(&mut self, rt: &R) -> bool {
+        self.did(rt, 64, VerifierTurn::Worked)
+            && self.did(rt, 2, VerifierTurn::Blocked)
+            && self.take(rt) == Brought::Page(1, false)
+            && self.did(rt, 1, VerifierTurn::Worked)
+            && self.did(rt, 1, VerifierTurn::Blocked)
+            && self.take(rt) == Brought::Page(1, false)
+            && self.did(rt, 1, VerifierTurn::Worked)
+            && self.did(rt, 1, VerifierTurn::Idle)
     }
 }
 
@@ -74,7 +102,7 @@ enum Brought {
 }
 
 /// What an item of module 3 brings, if there is one.
-fn brought(item: Option<Judged>) -> Brought {
+fn brings(item: Option<Judged>) -> Brought {
     let Some(item) = item else {
         return Brought::Nothing;
     };
@@ -92,35 +120,17 @@ fn brought(item: Option<Judged>) -> Brought {
 #[test]
 fn items_are_judged_into_their_lane(rt: HostRuntime) -> Result<(), Fail> {
     let mut row = Row::new(rt.alloc())?;
-    assert!(rt; row.turn(&rt) == VerifierTurn::Idle);
-    row.put(&rt, Part::Page(1, UNKNOWN))?;
-    row.put(&rt, Part::End(0, Reason::Close))?;
-    assert!(rt; row.turn(&rt) == VerifierTurn::Worked);
-    assert!(rt; row.turn(&rt) == VerifierTurn::Worked);
-    assert!(rt; brought(row.take(&rt)) == Brought::Page(2, true));
-    assert!(rt; brought(row.take(&rt)) == Brought::End(Reason::Close));
-    assert!(rt; brought(row.take(&rt)) == Brought::Nothing);
-    assert!(rt; row.turn(&rt) == VerifierTurn::Idle);
+    let was_idle = row.did(&rt, 1, VerifierTurn::Idle);
+    row.put(&rt, Part::Page(1, UNKNOWN), 1)?;
+    row.put(&rt, Part::End(0, Reason::Close), 1)?;
+    assert!(rt; was_idle && row.judges_two(&rt));
     Ok(())
 }
 
 #[test]
 fn a_full_lane_blocks(rt: HostRuntime) -> Result<(), Fail> {
     let mut row = Row::new(rt.alloc())?;
-    for _ in 0..66 {
-        row.put(&rt, Part::Page(0, mark(1)))?;
-    }
-    for _ in 0..64 {
-        assert!(rt; row.turn(&rt) == VerifierTurn::Worked);
-    }
-    assert!(rt; row.turn(&rt) == VerifierTurn::Blocked && row.turn(&rt) == VerifierTurn::Blocked);
-    assert!(rt;
-        brought(row.take(&rt)) == Brought::Page(1, false) && row.turn(&rt) == VerifierTurn::Worked
-    );
-    assert!(rt; row.turn(&rt) == VerifierTurn::Blocked);
-    assert!(rt;
-        brought(row.take(&rt)) == Brought::Page(1, false) && row.turn(&rt) == VerifierTurn::Worked
-    );
-    assert!(rt; row.turn(&rt) == VerifierTurn::Idle);
+    row.put(&rt, Part::Page(0, mark(1)), 66)?;
+    assert!(rt; row.is_blocked_after_64(&rt));
     Ok(())
 }
