@@ -2,24 +2,37 @@
 
 ghost use Rattle.std.specs.Prelude.{⊤};
 
+use crate::faults::Fault;
+use crate::image::image;
+use crate::times::micros;
 use a64_semantics::Registers;
-use anyhow::{Result, bail};
-use lfi_image::{Builder, CompleteImage, JudgedPage};
-use lfi_machine::{Answer, Data, Machine, Runtime, start_registers};
-use lfi_module::{Extent, ModuleNumber, PageSize, Profile, WordCount};
-use page_buf::SealedPage;
-use std::alloc::Global;
-use std::time::Instant;
+use lfi_machine::{Answer, Data, Halt, Machine, Runtime, start_registers};
+use std::io;
+use std::time::{Duration, Instant};
 
 /// A loop of 12 words: sums, logicals, a guard, a load, a store, a product, a comparison and a branch; and what sets it up.
-const WORDS: [u32; 17] = [
-    0xd2a00025, 0xd2ae0007, 0xd29fffe1, 0xf2bfffe1, 0x8b000400, 0x91000c00, 0xca401c00, 0x12003c02,
-    0x0b0200e3, 0x8b2342b2, 0xf9400244, 0x8b000084, 0xf9000244, 0x9b007c06, 0xf1000421, 0x54fffea1,
-    0xd4200000,
+const CODE: [u8; 68] = [
+    0x25, 0x00, 0xA0, 0xD2, // d2a00025
+    0x07, 0x00, 0xAE, 0xD2, // d2ae0007
+    0xE1, 0xFF, 0x9F, 0xD2, // d29fffe1
+    0xE1, 0xFF, 0xBF, 0xF2, // f2bfffe1
+    0x00, 0x04, 0x00, 0x8B, // 8b000400
+    0x00, 0x0C, 0x00, 0x91, // 91000c00
+    0x00, 0x1C, 0x40, 0xCA, // ca401c00
+    0x02, 0x3C, 0x00, 0x12, // 12003c02
+    0xE3, 0x00, 0x02, 0x0B, // 0b0200e3
+    0xB2, 0x42, 0x23, 0x8B, // 8b2342b2
+    0x44, 0x02, 0x40, 0xF9, // f9400244
+    0x84, 0x00, 0x00, 0x8B, // 8b000084
+    0x44, 0x02, 0x00, 0xF9, // f9000244
+    0x06, 0x7C, 0x00, 0x9B, // 9b007c06
+    0x21, 0x04, 0x00, 0xF1, // f1000421
+    0xA1, 0xFE, 0xFF, 0x54, // 54fffea1
+    0x00, 0x00, 0x20, 0xD4, // d4200000
 ];
 
 /// Ends at every call.
-#[derive(Drop)]
+#[derive(Clone, Copy)]
 struct Ends;
 
 impl Runtime for Ends {
@@ -30,58 +43,64 @@ impl Runtime for Ends {
     }
 }
 
-fn image(alloc: Global) -> Result<CompleteImage> {
-    let mut code = Vec::new(alloc);
-    for word in &WORDS {
-        for byte in word.to_le_bytes() {
-            code.push(byte)?;
-        }
-    }
-    let size = PageSize::SMALL;
-    if code.is_empty() || code.len() > size.bytes() as usize || code.len() % 4 != 0 {
-        bail!("the code is no page");
-    }
-    let Some(count) = WordCount::new((code.len() / 4) as u32) else {
-        bail!("no module has so many words");
-    };
-    let Some(extent) = Extent::new(count, 0, Profile::One, PageSize::SMALL) else {
-        bail!("the entry is no word");
-    };
-    let mut builder = Builder::new(alloc, extent, ModuleNumber::at(0))?;
-    let page = SealedPage::of(alloc, size, &code)?;
-    if page.len_words() != builder.due() as usize {
-        bail!("the page has not the words due");
-    }
-    let page = JudgedPage::judge(page, builder.placed(), builder.words(), builder.profile());
-    if builder.append(page).is_err() {
-        bail!("the code breaks a rule");
-    }
-    match builder.finish() {
-        Ok(image) => Ok(image),
-        Err(_) => bail!("words are missing"),
+/// What came of some steps, and in which time.
+#[derive(Clone, Copy)]
+struct Ran {
+    halt: Halt,
+    count: u64,
+    x0: u64,
+    x6: u64,
+    time: Duration,
+}
+
+/// The machine at its start.
+fn start(rt: &HostRuntime) -> Result<Machine, Fault> {
+    let image = image(rt.alloc(), 17, CODE.as_slice())?;
+    let registers = start_registers(&image);
+    match Machine::new(rt.alloc(), image, registers) {
+        Ok(machine) => Ok(machine),
+        Err(_) => Err(Fault::Is("the machine was refused")),
     }
 }
 
-/// Runs so many steps, and prints their speed where it is asked for.
-pub(crate) fn run(rt: &HostRuntime, steps: u64, timed: bool) -> Result<()> {
-    let image = image(rt.alloc())?;
-    let registers = start_registers(&image);
-    let Ok(mut machine) = Machine::new(rt.alloc(), image, registers) else {
-        bail!("the machine was refused");
-    };
+/// Runs so many steps of a machine.
+fn steps_of(rt: &HostRuntime, machine: &mut Machine, steps: u64) -> io::Result<Ran> {
     let start = Instant::now(rt)?;
     let (halt, count) = machine.run(steps, &mut Ends);
     let time = start.elapsed(rt)?;
     let registers = machine.registers();
-    let x0 = registers.x[0];
-    let x6 = registers.x[6];
+    Ok(Ran {
+        halt,
+        count,
+        x0: registers.x[0],
+        x6: registers.x[6],
+        time,
+    })
+}
+
+fn print(rt: &HostRuntime, ran: Ran, timed: bool) -> io::Result<()> {
+    let Ran {
+        halt,
+        count,
+        x0,
+        x6,
+        time,
+    } = ran;
     println!(rt; "{halt:?} after {count}: x0 {x0} x6 {x6}")?;
     if timed {
-        let micros = u64::try_from(time.as_micros()).unwrap_or(u64::MAX).max(1);
         println!(rt;
             "{} thousand steps a second",
-            count.saturating_mul(1000) / micros
+            count.saturating_mul(1000) / micros(time)
         )?;
     }
+    Ok(())
+}
+
+/// Runs so many steps, and prints their speed where it is asked for.
+pub(crate) fn run(rt: &HostRuntime, steps: u64, timed: bool) -> Result<(), Fault> {
+    let mut machine = start(rt)?;
+    let ran = steps_of(rt, &mut machine, steps);
+    drop(machine);
+    print(rt, ran?, timed)?;
     Ok(())
 }

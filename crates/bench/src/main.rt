@@ -11,12 +11,14 @@
 #![tactic(auto)]
 
 mod carriers;
+mod faults;
 mod image;
 mod machine;
 mod pages;
 mod queues;
+mod times;
 
-use anyhow::{Result, bail};
+use crate::faults::Fault;
 use std::env;
 
 /// What is measured.
@@ -65,26 +67,40 @@ struct Asked {
     mode: Option<Mode>,
     count: Option<u64>,
     /// How many rounds, where times are asked for.
-    rounds: Option<u32>,
+    rounds: Option<u64>,
+}
+
+/// The number that a word is, or what stands for one that is none.
+fn number_of(word: Option<String>, none: Option<u64>) -> Option<u64> {
+    match word {
+        Some(word) => match word.parse::<u64>() {
+            Ok(number) => Some(number),
+            Err(_) => none,
+        },
+        None => None,
+    }
+}
+
+/// The mode that a word names; all where there is no word.
+fn mode_of(word: Option<String>) -> Result<Option<Mode>, Fault> {
+    let Some(word) = word else {
+        return Ok(None);
+    };
+    match Mode::of(word.as_str()) {
+        Some(mode) => Ok(Some(mode)),
+        None => Err(Fault::Is("the modes are image, machine, pages and queues")),
+    }
 }
 
 impl Asked {
-    fn read(rt: &HostRuntime) -> Result<Asked> {
+    fn read(rt: &HostRuntime) -> Result<Asked, Fault> {
         let mut words = env::args(rt)?.skip(1);
-        let Some(word) = words.next() else {
-            return Ok(Asked {
-                mode: None,
-                count: None,
-                rounds: None,
-            });
-        };
-        let Some(mode) = Mode::of(word.as_str()) else {
-            bail!("the modes are image, machine, pages and queues")
-        };
-        let count = words.next().and_then(|word| word.parse::<u64>().ok());
-        let rounds = words.next().map(|word| word.parse::<u32>().unwrap_or(1));
+        let mode = mode_of(words.next());
+        let count = number_of(words.next(), None);
+        let rounds = number_of(words.next(), Some(1));
+        drop(words);
         Ok(Asked {
-            mode: Some(mode),
+            mode: mode?,
             count,
             rounds,
         })
@@ -98,21 +114,19 @@ impl Asked {
     }
 }
 
-fn main(rt: HostRuntime) -> Result<()> {
+fn main(rt: HostRuntime) -> anyhow::Result<()> {
     let asked = Asked::read(&rt)?;
     let timed = asked.rounds.is_some();
     for mode in Mode::ALL {
         if asked.wants(mode) {
             let count = asked.count.unwrap_or(mode.count());
-            match mode {
-                Mode::Image => image::run(&rt, count, asked.rounds)?,
-                Mode::Machine => machine::run(&rt, count, timed)?,
-                Mode::Pages => pages::run(&rt, count, timed)?,
-                Mode::Queues => {
-                    let least = queues::measure(&rt, count, asked.rounds.unwrap_or(1))?;
-                    queues::print(&rt, count, least, timed)?
-                }
-            }
+            let measured = match mode {
+                Mode::Image => image::run(&rt, count, asked.rounds),
+                Mode::Machine => machine::run(&rt, count, timed),
+                Mode::Pages => pages::run(&rt, count, timed),
+                Mode::Queues => queues::run(&rt, count, asked.rounds),
+            };
+            measured?;
         }
     }
     Ok(())

@@ -1,9 +1,11 @@
 //! How fast pages are written: `bench pages ROUNDS [time]` writes 256 pages in each round, and a second word asks for the speed.
 
-use anyhow::Result;
+use crate::faults::Fault;
+use crate::times::micros;
 use lfi_module::PageSize;
 use page_buf::OpenPage;
-use std::alloc::Global;
+use std::alloc::{AllocError, Global};
+use std::io;
 use std::time::{Duration, Instant};
 
 /// How many bytes a small page has.
@@ -12,7 +14,7 @@ const PAGE_BYTES: usize = 4096;
 /// The pages that are written in one round: a megabyte.
 const BATCH: usize = 256;
 
-fn batch(alloc: Global) -> Result<Vec<OpenPage>> {
+fn batch(alloc: Global) -> Result<Vec<OpenPage>, AllocError> {
     let mut pages = Vec::with_capacity(alloc, BATCH)?;
     for _ in 0..BATCH {
         pages.push(OpenPage::new(alloc, PageSize::SMALL)?)?;
@@ -20,13 +22,26 @@ fn batch(alloc: Global) -> Result<Vec<OpenPage>> {
     Ok(pages)
 }
 
-/// How many bytes the pages took of `bytes`, each as many as fit.
-fn fill(pages: &mut [OpenPage], bytes: &[u8]) -> u64 {
+/// What was written, the sum of the pages' last bytes, and the time of the writing.
+#[derive(Clone, Copy)]
+struct Written {
+    bytes: u64,
+    sum: u64,
+    time: Duration,
+}
+
+/// Writes these bytes to each page, as many as fit.
+fn fill(rt: &HostRuntime, pages: &mut [OpenPage], bytes: &[u8]) -> io::Result<Written> {
     let mut written = 0u64;
+    let start = Instant::now(rt)?;
     for page in pages {
         written = written.saturating_add(page.write(bytes) as u64);
     }
-    written
+    Ok(Written {
+        bytes: written,
+        sum: 0,
+        time: start.elapsed(rt)?,
+    })
 }
 
 /// The sum of the pages' last bytes, so that what was written is read.
@@ -41,24 +56,36 @@ fn last_bytes(pages: Vec<OpenPage>) -> u64 {
     sum
 }
 
-/// Writes pages in so many rounds, and prints their speed where it is asked for.
-pub(crate) fn run(rt: &HostRuntime, rounds: u64, timed: bool) -> Result<()> {
-    let source = [0x1F; PAGE_BYTES];
-    let mut written = 0u64;
-    let mut sum = 0u64;
-    let mut time = Duration::ZERO;
-    for _ in 0..rounds {
+impl Written {
+    /// Writes pages once more.
+    fn round(self, rt: &HostRuntime, source: &[u8]) -> io::Result<Written> {
         let mut pages = batch(rt.alloc())?;
-        let start = Instant::now(rt)?;
-        let count = fill(&mut pages, &source);
-        time = time.saturating_add(start.elapsed(rt)?);
-        written = written.saturating_add(count);
-        sum = sum.saturating_add(last_bytes(pages));
+        let filled = fill(rt, &mut pages, source);
+        let sum = last_bytes(pages);
+        let filled = filled?;
+        Ok(Written {
+            bytes: self.bytes.saturating_add(filled.bytes),
+            sum: self.sum.saturating_add(sum),
+            time: self.time.saturating_add(filled.time),
+        })
     }
-    println!(rt; "{written} bytes written in pages, last bytes sum to {sum}")?;
+}
+
+/// Writes pages in so many rounds, and prints their speed where it is asked for.
+pub(crate) fn run(rt: &HostRuntime, rounds: u64, timed: bool) -> Result<(), Fault> {
+    let source = [0x1F; PAGE_BYTES];
+    let mut written = Written {
+        bytes: 0,
+        sum: 0,
+        time: Duration::ZERO,
+    };
+    for _ in 0..rounds {
+        written = written.round(rt, &source)?;
+    }
+    let Written { bytes, sum, time } = written;
+    println!(rt; "{bytes} bytes written in pages, last bytes sum to {sum}")?;
     if timed {
-        let micros = u64::try_from(time.as_micros()).unwrap_or(u64::MAX).max(1);
-        println!(rt; "{} MB/s", written / micros)?;
+        println!(rt; "{} MB/s", bytes / micros(time))?;
     }
     Ok(())
 }

@@ -1,23 +1,21 @@
 //! Readers and writers that give and take little, or fail.
 
-ghost use Rattle.std.specs.Prelude.{◌≡◌, IfOk, length};
-
-use crate::runs::{ONE_RET, ONE_RET_REPORT, RET, begin, run_over};
+use crate::runs::{FAILED, ONE_RET, ONE_RET_REPORT, RET, begin, loaded, run_over, tells};
 use lfi_code::Verdict;
-use lfi_commands::{
-    CommandFault, DeviceCause, Ending, Errors, Failure, SystemDisk, Target, check, check_file, load,
-};
+use lfi_commands::{CommandFault, DeviceCause, Ending, Errors, Failure, Target, check, check_file};
 use lfi_model::Outcome;
 use lfi_module::Profile;
-use lfi_receive::Input;
 use lfi_threads::NoNotices;
 use std::alloc::{AllocError, Global};
-use std::fs;
+use std::fs::{self, File, Files};
 use std::io::{self, Read, Write};
-use std::test::Fail;
+use std::net::Net;
+use std::rt::Clock;
+use std::sync::Wait;
+use std::thread::Threads;
 
 /// Gives a byte a read, and fails once it has given `left` bytes.
-#[derive(Drop)]
+#[derive(Clone, Copy)]
 struct SlowReader<'a> {
     bytes: &'a [u8],
     left: usize,
@@ -39,7 +37,7 @@ impl<'a> Read for SlowReader<'a> {
 }
 
 /// Takes `left` bytes more, and then fails.
-#[derive(Drop)]
+#[derive(Clone, Copy)]
 pub struct FullWriter {
     pub left: usize,
 }
@@ -64,113 +62,125 @@ const TWO_RETS: [u8; 8] = [0xC0, 0x03, 0x5F, 0xD6, 0xC0, 0x03, 0x5F, 0xD6];
 
 /// How many bytes a file is told to have, after how many of its eight a read fails, and what comes of it.
 const LENGTHS: [(Option<u64>, usize, Result<Verdict, CommandFault>); 9] = [
-    (None, 100, Ok(Verdict::Lawful { words: 2 })),
-    (Some(8), 100, Ok(Verdict::Lawful { words: 2 })),
-    (Some(4), 100, Err(CommandFault::NotRead(DeviceCause::Other))),
+    (None, 100, TWO),
+    (Some(8), 100, TWO),
+    (Some(4), 100, UNREAD),
     (
         Some(12),
         100,
         Err(CommandFault::NotRead(DeviceCause::EndedEarly)),
     ),
-    (Some(0), 100, Ok(Verdict::Lawful { words: 2 })),
-    (Some(7), 100, Ok(Verdict::Lawful { words: 2 })),
-    (None, 8, Err(CommandFault::NotRead(DeviceCause::Other))),
-    (Some(8), 5, Err(CommandFault::NotRead(DeviceCause::Other))),
+    (Some(0), 100, TWO),
+    (Some(7), 100, TWO),
+    (None, 8, UNREAD),
+    (Some(8), 5, UNREAD),
     // All bytes come; then it is asked whether there are more.
-    (Some(8), 8, Err(CommandFault::NotRead(DeviceCause::Other))),
+    (Some(8), 8, UNREAD),
 ];
 
-#[test]
-fn files_of_another_length(rt: HostRuntime) -> Result<(), Fail> {
-    for (length, left, expected) in LENGTHS {
-        let mut out = Vec::new(rt.alloc());
+/// Two words are lawful.
+const TWO: Result<Verdict, CommandFault> = Ok(Verdict::Lawful { words: 2 });
+
+/// A read failed.
+const UNREAD: Result<Verdict, CommandFault> = Err(CommandFault::NotRead(DeviceCause::Other));
+
+/// What is answered of code from this reader, whose length is told, where exactly this is written.
+fn checked(
+    alloc: Global,
+    code: SlowReader<'_>,
+    length: Option<u64>,
+    written: &str,
+) -> Option<Result<Verdict, CommandFault>> {
+    let mut out = Vec::new(alloc);
+    let answer = check_file(alloc, code, length, Profile::One, &mut out);
+    if out.as_slice() == written.as_bytes() {
+        Some(answer)
+    } else {
+        None
+    }
+}
+
+/// The first of the lengths at which something else comes.
+fn first_other_length(alloc: Global) -> Option<usize> {
+    for place in 0..LENGTHS.len() {
+        let (length, left, expected) = LENGTHS[place];
+        let written = if expected == TWO {
+            "lawful, 2 words\n"
+        } else {
+            ""
+        };
         let code = SlowReader {
             bytes: TWO_RETS.as_slice(),
             left,
         };
-        let verdict = check_file(rt.alloc(), code, length, Profile::One, &mut out);
-        assert!(rt; verdict == expected, "{length:?} {left}");
+        if checked(alloc, code, length, written) != Some(expected) {
+            return Some(place);
+        }
     }
-    Ok(())
+    None
 }
 
-/// Code of 40,000 words is read in three pieces; SVC #0, which is no instruction here, stands in the second.
-#[test]
-fn a_fault_in_a_later_piece(rt: HostRuntime) -> Result<(), Fail> {
-    let mut code = TWO_RETS.repeat(rt.alloc(), 20_000)?;
+/// Code of 40,000 words is read in three pieces; SVC #0, which is no instruction here, stands in the second. Gives what is
+/// answered of it, where it is told.
+fn later_fault(alloc: Global) -> Result<Option<Result<Verdict, CommandFault>>, AllocError> {
+    let mut code = TWO_RETS.repeat(alloc, 20_000)?;
     let fault = [0x01, 0x00, 0x00, 0xD4];
     for i in 0..4usize {
         if 80_000 + i < code.len() {
             code[80_000 + i] = fault[i];
         }
     }
-    let mut out = Vec::new(rt.alloc());
     let reader = SlowReader {
         bytes: &code,
         left: 1_000_000,
     };
-    let verdict = check_file(rt.alloc(), reader, Some(160_000), Profile::One, &mut out);
-    assert!(rt; verdict.is_ok());
-    assert!(rt; out.as_slice() == b"word 20000 rule 1\n".as_slice());
-    Ok(())
-}
-
-/// The input of one reader.
-fn one_input<R: Read + Drop>(alloc: Global, reader: R) -> Result<Vec<Input<R>>, AllocError>
-    ensures { IfOk result (λ inputs. length inputs.items ≡ 1) }
-{
-    let mut inputs = Vec::new(alloc);
-    inputs.push(Input::new(alloc, reader)?)?;
-    Ok(inputs)
+    Ok(checked(alloc, reader, Some(160_000), "word 20000 rule 1\n"))
 }
 
 #[test]
-fn a_byte_a_read(rt: HostRuntime) -> Result<(), Fail> {
-    let mut out = Vec::new(rt.alloc());
+fn files_of_another_length(rt: HostRuntime) -> io::Result<()> {
+    assert!(rt; first_other_length(rt.alloc()).is_none());
+    assert!(rt; matches!(later_fault(rt.alloc())?, Some(Ok(_))));
+    Ok(())
+}
+
+/// Whether this comes of RET, of which a read fails after so many bytes, and exactly this is written.
+fn checks(
+    alloc: Global,
+    left: usize,
+    expected: Result<Verdict, CommandFault>,
+    written: &str,
+) -> bool {
+    let mut out = Vec::new(alloc);
     let code = SlowReader {
         bytes: RET.as_slice(),
-        left: 5,
+        left,
     };
-    let verdict = check(rt.alloc(), code, Profile::One, &mut out);
-    assert!(rt; verdict == Ok(Verdict::Lawful { words: 1 }));
-    let stream = SlowReader {
-        bytes: ONE_RET.as_slice(),
-        left: 41,
-    };
-    let outcome = match load(
-        &rt,
-        rt.alloc(),
-        one_input(rt.alloc(), stream)?,
-        1,
-        &NoNotices,
-        &mut out,
-    ) {
-        Ok(report) => Some(report.modules[0].outcome),
-        Err(_) => None,
-    };
-    assert!(rt; outcome == Some(Outcome::Complete { words: 1 }));
-    assert!(rt;
-        out.as_slice() == b"lawful, 1 words\nmodule 0: complete, 1 words\nstrays 0\n".as_slice()
-    );
-    Ok(())
+    check(alloc, code, Profile::One, &mut out) == expected && out.as_slice() == written.as_bytes()
 }
 
-#[test]
-fn reads_that_fail(rt: HostRuntime) -> Result<(), Fail> {
+/// Whether the load of a stream, of which a read fails after so many bytes, ends so, writes exactly this, and has its module
+/// complete or not.
+fn loads<S: Threads + Wait + Files<File = File> + Net + Clock + Sync + AllocGlobal>(
+    rt: &S,
+    left: usize,
+    ending: Ending,
+    is_complete: bool,
+    written: &str,
+) -> Result<bool, AllocError> {
     let mut out = Vec::new(rt.alloc());
-    for left in 0..=RET.len() {
-        let code = SlowReader {
-            bytes: RET.as_slice(),
-            left,
-        };
-        let verdict = check(rt.alloc(), code, Profile::One, &mut out);
-        assert!(rt;
-            verdict == Err(CommandFault::NotRead(DeviceCause::Other)),
-            "{left}"
-        );
+    let stream = SlowReader {
+        bytes: ONE_RET.as_slice(),
+        left,
+    };
+    match loaded(rt, stream, 1, &NoNotices, &mut out)? {
+        Some(end) => Ok(
+            end.ending == ending
+                && (end.first == Outcome::Complete { words: 1 }) == is_complete
+                && out.as_slice() == written.as_bytes(),
+        ),
+        None => Ok(false),
     }
-    assert!(rt; out.is_empty());
-    Ok(())
 }
 
 /// What is told of the stream, where a read fails after so many bytes.
@@ -185,26 +195,20 @@ fn told_after(left: usize) -> &'static str {
 }
 
 #[test]
-fn a_stream_whose_reads_fail(rt: HostRuntime) -> Result<(), Fail> {
+fn a_byte_a_read(rt: HostRuntime) -> io::Result<()> {
+    let lawful = Ok(Verdict::Lawful { words: 1 });
+    assert!(rt; checks(rt.alloc(), 5, lawful, "lawful, 1 words\n"));
+    assert!(rt; loads(&rt, 41, Ending::Well, true, ONE_RET_REPORT)?);
+    Ok(())
+}
+
+#[test]
+fn reads_that_fail(rt: HostRuntime) -> io::Result<()> {
+    for left in 0..=RET.len() {
+        assert!(rt; checks(rt.alloc(), left, UNREAD, ""));
+    }
     for left in 0..=ONE_RET.len() {
-        let mut out = Vec::new(rt.alloc());
-        let stream = SlowReader {
-            bytes: ONE_RET.as_slice(),
-            left,
-        };
-        let ending = match load(
-            &rt,
-            rt.alloc(),
-            one_input(rt.alloc(), stream)?,
-            1,
-            &NoNotices,
-            &mut out,
-        ) {
-            Ok(report) => Some(Ending::of_report(&report)),
-            Err(_) => None,
-        };
-        assert!(rt; ending == Some(Ending::Failed), "{left}");
-        assert!(rt; out.as_slice() == told_after(left).as_bytes(), "{left}");
+        assert!(rt; loads(&rt, left, Ending::Failed, left == 40, told_after(left))?);
     }
     Ok(())
 }
@@ -270,53 +274,47 @@ const ANSWERS: [Answer; 8] = [
     },
 ];
 
-#[test]
-fn output_that_fails(rt: HostRuntime) -> Result<(), Fail> {
-    begin(&rt, "written.tmp")?;
-    fs::write(&rt, "written.tmp/written.code", RET.as_slice())?;
-    fs::write(&rt, "written.tmp/written.stream", ONE_RET.as_slice())?;
-    fs::write(&rt, "written.tmp/zero.code", &[0, 0, 0, 0])?;
-    fs::write(&rt, "written.tmp/zero.stream", ZERO.as_slice())?;
-    fs::write(&rt, "written.tmp/cut.stream", &ONE_RET[..12])?;
-    for answer in ANSWERS {
-        let line = answer.line;
+/// The line of the first run that is told otherwise, where its output fails anywhere.
+fn first_other_output<S: Threads + Wait + Files<File = File> + Net + Clock + Sync + AllocGlobal>(
+    rt: &S,
+) -> Result<Option<&'static str>, AllocError> {
+    let told = "lfiload: cannot write standard output\n  No space left on device\n";
+    for answer in &ANSWERS {
         for left in 0..answer.length {
-            let mut errors = Errors::new(Vec::new(rt.alloc()));
-            let mut disk = SystemDisk { rt: &rt };
-            let mut out = FullWriter { left };
-            let ending = run_over(&rt, rt.alloc(), &mut disk, line, &mut out, &mut errors)?;
-            assert!(rt; ending == Ending::Failed, "{line}");
-            assert!(rt;
-                errors.writer().as_slice()
-                    == b"lfiload: cannot write standard output\n  No space left on device\n".as_slice(),
-                "{line}"
-            );
+            if !tells(rt, answer.line, &mut FullWriter { left }, FAILED, told)? {
+                return Ok(Some(answer.line));
+            }
         }
     }
-    fs::remove_dir_all(&rt, "written.tmp")?;
-    Ok(())
+    Ok(None)
 }
 
-/// What is told of a failure, where it can be written; `None` where it is lost all the same.
-fn told(alloc: Global, failure: Failure<'_>) -> Option<Vec<u8>> {
-    let mut errors = Errors::new(Vec::new(alloc));
-    errors.tell(&failure);
-    if errors.is_lost() {
-        return None;
-    }
-    Vec::from_slice(alloc, errors.writer().as_slice()).ok()
-}
-
-/// Whether that is this text.
-fn is_told(alloc: Global, failure: Failure<'_>, text: &str) -> bool {
-    match told(alloc, failure) {
-        Some(told) => told.as_slice() == text.as_bytes(),
-        None => false,
-    }
+/// Writes the files of these runs.
+fn write_inputs(rt: &HostRuntime) -> io::Result<()> {
+    begin(rt, "written.tmp")?;
+    fs::write(rt, "written.tmp/written.code", RET.as_slice())?;
+    fs::write(rt, "written.tmp/written.stream", ONE_RET.as_slice())?;
+    fs::write(rt, "written.tmp/zero.code", &[0, 0, 0, 0])?;
+    fs::write(rt, "written.tmp/zero.stream", ZERO.as_slice())?;
+    fs::write(rt, "written.tmp/cut.stream", &ONE_RET[..12])
 }
 
 #[test]
-fn failures_are_told(rt: HostRuntime) -> Result<(), Fail> {
+fn output_that_fails(rt: HostRuntime) -> io::Result<()> {
+    write_inputs(&rt)?;
+    assert!(rt; first_other_output(&rt)?.is_none());
+    fs::remove_dir_all(&rt, "written.tmp")
+}
+
+/// Whether a failure is told by this text.
+fn is_told(alloc: Global, failure: Failure<'_>, text: &str) -> bool {
+    let mut errors = Errors::new(Vec::new(alloc));
+    errors.tell(&failure);
+    !errors.is_lost() && errors.writer().as_slice() == text.as_bytes()
+}
+
+#[test]
+fn failures_are_told(rt: HostRuntime) -> io::Result<()> {
     let alloc = rt.alloc();
     let read = Failure::CannotRead("a.code", DeviceCause::PermissionDenied);
     let text = "lfiload: cannot read a.code\n  Permission denied\n";
@@ -343,53 +341,104 @@ const UNTOLD: [&str; 6] = [
     "lfiload pack /dev/null",
 ];
 
+/// Whether a run with this output fails, where so many bytes of what it tells are taken, and tells that some are lost.
+pub fn loses<S: Threads + Wait + Files<File = File> + Net + Clock + Sync + AllocGlobal, O: Write>(
+    rt: &S,
+    line: &str,
+    out: &mut O,
+    left: usize,
+) -> Result<bool, AllocError> {
+    let mut errors = Errors::new(FullWriter { left });
+    let status = run_over(rt, line, out, &mut errors)?;
+    Ok(status == FAILED && errors.is_lost())
+}
+
 #[test]
-fn errors_that_fail(rt: HostRuntime) -> Result<(), Fail> {
+fn errors_that_fail(rt: HostRuntime) -> io::Result<()> {
     for line in UNTOLD {
-        let mut errors = Errors::new(FullWriter { left: 0 });
-        let mut disk = SystemDisk { rt: &rt };
-        let mut out = FullWriter { left: 0 };
-        let ending = run_over(&rt, rt.alloc(), &mut disk, line, &mut out, &mut errors)?;
-        assert!(rt; ending == Ending::Failed, "{line}");
-        assert!(rt; errors.is_lost(), "{line}");
+        assert!(rt; loses(&rt, line, &mut FullWriter { left: 0 }, 0)?, "{line}");
     }
     Ok(())
 }
 
-/// What follows a failure's line, by the kind of the system's error.
+/// What is told of a file that can't be written, by the kind of the system's error.
 const CAUSES: [(io::ErrorKind, &str); 16] = [
-    (io::ErrorKind::NotFound, "\n  No such file or directory"),
-    (io::ErrorKind::PermissionDenied, "\n  Permission denied"),
-    (io::ErrorKind::IsADirectory, "\n  Is a directory"),
-    (io::ErrorKind::NotADirectory, "\n  Not a directory"),
+    (
+        io::ErrorKind::NotFound,
+        "lfiload: cannot write a.img\n  No such file or directory\n",
+    ),
+    (
+        io::ErrorKind::PermissionDenied,
+        "lfiload: cannot write a.img\n  Permission denied\n",
+    ),
+    (
+        io::ErrorKind::IsADirectory,
+        "lfiload: cannot write a.img\n  Is a directory\n",
+    ),
+    (
+        io::ErrorKind::NotADirectory,
+        "lfiload: cannot write a.img\n  Not a directory\n",
+    ),
     (
         io::ErrorKind::FilesystemLoop,
-        "\n  Too many levels of symbolic links",
+        "lfiload: cannot write a.img\n  Too many levels of symbolic links\n",
     ),
-    (io::ErrorKind::InvalidFilename, "\n  File name too long"),
+    (
+        io::ErrorKind::InvalidFilename,
+        "lfiload: cannot write a.img\n  File name too long\n",
+    ),
     (
         io::ErrorKind::ReadOnlyFilesystem,
-        "\n  Read-only file system",
+        "lfiload: cannot write a.img\n  Read-only file system\n",
     ),
-    (io::ErrorKind::StorageFull, "\n  No space left on device"),
-    (io::ErrorKind::QuotaExceeded, "\n  Disk quota exceeded"),
-    (io::ErrorKind::FileTooLarge, "\n  File too large"),
-    (io::ErrorKind::BrokenPipe, "\n  Broken pipe"),
-    (io::ErrorKind::AddrInUse, "\n  Address already in use"),
-    (io::ErrorKind::UnexpectedEof, "\n  The file ended early"),
-    (io::ErrorKind::InvalidData, "\n  Not valid UTF-8"),
-    (io::ErrorKind::Other, ""),
-    (io::ErrorKind::Uncategorized, ""),
+    (
+        io::ErrorKind::StorageFull,
+        "lfiload: cannot write a.img\n  No space left on device\n",
+    ),
+    (
+        io::ErrorKind::QuotaExceeded,
+        "lfiload: cannot write a.img\n  Disk quota exceeded\n",
+    ),
+    (
+        io::ErrorKind::FileTooLarge,
+        "lfiload: cannot write a.img\n  File too large\n",
+    ),
+    (
+        io::ErrorKind::BrokenPipe,
+        "lfiload: cannot write a.img\n  Broken pipe\n",
+    ),
+    (
+        io::ErrorKind::AddrInUse,
+        "lfiload: cannot write a.img\n  Address already in use\n",
+    ),
+    (
+        io::ErrorKind::UnexpectedEof,
+        "lfiload: cannot write a.img\n  The file ended early\n",
+    ),
+    (
+        io::ErrorKind::InvalidData,
+        "lfiload: cannot write a.img\n  Not valid UTF-8\n",
+    ),
+    (io::ErrorKind::Other, "lfiload: cannot write a.img\n"),
+    (
+        io::ErrorKind::Uncategorized,
+        "lfiload: cannot write a.img\n",
+    ),
 ];
 
-#[test]
-fn causes(rt: HostRuntime) -> Result<(), Fail> {
-    for (kind, text) in CAUSES {
-        let path = String::from_str(rt.alloc(), "a.img")?;
-        let failure = Failure::writing(path, &io::Error::from(kind));
-        let told = format!(in rt.alloc(); "{failure}")?;
-        let expected = format!(in rt.alloc(); "cannot write a.img{text}")?;
-        assert!(rt; told.as_str() == expected.as_str(), "{text}");
+/// The first of these texts that isn't told.
+fn first_other_cause(alloc: Global) -> Result<Option<&'static str>, AllocError> {
+    for (kind, text) in &CAUSES {
+        let path = String::from_str(alloc, "a.img")?;
+        if !is_told(alloc, Failure::writing(path, &io::Error::from(*kind)), text) {
+            return Ok(Some(text));
+        }
     }
+    Ok(None)
+}
+
+#[test]
+fn causes(rt: HostRuntime) -> io::Result<()> {
+    assert!(rt; first_other_cause(rt.alloc())?.is_none());
     Ok(())
 }

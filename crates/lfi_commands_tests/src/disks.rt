@@ -2,11 +2,17 @@
 
 ghost use Rattle.std.specs.Prelude.{◌≡◌, Some, map, string_bytes};
 
-use crate::runs::{ONE_RET, ONE_RET_IMAGE, ONE_RET_REPORT, run_over};
-use lfi_commands::{Disk, Ending, Errors};
+use crate::runs::{FAILED, ONE_RET, ONE_RET_IMAGE, ONE_RET_REPORT, WELL, tells_over};
+use lfi_commands::Disk;
 use lfi_image::{CompleteImage, write_image};
+use lfi_threads::NoNotices;
+use std::alloc::AllocError;
+use std::fs::{File, Files};
 use std::io;
-use std::test::Fail;
+use std::net::Net;
+use std::rt::Clock;
+use std::sync::Wait;
+use std::thread::Threads;
 
 /// A file that was put, by its path and bytes.
 #[derive(Drop)]
@@ -55,40 +61,42 @@ impl<'a> Disk for MemoryDisk<'a> {
 /// The words of the runs.
 const LINE: &str = "lfiload load --out folder any.stream";
 
-#[test]
-fn a_disk_with_room(rt: HostRuntime) -> Result<(), Fail> {
+impl MemoryDisk<'_> {
+    /// Whether so many files were put, each the image of the one module at its path.
+    fn has_put(&self, count: usize) -> bool {
+        for file in &self.put {
+            if file.path.as_str() != "folder/module-00.img"
+                || file.bytes.as_slice() != ONE_RET_IMAGE.as_slice()
+            {
+                return false;
+            }
+        }
+        self.put.len() == count
+    }
+}
+
+/// Whether the run over a disk with room for so many images fills it, writes the report, ends with this status and tells
+/// exactly this.
+fn fills<S: Threads + Wait + Files<File = File> + Net + Clock + Sync + AllocGlobal>(
+    rt: &S,
+    room: usize,
+    status: u8,
+    told: &str,
+) -> Result<bool, AllocError> {
     let mut out = Vec::new(rt.alloc());
-    let mut errors = Errors::new(Vec::new(rt.alloc()));
     let mut disk = MemoryDisk {
         file: ONE_RET.as_slice(),
         put: Vec::new(rt.alloc()),
-        room: 1,
+        room,
     };
-    let ending = run_over(&rt, rt.alloc(), &mut disk, LINE, &mut out, &mut errors)?;
-    assert!(rt; ending == Ending::Well);
-    assert!(rt; out.as_slice() == ONE_RET_REPORT.as_bytes());
-    assert!(rt; errors.writer().is_empty());
-    assert!(rt; disk.put.len() == 1 && disk.put[0].path.as_str() == "folder/module-00.img");
-    assert!(rt; disk.put[0].bytes.as_slice() == ONE_RET_IMAGE.as_slice());
-    Ok(())
+    let is_so = tells_over(rt, &mut disk, &NoNotices, LINE, &mut out, status, told)?;
+    Ok(is_so && out.as_slice() == ONE_RET_REPORT.as_bytes() && disk.has_put(room))
 }
 
 #[test]
-fn a_full_disk(rt: HostRuntime) -> Result<(), Fail> {
-    let mut out = Vec::new(rt.alloc());
-    let mut errors = Errors::new(Vec::new(rt.alloc()));
-    let mut disk = MemoryDisk {
-        file: ONE_RET.as_slice(),
-        put: Vec::new(rt.alloc()),
-        room: 0,
-    };
-    let ending = run_over(&rt, rt.alloc(), &mut disk, LINE, &mut out, &mut errors)?;
-    assert!(rt; ending == Ending::Failed);
-    assert!(rt; out.as_slice() == ONE_RET_REPORT.as_bytes());
-    assert!(rt;
-        errors.writer().as_slice()
-            == b"lfiload: cannot write folder/module-00.img\n  No space left on device\n".as_slice()
-    );
-    assert!(rt; disk.put.is_empty());
+fn disks_with_room_and_without(rt: HostRuntime) -> io::Result<()> {
+    assert!(rt; fills(&rt, 1, WELL, "")?);
+    let told = "lfiload: cannot write folder/module-00.img\n  No space left on device\n";
+    assert!(rt; fills(&rt, 0, FAILED, told)?);
     Ok(())
 }

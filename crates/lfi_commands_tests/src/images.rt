@@ -1,59 +1,40 @@
 //! Outputs that take what `lfiload run` prints.
 
-use crate::devices::FullWriter;
-use crate::runs::{ONE_RET_IMAGE, begin, run_line, run_over};
-use lfi_commands::{Ending, Errors, SystemDisk};
-use std::alloc::{AllocError, Global};
+use crate::devices::{FullWriter, loses};
+use crate::runs::{WELL, begin, run_over, tells};
+use lfi_commands::Errors;
+use std::alloc::AllocError;
 use std::cell::Cell;
-use std::fs;
+use std::fs::{self, File, Files};
 use std::io::{self, Write};
-use std::test::Fail;
+use std::net::Net;
+use std::rt::Clock;
+use std::sync::Wait;
+use std::thread::Threads;
 
-/// The file of an image: LFI1, so many words, entry 0, profile 1, base 2^32, the words. Words that are 0 are left out.
-fn image_file(alloc: Global, words: &[u32]) -> Result<Vec<u8>, AllocError> {
-    let mut code = Vec::new(alloc);
-    let mut count: u32 = 0;
-    for word in words {
-        if *word != 0 {
-            code.extend_from_slice(word.to_le_bytes().as_slice())?;
-            count = count.saturating_add(1);
-        }
-    }
-    let mut file = Vec::from_slice(alloc, b"LFI1".as_slice())?;
-    file.extend_from_slice(count.to_le_bytes().as_slice())?;
-    file.extend_from_slice(&ONE_RET_IMAGE[8..24])?;
-    file.extend_from_slice(code.as_slice())?;
-    Ok(file)
-}
-
-/// MOVZ X0, #72; LDR X30, [X21, #8]; BLR X30; MOVZ X0, #105; the same two; LDR X30, [X21]; BLR X30.
-const HELLO: [u32; 8] = [
-    0xD2800900, 0xF94006BE, 0xD63F03C0, 0xD2800D20, 0xF94006BE, 0xD63F03C0, 0xF94002BE, 0xD63F03C0,
+/// An image file: LFI1, eight words, entry 0, profile 1, base 2^32, the words.
+const HELLO: [u8; 56] = [
+    0x4C, 0x46, 0x49, 0x31, 8, 0, 0, 0, 0, 0, 0, 0, 1, 0, 0, 0, 0, 0, 0, 0, 1, 0, 0, 0, // head
+    0x00, 0x09, 0x80, 0xD2, // MOVZ X0, #72
+    0xBE, 0x06, 0x40, 0xF9, // LDR X30, [X21, #8]
+    0xC0, 0x03, 0x3F, 0xD6, // BLR X30
+    0x20, 0x0D, 0x80, 0xD2, // MOVZ X0, #105
+    0xBE, 0x06, 0x40, 0xF9, // LDR X30, [X21, #8]
+    0xC0, 0x03, 0x3F, 0xD6, // BLR X30
+    0xBE, 0x02, 0x40, 0xF9, // LDR X30, [X21]
+    0xC0, 0x03, 0x3F, 0xD6, // BLR X30
 ];
 
-/// Entry 1, over and over.
-const PRINTS: [u32; 3] = [0xF94006BE, 0xD63F03C0, 0x17FFFFFE];
+/// One of three words: entry 1, over and over.
+const PRINTS: [u8; 36] = [
+    0x4C, 0x46, 0x49, 0x31, 3, 0, 0, 0, 0, 0, 0, 0, 1, 0, 0, 0, 0, 0, 0, 0, 1, 0, 0, 0, // head
+    0xBE, 0x06, 0x40, 0xF9, // LDR X30, [X21, #8]
+    0xC0, 0x03, 0x3F, 0xD6, // BLR X30
+    0xFE, 0xFF, 0xFF, 0x17, // B back to the first
+];
 
-#[test]
-fn output_of_images_that_fails(rt: HostRuntime) -> Result<(), Fail> {
-    begin(&rt, "full.tmp")?;
-    let file = image_file(rt.alloc(), HELLO.as_slice())?;
-    fs::write(&rt, "full.tmp/hello.img", file.as_slice())?;
-    let mut disk = SystemDisk { rt: &rt };
-    let mut out = FullWriter { left: 1 };
-    let mut errors = Errors::new(Vec::new(rt.alloc()));
-    let line = "lfiload run full.tmp/hello.img --steps 1000";
-    let ending = run_over(&rt, rt.alloc(), &mut disk, line, &mut out, &mut errors)?;
-    assert!(rt; ending == Ending::Well);
-    assert!(rt; errors.writer().as_slice() == b"halt 5 status 255 after 7 steps\n".as_slice());
-    let mut lost = Errors::new(FullWriter { left: 5 });
-    let mut printed = Vec::new(rt.alloc());
-    let ending = run_over(&rt, rt.alloc(), &mut disk, line, &mut printed, &mut lost)?;
-    assert!(rt; ending == Ending::Failed && lost.is_lost());
-    assert!(rt; printed.as_slice() == b"Hi".as_slice());
-    fs::remove_dir_all(&rt, "full.tmp")?;
-    Ok(())
-}
+/// The run of the first.
+const LINE: &str = "lfiload run hello.tmp/hello.img --steps 1000";
 
 /// Keeps so many bytes, and takes no more.
 #[derive(Drop)]
@@ -116,27 +97,30 @@ const TAKEN: [Taken; 4] = [
     },
 ];
 
-#[test]
-fn a_beginning_of_what_is_printed(rt: HostRuntime) -> Result<(), Fail> {
-    begin(&rt, "begun.tmp")?;
-    let file = image_file(rt.alloc(), HELLO.as_slice())?;
-    fs::write(&rt, "begun.tmp/hello.img", file.as_slice())?;
+/// Whether that is in such an output in the end, and that is told.
+fn takes<S: Threads + Wait + Files<File = File> + Net + Clock + Sync + AllocGlobal>(
+    rt: &S,
+    taken: Taken,
+) -> Result<bool, AllocError> {
+    let mut out = PartWriter {
+        bytes: Vec::new(rt.alloc()),
+        left: taken.left,
+        flushes: taken.flushes,
+    };
+    let is_so = tells(rt, LINE, &mut out, WELL, taken.err)?;
+    Ok(is_so && out.bytes.as_slice() == taken.out.as_bytes())
+}
+
+/// The first of these outputs of which it is otherwise.
+fn first_other_taken<S: Threads + Wait + Files<File = File> + Net + Clock + Sync + AllocGlobal>(
+    rt: &S,
+) -> Result<Option<Taken>, AllocError> {
     for taken in TAKEN {
-        let mut disk = SystemDisk { rt: &rt };
-        let mut out = PartWriter {
-            bytes: Vec::new(rt.alloc()),
-            left: taken.left,
-            flushes: taken.flushes,
-        };
-        let mut errors = Errors::new(Vec::new(rt.alloc()));
-        let line = "lfiload run begun.tmp/hello.img --steps 1000";
-        let ending = run_over(&rt, rt.alloc(), &mut disk, line, &mut out, &mut errors)?;
-        assert!(rt; ending == Ending::Well);
-        assert!(rt; out.bytes.as_slice() == taken.out.as_bytes());
-        assert!(rt; errors.writer().as_slice() == taken.err.as_bytes());
+        if !takes(rt, taken)? {
+            return Ok(Some(taken));
+        }
     }
-    fs::remove_dir_all(&rt, "begun.tmp")?;
-    Ok(())
+    Ok(None)
 }
 
 /// Takes one byte a call, and is interrupted before each.
@@ -162,24 +146,24 @@ impl Write for HaltingWriter {
     }
 }
 
-#[test]
-fn output_that_halts_before_each_byte(rt: HostRuntime) -> Result<(), Fail> {
-    begin(&rt, "halting.tmp")?;
-    let file = image_file(rt.alloc(), HELLO.as_slice())?;
-    fs::write(&rt, "halting.tmp/hello.img", file.as_slice())?;
-    let mut disk = SystemDisk { rt: &rt };
+/// Whether all is written to such an output.
+fn is_written_all_the_same<
+    S: Threads + Wait + Files<File = File> + Net + Clock + Sync + AllocGlobal,
+>(rt: &S) -> Result<bool, AllocError> {
     let mut out = HaltingWriter {
         bytes: Vec::new(rt.alloc()),
         is_ready: false,
     };
-    let mut errors = Errors::new(Vec::new(rt.alloc()));
-    let line = "lfiload run halting.tmp/hello.img --steps 1000";
-    let ending = run_over(&rt, rt.alloc(), &mut disk, line, &mut out, &mut errors)?;
-    assert!(rt; ending == Ending::Well);
-    assert!(rt; out.bytes.as_slice() == b"Hi".as_slice());
-    assert!(rt; errors.writer().as_slice() == b"halt 5 status 105 after 7 steps\n".as_slice());
-    fs::remove_dir_all(&rt, "halting.tmp")?;
-    Ok(())
+    let told = "halt 5 status 105 after 7 steps\n";
+    Ok(tells(rt, LINE, &mut out, WELL, told)? && out.bytes.as_slice() == b"Hi".as_slice())
+}
+
+/// Whether all is written, and the run fails, where what is told takes five bytes.
+fn is_written_beside_a_loss<
+    S: Threads + Wait + Files<File = File> + Net + Clock + Sync + AllocGlobal,
+>(rt: &S) -> Result<bool, AllocError> {
+    let mut out = Vec::new(rt.alloc());
+    Ok(loses(rt, LINE, &mut out, 5)? && out.as_slice() == b"Hi".as_slice())
 }
 
 /// An output of which is noted whether all that was written to it was flushed.
@@ -220,13 +204,11 @@ impl Write for LaterWriter<'_> {
     }
 }
 
-#[test]
-fn the_line_is_told_after_what_is_printed(rt: HostRuntime) -> Result<(), Fail> {
-    begin(&rt, "later.tmp")?;
-    let file = image_file(rt.alloc(), HELLO.as_slice())?;
-    fs::write(&rt, "later.tmp/hello.img", file.as_slice())?;
+/// Whether the line is told, of 32 bytes, and none of them before all that is printed was flushed.
+fn is_told_later<S: Threads + Wait + Files<File = File> + Net + Clock + Sync + AllocGlobal>(
+    rt: &S,
+) -> Result<bool, AllocError> {
     let is_flushed = Cell::new(false);
-    let mut disk = SystemDisk { rt: &rt };
     let mut out = NotedWriter {
         is_flushed: &is_flushed,
     };
@@ -235,30 +217,40 @@ fn the_line_is_told_after_what_is_printed(rt: HostRuntime) -> Result<(), Fail> {
         told: 0,
         is_early: false,
     });
-    let line = "lfiload run later.tmp/hello.img --steps 1000";
-    let ending = run_over(&rt, rt.alloc(), &mut disk, line, &mut out, &mut errors)?;
-    assert!(rt; ending == Ending::Well);
-    assert!(rt; errors.writer().told == 32 && !errors.writer().is_early);
-    fs::remove_dir_all(&rt, "later.tmp")?;
-    Ok(())
+    let status = run_over(rt, LINE, &mut out, &mut errors)?;
+    Ok(status == WELL && errors.writer().told == 32 && !errors.writer().is_early)
 }
 
 #[test]
-fn much_output(rt: HostRuntime) -> Result<(), Fail> {
-    begin(&rt, "much.tmp")?;
-    let file = image_file(rt.alloc(), PRINTS.as_slice())?;
-    fs::write(&rt, "much.tmp/prints.img", file.as_slice())?;
+fn outputs_of_an_image(rt: HostRuntime) -> io::Result<()> {
+    begin(&rt, "hello.tmp")?;
+    fs::write(&rt, "hello.tmp/hello.img", HELLO.as_slice())?;
+    let told = "halt 5 status 255 after 7 steps\n";
+    assert!(rt; tells(&rt, LINE, &mut FullWriter { left: 1 }, WELL, told)?);
+    assert!(rt; is_written_beside_a_loss(&rt)?);
+    assert!(rt; first_other_taken(&rt)?.is_none());
+    assert!(rt; is_written_all_the_same(&rt)?);
+    assert!(rt; is_told_later(&rt)?);
+    fs::remove_dir_all(&rt, "hello.tmp")
+}
+
+/// Whether a run of 30,000 steps prints so many bytes to an output that takes so many, and exactly this is told.
+fn prints<S: Threads + Wait + Files<File = File> + Net + Clock + Sync + AllocGlobal>(
+    rt: &S,
+    room: usize,
+    printed: usize,
+    told: &str,
+) -> Result<bool, AllocError> {
+    let mut out = FullWriter { left: room };
     let line = "lfiload run much.tmp/prints.img --steps 30000";
-    let ran = run_line(&rt, line)?;
-    assert!(rt; ran.status == 0);
-    assert!(rt; ran.out.len() == 10_000);
-    assert!(rt; ran.err.as_slice() == b"halt 1 after 30000 steps\n".as_slice());
-    let mut disk = SystemDisk { rt: &rt };
-    let mut out = FullWriter { left: 8191 };
-    let mut errors = Errors::new(Vec::new(rt.alloc()));
-    let ending = run_over(&rt, rt.alloc(), &mut disk, line, &mut out, &mut errors)?;
-    assert!(rt; ending == Ending::Well);
-    assert!(rt; errors.writer().as_slice() == b"halt 5 status 255 after 24577 steps\n".as_slice());
-    fs::remove_dir_all(&rt, "much.tmp")?;
-    Ok(())
+    Ok(tells(rt, line, &mut out, WELL, told)? && out.left == room.saturating_sub(printed))
+}
+
+#[test]
+fn much_output(rt: HostRuntime) -> io::Result<()> {
+    begin(&rt, "much.tmp")?;
+    fs::write(&rt, "much.tmp/prints.img", PRINTS.as_slice())?;
+    assert!(rt; prints(&rt, 20_000, 10_000, "halt 1 after 30000 steps\n")?);
+    assert!(rt; prints(&rt, 8191, 8191, "halt 5 status 255 after 24577 steps\n")?);
+    fs::remove_dir_all(&rt, "much.tmp")
 }

@@ -1,17 +1,14 @@
 //! The notice of a refused module.
 
-use crate::runs::{begin, run_noticed};
-use lfi_commands::{Disk, Ending, Errors, WrittenNotices, load};
+use crate::runs::{NOT_WELL, begin, connect, has_file, loaded, tells_over};
+use lfi_commands::{Disk, WrittenNotices};
 use lfi_image::CompleteImage;
-use lfi_receive::Input;
-use std::alloc::{AllocError, Global};
+use std::alloc::AllocError;
 use std::fs::{self, File, Files};
 use std::io::{self, Read, Write};
 use std::net::Net;
-use std::os::unix::net::UnixStream;
 use std::rt::Clock;
 use std::sync::Wait;
-use std::test::Fail;
 use std::thread::{Threads, join};
 
 /// A stream of modules 1 and 2. The first word of module 1 asks for another one than follows it, and module 2 is lawful.
@@ -61,42 +58,6 @@ impl Read for UntilTold<'_, '_> {
     }
 }
 
-/// Loads the modules of a text, and what follows until a notice is written to this file. Gives whether there is a report.
-fn is_loaded_until_told<S: Threads + Wait + Sync>(
-    rt: &S,
-    alloc: Global,
-    text: &[u8],
-    told: &File,
-    out: &mut Vec<u8>,
-) -> Result<bool, AllocError> {
-    let reader = UntilTold {
-        text,
-        told,
-        turns: TURNS,
-    };
-    let mut inputs = Vec::new(alloc);
-    inputs.push(Input::new(alloc, reader)?)?;
-    let notices = WrittenNotices::new(told);
-    Ok(load(rt, alloc, inputs, 2, &notices, out).is_ok())
-}
-
-/// What the report on modules 1 and 2 begins with.
-const TWO_REPORT: &str = "module 1: refused, word 1 rule 10\nmodule 2: complete, 1 words\n";
-
-#[test]
-fn one_notice_of_a_refused_module(rt: HostRuntime) -> Result<(), Fail> {
-    begin(&rt, "noticed.tmp")?;
-    let told = File::create(&rt, "noticed.tmp/told")?;
-    let mut out = Vec::new(rt.alloc());
-    let is_loaded = is_loaded_until_told(&rt, rt.alloc(), TWO.as_slice(), &told, &mut out)?;
-    assert!(rt; is_loaded);
-    assert!(rt; out.as_slice().starts_with(TWO_REPORT.as_bytes()));
-    let lines = fs::read(&rt, "noticed.tmp/told")?;
-    assert!(rt; lines.as_slice() == b"module 1 refused\n".as_slice());
-    fs::remove_dir_all(&rt, "noticed.tmp")?;
-    Ok(())
-}
-
 /// A disk that has a text at each path, and then what follows until something was written to a file.
 #[derive(Drop)]
 struct UntilToldDisk<'a> {
@@ -123,73 +84,92 @@ impl<'a> Disk for UntilToldDisk<'a> {
     }
 }
 
-/// Connects as soon as somebody listens at the path, and sends these bytes, and then strays until
-/// something was written to this file.
-fn send_until_told<S: Net>(rt: &S, path: &str, bytes: &[u8], told: &File) -> io::Result<()> {
-    for _ in 0..100_000_000u32 {
-        let Ok(mut client) = UnixStream::connect(rt, path) else {
-            continue;
-        };
-        client.write_all(bytes)?;
-        for _ in 0..TURNS {
-            if is_told(told) {
-                break;
-            }
-            client.write_all(&STRAY)?;
-        }
-        return Ok(());
-    }
-    Err(io::Error::from(io::ErrorKind::TimedOut))
+/// What the report on modules 1 and 2 begins with.
+const TWO_REPORT: &str = "module 1: refused, word 1 rule 10\nmodule 2: complete, 1 words\n";
+
+/// Whether the modules are loaded, and the report on them is written, with what follows until a notice is written to this
+/// file.
+fn is_loaded<S: Threads + Wait + Files<File = File> + Net + Clock + Sync + AllocGlobal>(
+    rt: &S,
+    path: &str,
+) -> io::Result<bool> {
+    let told = File::create(rt, path)?;
+    let reader = UntilTold {
+        text: TWO.as_slice(),
+        told: &told,
+        turns: TURNS,
+    };
+    let mut out = Vec::new(rt.alloc());
+    let notices = WrittenNotices::new(&told);
+    let is_loaded = loaded(rt, reader, 2, &notices, &mut out)?.is_some();
+    Ok(is_loaded && out.as_slice().starts_with(TWO_REPORT.as_bytes()))
 }
 
-/// Runs the program on the words of a line, with notices that are written to a file. Gives how it
-/// ended, and what it wrote to its output.
-fn run_told<S: Threads + Wait + Files + Net + Clock + Sync>(
+/// Whether the program, run on the words of a line with notices that are written to this file, ends as it does where a module
+/// was refused, and writes the report.
+fn is_run<S: Threads + Wait + Files<File = File> + Net + Clock + Sync + AllocGlobal>(
     rt: &S,
-    alloc: Global,
     line: &str,
     told: &File,
-) -> Result<(Ending, Vec<u8>), AllocError> {
+) -> Result<bool, AllocError> {
     let mut disk = UntilToldDisk {
         text: TWO.as_slice(),
         told,
     };
+    let mut out = Vec::new(rt.alloc());
     let notices = WrittenNotices::new(told);
-    let mut out = Vec::new(alloc);
-    let mut errors = Errors::new(Vec::new(alloc));
-    let ending = run_noticed(rt, alloc, &mut disk, &notices, line, &mut out, &mut errors)?;
-    Ok((ending, out))
+    let is_so = tells_over(rt, &mut disk, &notices, line, &mut out, NOT_WELL, "")?;
+    Ok(is_so && out.as_slice().starts_with(TWO_REPORT.as_bytes()))
 }
 
-#[test]
-fn one_notice_of_a_load_by_its_words(rt: HostRuntime) -> Result<(), Fail> {
-    begin(&rt, "load_noticed.tmp")?;
-    let told = File::create(&rt, "load_noticed.tmp/told")?;
-    let (ending, out) = run_told(&rt, rt.alloc(), "lfiload load any.stream", &told)?;
-    assert!(rt; ending == Ending::NotWell);
-    assert!(rt; out.as_slice().starts_with(TWO_REPORT.as_bytes()));
-    let lines = fs::read(&rt, "load_noticed.tmp/told")?;
-    assert!(rt; lines.as_slice() == b"module 1 refused\n".as_slice());
-    fs::remove_dir_all(&rt, "load_noticed.tmp")?;
+/// Connects as soon as somebody listens at the path, and sends the modules, and then strays until
+/// something was written to this file.
+fn send_until_told<S: Net>(rt: &S, path: &str, told: &File) -> io::Result<()> {
+    let mut client = connect(rt, path)?;
+    client.write_all(&TWO)?;
+    for _ in 0..TURNS {
+        if is_told(told) {
+            break;
+        }
+        client.write_all(&STRAY)?;
+    }
     Ok(())
 }
 
+/// Whether a file has the one notice.
+fn has_notice(rt: &HostRuntime, path: &str) -> io::Result<bool> {
+    has_file(rt, path, b"module 1 refused\n".as_slice())
+}
+
 #[test]
-fn one_notice_of_a_client(rt: HostRuntime) -> Result<(), Fail> {
+fn one_notice_of_a_refused_module(rt: HostRuntime) -> io::Result<()> {
+    begin(&rt, "noticed.tmp")?;
+    assert!(rt; is_loaded(&rt, "noticed.tmp/told")?);
+    assert!(rt; has_notice(&rt, "noticed.tmp/told")?);
+    fs::remove_dir_all(&rt, "noticed.tmp")
+}
+
+#[test]
+fn one_notice_of_a_load_by_its_words(rt: HostRuntime) -> io::Result<()> {
+    begin(&rt, "load_noticed.tmp")?;
+    let told = File::create(&rt, "load_noticed.tmp/told")?;
+    assert!(rt; is_run(&rt, "lfiload load any.stream", &told)?);
+    assert!(rt; has_notice(&rt, "load_noticed.tmp/told")?);
+    fs::remove_dir_all(&rt, "load_noticed.tmp")
+}
+
+#[test]
+fn one_notice_of_a_client(rt: HostRuntime) -> io::Result<()> {
     begin(&rt, "serve_noticed.tmp")?;
     let told = File::create(&rt, "serve_noticed.tmp/told")?;
     let line = "lfiload serve --socket serve_noticed.tmp/socket --connections 1";
-    let (ran, sent) = join(
+    let (is_run, sent) = join(
         &rt,
-        || run_told(&rt, rt.alloc(), line, &told),
-        || send_until_told(&rt, "serve_noticed.tmp/socket", TWO.as_slice(), &told),
+        || is_run(&rt, line, &told),
+        || send_until_told(&rt, "serve_noticed.tmp/socket", &told),
     );
     sent?;
-    let (ending, out) = ran?;
-    assert!(rt; ending == Ending::NotWell);
-    assert!(rt; out.as_slice().starts_with(TWO_REPORT.as_bytes()));
-    let lines = fs::read(&rt, "serve_noticed.tmp/told")?;
-    assert!(rt; lines.as_slice() == b"module 1 refused\n".as_slice());
-    fs::remove_dir_all(&rt, "serve_noticed.tmp")?;
-    Ok(())
+    assert!(rt; is_run?);
+    assert!(rt; has_notice(&rt, "serve_noticed.tmp/told")?);
+    fs::remove_dir_all(&rt, "serve_noticed.tmp")
 }

@@ -1,15 +1,18 @@
 //! Runs of the program over the system's files, and what they must answer.
 
-use lfi_commands::{Disk, Ending, Errors, SystemDisk, run_words};
+ghost use Rattle.std.specs.Prelude.{◌≡◌, ◌≤◌, IfOk, length};
+
+use lfi_commands::{Disk, Ending, Errors, SystemDisk, load, run_words};
+use lfi_model::Outcome;
+use lfi_receive::Input;
 use lfi_threads::{NoNotices, Notices};
 use std::alloc::{AllocError, Global};
 use std::fs::{self, File, Files};
-use std::io::{self, Write};
+use std::io::{self, Read, Write};
 use std::net::Net;
-use std::process::Abort;
+use std::os::unix::net::UnixStream;
 use std::rt::Clock;
 use std::sync::Wait;
-use std::test::Fail;
 use std::thread::Threads;
 
 /// RET, a branch to the address in x30.
@@ -32,6 +35,15 @@ pub const ONE_RET_IMAGE: [u8; 28] = [
     0x5F, 0xD6,
 ];
 
+/// The exit status of a run that came to an end as it should.
+pub const WELL: u8 = 0;
+
+/// That of a run of code that isn't lawful, or of modules of which one isn't whole.
+pub const NOT_WELL: u8 = 1;
+
+/// That of a run in which a device failed.
+pub const FAILED: u8 = 3;
+
 /// What a run must answer and write.
 #[derive(Clone, Copy)]
 pub struct Run {
@@ -41,14 +53,6 @@ pub struct Run {
     pub err: &'static str,
 }
 
-/// What a run answered and wrote.
-#[derive(Drop)]
-pub struct Ran {
-    pub status: u8,
-    pub out: Vec<u8>,
-    pub err: Vec<u8>,
-}
-
 /// The words of a line, which stand a space apart.
 fn words(alloc: Global, line: &str) -> Result<Vec<String>, AllocError> {
     line.split(' ')
@@ -56,7 +60,7 @@ fn words(alloc: Global, line: &str) -> Result<Vec<String>, AllocError> {
         .try_collect(alloc)
 }
 
-/// Runs the program on the words of a line, over any disk, notices and writers.
+/// Runs the program on the words of a line, over any disk, notices and writers. Gives its exit status.
 pub fn run_noticed<
     S: Threads + Wait + Files + Net + Clock + Sync,
     D: Disk,
@@ -71,56 +75,131 @@ pub fn run_noticed<
     line: &str,
     out: &mut O,
     errors: &mut Errors<E>,
-) -> Result<Ending, AllocError> {
+) -> Result<u8, AllocError> {
     let words = words(alloc, line)?;
-    Ok(run_words(rt, alloc, disk, notices, &words, out, errors))
+    Ok(run_words(rt, alloc, disk, notices, &words, out, errors).status())
 }
 
-/// Runs the program on the words of a line, over any disk and writers.
-pub fn run_over<S: Threads + Wait + Files + Net + Clock + Sync, D: Disk, O: Write, E: Write>(
+/// Runs the program on the words of a line, over the system's files and any writers. Gives its exit status.
+pub fn run_over<
+    S: Threads + Wait + Files<File = File> + Net + Clock + Sync + AllocGlobal,
+    O: Write,
+    E: Write,
+>(rt: &S, line: &str, out: &mut O, errors: &mut Errors<E>) -> Result<u8, AllocError> {
+    let mut disk = SystemDisk { rt };
+    run_noticed(rt, rt.alloc(), &mut disk, &NoNotices, line, out, errors)
+}
+
+/// Whether a run over this disk, with these notices and this output, ends with this status, and tells exactly this.
+pub fn tells_over<
+    S: Threads + Wait + Files<File = File> + Net + Clock + Sync + AllocGlobal,
+    D: Disk,
+    N: Notices + Sync,
+    O: Write,
+>(
     rt: &S,
-    alloc: Global,
     disk: &mut D,
+    notices: &N,
     line: &str,
     out: &mut O,
-    errors: &mut Errors<E>,
-) -> Result<Ending, AllocError> {
-    run_noticed(rt, alloc, disk, &NoNotices, line, out, errors)
+    status: u8,
+    told: &str,
+) -> Result<bool, AllocError> {
+    let mut errors = Errors::new(Vec::new(rt.alloc()));
+    let ended = run_noticed(rt, rt.alloc(), disk, notices, line, out, &mut errors)?;
+    Ok(ended == status && errors.writer().as_slice() == told.as_bytes())
 }
 
-/// Runs the program on the words of a line, over the system's files.
-pub fn run_line<R: Files<File = File> + Net + AllocGlobal + Threads + Wait + Clock + Sync>(
-    rt: &R,
+/// Whether a run over the system's files, with this output, ends with this status, and tells exactly this.
+pub fn tells<S: Threads + Wait + Files<File = File> + Net + Clock + Sync + AllocGlobal, O: Write>(
+    rt: &S,
     line: &str,
-) -> Result<Ran, AllocError> {
-    let mut out = Vec::new(rt.alloc());
-    let mut err = Vec::new(rt.alloc());
-    let mut errors = Errors::new(&mut err);
+    out: &mut O,
+    status: u8,
+    told: &str,
+) -> Result<bool, AllocError> {
     let mut disk = SystemDisk { rt };
-    let ending = run_over(rt, rt.alloc(), &mut disk, line, &mut out, &mut errors)?;
-    Ok(Ran {
-        status: ending.status(),
-        out,
-        err,
-    })
+    tells_over(rt, &mut disk, &NoNotices, line, out, status, told)
 }
 
-/// Runs each line, and compares.
-pub fn assert_runs<
-    R: Files<File = File> + Net + AllocGlobal + Abort + Threads + Wait + Clock + Sync,
->(rt: &R, runs: &[Run]) -> Result<(), Fail> {
+/// Whether a run ends with this status, writes exactly this, and tells exactly that.
+pub fn writes<S: Threads + Wait + Files<File = File> + Net + Clock + Sync + AllocGlobal>(
+    rt: &S,
+    line: &str,
+    status: u8,
+    written: &[u8],
+    told: &str,
+) -> Result<bool, AllocError> {
+    let mut out = Vec::new(rt.alloc());
+    Ok(tells(rt, line, &mut out, status, told)? && out.as_slice() == written)
+}
+
+/// The line of the first run that answers or writes otherwise.
+pub fn first_other<S: Threads + Wait + Files<File = File> + Net + Clock + Sync + AllocGlobal>(
+    rt: &S,
+    runs: &[Run],
+) -> Result<Option<&'static str>, AllocError> {
     for run in runs {
-        let ran = run_line(rt, run.line)?;
-        let line = run.line;
-        assert!(rt; ran.status == run.status, "{line}");
-        assert!(rt; ran.out.as_slice() == run.out.as_bytes(), "{line}");
-        assert!(rt; ran.err.as_slice() == run.err.as_bytes(), "{line}");
+        if !writes(rt, run.line, run.status, run.out.as_bytes(), run.err)? {
+            return Ok(Some(run.line));
+        }
     }
-    Ok(())
+    Ok(None)
+}
+
+/// Whether a file has exactly these bytes.
+pub fn has_file(rt: &HostRuntime, path: &str, bytes: &[u8]) -> io::Result<bool> {
+    Ok(fs::read(rt, path)?.as_slice() == bytes)
 }
 
 /// Makes an empty folder for a test's files. The test removes it at its end.
 pub fn begin(rt: &HostRuntime, folder: &str) -> io::Result<()> {
     let _ = fs::remove_dir_all(rt, folder);
     fs::create_dir(rt, folder)
+}
+
+/// Connects as soon as somebody listens at the path.
+pub fn connect<S: Net>(rt: &S, path: &str) -> io::Result<UnixStream> {
+    for _ in 0..100_000_000u32 {
+        if let Ok(client) = UnixStream::connect(rt, path) {
+            return Ok(client);
+        }
+    }
+    Err(io::Error::from(io::ErrorKind::TimedOut))
+}
+
+/// The input of one reader.
+fn one_input<R: Read + Drop>(alloc: Global, reader: R) -> Result<Vec<Input<R>>, AllocError>
+    ensures { IfOk result (λ inputs. length inputs.items ≡ 1) }
+{
+    let mut inputs = Vec::new(alloc);
+    inputs.push(Input::new(alloc, reader)?)?;
+    Ok(inputs)
+}
+
+/// What a load came to: how it ended, and what became of module 0.
+#[derive(Clone, Copy)]
+pub struct LoadEnd {
+    pub ending: Ending,
+    pub first: Outcome,
+}
+
+/// Loads the modules of one reader's stream, and writes the report. Gives what it came to, where it could be carried out.
+pub fn loaded<S: Threads + Wait + Sync + AllocGlobal, R: Read + Send + Drop, N: Notices + Sync>(
+    rt: &S,
+    reader: R,
+    verifiers: usize,
+    notices: &N,
+    out: &mut Vec<u8>,
+) -> Result<Option<LoadEnd>, AllocError>
+    requires { (1 ≤ verifiers) × (verifiers ≤ 8) }
+{
+    let inputs = one_input(rt.alloc(), reader)?;
+    match load(rt, rt.alloc(), inputs, verifiers, notices, out) {
+        Ok(report) => Ok(Some(LoadEnd {
+            ending: Ending::of_report(&report),
+            first: report.modules[0].outcome,
+        })),
+        Err(_) => Ok(None),
+    }
 }

@@ -1,67 +1,41 @@
 //! Several connections through the stage, and through the plain program beside it.
 
-ghost use Rattle.std.specs.Prelude.{◌≤◌};
-
-use crate::build::{NOP, RET, Text, one_word, stream, told_of};
-use crate::stage::Pieces;
-use lfi_model::Cause;
-use lfi_place::OpenGate;
-use lfi_receive::Input;
-use lfi_threads::{LoadError, NoNotices, load_all};
+use crate::build::{Given, NOP, RET, Sent, beginning, one_word, send_all, tells_plainly};
+use crate::stage::{Pieces, tells};
+use lfi_threads::LoadError;
 use std::alloc::{AllocError, Global};
 use std::sync::Wait;
 use std::test::Fail;
 use std::thread::Threads;
 
-/// These texts as inputs, each in pieces of so many bytes.
-fn in_pieces(
-    alloc: Global,
-    texts: &[Text],
-    most: usize,
-) -> Result<Vec<Input<Pieces<'_>>>, AllocError> {
-    let mut inputs = Vec::new(alloc);
-    for text in texts {
-        let left = text.bytes.as_slice();
-        let rest = None;
-        inputs.push(Input::new(alloc, Pieces { left, most, rest })?)?;
-    }
-    Ok(inputs)
-}
-
-/// The text of the stage's report on these connections, of which it takes at most eight, each in
-/// pieces of so many bytes; nothing where there is none.
-fn loaded_all(
-    rt: &(impl Threads + Wait + Sync + AllocGlobal),
-    texts: &[Text],
-    most: usize,
-    verifiers: usize,
-) -> Result<String, LoadError>
-    requires verifiers { (1 ≤ verifiers) × (verifiers ≤ 8) }
-{
-    let mut inputs = in_pieces(rt.alloc(), texts, most)?;
-    inputs.truncate(8);
-    if inputs.is_empty() {
-        return Ok(String::new(rt.alloc()));
-    }
-    let summary = load_all(rt, rt.alloc(), inputs, verifiers, &OpenGate, &NoNotices)?.summary();
-    Ok(format!(in rt.alloc(); "{summary}")?)
-}
-
-/// Two modules of 2,049 NOPs each, from this one on, whose pages come in turns.
-fn two_modules(alloc: Global, first: u16) -> Result<Text, AllocError> {
+/// Two modules of 2,049 NOPs each, numbers 2 n and 2 n + 1, whose pages come in turns.
+fn two_modules(n: u16) -> [Sent; 10] {
+    let first = n.saturating_mul(2);
     let second = first.saturating_add(1);
-    let mut text = Text::new(alloc);
-    text.open(first, 2049)?;
-    text.open(second, 2049)?;
-    for index in 0..2u32 {
-        text.page(first, index, 1024, 0, NOP)?;
-        text.page(second, index, 1024, 0, NOP)?;
+    [
+        Sent::Open(first, 2049),
+        Sent::Open(second, 2049),
+        Sent::Full(first, 0, 0, NOP),
+        Sent::Full(second, 0, 0, NOP),
+        Sent::Full(first, 1, 0, NOP),
+        Sent::Full(second, 1, 0, NOP),
+        Sent::Word(second, 2, NOP),
+        Sent::Word(first, 2, NOP),
+        Sent::Close(first),
+        Sent::Close(second),
+    ]
+}
+
+/// How many bytes two such modules take: two Opens, four full pages, two of a word, two Closes.
+const TWO_MODULES: usize = 2 * 12 + 4 * (12 + 4096) + 2 * (12 + 4) + 2 * 12;
+
+/// The texts of modules 0 to 15, two and two, one text after the other.
+fn sixteen_modules(alloc: Global) -> Result<Vec<u8>, AllocError> {
+    let mut texts = Vec::new(alloc);
+    for n in 0..8u16 {
+        send_all(&mut texts, &two_modules(n))?;
     }
-    text.one(second, 2, NOP)?;
-    text.one(first, 2, NOP)?;
-    text.close(first)?;
-    text.close(second)?;
-    Ok(text)
+    Ok(texts)
 }
 
 const SIXTEEN: &str = "\
@@ -84,79 +58,74 @@ module 15: complete, 2049 words
 strays 0
 ";
 
-/// The first number of verifiers with which these texts, in pieces of so many bytes, are told otherwise.
-fn first_verifiers_otherwise(
+/// A text of these, by its number, in pieces of 5,000 bytes.
+fn part<'a>(texts: &'a [u8], number: usize) -> Pieces<'a> {
+    let from = number.saturating_mul(TWO_MODULES).min(texts.len());
+    let to = from.saturating_add(TWO_MODULES).min(texts.len());
+    Pieces::of(&texts[from..to], 5000)
+}
+
+/// Whether the stage tells of all 16 modules that they are complete, where eight connections bring
+/// these texts, with each number of verifiers.
+fn sixteen_are_complete(
     rt: &(impl Threads + Wait + Sync + AllocGlobal),
-    texts: &[Text],
-    most: usize,
-    want: &str,
-) -> Result<Option<usize>, LoadError> {
+    texts: &[u8],
+) -> Result<bool, LoadError> {
+    let readers = [
+        part(texts, 0),
+        part(texts, 1),
+        part(texts, 2),
+        part(texts, 3),
+        part(texts, 4),
+        part(texts, 5),
+        part(texts, 6),
+        part(texts, 7),
+    ];
     for verifiers in 1..=8usize {
-        if loaded_all(rt, texts, most, verifiers)?.as_str() != want {
-            return Ok(Some(verifiers));
+        if !tells(rt, &readers, verifiers, SIXTEEN)? {
+            return Ok(false);
         }
     }
-    Ok(None)
+    Ok(true)
 }
 
 #[test]
 fn eight_streams_of_two_modules(rt: HostRuntime) -> Result<(), Fail> {
-    let mut texts = Vec::new(rt.alloc());
-    for number in 0..8u16 {
-        texts.push(two_modules(rt.alloc(), 2 * number)?)?;
-    }
-    let other = first_verifiers_otherwise(&rt, texts.as_slice(), 5000, SIXTEEN)?;
-    assert!(rt; other.is_none(), "{other:?} verifiers");
+    let texts = sixteen_modules(rt.alloc())?;
+    assert!(rt; texts.len() == 8 * TWO_MODULES);
+    assert!(rt; sixteen_are_complete(&rt, texts.as_slice())?);
     Ok(())
-}
-
-/// The first of these lengths of pieces in which texts are told otherwise by two verifiers.
-fn first_pieces_otherwise(
-    rt: &(impl Threads + Wait + Sync + AllocGlobal),
-    texts: &[Text],
-    lengths: &[usize],
-    want: &str,
-) -> Result<Option<usize>, LoadError> {
-    for most in lengths {
-        if loaded_all(rt, texts, *most, 2)?.as_str() != want {
-            return Ok(Some(*most));
-        }
-    }
-    Ok(None)
 }
 
 #[test]
 fn two_streams_of_module_3(rt: HostRuntime) -> Result<(), Fail> {
-    let texts = [one_word(rt.alloc(), 3, RET)?, one_word(rt.alloc(), 3, NOP)?];
+    let (first, second) = (one_word(3, RET), one_word(3, NOP));
     let want = "module 3: complete, 1 words\nstrays 3\n";
-    let other = first_pieces_otherwise(&rt, &texts, &[1, 12, 13, 40], want)?;
-    assert!(rt; other.is_none(), "pieces of {other:?}");
+    for most in [1usize, 12, 13, 40] {
+        let readers = [Pieces::of(&first, most), Pieces::of(&second, most)];
+        assert!(rt; tells(&rt, &readers, 2, want)?);
+    }
     Ok(())
 }
 
 /// A whole stream, one that is cut off, and an empty one.
-fn one_cut_off(alloc: Global) -> Result<[Text; 3], AllocError> {
-    let mut cut = one_word(alloc, 0, RET)?;
-    cut.bytes.truncate(30);
-    Ok([one_word(alloc, 5, RET)?, cut, Text::new(alloc)])
-}
-
-/// The text of the plain program's report on three streams, for which modules 5, 0 and 1 are claimed.
-fn told_of_three(alloc: Global, texts: &[Text; 3]) -> Result<String, AllocError> {
-    let [first, second, third] = texts;
-    let mut streams = Vec::new(alloc);
-    streams.push(stream(alloc, first.bytes.as_slice(), Cause::End, &[5])?)?;
-    streams.push(stream(alloc, second.bytes.as_slice(), Cause::End, &[0])?)?;
-    streams.push(stream(alloc, third.bytes.as_slice(), Cause::End, &[1])?)?;
-    told_of(alloc, streams.as_slice())
-}
-
 #[test]
 fn one_that_is_cut_off_beside_others(rt: HostRuntime) -> Result<(), Fail> {
-    let texts = one_cut_off(rt.alloc())?;
+    let (first, second) = (one_word(5, RET), one_word(0, RET));
+    let cut = beginning(&second, 30);
     let want =
         "module 0: lost, fault 9\nmodule 5: complete, 1 words\nconnection 1: fault 9\nstrays 0\n";
-    assert!(rt; loaded_all(&rt, &texts, 7, 3)?.as_str() == want);
-    assert!(rt; told_of_three(rt.alloc(), &texts)?.as_str() == want);
+    let readers = [
+        Pieces::of(&first, 7),
+        Pieces::of(cut, 7),
+        Pieces::of(&[], 7),
+    ];
+    assert!(rt; tells(&rt, &readers, 3, want)?);
+    let given = [
+        Given::whole(&first, &[5]),
+        Given::whole(cut, &[0]),
+        Given::whole(&[], &[1]),
+    ];
+    assert!(rt; tells_plainly(rt.alloc(), &given, want)?);
     Ok(())
 }

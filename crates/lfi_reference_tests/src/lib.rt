@@ -8,8 +8,6 @@ mod connections;
 #[cfg(test)]
 mod cuts;
 #[cfg(test)]
-mod ends;
-#[cfg(test)]
 mod modules;
 #[cfg(test)]
 mod rows;

@@ -1,9 +1,11 @@
 //! Streams of one connection with what is told of them, by the stage and by the plain program.
 
-use crate::build::{NOP, RET, Text};
-use crate::stage::{ALL, both_tell};
+use crate::build::Sent::{
+    Close, Full, FullLarge, Header, LargeWord, Open, OpenLarge, Pages, Short, Word,
+};
+use crate::build::{NOP, RET, Sent, text_of};
+use crate::stage::both_tell;
 use lfi_threads::LoadError;
-use std::alloc::{AllocError, Global};
 use std::sync::Wait;
 use std::test::Fail;
 use std::thread::Threads;
@@ -23,48 +25,6 @@ const SVC: u32 = 0xD4000001;
 /// MOV X21, X0, which writes the base of the slot.
 const WRITE_BASE: u32 = 0xAA0003F5;
 
-/// A message, or several.
-#[derive(Clone, Copy)]
-enum Sent {
-    /// Opens a module of so many words.
-    Open(u16, u32),
-    /// A page of a module, of one word.
-    Word(u16, u32, u32),
-    /// A page of a module, of 1,024 words: NOP, but for one at a place.
-    Full(u16, u32, u32, u32),
-    /// So many full pages of a module, from index 0 on.
-    Pages(u16, u32),
-    /// A page 0 of a module, of so many words: NOP, and RET as the last.
-    Short(u16, u32),
-    /// Opens a module of so many words, with large pages.
-    OpenLarge(u16, u32),
-    /// A large page of a module, of one word.
-    LargeWord(u16, u32, u32),
-    /// A large page of a module, of 4,096 words: NOP, but for the last one.
-    FullLarge(u16, u32, u32),
-    /// Closes a module.
-    Close(u16),
-}
-
-use Sent::{Close, Full, FullLarge, LargeWord, Open, OpenLarge, Pages, Short, Word};
-
-impl Sent {
-    /// Adds it to a text.
-    fn send(self, text: &mut Text) -> Result<(), AllocError> {
-        match self {
-            Open(module, count) => text.open(module, count),
-            Word(module, index, word) => text.one(module, index, word),
-            Full(module, index, at, word) => text.page(module, index, 1024, at, word),
-            Pages(module, count) => text.full_pages(module, count),
-            Short(module, count) => text.page(module, 0, count, count.saturating_sub(1), RET),
-            OpenLarge(module, count) => text.open_large(module, count),
-            LargeWord(module, index, word) => text.large_page(module, index, 1, 0, word),
-            FullLarge(module, index, last) => text.large_page(module, index, 4096, 4095, last),
-            Close(module) => text.close(module),
-        }
-    }
-}
-
 /// What is sent, and what is told of it.
 #[derive(Clone, Copy)]
 struct Row {
@@ -72,8 +32,33 @@ struct Row {
     want: &'static str,
 }
 
-/// Modules of one page and of two, lawful and not.
-const MODULES: [Row; 12] = [
+/// All modules.
+const ALL: [u16; 16] = [0, 1, 2, 3, 4, 5, 6, 7, 8, 9, 10, 11, 12, 13, 14, 15];
+
+/// What is told where all are open at the end.
+const ALL_LOST: &str = "\
+module 0: lost, fault 9
+module 1: lost, fault 9
+module 2: lost, fault 9
+module 3: lost, fault 9
+module 4: lost, fault 9
+module 5: lost, fault 9
+module 6: lost, fault 9
+module 7: lost, fault 9
+module 8: lost, fault 9
+module 9: lost, fault 9
+module 10: lost, fault 9
+module 11: lost, fault 9
+module 12: lost, fault 9
+module 13: lost, fault 9
+module 14: lost, fault 9
+module 15: lost, fault 9
+connection 0: fault 9
+strays 0
+";
+
+const ROWS: [Row; 29] = [
+    // Modules of one page and of two, lawful and not.
     Row {
         sent: &[Open(0, 1), Word(0, 0, RET), Close(0)],
         want: "module 0: complete, 1 words\nstrays 0\n",
@@ -137,10 +122,7 @@ const MODULES: [Row; 12] = [
         sent: &[Open(9, 67584), Pages(9, 66), Close(9)],
         want: "module 9: complete, 67584 words\nstrays 0\n",
     },
-];
-
-/// Pages that aren't due, strays, and modules that are closed early or not at all.
-const OTHERS: [Row; 10] = [
+    // Pages that aren't due, strays, and modules that are closed early or not at all.
     Row {
         sent: &[Open(3, 1), Close(3)],
         want: "module 3: incomplete, 0 of 1 pages\nstrays 0\n",
@@ -188,10 +170,7 @@ const OTHERS: [Row; 10] = [
         sent: &[Open(1, 1), Open(0, 1), Word(0, 0, RET), Close(0)],
         want: "module 0: complete, 1 words\nmodule 1: lost, fault 9\nconnection 0: fault 9\nstrays 0\n",
     },
-];
-
-/// Modules of large pages.
-const LARGE: [Row; 6] = [
+    // Modules of large pages.
     Row {
         sent: &[
             OpenLarge(0, 4097),
@@ -226,25 +205,93 @@ const LARGE: [Row; 6] = [
         sent: &[LargeWord(1, 0, NOP)],
         want: "strays 1\n",
     },
+    // All modules, which are opened and not closed.
+    Row {
+        sent: &[
+            Open(0, 1),
+            Open(1, 1),
+            Open(2, 1),
+            Open(3, 1),
+            Open(4, 1),
+            Open(5, 1),
+            Open(6, 1),
+            Open(7, 1),
+            Open(8, 1),
+            Open(9, 1),
+            Open(10, 1),
+            Open(11, 1),
+            Open(12, 1),
+            Open(13, 1),
+            Open(14, 1),
+            Open(15, 1),
+        ],
+        want: ALL_LOST,
+    },
 ];
 
-/// The text of what is sent.
-fn text_of(alloc: Global, messages: &[Sent]) -> Result<Text, AllocError> {
-    let mut text = Text::new(alloc);
-    for sent in messages {
-        sent.send(&mut text)?;
-    }
-    Ok(text)
+/// Streams of one header, for which module 0 alone is claimed.
+const HEADERS: [Row; 10] = [
+    Row {
+        sent: &[Header([6, 1, 0, 0, 0, 0, 0, 0, 0, 0, 0, 0])],
+        want: "connection 0: fault 1\nstrays 0\n",
+    },
+    Row {
+        sent: &[Header([4, 1, 0, 0, 0, 0, 0, 0, 0, 0, 0, 0])],
+        want: "connection 0: fault 2\nstrays 0\n",
+    },
+    Row {
+        sent: &[Header([2, 1, 0x10, 0, 0, 0, 0, 0, 0, 0, 0, 0])],
+        want: "connection 0: fault 2\nstrays 0\n",
+    },
+    Row {
+        sent: &[Header([1, 0, 0x10, 0, 1, 0, 0, 0, 0, 0, 0, 0])],
+        want: "connection 0: fault 3\nstrays 0\n",
+    },
+    Row {
+        sent: &[Header([2, 0, 0, 0, 0, 0, 0, 0, 6, 0, 0, 0])],
+        want: "connection 0: fault 4\nstrays 0\n",
+    },
+    Row {
+        sent: &[Header([3, 0, 0, 0, 1, 0, 0, 0, 0, 0, 0, 0])],
+        want: "connection 0: fault 5\nstrays 0\n",
+    },
+    Row {
+        sent: &[Header([1, 0, 0, 0, 0, 0, 0, 0, 0, 0, 0, 0])],
+        want: "connection 0: fault 6\nstrays 0\n",
+    },
+    Row {
+        sent: &[Header([1, 0, 0, 0, 1, 0, 0x40, 0, 0, 0, 0, 0])],
+        want: "connection 0: fault 6\nstrays 0\n",
+    },
+    Row {
+        sent: &[Header([1, 0, 0, 0, 1, 0, 0, 0, 1, 0, 0, 0])],
+        want: "connection 0: fault 7\nstrays 0\n",
+    },
+    Row {
+        sent: &[Header([1, 0, 0, 0, 1, 0, 0, 0, 0, 0, 0, 0])],
+        want: "module 0: lost, fault 9\nconnection 0: fault 9\nstrays 0\n",
+    },
+];
+
+/// Whether the stage and the plain program, for which these modules are claimed, both tell what is
+/// wanted of a row.
+fn is_told(
+    rt: &(impl Threads + Wait + Sync + AllocGlobal),
+    row: &Row,
+    modules: &[u16],
+) -> Result<bool, LoadError> {
+    let text = text_of(rt.alloc(), row.sent)?;
+    both_tell(rt, text.as_slice(), modules, row.want)
 }
 
 /// The place of the first row of which the stage or the plain program tells otherwise.
 fn first_otherwise(
     rt: &(impl Threads + Wait + Sync + AllocGlobal),
     rows: &[Row],
+    modules: &[u16],
 ) -> Result<Option<usize>, LoadError> {
     for (place, row) in rows.iter().enumerate() {
-        let text = text_of(rt.alloc(), row.sent)?;
-        if !both_tell(rt, text.bytes.as_slice(), &ALL, row.want)? {
+        if !is_told(rt, row, modules)? {
             return Ok(Some(place));
         }
     }
@@ -252,22 +299,13 @@ fn first_otherwise(
 }
 
 #[test]
-fn modules(rt: HostRuntime) -> Result<(), Fail> {
-    let other = first_otherwise(&rt, &MODULES)?;
-    assert!(rt; other.is_none(), "row {other:?}");
+fn both_tell_what_is_wanted(rt: HostRuntime) -> Result<(), Fail> {
+    assert!(rt; first_otherwise(&rt, &ROWS, &ALL)?.is_none());
     Ok(())
 }
 
 #[test]
-fn others(rt: HostRuntime) -> Result<(), Fail> {
-    let other = first_otherwise(&rt, &OTHERS)?;
-    assert!(rt; other.is_none(), "row {other:?}");
-    Ok(())
-}
-
-#[test]
-fn modules_of_large_pages(rt: HostRuntime) -> Result<(), Fail> {
-    let other = first_otherwise(&rt, &LARGE)?;
-    assert!(rt; other.is_none(), "row {other:?}");
+fn header_faults(rt: HostRuntime) -> Result<(), Fail> {
+    assert!(rt; first_otherwise(&rt, &HEADERS, &[0])?.is_none());
     Ok(())
 }

@@ -1,156 +1,300 @@
-//! Parts that stop anywhere, and what is told once all is settled: always what the texts make.
+//! Parts that are turned one by one and stop anywhere, and what is told once all is settled: always
+//! what the texts make.
 
-ghost use Rattle.std.specs.Prelude.{◌<◌, IfOk};
 ghost use Rattle.lfi_reference_tests.specs.Pairs.{IsPair};
 
-use crate::build::{RET, Text, one_word};
+use crate::build::Sent::{Close, Open, Pages, Word};
+use crate::build::{RET, Sent, is_text, one_word, text_of};
 use crate::stage::Pieces;
-use crate::turned::{go_on, pair, phase, place, receive, receive_all, settled, verify, verify_all};
+use crate::turned::{go_on, pair, phase, place, receive_all, settled, verify_all};
 use lfi_board::Phase;
+use lfi_model::{Item, Judged, Summary};
 use lfi_module::ModuleNumber;
-use lfi_place::{SequencerTurn, VerifierTurn};
+use lfi_place::{Gate, SequencerTurn, VerifierTurn};
 use lfi_receive::{Input, ReceiverTurn};
 use lfi_stage::Stage;
 use std::alloc::{AllocError, Global};
 use std::sync::Wait;
+use std::sync::atomic::{AtomicU64, Ordering};
 use std::test::Fail;
 
-/// Module 9, of so many full pages of NOPs.
-fn full_pages(alloc: Global, count: u32) -> Result<Text, AllocError> {
-    let mut text = Text::new(alloc);
-    text.open(9, count.saturating_mul(1024))?;
-    text.full_pages(9, count)?;
-    text.close(9)?;
-    Ok(text)
+/// The modules of the items that were judged, a hexadecimal digit each, the last one lowest.
+#[derive(Drop)]
+struct Digits {
+    seen: AtomicU64,
 }
 
-/// The input of a text.
-pub fn input<'a>(alloc: Global, text: &'a Text) -> Result<Input<Pieces<'a>>, AllocError> {
-    let left = text.bytes.as_slice();
-    let most = usize::MAX;
-    let rest = None;
-    Input::new(alloc, Pieces { left, most, rest })
-}
-
-/// Turns a receiver until it has put all of a text: what its last turn did.
-pub fn put_all(
-    alloc: Global,
-    stage: &mut Stage,
-    number: usize,
-    text: &Text,
-) -> Result<ReceiverTurn, AllocError>
-    requires pair { IsPair stage.old }
-    requires number { number < 2 }
-    ensures { IsPair stage.new }
-{
-    let mut input = input(alloc, text)?;
-    Ok(receive_all(stage, number, &mut input))
-}
-
-/// A stage in which verifier 0 has turned until it is Blocked by a full lane of module 9, which was
-/// put whole.
-fn blocked(rt: &(impl Wait + AllocGlobal)) -> Result<Stage, Fail>
-    ensures { IfOk result IsPair }
-{
-    let mut stage = pair(rt.alloc())?;
-    let text = full_pages(rt.alloc(), 66)?;
-    let put = put_all(rt.alloc(), &mut stage, 0, &text)?;
-    let (worked, did) = verify_all(rt, &mut stage, 0);
-    if put != ReceiverTurn::Finished || worked != 64 || did != VerifierTurn::Blocked {
-        return Err(Fail::from("64 turns work and the next is blocked"));
-    }
-    Ok(stage)
-}
-
-#[test]
-fn a_verifier_stops_with_an_item_in_hand(rt: HostRuntime) -> Result<(), Fail> {
-    let stage = blocked(&rt)?;
-    let told = settled(&rt, stage)?;
-    assert!(rt; told.as_str() == "module 9: complete, 67584 words\nstrays 0\n");
-    Ok(())
-}
-
-/// What is told where module 9 has so many pages, and module 3 one word.
-const BOTH: &str = "module 3: complete, 1 words\nmodule 9: complete, 67584 words\nstrays 0\n";
-
-#[test]
-fn others_go_on_without_it(rt: HostRuntime) -> Result<(), Fail> {
-    let mut stage = blocked(&rt)?;
-    let text = one_word(rt.alloc(), 3, RET)?;
-    assert!(rt; put_all(rt.alloc(), &mut stage, 1, &text)? == ReceiverTurn::Finished);
-    go_on(&rt, &mut stage, 1, 100);
-    assert!(rt; phase(&mut stage, 1, ModuleNumber::at(3)) == Phase::Done);
-    assert!(rt; phase(&mut stage, 0, ModuleNumber::at(9)) == Phase::Open);
-    assert!(rt; settled(&rt, stage)?.as_str() == BOTH);
-    Ok(())
-}
-
-#[test]
-fn a_sequencer_makes_room(rt: HostRuntime) -> Result<(), Fail> {
-    let mut stage = blocked(&rt)?;
-    assert!(rt; verify(&rt, &mut stage, 0) == VerifierTurn::Blocked);
-    assert!(rt; place(&rt, &mut stage, 9) == SequencerTurn::Worked);
-    assert!(rt; verify(&rt, &mut stage, 0) == VerifierTurn::Worked);
-    assert!(rt; verify(&rt, &mut stage, 0) == VerifierTurn::Blocked);
-    Ok(())
-}
-
-/// Whether this is told of so many full pages of module 9 and one word of module 3, which are all in the intake when all
-/// is settled.
-fn is_told_of_the_intake(
-    rt: &(impl Wait + AllocGlobal),
-    pages: u32,
-    want: &str,
-) -> Result<bool, AllocError> {
-    let mut stage = pair(rt.alloc())?;
-    let long = full_pages(rt.alloc(), pages)?;
-    let short = one_word(rt.alloc(), 3, RET)?;
-    let first = put_all(rt.alloc(), &mut stage, 0, &long)?;
-    let second = put_all(rt.alloc(), &mut stage, 1, &short)?;
-    let told = settled(rt, stage)?;
-    Ok(first == ReceiverTurn::Finished && second == ReceiverTurn::Finished && told.as_str() == want)
-}
-
-#[test]
-fn all_in_the_intake(rt: HostRuntime) -> Result<(), Fail> {
-    assert!(rt; is_told_of_the_intake(&rt, 66, BOTH)?);
-    Ok(())
-}
-
-#[test]
-fn more_than_256_in_the_intake(rt: HostRuntime) -> Result<(), Fail> {
-    let want = "module 3: complete, 1 words\nmodule 9: complete, 307200 words\nstrays 0\n";
-    assert!(rt; is_told_of_the_intake(&rt, 300, want)?);
-    Ok(())
-}
-
-/// What is told of a text after so many turns of its receiver, which isn't told the end.
-fn told_after(rt: &(impl Wait + AllocGlobal), turns: usize) -> Result<String, AllocError> {
-    let mut stage = pair(rt.alloc())?;
-    let text = one_word(rt.alloc(), 3, RET)?;
-    let mut input = input(rt.alloc(), &text)?;
-    for _ in 0..turns {
-        receive(&mut stage, 1, &mut input);
-    }
-    settled(rt, stage)
-}
-
-/// What is told after each number of turns, from 0 on.
-const AFTER_TURNS: [&str; 5] = [
-    "strays 0\n",
-    "module 3: lost, fault 9\nconnection 1: fault 9\nstrays 0\n",
-    "module 3: lost, fault 9\nconnection 1: fault 9\nstrays 0\n",
-    "module 3: lost, fault 9\nconnection 1: fault 9\nstrays 0\n",
-    "module 3: complete, 1 words\nstrays 0\n",
-];
-
-#[test]
-fn receivers_that_are_not_told_the_end(rt: HostRuntime) -> Result<(), Fail> {
-    for (turns, want) in AFTER_TURNS.iter().enumerate() {
-        assert!(rt;
-            told_after(&rt, turns)?.as_str() == *want,
-            "after {turns} turns"
+impl Gate for Digits {
+    fn before(&self, item: &Item) {
+        let seen = self.seen.load(Ordering::SeqCst) % (1 << 60);
+        self.seen.store(
+            seen * 16 + u64::from(item.module.number()),
+            Ordering::SeqCst,
         );
     }
+
+    fn after(&self, _item: &Judged) {}
+}
+
+/// What is done with a stage.
+#[derive(Clone, Copy)]
+enum Step {
+    /// Receiver 0 turns until it has put the first text, at most so often.
+    First(usize),
+    /// Receiver 1 does so with the second text.
+    Second(usize),
+    /// Verifier 0 turns until a turn isn't Worked, at most so often.
+    Verify(usize),
+    /// The sequencer of module 9 turns once.
+    Sequence,
+    /// Verifier 1 and all sequencers turn, so many rounds.
+    GoOn(usize),
+    /// Receiver 1 looks at module 3.
+    LookAt3,
+    /// Receiver 0 looks at module 9.
+    LookAt9,
+}
+
+/// What came of a step.
+#[derive(Clone, Copy, PartialEq, Eq)]
+enum Did {
+    Received(ReceiverTurn),
+    /// So many turns were Worked, and what the last one did.
+    Verified(usize, VerifierTurn),
+    Sequenced(SequencerTurn),
+    WentOn,
+    Saw(Phase),
+}
+
+use Did::{Received, Saw, Sequenced, Verified, WentOn};
+use Step::{First, GoOn, LookAt3, LookAt9, Second, Sequence, Verify};
+
+/// The inputs of the two receivers, and the gate of their items.
+#[derive(Drop)]
+struct Inputs<'a> {
+    first: Input<Pieces<'a>>,
+    second: Input<Pieces<'a>>,
+    gate: Digits,
+}
+
+/// Does a step.
+fn take<S: Wait>(rt: &S, stage: &mut Stage, inputs: &mut Inputs<'_>, step: Step) -> Did
+    requires { IsPair stage.old }
+    ensures { IsPair stage.new }
+{
+    match step {
+        First(most) => Received(receive_all(stage, 0, &mut inputs.first, most)),
+        Second(most) => Received(receive_all(stage, 1, &mut inputs.second, most)),
+        Verify(most) => {
+            let (worked, did) = verify_all(rt, stage, 0, &inputs.gate, most);
+            Verified(worked, did)
+        }
+        Sequence => Sequenced(place(rt, stage, 9)),
+        GoOn(rounds) => {
+            go_on(rt, stage, 1, rounds);
+            WentOn
+        }
+        LookAt3 => Saw(phase(stage, 1, ModuleNumber::at(3))),
+        LookAt9 => Saw(phase(stage, 0, ModuleNumber::at(9))),
+    }
+}
+
+/// Whether each of these steps comes to what stands beside it.
+fn take_all<S: Wait>(
+    rt: &S,
+    stage: &mut Stage,
+    inputs: &mut Inputs<'_>,
+    steps: &[(Step, Did)],
+) -> bool
+    requires { IsPair stage.old }
+    ensures { IsPair stage.new }
+{
+    for step in steps {
+        if take(rt, stage, inputs, step.0) != step.1 {
+            return false;
+        }
+    }
+    true
+}
+
+/// The inputs of these texts.
+fn inputs_of<'a>(
+    alloc: Global,
+    first: &'a [u8],
+    second: &'a [u8],
+) -> Result<Inputs<'a>, AllocError> {
+    Ok(Inputs {
+        first: Input::new(alloc, Pieces::of(first, usize::MAX))?,
+        second: Input::new(alloc, Pieces::of(second, usize::MAX))?,
+        gate: Digits {
+            seen: AtomicU64::new(1),
+        },
+    })
+}
+
+/// Whether each step came to what stands beside it, what is told once all is settled after them, and
+/// the gate's digits before that.
+#[derive(Clone, Copy)]
+struct Seen {
+    did: bool,
+    told: Summary,
+    digits: u64,
+}
+
+/// What a new stage comes to by these steps over these texts.
+fn seen_of(
+    rt: &(impl Wait + AllocGlobal),
+    first: &[u8],
+    second: &[u8],
+    steps: &[(Step, Did)],
+) -> Result<Seen, AllocError> {
+    let mut inputs = inputs_of(rt.alloc(), first, second)?;
+    let mut stage = pair(rt.alloc())?;
+    let did = take_all(rt, &mut stage, &mut inputs, steps);
+    Ok(Seen {
+        did,
+        digits: inputs.gate.seen.load(Ordering::SeqCst),
+        told: settled(rt, stage),
+    })
+}
+
+/// How many full pages of NOPs the first text has, of module 9; the second is of one word, of module
+/// 3. What is done, and what is told once all is settled after that.
+#[derive(Clone, Copy)]
+struct Row {
+    pages: u32,
+    steps: &'static [(Step, Did)],
+    want: &'static str,
+}
+
+/// More turns than any part takes.
+const MANY: usize = 10_000;
+
+/// The first text is put whole.
+const PUT_FIRST: (Step, Did) = (First(MANY), Received(ReceiverTurn::Finished));
+
+/// The second text is put whole.
+const PUT_SECOND: (Step, Did) = (Second(MANY), Received(ReceiverTurn::Finished));
+
+/// After 64 turns the verifier is blocked by a full lane.
+const BLOCKED: (Step, Did) = (Verify(1000), Verified(64, VerifierTurn::Blocked));
+
+/// One turn of the verifier is blocked.
+const STILL_BLOCKED: (Step, Did) = (Verify(1), Verified(0, VerifierTurn::Blocked));
+
+/// What is told where module 9 has 66 pages, and module 3 one word.
+const BOTH: &str = "module 3: complete, 1 words\nmodule 9: complete, 67584 words\nstrays 0\n";
+
+/// What is told where module 9 has 66 pages.
+const NINTH: &str = "module 9: complete, 67584 words\nstrays 0\n";
+
+/// What is told of the second text where its end wasn't put.
+const LOST: &str = "module 3: lost, fault 9\nconnection 1: fault 9\nstrays 0\n";
+
+const ROWS: [Row; 10] = [
+    // A verifier stops with an item in hand.
+    Row {
+        pages: 66,
+        steps: &[PUT_FIRST, BLOCKED],
+        want: NINTH,
+    },
+    // Others go on without it.
+    Row {
+        pages: 66,
+        steps: &[
+            PUT_FIRST,
+            BLOCKED,
+            PUT_SECOND,
+            (GoOn(100), WentOn),
+            (LookAt3, Saw(Phase::Done)),
+            (LookAt9, Saw(Phase::Open)),
+        ],
+        want: BOTH,
+    },
+    // A sequencer makes room.
+    Row {
+        pages: 66,
+        steps: &[
+            PUT_FIRST,
+            BLOCKED,
+            STILL_BLOCKED,
+            (Sequence, Sequenced(SequencerTurn::Worked)),
+            (Verify(1), Verified(1, VerifierTurn::Worked)),
+            STILL_BLOCKED,
+        ],
+        want: NINTH,
+    },
+    // All in the intake.
+    Row {
+        pages: 66,
+        steps: &[PUT_FIRST, PUT_SECOND],
+        want: BOTH,
+    },
+    // More than 256 in the intake.
+    Row {
+        pages: 300,
+        steps: &[PUT_FIRST, PUT_SECOND],
+        want: "module 3: complete, 1 words\nmodule 9: complete, 307200 words\nstrays 0\n",
+    },
+    // A receiver that isn't told the end, after each number of turns.
+    Row {
+        pages: 0,
+        steps: &[(Second(0), Received(ReceiverTurn::More))],
+        want: "strays 0\n",
+    },
+    Row {
+        pages: 0,
+        steps: &[(Second(1), Received(ReceiverTurn::More))],
+        want: LOST,
+    },
+    Row {
+        pages: 0,
+        steps: &[(Second(2), Received(ReceiverTurn::More))],
+        want: LOST,
+    },
+    Row {
+        pages: 0,
+        steps: &[(Second(3), Received(ReceiverTurn::More))],
+        want: LOST,
+    },
+    Row {
+        pages: 0,
+        steps: &[(Second(4), Received(ReceiverTurn::More))],
+        want: "module 3: complete, 1 words\nstrays 0\n",
+    },
+];
+
+/// Whether a row comes to what it says.
+fn is_so(rt: &(impl Wait + AllocGlobal), row: &Row) -> Result<bool, AllocError> {
+    let sent = [
+        Open(9, row.pages.saturating_mul(1024)),
+        Pages(9, row.pages),
+        Close(9),
+    ];
+    let first = text_of(rt.alloc(), &sent)?;
+    let seen = seen_of(rt, first.as_slice(), &one_word(3, RET), row.steps)?;
+    Ok(seen.did && is_text(rt.alloc(), &seen.told, row.want)?)
+}
+
+#[test]
+fn parts_that_stop_anywhere(rt: HostRuntime) -> Result<(), Fail> {
+    for row in &ROWS {
+        assert!(rt; is_so(&rt, row)?);
+    }
+    Ok(())
+}
+
+/// Modules 9, 3 and 12 are opened, and none is closed; of module 3 a page comes.
+const THREE_OPEN: [Sent; 4] = [Open(9, 1), Open(3, 1), Open(12, 1), Word(3, 0, RET)];
+
+/// Seven turns of the verifier work, and then there is no item.
+const SEVEN: (Step, Did) = (Verify(1000), Verified(7, VerifierTurn::Idle));
+
+/// The order in which a connection puts its items, by what a verifier takes of them.
+#[test]
+fn ends_come_in_the_order_of_the_modules(rt: HostRuntime) -> Result<(), Fail> {
+    let text = text_of(rt.alloc(), &THREE_OPEN)?;
+    let seen = seen_of(&rt, text.as_slice(), &[], &[PUT_FIRST, SEVEN])?;
+    assert!(rt; seen.did && seen.digits == 0x193C_339C);
     Ok(())
 }

@@ -6,6 +6,7 @@ ghost use Rattle.lfi_module.specs.Numbers.{module_count};
 ghost use Rattle.lfi_reference_tests.specs.Pairs.{IsPair};
 
 use lfi_board::Phase;
+use lfi_model::Summary;
 use lfi_module::ModuleNumber;
 use lfi_place::{Gate, OpenGate, SequencerTurn, VerifierTurn};
 use lfi_receive::{Input, ReceiverTurn};
@@ -23,11 +24,7 @@ pub fn pair(alloc: Global) -> Result<Stage, AllocError>
 }
 
 /// One turn of a receiver over its input.
-pub fn receive<R: Read + Drop>(
-    stage: &mut Stage,
-    number: usize,
-    input: &mut Input<R>,
-) -> ReceiverTurn
+fn receive<R: Read + Drop>(stage: &mut Stage, number: usize, input: &mut Input<R>) -> ReceiverTurn
     requires pair { IsPair stage.old }
     requires number { number < 2 }
     ensures { IsPair stage.new }
@@ -36,18 +33,19 @@ pub fn receive<R: Read + Drop>(
     stage.receivers[number].pull(&shared.board, &shared.intake, input)
 }
 
-/// Turns a receiver over its input until it has put all of it, or the intake refuses an item: what
-/// its last turn did.
+/// Turns a receiver over its input until it has put all of it, or the intake refuses an item, or so
+/// often: what its last turn did in the first two cases, and else More.
 pub fn receive_all<R: Read + Drop>(
     stage: &mut Stage,
     number: usize,
     input: &mut Input<R>,
+    most: usize,
 ) -> ReceiverTurn
     requires pair { IsPair stage.old }
     requires number { number < 2 }
     ensures { IsPair stage.new }
 {
-    for _ in 0..10_000 {
+    for _ in 0..most {
         let did = receive(stage, number, input);
         if did == ReceiverTurn::Finished || did == ReceiverTurn::Blocked {
             return did;
@@ -67,12 +65,7 @@ pub fn phase(stage: &mut Stage, number: usize, module: ModuleNumber) -> Phase
 }
 
 /// One turn of a verifier, of which this gate is told.
-pub fn verify_told<S: Wait, G: Gate>(
-    rt: &S,
-    stage: &mut Stage,
-    number: usize,
-    gate: &G,
-) -> VerifierTurn
+fn verify<S: Wait, G: Gate>(rt: &S, stage: &mut Stage, number: usize, gate: &G) -> VerifierTurn
     requires pair { IsPair stage.old }
     requires number { number < 2 }
     ensures { IsPair stage.new }
@@ -81,28 +74,26 @@ pub fn verify_told<S: Wait, G: Gate>(
     stage.verifiers[number].turn(rt, &shared.intake, &shared.lanes, gate)
 }
 
-/// One turn of a verifier.
-pub fn verify<S: Wait>(rt: &S, stage: &mut Stage, number: usize) -> VerifierTurn
+/// Turns a verifier until a turn isn't Worked, or so often: how many were, and what the last one did.
+/// This gate is told of them.
+pub fn verify_all<S: Wait, G: Gate>(
+    rt: &S,
+    stage: &mut Stage,
+    number: usize,
+    gate: &G,
+    most: usize,
+) -> (usize, VerifierTurn)
     requires pair { IsPair stage.old }
     requires number { number < 2 }
     ensures { IsPair stage.new }
 {
-    verify_told(rt, stage, number, &OpenGate)
-}
-
-/// Turns a verifier until a turn isn't Worked: how many were, and what that one did.
-pub fn verify_all<S: Wait>(rt: &S, stage: &mut Stage, number: usize) -> (usize, VerifierTurn)
-    requires pair { IsPair stage.old }
-    requires number { number < 2 }
-    ensures { IsPair stage.new }
-{
-    for worked in 0..1000 {
-        let did = verify(rt, stage, number);
+    for worked in 0..most {
+        let did = verify(rt, stage, number, gate);
         if did != VerifierTurn::Worked {
             return (worked, did);
         }
     }
-    (1000, VerifierTurn::Worked)
+    (most, VerifierTurn::Worked)
 }
 
 /// One turn of the sequencer of this module.
@@ -132,13 +123,13 @@ pub fn go_on<S: Wait>(rt: &S, stage: &mut Stage, number: usize, rounds: usize)
     ensures { IsPair stage.new }
 {
     for _ in 0..rounds {
-        verify(rt, stage, number);
+        verify(rt, stage, number, &OpenGate);
         place_all(rt, stage);
     }
 }
 
-/// The text of what is told once all is settled.
-pub fn settled<S: Wait + AllocGlobal>(rt: &S, stage: Stage) -> Result<String, AllocError>
+/// What is told once all is settled.
+pub fn settled<S: Wait>(rt: &S, stage: Stage) -> Summary
     requires { IsPair stage }
 {
     let Stage {
@@ -148,6 +139,5 @@ pub fn settled<S: Wait + AllocGlobal>(rt: &S, stage: Stage) -> Result<String, Al
         sequencers,
         shared,
     } = stage;
-    let summary = settle(rt, receivers, verifiers, sequencers, shared).summary();
-    format!(in rt.alloc(); "{summary}")
+    settle(rt, receivers, verifiers, sequencers, shared).summary()
 }

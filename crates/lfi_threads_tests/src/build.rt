@@ -1,5 +1,6 @@
-//! Streams from messages.
+//! Streams from messages, and the texts of reports.
 
+use lfi_model::Summary;
 use std::alloc::{AllocError, Global};
 
 /// NOP.
@@ -67,17 +68,87 @@ fn push(bytes: &mut Vec<u8>, message: &Message) -> Result<(), AllocError> {
     Ok(())
 }
 
+/// Adds these messages to the bytes of a stream.
+pub fn push_all(bytes: &mut Vec<u8>, messages: &[Message]) -> Result<(), AllocError> {
+    for message in messages {
+        push(bytes, message)?;
+    }
+    Ok(())
+}
+
 /// The bytes of a stream of these messages.
 pub fn text(alloc: Global, messages: &[Message]) -> Result<Vec<u8>, AllocError> {
     let mut bytes = Vec::new(alloc);
-    for message in messages {
-        push(&mut bytes, message)?;
-    }
+    push_all(&mut bytes, messages)?;
     Ok(bytes)
 }
 
-/// A whole module of one word.
-pub fn one_word(alloc: Global, module: u16, word: u32) -> Result<Vec<u8>, AllocError> {
-    let page = page(module, 0, 1).with(0, word);
-    text(alloc, &[open(module, 1), page, close(module)])
+/// The bytes of a whole module of one word: an Open, a page and a Close.
+pub fn one_word(module: u8, word: u32) -> [u8; 40] {
+    let [a, b, c, d] = word.to_le_bytes();
+    [
+        1, 0, module, 0, 1, 0, 0, 0, 0, 0, 0, 0, // Open: 1 word, entry 0
+        2, 0, module, 0, 0, 0, 0, 0, 4, 0, 0, 0, // Page 0, 4 bytes
+        a, b, c, d, // its word
+        3, 0, module, 0, 0, 0, 0, 0, 0, 0, 0, 0, // Close
+    ]
+}
+
+/// Module 0, of one word.
+pub const MODULE_0: [u8; 40] = [
+    1, 0, 0, 0, 1, 0, 0, 0, 0, 0, 0, 0, // Open: 1 word, entry 0
+    2, 0, 0, 0, 0, 0, 0, 0, 4, 0, 0, 0, // Page 0, 4 bytes
+    0xc0, 0x03, 0x5f, 0xd6, // RET
+    3, 0, 0, 0, 0, 0, 0, 0, 0, 0, 0, 0, // Close
+];
+
+/// Module 3, of one word.
+pub const MODULE_3: [u8; 40] = [
+    1, 0, 3, 0, 1, 0, 0, 0, 0, 0, 0, 0, // Open: 1 word, entry 0
+    2, 0, 3, 0, 0, 0, 0, 0, 4, 0, 0, 0, // Page 0, 4 bytes
+    0xc0, 0x03, 0x5f, 0xd6, // RET
+    3, 0, 3, 0, 0, 0, 0, 0, 0, 0, 0, 0, // Close
+];
+
+/// Module 5, of one word.
+pub const MODULE_5: [u8; 40] = [
+    1, 0, 5, 0, 1, 0, 0, 0, 0, 0, 0, 0, // Open: 1 word, entry 0
+    2, 0, 5, 0, 0, 0, 0, 0, 4, 0, 0, 0, // Page 0, 4 bytes
+    0xc0, 0x03, 0x5f, 0xd6, // RET
+    3, 0, 5, 0, 0, 0, 0, 0, 0, 0, 0, 0, // Close
+];
+
+/// Module 7, of one word.
+pub const MODULE_7: [u8; 40] = [
+    1, 0, 7, 0, 1, 0, 0, 0, 0, 0, 0, 0, // Open: 1 word, entry 0
+    2, 0, 7, 0, 0, 0, 0, 0, 4, 0, 0, 0, // Page 0, 4 bytes
+    0xc0, 0x03, 0x5f, 0xd6, // RET
+    3, 0, 7, 0, 0, 0, 0, 0, 0, 0, 0, 0, // Close
+];
+
+/// So many bytes of a text from a place on, or what is left of it there.
+pub fn piece(text: &[u8], from: usize, size: usize) -> &[u8] {
+    let from = from.min(text.len());
+    let to = from.saturating_add(size).min(text.len());
+    &text[from..to]
+}
+
+/// Eight texts of the same length, that stand one after the other.
+pub fn eight(texts: &[u8]) -> [&[u8]; 8] {
+    let len = texts.len() / 8;
+    [
+        piece(texts, 0, len),
+        piece(texts, len, len),
+        piece(texts, len.saturating_mul(2), len),
+        piece(texts, len.saturating_mul(3), len),
+        piece(texts, len.saturating_mul(4), len),
+        piece(texts, len.saturating_mul(5), len),
+        piece(texts, len.saturating_mul(6), len),
+        piece(texts, len.saturating_mul(7), len),
+    ]
+}
+
+/// Whether this is the text of what is told.
+pub fn is_text(alloc: Global, told: &Summary, want: &str) -> Result<bool, AllocError> {
+    Ok(format!(in alloc; "{told}")?.as_str() == want)
 }

@@ -1,8 +1,10 @@
 //! Clients over sockets.
 
-use crate::build::{RET, close, one_word, open, page, text};
+use crate::build::{
+    MODULE_0, MODULE_3, MODULE_5, close, eight, is_text, open, page, piece, push_all,
+};
 use crate::workers::YIELDS;
-use lfi_model::{Item, Judged};
+use lfi_model::{Item, Judged, Summary};
 use lfi_place::{Gate, OpenGate};
 use lfi_threads::{LoadError, NoNotices, serve_on};
 use std::alloc::{AllocError, Global};
@@ -18,15 +20,27 @@ use std::test::Fail;
 use std::thread::{Threads, join, yield_now};
 use std::time::Duration;
 
-/// The same error in the system's words.
-fn in_words(error: LoadError) -> io::Error {
-    io::Error::from(match error {
-        LoadError::NoMemory => io::ErrorKind::OutOfMemory,
-        LoadError::NoThread => io::ErrorKind::WouldBlock,
-    })
+/// What is told of clients, and whether all were accepted.
+#[derive(Clone, Copy)]
+pub(crate) struct Told {
+    pub(crate) summary: Summary,
+    pub(crate) all_accepted: bool,
 }
 
-/// The text of the report on so many connections, 1 to 8, and whether all were accepted.
+impl Told {
+    /// Whether all clients or not all were accepted, as this says, and this is the text of what is
+    /// told of them.
+    pub(crate) fn is(
+        &self,
+        alloc: Global,
+        all_accepted: bool,
+        want: &str,
+    ) -> Result<bool, AllocError> {
+        Ok(self.all_accepted == all_accepted && is_text(alloc, &self.summary, want)?)
+    }
+}
+
+/// What is told of so many connections, 1 to 8.
 pub(crate) fn served<S: Threads + Wait + Files + Clock + Sync + AllocGlobal, G: Gate + Sync>(
     rt: &S,
     listener: UnixListener,
@@ -34,21 +48,23 @@ pub(crate) fn served<S: Threads + Wait + Files + Clock + Sync + AllocGlobal, G: 
     connections: usize,
     limit: Option<Duration>,
     gate: &G,
-) -> io::Result<(String, bool)> {
+) -> Result<Told, LoadError> {
+    let connections = connections.max(1).min(8);
     let served = serve_on(
         rt,
         rt.alloc(),
         listener,
         path,
-        connections.max(1).min(8),
+        connections,
         2,
         limit,
         gate,
         &NoNotices,
-    )
-    .map_err(in_words)?;
-    let summary = served.report.summary();
-    Ok((format!(in rt.alloc(); "{summary}")?, served.all_accepted))
+    )?;
+    Ok(Told {
+        summary: served.report.summary(),
+        all_accepted: served.all_accepted,
+    })
 }
 
 /// So many clients, one after the other.
@@ -64,23 +80,16 @@ pub(crate) fn connect_all<S: Net + AllocGlobal>(
     Ok(streams)
 }
 
-/// So many bytes of a text from a place on, or what is left of it there.
-fn piece(text: &[u8], from: usize, size: usize) -> &[u8] {
-    let from = from.min(text.len());
-    let to = from.saturating_add(size).min(text.len());
-    &text[from..to]
-}
-
 /// Sends a piece of each text, each by its client.
 pub(crate) fn send_pieces(
     streams: &[UnixStream],
-    texts: &[Vec<u8>],
+    texts: &[&[u8]],
     from: usize,
     size: usize,
 ) -> io::Result<()> {
     for (stream, text) in streams.iter().zip(texts) {
         let mut stream: &UnixStream = stream;
-        stream.write_all(piece(text.as_slice(), from, size))?;
+        stream.write_all(piece(*text, from, size))?;
     }
     Ok(())
 }
@@ -89,7 +98,7 @@ pub(crate) fn send_pieces(
 pub(crate) fn send_all<S: Net + AllocGlobal>(
     rt: &S,
     path: &str,
-    texts: &[Vec<u8>],
+    texts: &[&[u8]],
     sizes: &[usize],
 ) -> io::Result<()> {
     let streams = connect_all(rt, path, texts.len())?;
@@ -101,21 +110,21 @@ pub(crate) fn send_all<S: Net + AllocGlobal>(
     Ok(())
 }
 
-/// Two whole modules, number 0 and number 3.
-pub(crate) fn modules_0_and_3(alloc: Global) -> Result<Vec<Vec<u8>>, AllocError> {
-    Ok(Vec::from_array(alloc, [one_word(alloc, 0, RET)?, one_word(alloc, 3, RET)?])?)
-}
-
 pub(crate) const BOTH: &str =
     "module 0: complete, 1 words\nmodule 3: complete, 1 words\nstrays 0\n";
 
-/// Modules 0 to 7, each of 1,030 NOPs and in a text of its own.
-fn eight_of_two_pages(alloc: Global) -> Result<Vec<Vec<u8>>, AllocError> {
+/// The texts of modules 0 and 3.
+pub(crate) const TWO: [&[u8]; 2] = [&MODULE_0, &MODULE_3];
+
+/// Modules 0 to 7, each of 1,030 NOPs and in a text of its own, one text after the other.
+fn eight_of_two_pages(alloc: Global) -> Result<Vec<u8>, AllocError> {
     let mut texts = Vec::new(alloc);
     for module in 0..8u16 {
         let (first, second) = (page(module, 0, 1024), page(module, 1, 6));
-        let messages = [open(module, 1030), first, second, close(module)];
-        texts.push(text(alloc, &messages)?)?;
+        push_all(
+            &mut texts,
+            &[open(module, 1030), first, second, close(module)],
+        )?;
     }
     Ok(texts)
 }
@@ -132,95 +141,70 @@ module 7: complete, 1030 words
 strays 0
 ";
 
-/// What clients do that are there at the same time.
+/// The clients' texts, the sizes of their pieces, and what is told.
 #[derive(Clone, Copy)]
-enum Case {
-    /// Each of two sends a whole module.
-    TwoClients,
-    /// One sends the first 30 bytes of a module, and closes.
-    GoesAway,
-    /// Each of eight sends a module in pieces of 1 to 4,096 bytes.
-    InPieces,
-    /// One sends nothing and closes, and another sends a whole module.
-    SendsNothing,
+struct Case {
+    texts: &'static [&'static [u8]],
+    sizes: &'static [usize],
+    want: &'static str,
 }
 
-/// The cases, each with the sizes of its clients' pieces, and what is told.
-const CASES: [(Case, &[usize], &str); 4] = [
-    (Case::TwoClients, &[4096], BOTH),
-    (
-        Case::GoesAway,
-        &[7, 7, 7, 7, 2],
-        "module 0: lost, fault 9\nconnection 0: fault 9\nstrays 0\n",
-    ),
-    (
-        Case::InPieces,
-        &[1, 2, 11, 100, 1000, 4096, 3, 4096, 4096],
-        EIGHT,
-    ),
-    (
-        Case::SendsNothing,
-        &[4096],
-        "module 5: complete, 1 words\nstrays 0\n",
-    ),
+const CASES: [Case; 3] = [
+    Case {
+        texts: &[&MODULE_0, &MODULE_3],
+        sizes: &[4096],
+        want: BOTH,
+    },
+    // One sends the first 30 bytes of a module, and closes.
+    Case {
+        texts: &[&MODULE_0],
+        sizes: &[7, 7, 7, 7, 2],
+        want: "module 0: lost, fault 9\nconnection 0: fault 9\nstrays 0\n",
+    },
+    // One sends nothing and closes, and another sends a whole module.
+    Case {
+        texts: &[&[], &MODULE_5],
+        sizes: &[4096],
+        want: "module 5: complete, 1 words\nstrays 0\n",
+    },
 ];
-
-/// The texts of a case's clients, by their connections' numbers.
-fn texts_of(alloc: Global, case: Case) -> Result<Vec<Vec<u8>>, AllocError> {
-    match case {
-        Case::TwoClients => modules_0_and_3(alloc),
-        Case::GoesAway => Ok(Vec::from_array(alloc, [one_word(alloc, 0, RET)?])?),
-        Case::InPieces => eight_of_two_pages(alloc),
-        Case::SendsNothing => Ok(Vec::from_array(
-            alloc,
-            [Vec::new(alloc), one_word(alloc, 5, RET)?],
-        )?),
-    }
-}
 
 #[test]
 fn clients_beside_each_other(rt: HostRuntime) -> Result<(), Fail> {
     let path = "beside.socket";
-    for (case, sizes, want) in CASES {
-        let texts = texts_of(rt.alloc(), case)?;
+    for case in CASES {
         let listener = UnixListener::bind(&rt, path)?;
         let (told, sent) = join(
             &rt,
-            || served(&rt, listener, path, texts.len(), None, &OpenGate),
-            || send_all(&rt, path, texts.as_slice(), sizes),
+            || served(&rt, listener, path, case.texts.len(), None, &OpenGate),
+            || send_all(&rt, path, case.texts, case.sizes).is_ok(),
         );
-        sent?;
-        let (report, all_accepted) = told?;
-        assert_eq!(rt; report.as_str(), want);
-        assert!(rt; all_accepted);
-        assert!(rt; fs::metadata(&rt, path).is_err());
+        assert!(rt; sent && fs::metadata(&rt, path).is_err());
+        assert!(rt; told?.is(rt.alloc(), true, case.want)?);
     }
     Ok(())
 }
 
-#[test]
-fn a_client_more_than_are_taken(rt: HostRuntime) -> Result<(), Fail> {
-    let path = "one_more.socket";
-    let listener = UnixListener::bind(&rt, path)?;
-    send_all(&rt, path, modules_0_and_3(rt.alloc())?.as_slice(), &[4096])?;
-    let mut third = UnixStream::connect(&rt, path)?;
-    let (report, all_accepted) = served(&rt, listener, path, 2, None, &OpenGate)?;
-    assert_eq!(rt; report.as_str(), BOTH);
-    assert!(rt; all_accepted);
-    assert!(rt; third.read(&mut [0]).unwrap_or(0) == 0);
-    assert!(rt; UnixStream::connect(&rt, path).is_err());
-    Ok(())
+/// The sizes of the pieces of the next test.
+const SIZES: [usize; 9] = [1, 2, 11, 100, 1000, 4096, 3, 4096, 4096];
+
+/// Sends eight texts, that stand one after the other, beside each other and in pieces.
+fn send_eight<S: Net + AllocGlobal>(rt: &S, path: &str, texts: &[u8]) -> io::Result<()> {
+    send_all(rt, path, &eight(texts), &SIZES)
 }
 
 #[test]
-fn a_client_that_is_not_accepted(rt: HostRuntime) -> Result<(), Fail> {
-    let path = "not_accepted.socket";
+fn eight_clients_in_pieces(rt: HostRuntime) -> Result<(), Fail> {
+    let path = "eight.socket";
+    let texts = eight_of_two_pages(rt.alloc())?;
     let listener = UnixListener::bind(&rt, path)?;
-    send_all(&rt, path, &[one_word(rt.alloc(), 7, RET)?], &[4096])?;
-    listener.set_nonblocking(true)?;
-    let (report, all_accepted) = served(&rt, listener, path, 3, None, &OpenGate)?;
-    assert_eq!(rt; report.as_str(), "module 7: complete, 1 words\nstrays 0\n");
-    assert!(rt; !all_accepted);
+    let (told, sent) = join(
+        &rt,
+        || served(&rt, listener, path, 8, None, &OpenGate),
+        || send_eight(&rt, path, texts.as_slice()).is_ok(),
+    );
+    assert!(rt; sent && fs::metadata(&rt, path).is_err());
+    assert!(rt; told?.is(rt.alloc(), true, EIGHT)?);
     Ok(())
 }
 
@@ -240,7 +224,7 @@ fn is_gone<S: Files>(rt: &S, path: &str) -> bool {
 fn send_once_the_path_is_gone<S: Net + Files + AllocGlobal>(
     rt: &S,
     path: &str,
-    texts: &[Vec<u8>],
+    texts: &[&[u8]],
 ) -> io::Result<bool> {
     let streams = connect_all(rt, path, texts.len())?;
     let gone = is_gone(rt, path);
@@ -252,22 +236,24 @@ fn send_once_the_path_is_gone<S: Net + Files + AllocGlobal>(
 /// What the file at a path has that is there after the path is gone.
 const HERE: [u8; 4] = *b"here";
 
+/// Whether a file has this.
+fn is_here<S: Files + AllocGlobal>(rt: &S, path: &str) -> io::Result<bool> {
+    Ok(fs::read(rt, path)?.as_slice() == HERE.as_slice())
+}
+
 #[test]
 fn the_path_is_gone_once_all_are_taken(rt: HostRuntime) -> Result<(), Fail> {
     let path = "gone.socket";
-    let texts = modules_0_and_3(rt.alloc())?;
     let listener = UnixListener::bind(&rt, path)?;
     let (told, gone) = join(
         &rt,
         || served(&rt, listener, path, 2, None, &OpenGate),
-        || send_once_the_path_is_gone(&rt, path, texts.as_slice()),
+        || send_once_the_path_is_gone(&rt, path, &TWO).unwrap_or(false),
     );
-    assert!(rt; gone?);
-    let (report, all_accepted) = told?;
-    assert_eq!(rt; report.as_str(), BOTH);
-    assert!(rt; all_accepted);
+    assert!(rt; gone);
+    assert!(rt; told?.is(rt.alloc(), true, BOTH)?);
     // Who has the path next keeps it.
-    assert!(rt; fs::read(&rt, path)?.as_slice() == HERE.as_slice());
+    assert!(rt; is_here(&rt, path)?);
     fs::remove_file(&rt, path)?;
     Ok(())
 }
@@ -309,10 +295,10 @@ fn send_one_after_the_other<S: Net + AllocGlobal>(
     gate: &FirstJudged,
 ) -> io::Result<bool> {
     let mut first = UnixStream::connect(rt, path)?;
-    first.write_all(one_word(rt.alloc(), 0, RET)?.as_slice())?;
+    first.write_all(&MODULE_0)?;
     let judged = gate.wait();
     let mut second = UnixStream::connect(rt, path)?;
-    second.write_all(one_word(rt.alloc(), 3, RET)?.as_slice())?;
+    second.write_all(&MODULE_3)?;
     Ok(judged)
 }
 
@@ -326,11 +312,9 @@ fn the_first_client_is_served_before_the_second_comes(rt: HostRuntime) -> Result
     let (told, judged) = join(
         &rt,
         || served(&rt, listener, path, 2, None, &gate),
-        || send_one_after_the_other(&rt, path, &gate),
+        || send_one_after_the_other(&rt, path, &gate).unwrap_or(false),
     );
-    assert!(rt; judged?);
-    let (report, all_accepted) = told?;
-    assert_eq!(rt; report.as_str(), BOTH);
-    assert!(rt; all_accepted);
+    assert!(rt; judged);
+    assert!(rt; told?.is(rt.alloc(), true, BOTH)?);
     Ok(())
 }

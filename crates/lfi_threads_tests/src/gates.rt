@@ -1,11 +1,10 @@
 //! Verifiers beside each other, and notices of refused modules.
 
-use crate::build::{NOP, RET, close, one_word, open, page, text};
-use crate::inputs::{Pieces, TURNS, loaded, reported};
-use lfi_model::{Item, Judged};
+use crate::build::{NOP, RET, close, is_text, open, page, text};
+use crate::inputs::{Pieces, TURNS, loaded, reported_of};
+use lfi_model::{Item, Judged, Summary};
 use lfi_module::ModuleNumber;
-use lfi_place::{Gate, OpenGate};
-use lfi_receive::Input;
+use lfi_place::Gate;
 use lfi_threads::{LoadError, Notices};
 use std::alloc::{AllocError, Global};
 use std::io::{self, Read};
@@ -20,16 +19,6 @@ struct SecondFirst {
     judged: AtomicU64,
     seen: AtomicU64,
     after: AtomicU64,
-}
-
-impl SecondFirst {
-    fn new() -> SecondFirst {
-        SecondFirst {
-            judged: AtomicU64::new(0),
-            seen: AtomicU64::new(0),
-            after: AtomicU64::new(0),
-        }
-    }
 }
 
 impl Gate for SecondFirst {
@@ -60,39 +49,59 @@ fn two_pages(alloc: Global, fifth: u32, last: u32) -> Result<Vec<u8>, AllocError
     text(alloc, &[open(0, 1025), first, second, close(0)])
 }
 
-/// The text of the report on such a module, of which page 1 is judged first.
+/// What is told of such a module, of which page 1 is judged first; whether the gate has seen that,
+/// and how many items came to it after they were judged.
+#[derive(Clone, Copy)]
+struct Seen {
+    told: Summary,
+    seen: u64,
+    after: u64,
+}
+
 fn second_first<S: Threads + Wait + Sync + AllocGlobal>(
     rt: &S,
     fifth: u32,
     last: u32,
-    gate: &SecondFirst,
-) -> Result<String, LoadError> {
-    let texts = [two_pages(rt.alloc(), fifth, last)?];
-    loaded(rt, &texts, 4096, 2, gate)
+) -> Result<Seen, LoadError> {
+    let text = two_pages(rt.alloc(), fifth, last)?;
+    let gate = SecondFirst {
+        judged: AtomicU64::new(0),
+        seen: AtomicU64::new(0),
+        after: AtomicU64::new(0),
+    };
+    let told = loaded(rt, &[text.as_slice()], 4096, 2, &gate)?;
+    Ok(Seen {
+        told,
+        seen: gate.seen.load(Ordering::SeqCst),
+        after: gate.after.load(Ordering::SeqCst),
+    })
 }
 
 #[test]
 fn page_1_is_judged_first(rt: HostRuntime) -> Result<(), Fail> {
-    let gate = SecondFirst::new();
-    let report = second_first(&rt, NOP, NOP, &gate)?;
-    assert_eq!(rt;
-        report.as_str(),
-        "module 0: complete, 1025 words\nstrays 0\n"
+    let seen = second_first(&rt, NOP, NOP)?;
+    assert!(rt; seen.seen == 1 && seen.after == 4);
+    assert!(rt;
+        is_text(
+            rt.alloc(),
+            &seen.told,
+            "module 0: complete, 1025 words\nstrays 0\n"
+        )?
     );
-    assert_eq!(rt; gate.seen.load(Ordering::SeqCst), 1);
-    assert_eq!(rt; gate.after.load(Ordering::SeqCst), 4);
     Ok(())
 }
 
 #[test]
 fn the_first_fault_of_a_module_judged_out_of_order(rt: HostRuntime) -> Result<(), Fail> {
-    let gate = SecondFirst::new();
-    let report = second_first(&rt, 0xD4000001, 0xAA0003F5, &gate)?;
-    assert_eq!(rt;
-        report.as_str(),
-        "module 0: refused, word 5 rule 1\nstrays 0\n"
+    let seen = second_first(&rt, 0xD4000001, 0xAA0003F5)?;
+    assert!(rt; seen.seen == 1);
+    assert!(rt;
+        is_text(
+            rt.alloc(),
+            &seen.told,
+            "module 0: refused, word 5 rule 1\nstrays 0\n"
+        )?
     );
-    assert_eq!(rt; gate.seen.load(Ordering::SeqCst), 1);
     Ok(())
 }
 
@@ -112,7 +121,7 @@ impl Notices for Counted {
 }
 
 /// A text, and then headers that are strays, until a notice has come.
-#[derive(Drop)]
+#[derive(Clone, Copy)]
 struct UntilNoticed<'a> {
     text: Pieces<'a>,
     notices: &'a Counted,
@@ -134,53 +143,71 @@ impl<'a> Read for UntilNoticed<'a> {
     }
 }
 
-/// The text of the report on this text and the strays that follow it, until a notice has come.
-fn loaded_until_noticed<S: Threads + Wait + Sync + AllocGlobal>(
+/// What is told of a text and the strays that follow it, until a notice has come; how many notices
+/// came, and the module of the last one, plus 1.
+#[derive(Clone, Copy)]
+struct Noticed {
+    told: Summary,
+    count: u64,
+    module: u64,
+}
+
+fn load_until_noticed<S: Threads + Wait + Sync + AllocGlobal>(
     rt: &S,
     left: &[u8],
-    notices: &Counted,
-) -> Result<String, LoadError> {
-    let text = Pieces { left, most: 4096 };
+) -> Result<Noticed, LoadError> {
+    let notices = Counted {
+        count: AtomicU64::new(0),
+        module: AtomicU64::new(0),
+    };
     let reader = UntilNoticed {
-        text,
-        notices,
+        text: Pieces { left, most: 4096 },
+        notices: &notices,
         turns: TURNS,
     };
-    let mut inputs = Vec::new(rt.alloc());
-    inputs.push(Input::new(rt.alloc(), reader)?)?;
-    reported(rt, inputs, 2, &OpenGate, notices)
+    let mut told = reported_of(rt, reader, &notices)?;
+    // How many strays came depends on the threads.
+    told.strays = 0;
+    Ok(Noticed {
+        told,
+        count: notices.count.load(Ordering::SeqCst),
+        module: notices.module.load(Ordering::SeqCst),
+    })
 }
 
 #[test]
 fn a_refused_module_is_told_of_once(rt: HostRuntime) -> Result<(), Fail> {
-    let notices = Counted {
-        count: AtomicU64::new(0),
-        module: AtomicU64::new(0),
-    };
     let text = two_pages(rt.alloc(), 0xD4000001, NOP)?;
-    let report = loaded_until_noticed(&rt, text.as_slice(), &notices)?;
-    assert!(rt;
-        report
-            .as_str()
-            .starts_with("module 0: refused, word 5 rule 1\nstrays ")
-    );
-    assert_eq!(rt; notices.count.load(Ordering::SeqCst), 1);
-    assert_eq!(rt; notices.module.load(Ordering::SeqCst), 1);
+    let noticed = load_until_noticed(&rt, text.as_slice())?;
+    assert!(rt; noticed.count == 1 && noticed.module == 1);
+    let want = "module 0: refused, word 5 rule 1\nstrays 0\n";
+    assert!(rt; is_text(rt.alloc(), &noticed.told, want)?);
     Ok(())
+}
+
+/// Module 15, which is refused, and module 1, which isn't.
+fn beside(alloc: Global) -> Result<Vec<u8>, AllocError> {
+    let refused = page(15, 0, 1).with(0, 0xD4000001);
+    let lawful = page(1, 0, 1).with(0, RET);
+    text(
+        alloc,
+        &[
+            open(15, 1),
+            refused,
+            close(15),
+            open(1, 1),
+            lawful,
+            close(1),
+        ],
+    )
 }
 
 #[test]
 fn a_refused_module_beside_a_lawful_one(rt: HostRuntime) -> Result<(), Fail> {
-    let notices = Counted {
-        count: AtomicU64::new(0),
-        module: AtomicU64::new(0),
-    };
-    let mut text = one_word(rt.alloc(), 15, 0xD4000001)?;
-    text.extend_from_slice(one_word(rt.alloc(), 1, RET)?.as_slice())?;
-    let report = loaded_until_noticed(&rt, text.as_slice(), &notices)?;
-    let want = "module 1: complete, 1 words\nmodule 15: refused, word 0 rule 1\nstrays ";
-    assert!(rt; report.as_str().starts_with(want));
-    assert_eq!(rt; notices.count.load(Ordering::SeqCst), 1);
-    assert_eq!(rt; notices.module.load(Ordering::SeqCst), 16);
+    let text = beside(rt.alloc())?;
+    let noticed = load_until_noticed(&rt, text.as_slice())?;
+    assert!(rt; noticed.count == 1 && noticed.module == 16);
+    let want = "module 1: complete, 1 words\nmodule 15: refused, word 0 rule 1\nstrays 0\n";
+    assert!(rt; is_text(rt.alloc(), &noticed.told, want)?);
     Ok(())
 }

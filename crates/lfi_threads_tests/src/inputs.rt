@@ -2,7 +2,10 @@
 
 ghost use Rattle.std.specs.Prelude.{◌≤◌};
 
-use crate::build::{NOP, RET, close, one_word, open, page, text};
+use crate::build::{
+    Message, NOP, RET, close, eight, is_text, one_word, open, page, piece, push_all,
+};
+use lfi_model::Summary;
 use lfi_place::{Gate, OpenGate};
 use lfi_receive::Input;
 use lfi_threads::{LoadError, NoNotices, Notices, load_all};
@@ -17,7 +20,7 @@ use std::thread::Threads;
 pub const TURNS: u32 = 100_000_000;
 
 /// A text in memory, of which a read gives at most so many bytes.
-#[derive(Drop)]
+#[derive(Clone, Copy)]
 pub struct Pieces<'a> {
     pub left: &'a [u8],
     pub most: usize,
@@ -32,8 +35,7 @@ impl<'a> Read for Pieces<'a> {
     }
 }
 
-/// The text of the report on these inputs, of which it takes at most eight; nothing where there is
-/// none.
+/// The report on these inputs, of which it takes one to eight.
 pub fn reported<
     S: Threads + Wait + Sync + AllocGlobal,
     R: Read + Send + Drop,
@@ -45,63 +47,93 @@ pub fn reported<
     verifiers: usize,
     gate: &G,
     notices: &N,
-) -> Result<String, LoadError>
+) -> Result<Summary, LoadError>
     requires verifiers { (1 ≤ verifiers) × (verifiers ≤ 8) }
 {
     inputs.truncate(8);
     if inputs.is_empty() {
-        return Ok(String::new(rt.alloc()));
+        return Err(LoadError::NoMemory);
     }
-    let summary = load_all(rt, rt.alloc(), inputs, verifiers, gate, notices)?.summary();
-    Ok(format!(in rt.alloc(); "{summary}")?)
+    Ok(load_all(rt, rt.alloc(), inputs, verifiers, gate, notices)?.summary())
+}
+
+/// The report on what one reader gives, with two verifiers.
+pub fn reported_of<
+    S: Threads + Wait + Sync + AllocGlobal,
+    R: Read + Send + Drop,
+    N: Notices + Sync,
+>(rt: &S, reader: R, notices: &N) -> Result<Summary, LoadError> {
+    let mut inputs = Vec::new(rt.alloc());
+    inputs.push(Input::new(rt.alloc(), reader)?)?;
+    reported(rt, inputs, 2, &OpenGate, notices)
 }
 
 /// These texts as inputs, each in pieces of so many bytes.
-fn in_pieces(
+fn in_pieces<'a>(
     alloc: Global,
-    texts: &[Vec<u8>],
+    texts: &[&'a [u8]],
     most: usize,
-) -> Result<Vec<Input<Pieces<'_>>>, AllocError> {
+) -> Result<Vec<Input<Pieces<'a>>>, AllocError> {
     let mut inputs = Vec::new(alloc);
-    for text in texts {
-        let left = text.as_slice();
-        inputs.push(Input::new(alloc, Pieces { left, most })?)?;
+    for left in texts {
+        inputs.push(Input::new(alloc, Pieces { left: *left, most })?)?;
     }
     Ok(inputs)
 }
 
-/// The text of the report on these texts, each in pieces of so many bytes.
+/// The report on these texts, each in pieces of so many bytes.
 pub fn loaded<S: Threads + Wait + Sync + AllocGlobal, G: Gate + Sync>(
     rt: &S,
-    texts: &[Vec<u8>],
+    texts: &[&[u8]],
     most: usize,
     verifiers: usize,
     gate: &G,
-) -> Result<String, LoadError>
+) -> Result<Summary, LoadError>
     requires verifiers { (1 ≤ verifiers) × (verifiers ≤ 8) }
 {
     let inputs = in_pieces(rt.alloc(), texts, most)?;
     reported(rt, inputs, verifiers, gate, &NoNotices)
 }
 
+/// Whether this is told of these texts, each in pieces of so many bytes.
+fn tells<S: Threads + Wait + Sync + AllocGlobal>(
+    rt: &S,
+    texts: &[&[u8]],
+    most: usize,
+    verifiers: usize,
+    want: &str,
+) -> Result<bool, LoadError>
+    requires verifiers { (1 ≤ verifiers) × (verifiers ≤ 8) }
+{
+    let told = loaded(rt, texts, most, verifiers, &OpenGate)?;
+    Ok(is_text(rt.alloc(), &told, want)?)
+}
+
 /// Two modules of 2,049 NOPs each, numbers 2 n and 2 n + 1, whose pages come in turns.
-fn two_modules(alloc: Global, n: u16) -> Result<Vec<u8>, AllocError> {
-    let (first, second) = (n.saturating_mul(2), n.saturating_mul(2).saturating_add(1));
-    text(
-        alloc,
-        &[
-            open(first, 2049),
-            open(second, 2049),
-            page(first, 0, 1024),
-            page(second, 0, 1024),
-            page(first, 1, 1024),
-            page(second, 1, 1024),
-            page(second, 2, 1),
-            page(first, 2, 1),
-            close(first),
-            close(second),
-        ],
-    )
+fn two_modules(n: u16) -> [Message; 10] {
+    let first = n.saturating_mul(2);
+    let second = first.saturating_add(1);
+    [
+        open(first, 2049),
+        open(second, 2049),
+        page(first, 0, 1024),
+        page(second, 0, 1024),
+        page(first, 1, 1024),
+        page(second, 1, 1024),
+        page(second, 2, 1),
+        page(first, 2, 1),
+        close(first),
+        close(second),
+    ]
+}
+
+/// Modules 0 to 15, two and two in a text, one text after the other.
+fn sixteen_modules(alloc: Global) -> Result<Vec<u8>, AllocError> {
+    let mut texts = Vec::new(alloc);
+    for n in 0..8u16 {
+        push_all(&mut texts, &two_modules(n))?;
+    }
+    Ok(texts)
 }
 
 const SIXTEEN: &str = "\
@@ -124,50 +156,27 @@ module 15: complete, 2049 words
 strays 0
 ";
 
-/// The first of these lengths of pieces at which eight streams of two modules are told otherwise.
-fn first_otherwise<S: Threads + Wait + Sync + AllocGlobal>(
-    rt: &S,
-    lengths: &[usize],
-) -> Result<Option<usize>, LoadError> {
-    let mut texts = Vec::new(rt.alloc());
-    for number in 0..8u16 {
-        texts.push(two_modules(rt.alloc(), number)?)?;
-    }
-    for most in lengths {
-        if loaded(rt, texts.as_slice(), *most, 8, &OpenGate)?.as_str() != SIXTEEN {
-            return Ok(Some(*most));
-        }
-    }
-    Ok(None)
-}
+/// How many bytes two such modules take: two Opens, four full pages, two of a word, two Closes.
+const TWO_MODULES: usize = 2 * 12 + 4 * (12 + 4096) + 2 * (12 + 4) + 2 * 12;
 
 #[test]
 fn eight_streams_of_two_modules(rt: HostRuntime) -> Result<(), Fail> {
-    assert_eq!(rt; first_otherwise(&rt, &[4096, 5000, 13])?, None);
-    Ok(())
-}
-
-/// The first number of verifiers with which a stream that is cut off is told otherwise, between a
-/// whole one and an empty one.
-fn first_verifiers_otherwise<S: Threads + Wait + Sync + AllocGlobal>(
-    rt: &S,
-) -> Result<Option<usize>, LoadError> {
-    let mut cut = one_word(rt.alloc(), 0, RET)?;
-    cut.truncate(30);
-    let texts = [one_word(rt.alloc(), 5, RET)?, cut, Vec::new(rt.alloc())];
-    let want =
-        "module 0: lost, fault 9\nmodule 5: complete, 1 words\nconnection 1: fault 9\nstrays 0\n";
-    for verifiers in 1..=8usize {
-        if loaded(rt, &texts, 7, verifiers, &OpenGate)?.as_str() != want {
-            return Ok(Some(verifiers));
-        }
+    let texts = sixteen_modules(rt.alloc())?;
+    assert!(rt; texts.len() == 8 * TWO_MODULES);
+    for most in [4096usize, 5000, 13] {
+        assert!(rt; tells(&rt, &eight(texts.as_slice()), most, 8, SIXTEEN)?);
     }
-    Ok(None)
+    Ok(())
 }
 
 #[test]
 fn one_that_is_cut_off_beside_others(rt: HostRuntime) -> Result<(), Fail> {
-    assert_eq!(rt; first_verifiers_otherwise(&rt)?, None);
+    let (whole, cut) = (one_word(5, RET), one_word(0, RET));
+    let want =
+        "module 0: lost, fault 9\nmodule 5: complete, 1 words\nconnection 1: fault 9\nstrays 0\n";
+    for verifiers in 1..=8usize {
+        assert!(rt; tells(&rt, &[&whole, piece(&cut, 0, 30), &[]], 7, verifiers, want)?);
+    }
     Ok(())
 }
 
@@ -217,26 +226,21 @@ fn that_meet<'a>(
     Ok(inputs)
 }
 
-/// The text of the report on two streams whose readers wait for each other, and how many of them
-/// met the other.
-fn met_report<S: Threads + Wait + Sync + AllocGlobal>(rt: &S) -> Result<(String, u64), LoadError> {
-    let first = one_word(rt.alloc(), 0, RET)?;
-    let second = one_word(rt.alloc(), 1, NOP)?;
+/// The report on two streams whose readers wait for each other, and how many of them met the other.
+fn met_report<S: Threads + Wait + Sync + AllocGlobal>(rt: &S) -> Result<(Summary, u64), LoadError> {
+    let (first, second) = (one_word(0, RET), one_word(1, NOP));
+    let texts: [&[u8]; 2] = [&first, &second];
     let begun = [AtomicU64::new(0), AtomicU64::new(0)];
     let met = AtomicU64::new(0);
-    let texts = [first.as_slice(), second.as_slice()];
     let inputs = that_meet(rt.alloc(), texts, &begun, &met)?;
-    let report = reported(rt, inputs, 2, &OpenGate, &NoNotices)?;
-    Ok((report, met.load(Ordering::SeqCst)))
+    let told = reported(rt, inputs, 2, &OpenGate, &NoNotices)?;
+    Ok((told, met.load(Ordering::SeqCst)))
 }
 
 #[test]
 fn two_readers_that_wait_for_each_other(rt: HostRuntime) -> Result<(), Fail> {
-    let (report, met) = met_report(&rt)?;
-    assert_eq!(rt;
-        report.as_str(),
-        "module 0: complete, 1 words\nmodule 1: complete, 1 words\nstrays 0\n"
-    );
-    assert_eq!(rt; met, 2);
+    let (told, met) = met_report(&rt)?;
+    let want = "module 0: complete, 1 words\nmodule 1: complete, 1 words\nstrays 0\n";
+    assert!(rt; met == 2 && is_text(rt.alloc(), &told, want)?);
     Ok(())
 }

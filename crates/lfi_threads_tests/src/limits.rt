@@ -1,131 +1,257 @@
-//! Clients that are waited for, and heard, for some time.
+//! Clients that send what they have before any is taken: more or fewer than are taken, and some that
+//! are heard for some time.
 
-use crate::build::{RET, one_word};
-use crate::clients::{BOTH, connect_all, modules_0_and_3, send_all, send_pieces, served};
+use crate::build::{MODULE_0, MODULE_3, MODULE_7};
+use crate::clients::{BOTH, TWO, Told, connect_all, send_all, send_pieces, served};
 use lfi_place::OpenGate;
 use std::fs;
-use std::io::{Read, Write};
+use std::fs::Files;
+use std::io::Read;
+use std::net::Net;
 use std::os::unix::net::{UnixListener, UnixStream};
+use std::rt::Clock;
+use std::sync::Wait;
 use std::test::Fail;
+use std::thread::Threads;
 use std::time::Duration;
 
 /// A time that is over soon, in milliseconds.
 const SOON: u64 = 50;
 
-/// A time that no test lasts, in seconds: a day.
-const LATE: u64 = 86_400;
+/// A time that no test lasts, in milliseconds: a day.
+const LATE: u64 = 86_400_000;
 
-#[test]
-fn nobody_comes_in_time(rt: HostRuntime) -> Result<(), Fail> {
-    let path = "nobody.socket";
-    let listener = UnixListener::bind(&rt, path)?;
-    let limit = Some(Duration::from_millis(SOON));
-    let (report, all_accepted) = served(&rt, listener, path, 2, limit, &OpenGate)?;
-    assert_eq!(rt; report.as_str(), "strays 0\n");
-    assert!(rt; !all_accepted);
-    assert!(rt; fs::metadata(&rt, path).is_err());
-    Ok(())
+/// More bytes than a text has.
+const ALL: usize = 4096;
+
+/// What clients do that have come and sent a text.
+#[derive(Clone, Copy, PartialEq, Eq)]
+enum Then {
+    /// They go away.
+    Go,
+    /// They stay.
+    Stay,
 }
 
-/// A client that is heard until the time is over: how many bytes of a module of one word it sends,
-/// and what is told.
+/// The clients' texts, of which each sends so many bytes, and what they do then. How many are taken,
+/// in how many milliseconds; whether these were all, and what is told.
 #[derive(Clone, Copy)]
-struct Stays {
+struct Row {
+    texts: &'static [&'static [u8]],
     sends: usize,
-    told: &'static str,
+    then: Then,
+    connections: usize,
+    limit: u64,
+    all_accepted: bool,
+    want: &'static str,
 }
 
-const STAYS: [Stays; 4] = [
-    Stays {
+const ROWS: [Row; 9] = [
+    // Nobody comes in time.
+    Row {
+        texts: &[],
+        sends: ALL,
+        then: Then::Go,
+        connections: 2,
+        limit: SOON,
+        all_accepted: false,
+        want: "strays 0\n",
+    },
+    // A client that stays ends where it is.
+    Row {
+        texts: &[&MODULE_7],
         sends: 0,
-        told: "strays 0\n",
+        then: Then::Stay,
+        connections: 1,
+        limit: SOON,
+        all_accepted: true,
+        want: "strays 0\n",
     },
     // Within a header.
-    Stays {
+    Row {
+        texts: &[&MODULE_7],
         sends: 5,
-        told: "connection 0: fault 9\nstrays 0\n",
+        then: Then::Stay,
+        connections: 1,
+        limit: SOON,
+        all_accepted: true,
+        want: "connection 0: fault 9\nstrays 0\n",
     },
     // Within a page.
-    Stays {
+    Row {
+        texts: &[&MODULE_7],
         sends: 26,
-        told: "module 7: lost, fault 9\nconnection 0: fault 9\nstrays 0\n",
+        then: Then::Stay,
+        connections: 1,
+        limit: SOON,
+        all_accepted: true,
+        want: "module 7: lost, fault 9\nconnection 0: fault 9\nstrays 0\n",
     },
     // All of it.
-    Stays {
+    Row {
+        texts: &[&MODULE_7],
         sends: 40,
-        told: "module 7: complete, 1 words\nstrays 0\n",
+        then: Then::Stay,
+        connections: 1,
+        limit: SOON,
+        all_accepted: true,
+        want: "module 7: complete, 1 words\nstrays 0\n",
+    },
+    // All that stay end where they are.
+    Row {
+        texts: &[&MODULE_0, &MODULE_3],
+        sends: ALL,
+        then: Then::Stay,
+        connections: 2,
+        limit: SOON,
+        all_accepted: true,
+        want: BOTH,
+    },
+    // One of two comes in time.
+    Row {
+        texts: &[&MODULE_7],
+        sends: ALL,
+        then: Then::Go,
+        connections: 2,
+        limit: SOON,
+        all_accepted: false,
+        want: "module 7: complete, 1 words\nstrays 0\n",
+    },
+    // All are done long before the time is over.
+    Row {
+        texts: &[&MODULE_0, &MODULE_3],
+        sends: ALL,
+        then: Then::Go,
+        connections: 2,
+        limit: LATE,
+        all_accepted: true,
+        want: BOTH,
+    },
+    // No time at all: both had come before, and what they sent is heard.
+    Row {
+        texts: &[&MODULE_0, &MODULE_3],
+        sends: ALL,
+        then: Then::Go,
+        connections: 3,
+        limit: 0,
+        all_accepted: false,
+        want: BOTH,
     },
 ];
 
+/// What is told of clients; of how many that stayed the connection was closed in the end, and whether
+/// the path was gone then.
+#[derive(Clone, Copy)]
+struct Heard {
+    told: Told,
+    closed: usize,
+    gone: bool,
+}
+
+/// How many of these clients have nothing to read, as their connections were closed.
+fn closed_of(clients: &[UnixStream]) -> usize {
+    let mut closed = 0usize;
+    for client in clients {
+        let mut client: &UnixStream = client;
+        if client.read(&mut [0]).is_ok_and(|count| count == 0) {
+            closed = closed.saturating_add(1);
+        }
+    }
+    closed
+}
+
+/// What came of the clients of a row, who have come and sent their texts before any is taken.
+fn hear<S: Threads + Wait + Files + Clock + Net + Sync + AllocGlobal>(
+    rt: &S,
+    row: &Row,
+) -> Result<Heard, Fail> {
+    let path = "limited.socket";
+    let limit = Some(Duration::from_millis(row.limit));
+    let listener = UnixListener::bind(rt, path)?;
+    let mut clients = connect_all(rt, path, row.texts.len())?;
+    send_pieces(clients.as_slice(), row.texts, 0, row.sends)?;
+    if row.then == Then::Go {
+        clients.clear();
+    }
+    let told = served(rt, listener, path, row.connections, limit, &OpenGate)?;
+    Ok(Heard {
+        told,
+        closed: closed_of(clients.as_slice()),
+        gone: fs::metadata(rt, path).is_err(),
+    })
+}
+
+/// Whether a row comes to what it says, and the path is gone then.
+fn is_so<S: Threads + Wait + Files + Clock + Net + Sync + AllocGlobal>(
+    rt: &S,
+    row: &Row,
+) -> Result<bool, Fail> {
+    let heard = hear(rt, row)?;
+    let stayed = match row.then {
+        Then::Go => 0,
+        Then::Stay => row.texts.len(),
+    };
+    let told = heard.told.is(rt.alloc(), row.all_accepted, row.want)?;
+    Ok(told && heard.closed == stayed && heard.gone)
+}
+
 #[test]
-fn a_client_that_stays_ends_where_it_is(rt: HostRuntime) -> Result<(), Fail> {
-    let path = "stays.socket";
-    let text = one_word(rt.alloc(), 7, RET)?;
-    for case in STAYS {
-        let listener = UnixListener::bind(&rt, path)?;
-        let mut client = UnixStream::connect(&rt, path)?;
-        client.write_all(&text.as_slice()[..case.sends.min(text.len())])?;
-        let limit = Some(Duration::from_millis(SOON));
-        let (report, all_accepted) = served(&rt, listener, path, 1, limit, &OpenGate)?;
-        assert_eq!(rt; report.as_str(), case.told);
-        assert!(rt; all_accepted);
-        assert!(rt; client.read(&mut [0])? == 0);
-        assert!(rt; fs::metadata(&rt, path).is_err());
+fn clients_in_some_time(rt: HostRuntime) -> Result<(), Fail> {
+    for row in &ROWS {
+        assert!(rt; is_so(&rt, row)?);
     }
     Ok(())
 }
 
-#[test]
-fn all_that_stay_end_where_they_are(rt: HostRuntime) -> Result<(), Fail> {
-    let path = "all_stay.socket";
-    let texts = modules_0_and_3(rt.alloc())?;
-    let listener = UnixListener::bind(&rt, path)?;
-    let mut clients = connect_all(&rt, path, texts.len())?;
-    send_pieces(clients.as_slice(), texts.as_slice(), 0, 4096)?;
-    let limit = Some(Duration::from_millis(SOON));
-    let (report, all_accepted) = served(&rt, listener, path, 2, limit, &OpenGate)?;
-    assert_eq!(rt; report.as_str(), BOTH);
-    assert!(rt; all_accepted);
-    for client in &mut clients {
-        assert!(rt; client.read(&mut [0])? == 0);
-    }
-    Ok(())
+/// What became of a client more than were taken.
+#[derive(Clone, Copy)]
+struct More {
+    told: Told,
+    /// How many bytes it reads.
+    reads: usize,
+    /// Whether another one connects then.
+    connects: bool,
+}
+
+fn one_more<S: Threads + Wait + Files + Clock + Net + Sync + AllocGlobal>(
+    rt: &S,
+    texts: &[&[u8]],
+) -> Result<More, Fail> {
+    let path = "one_more.socket";
+    let listener = UnixListener::bind(rt, path)?;
+    send_all(rt, path, texts, &[4096])?;
+    let mut third = UnixStream::connect(rt, path)?;
+    let told = served(rt, listener, path, 2, None, &OpenGate)?;
+    Ok(More {
+        told,
+        reads: third.read(&mut [0]).unwrap_or(0),
+        connects: UnixStream::connect(rt, path).is_ok(),
+    })
 }
 
 #[test]
-fn one_of_two_comes_in_time(rt: HostRuntime) -> Result<(), Fail> {
-    let path = "one_of_two.socket";
-    let listener = UnixListener::bind(&rt, path)?;
-    send_all(&rt, path, &[one_word(rt.alloc(), 7, RET)?], &[4096])?;
-    let limit = Some(Duration::from_millis(SOON));
-    let (report, all_accepted) = served(&rt, listener, path, 2, limit, &OpenGate)?;
-    assert_eq!(rt; report.as_str(), "module 7: complete, 1 words\nstrays 0\n");
-    assert!(rt; !all_accepted);
+fn a_client_more_than_are_taken(rt: HostRuntime) -> Result<(), Fail> {
+    let more = one_more(&rt, &TWO)?;
+    assert!(rt; more.told.is(rt.alloc(), true, BOTH)?);
+    assert!(rt; more.reads == 0 && !more.connects);
     Ok(())
 }
 
-#[test]
-fn all_are_done_long_before_the_time_is_over(rt: HostRuntime) -> Result<(), Fail> {
-    let path = "done.socket";
-    let listener = UnixListener::bind(&rt, path)?;
-    send_all(&rt, path, modules_0_and_3(rt.alloc())?.as_slice(), &[4096])?;
-    let limit = Some(Duration::from_secs(LATE));
-    let (report, all_accepted) = served(&rt, listener, path, 2, limit, &OpenGate)?;
-    assert_eq!(rt; report.as_str(), BOTH);
-    assert!(rt; all_accepted);
-    assert!(rt; fs::metadata(&rt, path).is_err());
-    Ok(())
+/// What is told of three clients of a listener that doesn't wait, where one has come.
+fn told_unwaited<S: Threads + Wait + Files + Clock + Net + Sync + AllocGlobal>(
+    rt: &S,
+    text: &[u8],
+) -> Result<Told, Fail> {
+    let path = "not_accepted.socket";
+    let listener = UnixListener::bind(rt, path)?;
+    send_all(rt, path, &[text], &[4096])?;
+    listener.set_nonblocking(true)?;
+    Ok(served(rt, listener, path, 3, None, &OpenGate)?)
 }
 
 #[test]
-fn no_time_at_all(rt: HostRuntime) -> Result<(), Fail> {
-    let path = "no_time.socket";
-    let listener = UnixListener::bind(&rt, path)?;
-    send_all(&rt, path, modules_0_and_3(rt.alloc())?.as_slice(), &[4096])?;
-    // Both had come before, and what they sent is heard.
-    let limit = Some(Duration::ZERO);
-    let (report, all_accepted) = served(&rt, listener, path, 3, limit, &OpenGate)?;
-    assert_eq!(rt; report.as_str(), BOTH);
-    assert!(rt; !all_accepted);
+fn a_client_that_is_not_accepted(rt: HostRuntime) -> Result<(), Fail> {
+    let told = told_unwaited(&rt, &MODULE_7)?;
+    assert!(rt; told.is(rt.alloc(), false, "module 7: complete, 1 words\nstrays 0\n")?);
     Ok(())
 }

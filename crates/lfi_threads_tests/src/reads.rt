@@ -1,9 +1,7 @@
 //! Readers that fail or end once, and would give more bytes after that.
 
-use crate::build::{RET, one_word};
-use crate::inputs::{Pieces, reported};
-use lfi_place::OpenGate;
-use lfi_receive::Input;
+use crate::build::{RET, is_text, one_word};
+use crate::inputs::{Pieces, reported_of};
 use lfi_threads::{LoadError, NoNotices};
 use std::io::{self, ErrorKind, Read};
 use std::sync::Wait;
@@ -20,7 +18,7 @@ enum Answer {
 
 /// A text in memory, of which the read with this number, from 0 on, is answered otherwise. The reads
 /// are counted.
-#[derive(Drop)]
+#[derive(Clone, Copy)]
 struct Counted<'a> {
     text: Pieces<'a>,
     read: u64,
@@ -75,49 +73,38 @@ const ROWS: [(usize, u64, Answer, &str); 9] = [
     ),
 ];
 
-/// The text of the report on what one reader gives.
-fn told<S: Threads + Wait + Sync + AllocGlobal, R: Read + Send + Drop>(
+/// Whether this is told of module 0, of which a read gives so many bytes and one is answered
+/// otherwise, which is the last.
+fn is_told<S: Threads + Wait + Sync + AllocGlobal>(
     rt: &S,
-    reader: R,
-) -> Result<String, LoadError> {
-    let mut inputs = Vec::new(rt.alloc());
-    inputs.push(Input::new(rt.alloc(), reader)?)?;
-    reported(rt, inputs, 2, &OpenGate, &NoNotices)
-}
-
-/// The text of the report on a text, of which a read gives so many bytes and one is answered
-/// otherwise, and how many reads there were.
-fn told_and_counted<S: Threads + Wait + Sync + AllocGlobal>(
-    rt: &S,
-    text: Pieces<'_>,
+    most: usize,
     read: u64,
     answer: Answer,
-) -> Result<(String, u64), LoadError> {
+    want: &str,
+) -> Result<bool, LoadError> {
+    let left: &[u8] = &one_word(0, RET);
     let reads = AtomicU64::new(0);
     let reader = Counted {
-        text,
+        text: Pieces { left, most },
         read,
         answer,
         reads: &reads,
     };
-    let report = told(rt, reader)?;
-    Ok((report, reads.load(Ordering::SeqCst)))
+    let told = reported_of(rt, reader, &NoNotices)?;
+    let counted = reads.load(Ordering::SeqCst) == read.saturating_add(1);
+    Ok(counted && is_text(rt.alloc(), &told, want)?)
 }
 
 #[test]
 fn a_read_that_is_answered_otherwise_is_the_last(rt: HostRuntime) -> Result<(), Fail> {
-    let bytes = one_word(rt.alloc(), 0, RET)?;
     for (most, read, answer, want) in ROWS {
-        let left = bytes.as_slice();
-        let (report, reads) = told_and_counted(&rt, Pieces { left, most }, read, answer)?;
-        assert_eq!(rt; report.as_str(), want);
-        assert!(rt; reads == read.saturating_add(1));
+        assert!(rt; is_told(&rt, most, read, answer, want)?);
     }
     Ok(())
 }
 
 /// So many headers, a read each, that are strays.
-#[derive(Drop)]
+#[derive(Clone, Copy)]
 struct Strays {
     left: u32,
 }
@@ -138,7 +125,7 @@ impl Read for Strays {
 
 #[test]
 fn more_than_a_million_turns(rt: HostRuntime) -> Result<(), Fail> {
-    let report = told(&rt, Strays { left: 1_100_000 })?;
-    assert_eq!(rt; report.as_str(), "strays 1100000\n");
+    let told = reported_of(&rt, Strays { left: 1_100_000 }, &NoNotices)?;
+    assert!(rt; is_text(rt.alloc(), &told, "strays 1100000\n")?);
     Ok(())
 }

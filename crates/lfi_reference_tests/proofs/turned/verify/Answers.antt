@@ -4,7 +4,7 @@ use Rattle.std.proofs.lemmas.Option.{slice_get_read}
 use Rattle.lfi_stage.proofs.Kept.{verifier_stays}
 use Rattle.lfi_stage.specs.Shares.{intake_of, lanes_of}
 use Rattle.lfi_stage.proofs.Staying.{with_verifier}
-use Rattle.lfi_reference_tests.proofs.turned.verify_told.Goals as goal
+use Rattle.lfi_reference_tests.proofs.turned.verify.Goals as goal
 
 pub returns : goal.returns
 returns g c =
