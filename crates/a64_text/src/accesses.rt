@@ -51,14 +51,20 @@ impl fmt::Display for Assembly<Ordered> {
     }
 }
 
+/// Whether the offset is signed, and the base isn't changed.
+fn is_unscaled(mode: IndexMode) -> bool
+    ensures { result ≡ spec.is_unscaled mode }
+{
+    mode == IndexMode::Unscaled
+}
+
 impl fmt::Display for Assembly<SignedOffset> {
     ghost output = { λ i. Some (spec.text (Instruction.SignedOffset i.0)) };
 
     /// Writes the instruction, as `str x0, [sp, #-16]!`.
     fn fmt<W: fmt::Write>(&self, f: &mut fmt::Formatter<W>) -> fmt::Result {
-        let unscaled = self.0.mode == IndexMode::Unscaled;
         let name = Access {
-            unscaled,
+            unscaled: is_unscaled(self.0.mode),
             transfer: self.0.transfer,
             size: self.0.size,
         };

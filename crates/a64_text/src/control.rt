@@ -1,6 +1,7 @@
 //! Branches and BRK.
 
-ghost use Rattle.std.specs.Prelude.{Some};
+ghost use Rattle.std.specs.Prelude.{◌≡◌, Some, nat_lt, if◌then◌else◌};
+ghost use Rattle.a64_word.specs.declared.operands.Width.TheVariants.{W, X};
 ghost use Rattle.a64_word.specs.declared.instruction.Instruction.{Instruction};
 ghost use Rattle.a64_text.specs.Texts as spec;
 
@@ -46,14 +47,20 @@ impl fmt::Display for Assembly<CompareBranch> {
     }
 }
 
+/// The width of a register of which this bit is tested.
+fn tested_width(bit: u8) -> Width
+    ensures { result ≡ (if nat_lt bit 32 then W else X) }
+{
+    if bit < 32 { Width::W } else { Width::X }
+}
+
 impl fmt::Display for Assembly<TestBranch> {
     ghost output = { λ i. Some (spec.text (Instruction.TestBranch i.0)) };
 
     /// Writes the instruction, as `tbz w0, #3, .-4`.
     fn fmt<W: fmt::Write>(&self, f: &mut fmt::Formatter<W>) -> fmt::Result {
         let name = if self.0.nonzero { "tbnz" } else { "tbz" };
-        let width = if self.0.bit < 32 { Width::W } else { Width::X };
-        let rt = GeneralRegister(width, self.0.rt);
+        let rt = GeneralRegister(tested_width(self.0.bit), self.0.rt);
         write!(
             f,
             "{name} {rt}, #{}, {}",

@@ -1,4 +1,3 @@
 mod Asked
-mod Making
 mod Needs
 mod Walked

@@ -1,9 +1,9 @@
 //! The program's command, for the parser.
 
-ghost use Rattle.std.specs.Prelude.{◌≡◌, IfOk, false};
-ghost use Rattle.clap.specs.Words.{rule_of};
+ghost use Rattle.std.specs.Prelude.{◌≡◌, IfOk, false, codes};
+ghost use Rattle.clap.specs.Words.{App, Rule, rule_of, with_rule, with_subcommand};
 ghost use Rattle.clap.specs.declared.builder.value_parser.ValueParser.TheVariants.{Unsigned};
-ghost use Rattle.lfi_command_line.specs.Apps.{Makes, required_rule, several_rule, option_rule, number_rule, profile_rule, flag_rule, check_app, load_app, serve_app, run_app, disassemble_app, pack_app, bare_app, lfiload_app};
+ghost use Rattle.lfi_command_line.specs.Apps.{Makes, needed, required_rule, several_rule, option_rule, number_rule, profile_rule, flag_rule, check_app, load_app, serve_app, run_app, disassemble_app, pack_app, bare_app, lfiload_app};
 
 use crate::help;
 use clap::builder::ValueParser;
@@ -94,123 +94,174 @@ fn flag<'a>(alloc: Global, name: &'a str, text: &'a str) -> Arg<'a>
         .help(text)
 }
 
-/// The command `check` and its words.
-fn check_command<'a>(alloc: Global) -> Result<Command<'a>, AllocError>
-    ensures { IfOk result (Makes check_app) }
+/// The option by which verifiers are counted.
+fn verifiers_argument<'a>(alloc: Global) -> Arg<'a>
+    ensures rule { rule_of result ≡ number_rule (codes "verifiers") (Unsigned 1 8) }
+    ensures local { result.global ≡ false }
 {
-    let explain = flag(alloc, "explain", help::EXPLAIN);
-    let all = flag(alloc, "all", help::ALL);
-    let profile = profile_argument(alloc);
-    let file = required_argument(alloc, "FILE", help::FILE);
-    Command::new(alloc, "check")
-        .about("Tells whether the code in a file is lawful")
-        .after_help(help::CHECK)
-        .arg(explain)?
-        .arg(all)?
-        .arg(profile)?
-        .arg(file)
-}
-
-/// The command `load` and its words.
-fn load_command<'a>(alloc: Global) -> Result<Command<'a>, AllocError>
-    ensures { IfOk result (Makes load_app) }
-{
-    let verifiers = number_argument(
+    number_argument(
         alloc,
         "verifiers",
         "V",
         help::VERIFIERS,
         (1, MOST_VERIFIERS),
-    );
-    let out = option_argument(alloc, "out", "DIR", help::OUT);
-    let streams = several_arguments(alloc, "STREAM", help::STREAM);
-    let explain = flag(alloc, "explain", help::EXPLAIN_MODULES);
-    Command::new(alloc, "load")
-        .about("Loads the modules of streams, and prints the report")
-        .after_help(help::LOAD)
-        .arg(verifiers)?
-        .arg(out)?
-        .arg(streams)?
-        .arg(explain)
+    )
 }
 
-/// The command `serve` and its words.
-fn serve_command<'a>(alloc: Global) -> Result<Command<'a>, AllocError>
-    ensures { IfOk result (Makes serve_app) }
+/// The option by which images' folder is named.
+fn out_argument<'a>(alloc: Global) -> Arg<'a>
+    ensures rule { rule_of result ≡ option_rule (codes "out") }
+    ensures local { result.global ≡ false }
 {
-    let socket = option_argument(alloc, "socket", "P", help::SOCKET).required(true);
-    let connections = number_argument(
+    option_argument(alloc, "out", "DIR", help::OUT)
+}
+
+/// The flag that asks why modules are refused.
+fn explain_modules<'a>(alloc: Global) -> Arg<'a>
+    ensures rule { rule_of result ≡ flag_rule (codes "explain") }
+    ensures local { result.global ≡ false }
+{
+    flag(alloc, "explain", help::EXPLAIN_MODULES)
+}
+
+/// The option by which a socket is named, which has to be there.
+fn socket_argument<'a>(alloc: Global) -> Arg<'a>
+    ensures rule { rule_of result ≡ needed (option_rule (codes "socket")) }
+    ensures local { result.global ≡ false }
+{
+    option_argument(alloc, "socket", "P", help::SOCKET).required(true)
+}
+
+/// The option by which connections are counted, which has to be there.
+fn connections_argument<'a>(alloc: Global) -> Arg<'a>
+    ensures rule { rule_of result ≡ needed (number_rule (codes "connections") (Unsigned 1 8)) }
+    ensures local { result.global ≡ false }
+{
+    number_argument(
         alloc,
         "connections",
         "C",
         help::CONNECTIONS,
         (1, MOST_CONNECTIONS),
     )
-    .required(true);
-    let verifiers = number_argument(
-        alloc,
-        "verifiers",
-        "V",
-        help::VERIFIERS,
-        (1, MOST_VERIFIERS),
-    );
-    let seconds = number_argument(alloc, "seconds", "N", help::SECONDS, (1, MOST_SECONDS));
-    let out = option_argument(alloc, "out", "DIR", help::OUT);
-    let explain = flag(alloc, "explain", help::EXPLAIN_MODULES);
-    Command::new(alloc, "serve")
+    .required(true)
+}
+
+/// The option by which steps are counted, which has to be there.
+fn steps_argument<'a>(alloc: Global) -> Arg<'a>
+    ensures rule { rule_of result ≡ needed (number_rule (codes "steps") (Unsigned 0 1000000000)) }
+    ensures local { result.global ≡ false }
+{
+    number_argument(alloc, "steps", "N", help::STEPS, (0, MOST_STEPS)).required(true)
+}
+
+/// The command with one more argument, where there was memory for it so far.
+fn with<'a>(
+    command: Result<Command<'a>, AllocError>,
+    argument: Arg<'a>,
+) -> Result<Command<'a>, AllocError>
+    ensures { (app : App) (rule : Rule) → IfOk command.entry (Makes app) → rule_of argument.entry ≡ rule → argument.entry.global ≡ false → IfOk result (Makes (with_rule app rule)) }
+{
+    command?.arg(argument)
+}
+
+/// The command with one more subcommand, where there was memory for both so far.
+fn with_subcommand<'a>(
+    command: Result<Command<'a>, AllocError>,
+    subcommand: Result<Command<'a>, AllocError>,
+) -> Result<Command<'a>, AllocError>
+    ensures { (app subapp : App) → IfOk command.entry (Makes app) → IfOk subcommand.entry (Makes subapp) → IfOk result (Makes (with_subcommand app subapp.top)) }
+{
+    command?.subcommand(subcommand?)
+}
+
+/// The command `check` and its words.
+fn check_command<'a>(alloc: Global) -> Result<Command<'a>, AllocError>
+    ensures { IfOk result (Makes check_app) }
+{
+    let check = Command::new(alloc, "check")
+        .about("Tells whether the code in a file is lawful")
+        .after_help(help::CHECK);
+    let explain = with(Ok(check), flag(alloc, "explain", help::EXPLAIN));
+    let all = with(explain, flag(alloc, "all", help::ALL));
+    let profile = with(all, profile_argument(alloc));
+    with(profile, required_argument(alloc, "FILE", help::FILE))
+}
+
+/// The command `load` and its words.
+fn load_command<'a>(alloc: Global) -> Result<Command<'a>, AllocError>
+    ensures { IfOk result (Makes load_app) }
+{
+    let load = Command::new(alloc, "load")
+        .about("Loads the modules of streams, and prints the report")
+        .after_help(help::LOAD);
+    let verifiers = with(Ok(load), verifiers_argument(alloc));
+    let out = with(verifiers, out_argument(alloc));
+    let streams = with(out, several_arguments(alloc, "STREAM", help::STREAM));
+    with(streams, explain_modules(alloc))
+}
+
+/// The command `serve` and its words.
+fn serve_command<'a>(alloc: Global) -> Result<Command<'a>, AllocError>
+    ensures { IfOk result (Makes serve_app) }
+{
+    let serve = Command::new(alloc, "serve")
         .about("Loads the modules of streams that come over a Unix socket, and prints the report")
-        .after_help(help::SERVE)
-        .arg(socket)?
-        .arg(connections)?
-        .arg(verifiers)?
-        .arg(seconds)?
-        .arg(out)?
-        .arg(explain)
+        .after_help(help::SERVE);
+    let socket = with(Ok(serve), socket_argument(alloc));
+    let connections = with(socket, connections_argument(alloc));
+    let verifiers = with(connections, verifiers_argument(alloc));
+    let seconds = with(
+        verifiers,
+        number_argument(alloc, "seconds", "N", help::SECONDS, (1, MOST_SECONDS)),
+    );
+    let out = with(seconds, out_argument(alloc));
+    with(out, explain_modules(alloc))
 }
 
 /// The command `run` and its words.
 fn run_command<'a>(alloc: Global) -> Result<Command<'a>, AllocError>
     ensures { IfOk result (Makes run_app) }
 {
-    let steps = number_argument(alloc, "steps", "N", help::STEPS, (0, MOST_STEPS)).required(true);
-    let image = required_argument(alloc, "IMAGE", help::IMAGE);
-    Command::new(alloc, "run")
+    let run = Command::new(alloc, "run")
         .about("Runs an image in a simulated machine")
-        .after_help(help::RUN)
-        .arg(steps)?
-        .arg(image)
+        .after_help(help::RUN);
+    let steps = with(Ok(run), steps_argument(alloc));
+    with(steps, required_argument(alloc, "IMAGE", help::IMAGE))
 }
 
 /// The command `disassemble` and its words.
 fn disassemble_command<'a>(alloc: Global) -> Result<Command<'a>, AllocError>
     ensures { IfOk result (Makes disassemble_app) }
 {
-    let profile = profile_argument(alloc);
-    let file = required_argument(alloc, "FILE", help::FILE);
-    Command::new(alloc, "disassemble")
+    let disassemble = Command::new(alloc, "disassemble")
         .about("Lists the words of a file, each with its place and its text")
-        .after_help(help::DISASSEMBLE)
-        .arg(profile)?
-        .arg(file)
+        .after_help(help::DISASSEMBLE);
+    let profile = with(Ok(disassemble), profile_argument(alloc));
+    with(profile, required_argument(alloc, "FILE", help::FILE))
 }
 
 /// The command `pack` and its words.
 fn pack_command<'a>(alloc: Global) -> Result<Command<'a>, AllocError>
     ensures { IfOk result (Makes pack_app) }
 {
-    let module = number_argument(alloc, "module", "M", help::MODULE, (0, LAST_MODULE));
-    let entry = number_argument(alloc, "entry", "WORD", help::ENTRY, (0, LAST_WORD));
-    let profile = profile_argument(alloc);
-    let pages = option_argument(alloc, "pages", "SIZE", help::PAGES);
-    let codes = several_arguments(alloc, "CODE", help::CODE);
-    Command::new(alloc, "pack")
+    let pack = Command::new(alloc, "pack")
         .about("Writes a stream of the code in files, a module each")
-        .after_help(help::PACK)
-        .arg(module)?
-        .arg(entry)?
-        .arg(profile)?
-        .arg(pages)?
-        .arg(codes)
+        .after_help(help::PACK);
+    let module = with(
+        Ok(pack),
+        number_argument(alloc, "module", "M", help::MODULE, (0, LAST_MODULE)),
+    );
+    let entry = with(
+        module,
+        number_argument(alloc, "entry", "WORD", help::ENTRY, (0, LAST_WORD)),
+    );
+    let profile = with(entry, profile_argument(alloc));
+    let pages = with(
+        profile,
+        option_argument(alloc, "pages", "SIZE", help::PAGES),
+    );
+    with(pages, several_arguments(alloc, "CODE", help::CODE))
 }
 
 /// The program's command, without its subcommands.
@@ -229,11 +280,10 @@ fn bare_command<'a>(alloc: Global) -> Command<'a>
 pub(crate) fn command<'a>(alloc: Global) -> Result<Command<'a>, AllocError>
     ensures { IfOk result (Makes lfiload_app) }
 {
-    bare_command(alloc)
-        .subcommand(check_command(alloc)?)?
-        .subcommand(load_command(alloc)?)?
-        .subcommand(serve_command(alloc)?)?
-        .subcommand(run_command(alloc)?)?
-        .subcommand(disassemble_command(alloc)?)?
-        .subcommand(pack_command(alloc)?)
+    let check = with_subcommand(Ok(bare_command(alloc)), check_command(alloc));
+    let load = with_subcommand(check, load_command(alloc));
+    let serve = with_subcommand(load, serve_command(alloc));
+    let run = with_subcommand(serve, run_command(alloc));
+    let disassemble = with_subcommand(run, disassemble_command(alloc));
+    with_subcommand(disassemble, pack_command(alloc))
 }

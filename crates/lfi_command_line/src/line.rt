@@ -23,7 +23,7 @@ pub enum Explain {
 }
 
 /// What the program is asked for.
-#[derive(PartialEq, Eq, Debug, Drop)]
+#[derive(Debug, Drop)]
 pub enum Line<'a> {
     /// Whether the code in a file is lawful by a profile, and what is to be explained where it isn't.
     Check {

@@ -1,14 +1,12 @@
 use Rattle.std.proofs.Common.{rules, codes}
-use Rattle.std.proofs.lemmas.Result.{IfOk-weaker}
 use Rattle.clap.specs.Words.{new_app}
 use Rattle.lfi_command_line.specs.Apps.{Makes}
-use Rattle.lfi_command_line.proofs.Making.{with_argument}
 use Rattle.lfi_command_line.proofs.commands.load_command.Goals as goal
 
 pub returns : goal.returns
 returns c =
-    let new_is : Makes (new_app (codes "load")) c.after_help.result = search rules in
-    let first = with_argument new_is c.number_argument-verifiers.ensures.rule c.number_argument-verifiers.ensures.local c.in_ok-arg.ensures in
-    let second = with_argument first c.option_argument-out.ensures.rule c.option_argument-out.ensures.local c.in_ok-arg-2.ensures in
-    let third = with_argument second c.several_arguments-streams.ensures.rule c.several_arguments-streams.ensures.local c.in_ok-arg-3.ensures in
-    IfOk-weaker c.arg-4.result _ _ (λ made added. with_argument third c.flag-explain.ensures.rule c.flag-explain.ensures.local added) c.arg-4.ensures
+    let made : Makes (new_app (codes "load")) c.after_help-load.result = search rules in
+    let verifiers = c.with-verifiers.ensures _ _ made c.verifiers_argument.ensures.rule c.verifiers_argument.ensures.local in
+    let out = c.with-out.ensures _ _ verifiers c.out_argument.ensures.rule c.out_argument.ensures.local in
+    let streams = c.with-streams.ensures _ _ out c.several_arguments.ensures.rule c.several_arguments.ensures.local in
+    c.with.ensures _ _ streams c.explain_modules.ensures.rule c.explain_modules.ensures.local
