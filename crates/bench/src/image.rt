@@ -61,7 +61,7 @@ fn extent(words: u32) -> Option<Extent> {
 }
 
 /// An image of so many words, each page of which has the first words of this code.
-pub(crate) fn image(alloc: Global, words: u32, code: &[u8]) -> Result<CompleteImage, Fault> {
+fn image(alloc: Global, words: u32, code: &[u8]) -> Result<CompleteImage, Fault> {
     let Some(extent) = extent(words) else {
         return Err(Fault::Is("no module has so many words"));
     };

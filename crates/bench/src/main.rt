@@ -1,9 +1,9 @@
-//! How fast images are written and read, the machine runs, pages are written, and queues pass items on.
+//! How fast images are written and read, pages are written, and queues pass items on. How fast the machine runs `lfiload run`
+//! shows.
 //!
 //! | Words | What is measured |
 //! |---|---|
 //! | `image WORDS [ROUNDS]` | an image of so many words, built, written to a file and read back, the least time of each part in so many rounds, and the most memory |
-//! | `machine STEPS [time]` | so many steps of a loop |
 //! | `pages ROUNDS [time]` | 256 pages, written in each round |
 //! | `queues ITEMS [ROUNDS]` | so many items, put and taken, by one thread and by four |
 //!
@@ -13,7 +13,6 @@
 mod carriers;
 mod faults;
 mod image;
-mod machine;
 mod pages;
 mod queues;
 mod times;
@@ -25,21 +24,18 @@ use std::env;
 #[derive(Clone, Copy, PartialEq)]
 enum Mode {
     Image,
-    Machine,
     Pages,
     Queues,
 }
 
 impl Mode {
     /// All that there are.
-    const ALL: [Mode; 4] = [Mode::Image, Mode::Machine, Mode::Pages, Mode::Queues];
+    const ALL: [Mode; 3] = [Mode::Image, Mode::Pages, Mode::Queues];
 
     /// The mode that a word names.
     fn of(word: &str) -> Option<Mode> {
         if word == "image" {
             Some(Mode::Image)
-        } else if word == "machine" {
-            Some(Mode::Machine)
         } else if word == "pages" {
             Some(Mode::Pages)
         } else if word == "queues" {
@@ -53,7 +49,6 @@ impl Mode {
     fn count(self) -> u64 {
         match self {
             Mode::Image => 2049,
-            Mode::Machine => 1000,
             Mode::Pages => 2,
             Mode::Queues => 1000,
         }
@@ -88,7 +83,7 @@ fn mode_of(word: Option<String>) -> Result<Option<Mode>, Fault> {
     };
     match Mode::of(word.as_str()) {
         Some(mode) => Ok(Some(mode)),
-        None => Err(Fault::Is("the modes are image, machine, pages and queues")),
+        None => Err(Fault::Is("the modes are image, pages and queues")),
     }
 }
 
@@ -122,7 +117,6 @@ fn main(rt: HostRuntime) -> anyhow::Result<()> {
             let count = asked.count.unwrap_or(mode.count());
             let measured = match mode {
                 Mode::Image => image::run(&rt, count, asked.rounds),
-                Mode::Machine => machine::run(&rt, count, timed),
                 Mode::Pages => pages::run(&rt, count, timed),
                 Mode::Queues => queues::run(&rt, count, asked.rounds),
             };

@@ -3,7 +3,6 @@
 use crate::runs::{FAILED, ONE_RET, ONE_RET_REPORT, RET, begin, loaded, run_over, tells};
 use lfi_code::Verdict;
 use lfi_commands::{CommandFault, DeviceCause, Ending, Errors, Failure, Target, check, check_file};
-use lfi_model::Outcome;
 use lfi_module::Profile;
 use lfi_threads::NoNotices;
 use std::alloc::{AllocError, Global};
@@ -120,28 +119,25 @@ fn first_other_length(alloc: Global) -> Option<usize> {
     None
 }
 
-/// Code of 40,000 words is read in three pieces; SVC #0, which is no instruction here, stands in the second. Gives what is
-/// answered of it, where it is told.
-fn later_fault(alloc: Global) -> Result<Option<Result<Verdict, CommandFault>>, AllocError> {
+/// Code of 40,000 words is read in three pieces; SVC #0, which is no instruction here, stands in the second. Whether that is
+/// told.
+fn tells_a_later_fault(alloc: Global) -> Result<bool, AllocError> {
     let mut code = TWO_RETS.repeat(alloc, 20_000)?;
-    let fault = [0x01, 0x00, 0x00, 0xD4];
-    for i in 0..4usize {
-        if 80_000 + i < code.len() {
-            code[80_000 + i] = fault[i];
-        }
+    if code.len() >= 80_004 {
+        code[80_000..80_004].copy_from_slice(&[0x01, 0x00, 0x00, 0xD4]);
     }
     let reader = SlowReader {
         bytes: &code,
         left: 1_000_000,
     };
-    Ok(checked(alloc, reader, Some(160_000), "word 20000 rule 1\n"))
+    let answer = checked(alloc, reader, Some(160_000), "word 20000 rule 1\n");
+    Ok(matches!(answer, Some(Ok(_))))
 }
 
 #[test]
-fn files_of_another_length(rt: HostRuntime) -> io::Result<()> {
-    assert!(rt; first_other_length(rt.alloc()).is_none());
-    assert!(rt; matches!(later_fault(rt.alloc())?, Some(Ok(_))));
-    Ok(())
+fn files_of_another_length(rt: HostRuntime) {
+    let other = first_other_length(rt.alloc());
+    assert!(rt; other.is_none() && tells_a_later_fault(rt.alloc()) == Ok(true));
 }
 
 /// Whether this comes of RET, of which a read fails after so many bytes, and exactly this is written.
@@ -167,20 +163,14 @@ fn loads<S: Threads + Wait + Files<File = File> + Net + Clock + Sync + AllocGlob
     ending: Ending,
     is_complete: bool,
     written: &str,
-) -> Result<bool, AllocError> {
+) -> bool {
     let mut out = Vec::new(rt.alloc());
     let stream = SlowReader {
         bytes: ONE_RET.as_slice(),
         left,
     };
-    match loaded(rt, stream, 1, &NoNotices, &mut out)? {
-        Some(end) => Ok(
-            end.ending == ending
-                && (end.first == Outcome::Complete { words: 1 }) == is_complete
-                && out.as_slice() == written.as_bytes(),
-        ),
-        None => Ok(false),
-    }
+    let end = loaded(rt, stream, 1, &NoNotices, &mut out);
+    out.as_slice() == written.as_bytes() && end == Some((ending, is_complete))
 }
 
 /// What is told of the stream, where a read fails after so many bytes.
@@ -195,22 +185,19 @@ fn told_after(left: usize) -> &'static str {
 }
 
 #[test]
-fn a_byte_a_read(rt: HostRuntime) -> io::Result<()> {
+fn a_byte_a_read(rt: HostRuntime) {
     let lawful = Ok(Verdict::Lawful { words: 1 });
-    assert!(rt; checks(rt.alloc(), 5, lawful, "lawful, 1 words\n"));
-    assert!(rt; loads(&rt, 41, Ending::Well, true, ONE_RET_REPORT)?);
-    Ok(())
+    let checks = checks(rt.alloc(), 5, lawful, "lawful, 1 words\n");
+    assert!(rt; checks && loads(&rt, 41, Ending::Well, true, ONE_RET_REPORT));
 }
 
 #[test]
-fn reads_that_fail(rt: HostRuntime) -> io::Result<()> {
-    for left in 0..=RET.len() {
-        assert!(rt; checks(rt.alloc(), left, UNREAD, ""));
-    }
+fn reads_that_fail(rt: HostRuntime) {
     for left in 0..=ONE_RET.len() {
-        assert!(rt; loads(&rt, left, Ending::Failed, left == 40, told_after(left))?);
+        let checks = left > RET.len() || checks(rt.alloc(), left, UNREAD, "");
+        let loads = loads(&rt, left, Ending::Failed, left == 40, told_after(left));
+        assert!(rt; checks && loads);
     }
-    Ok(())
 }
 
 /// The stream of module 0 with one word that no instruction spells.
@@ -277,32 +264,34 @@ const ANSWERS: [Answer; 8] = [
 /// The line of the first run that is told otherwise, where its output fails anywhere.
 fn first_other_output<S: Threads + Wait + Files<File = File> + Net + Clock + Sync + AllocGlobal>(
     rt: &S,
-) -> Result<Option<&'static str>, AllocError> {
+) -> Option<&'static str> {
     let told = "lfiload: cannot write standard output\n  No space left on device\n";
     for answer in &ANSWERS {
         for left in 0..answer.length {
-            if !tells(rt, answer.line, &mut FullWriter { left }, FAILED, told)? {
-                return Ok(Some(answer.line));
+            if !tells(rt, answer.line, &mut FullWriter { left }, FAILED, told) {
+                return Some(answer.line);
             }
         }
     }
-    Ok(None)
+    None
 }
 
-/// Writes the files of these runs.
-fn write_inputs(rt: &HostRuntime) -> io::Result<()> {
-    begin(rt, "written.tmp")?;
-    fs::write(rt, "written.tmp/written.code", RET.as_slice())?;
-    fs::write(rt, "written.tmp/written.stream", ONE_RET.as_slice())?;
-    fs::write(rt, "written.tmp/zero.code", &[0, 0, 0, 0])?;
-    fs::write(rt, "written.tmp/zero.stream", ZERO.as_slice())?;
-    fs::write(rt, "written.tmp/cut.stream", &ONE_RET[..12])
-}
+/// The stream that ends after its Open.
+const OPENED: [u8; 12] = [1, 0, 0, 0, 1, 0, 0, 0, 0, 0, 0, 0];
+
+/// The files of these runs.
+const INPUTS: [(&str, &[u8]); 5] = [
+    ("written.tmp/written.code", &RET),
+    ("written.tmp/written.stream", &ONE_RET),
+    ("written.tmp/zero.code", &[0, 0, 0, 0]),
+    ("written.tmp/zero.stream", &ZERO),
+    ("written.tmp/cut.stream", &OPENED),
+];
 
 #[test]
 fn output_that_fails(rt: HostRuntime) -> io::Result<()> {
-    write_inputs(&rt)?;
-    assert!(rt; first_other_output(&rt)?.is_none());
+    begin(&rt, "written.tmp", &INPUTS)?;
+    assert!(rt; first_other_output(&rt).is_none());
     fs::remove_dir_all(&rt, "written.tmp")
 }
 
@@ -313,23 +302,27 @@ fn is_told(alloc: Global, failure: Failure<'_>, text: &str) -> bool {
     !errors.is_lost() && errors.writer().as_slice() == text.as_bytes()
 }
 
-#[test]
-fn failures_are_told(rt: HostRuntime) -> io::Result<()> {
-    let alloc = rt.alloc();
-    let read = Failure::CannotRead("a.code", DeviceCause::PermissionDenied);
-    let text = "lfiload: cannot read a.code\n  Permission denied\n";
-    assert!(rt; is_told(alloc, read, text));
-    let output = Failure::CannotWrite(Target::StandardOutput, DeviceCause::BrokenPipe);
-    let text = "lfiload: cannot write standard output\n  Broken pipe\n";
-    assert!(rt; is_told(alloc, output, text));
+/// Which of five failures are told as they should be: of a read, an output, an image, a socket and memory.
+fn told(alloc: Global) -> Result<[bool; 5], AllocError> {
     let path = String::from_str(alloc, "a.img")?;
     let image = Failure::CannotWrite(Target::File(path), DeviceCause::Other);
-    assert!(rt; is_told(alloc, image, "lfiload: cannot write a.img\n"));
+    let image = is_told(alloc, image, "lfiload: cannot write a.img\n");
+    let read = Failure::CannotRead("a.code", DeviceCause::PermissionDenied);
+    let text = "lfiload: cannot read a.code\n  Permission denied\n";
+    let read = is_told(alloc, read, text);
+    let output = Failure::CannotWrite(Target::StandardOutput, DeviceCause::BrokenPipe);
+    let text = "lfiload: cannot write standard output\n  Broken pipe\n";
+    let output = is_told(alloc, output, text);
     let socket = Failure::CannotListen(DeviceCause::AddressInUse);
     let text = "lfiload: cannot listen\n  Address already in use\n";
-    assert!(rt; is_told(alloc, socket, text));
-    assert!(rt; is_told(alloc, Failure::NoMemory, "lfiload: no memory\n"));
-    Ok(())
+    let socket = is_told(alloc, socket, text);
+    let memory = is_told(alloc, Failure::NoMemory, "lfiload: no memory\n");
+    Ok([read, output, image, socket, memory])
+}
+
+#[test]
+fn failures_are_told(rt: HostRuntime) {
+    assert!(rt; told(rt.alloc()) == Ok([true; 5]));
 }
 
 const UNTOLD: [&str; 6] = [
@@ -347,18 +340,17 @@ pub fn loses<S: Threads + Wait + Files<File = File> + Net + Clock + Sync + Alloc
     line: &str,
     out: &mut O,
     left: usize,
-) -> Result<bool, AllocError> {
+) -> bool {
     let mut errors = Errors::new(FullWriter { left });
-    let status = run_over(rt, line, out, &mut errors)?;
-    Ok(status == FAILED && errors.is_lost())
+    let status = run_over(rt, line, out, &mut errors);
+    status == Ok(FAILED) && errors.is_lost()
 }
 
 #[test]
-fn errors_that_fail(rt: HostRuntime) -> io::Result<()> {
+fn errors_that_fail(rt: HostRuntime) {
     for line in UNTOLD {
-        assert!(rt; loses(&rt, line, &mut FullWriter { left: 0 }, 0)?, "{line}");
+        assert!(rt; loses(&rt, line, &mut FullWriter { left: 0 }, 0), "{line}");
     }
-    Ok(())
 }
 
 /// What is told of a file that can't be written, by the kind of the system's error.
@@ -438,7 +430,6 @@ fn first_other_cause(alloc: Global) -> Result<Option<&'static str>, AllocError> 
 }
 
 #[test]
-fn causes(rt: HostRuntime) -> io::Result<()> {
-    assert!(rt; first_other_cause(rt.alloc())?.is_none());
-    Ok(())
+fn causes(rt: HostRuntime) {
+    assert!(rt; first_other_cause(rt.alloc()) == Ok(None));
 }

@@ -51,20 +51,20 @@ const RUNS: [Run; 7] = [
     },
 ];
 
-/// Writes the files of these runs.
-fn write_inputs(rt: &HostRuntime) -> io::Result<()> {
-    begin(rt, "files.tmp")?;
-    fs::write(rt, "files.tmp/ret.code", RET.as_slice())?;
-    fs::write(rt, "files.tmp/three.code", &RET[..3])?;
-    fs::write(rt, "files.tmp/one_ret.stream", ONE_RET.as_slice())
-}
+/// The files of these runs.
+const INPUTS: [(&str, &[u8]); 3] = [
+    ("files.tmp/ret.code", &RET),
+    ("files.tmp/three.code", &[0xC0, 0x03, 0x5F]),
+    ("files.tmp/one_ret.stream", &ONE_RET),
+];
 
 #[test]
 fn each_command(rt: HostRuntime) -> io::Result<()> {
-    write_inputs(&rt)?;
-    assert!(rt; first_other(&rt, RUNS.as_slice())?.is_none());
+    begin(&rt, "files.tmp", &INPUTS)?;
+    let other = first_other(&rt, RUNS.as_slice());
     let line = "lfiload pack files.tmp/ret.code";
-    assert!(rt; writes(&rt, line, WELL, ONE_RET.as_slice(), "")?);
-    assert!(rt; has_file(&rt, "files.tmp/module-00.img", ONE_RET_IMAGE.as_slice())?);
+    let packs = writes(&rt, line, WELL, ONE_RET.as_slice(), "");
+    let has_image = has_file(&rt, "files.tmp/module-00.img", ONE_RET_IMAGE.as_slice());
+    assert!(rt; other.is_none() && packs && has_image);
     fs::remove_dir_all(&rt, "files.tmp")
 }

@@ -3,7 +3,6 @@
 use crate::devices::{FullWriter, loses};
 use crate::runs::{WELL, begin, run_over, tells};
 use lfi_commands::Errors;
-use std::alloc::AllocError;
 use std::cell::Cell;
 use std::fs::{self, File, Files};
 use std::io::{self, Write};
@@ -100,27 +99,15 @@ const TAKEN: [Taken; 4] = [
 /// Whether that is in such an output in the end, and that is told.
 fn takes<S: Threads + Wait + Files<File = File> + Net + Clock + Sync + AllocGlobal>(
     rt: &S,
-    taken: Taken,
-) -> Result<bool, AllocError> {
+    taken: &Taken,
+) -> bool {
     let mut out = PartWriter {
         bytes: Vec::new(rt.alloc()),
         left: taken.left,
         flushes: taken.flushes,
     };
-    let is_so = tells(rt, LINE, &mut out, WELL, taken.err)?;
-    Ok(is_so && out.bytes.as_slice() == taken.out.as_bytes())
-}
-
-/// The first of these outputs of which it is otherwise.
-fn first_other_taken<S: Threads + Wait + Files<File = File> + Net + Clock + Sync + AllocGlobal>(
-    rt: &S,
-) -> Result<Option<Taken>, AllocError> {
-    for taken in TAKEN {
-        if !takes(rt, taken)? {
-            return Ok(Some(taken));
-        }
-    }
-    Ok(None)
+    let is_so = tells(rt, LINE, &mut out, WELL, taken.err);
+    is_so && out.bytes.as_slice() == taken.out.as_bytes()
 }
 
 /// Takes one byte a call, and is interrupted before each.
@@ -149,21 +136,21 @@ impl Write for HaltingWriter {
 /// Whether all is written to such an output.
 fn is_written_all_the_same<
     S: Threads + Wait + Files<File = File> + Net + Clock + Sync + AllocGlobal,
->(rt: &S) -> Result<bool, AllocError> {
+>(rt: &S) -> bool {
     let mut out = HaltingWriter {
         bytes: Vec::new(rt.alloc()),
         is_ready: false,
     };
     let told = "halt 5 status 105 after 7 steps\n";
-    Ok(tells(rt, LINE, &mut out, WELL, told)? && out.bytes.as_slice() == b"Hi".as_slice())
+    tells(rt, LINE, &mut out, WELL, told) && out.bytes.as_slice() == b"Hi".as_slice()
 }
 
 /// Whether all is written, and the run fails, where what is told takes five bytes.
 fn is_written_beside_a_loss<
     S: Threads + Wait + Files<File = File> + Net + Clock + Sync + AllocGlobal,
->(rt: &S) -> Result<bool, AllocError> {
+>(rt: &S) -> bool {
     let mut out = Vec::new(rt.alloc());
-    Ok(loses(rt, LINE, &mut out, 5)? && out.as_slice() == b"Hi".as_slice())
+    loses(rt, LINE, &mut out, 5) && out.as_slice() == b"Hi".as_slice()
 }
 
 /// An output of which is noted whether all that was written to it was flushed.
@@ -207,7 +194,7 @@ impl Write for LaterWriter<'_> {
 /// Whether the line is told, of 32 bytes, and none of them before all that is printed was flushed.
 fn is_told_later<S: Threads + Wait + Files<File = File> + Net + Clock + Sync + AllocGlobal>(
     rt: &S,
-) -> Result<bool, AllocError> {
+) -> bool {
     let is_flushed = Cell::new(false);
     let mut out = NotedWriter {
         is_flushed: &is_flushed,
@@ -217,20 +204,20 @@ fn is_told_later<S: Threads + Wait + Files<File = File> + Net + Clock + Sync + A
         told: 0,
         is_early: false,
     });
-    let status = run_over(rt, LINE, &mut out, &mut errors)?;
-    Ok(status == WELL && errors.writer().told == 32 && !errors.writer().is_early)
+    let status = run_over(rt, LINE, &mut out, &mut errors);
+    status == Ok(WELL) && errors.writer().told == 32 && !errors.writer().is_early
 }
 
 #[test]
 fn outputs_of_an_image(rt: HostRuntime) -> io::Result<()> {
-    begin(&rt, "hello.tmp")?;
-    fs::write(&rt, "hello.tmp/hello.img", HELLO.as_slice())?;
+    begin(&rt, "hello.tmp", &[("hello.tmp/hello.img", &HELLO)])?;
     let told = "halt 5 status 255 after 7 steps\n";
-    assert!(rt; tells(&rt, LINE, &mut FullWriter { left: 1 }, WELL, told)?);
-    assert!(rt; is_written_beside_a_loss(&rt)?);
-    assert!(rt; first_other_taken(&rt)?.is_none());
-    assert!(rt; is_written_all_the_same(&rt)?);
-    assert!(rt; is_told_later(&rt)?);
+    let fails = tells(&rt, LINE, &mut FullWriter { left: 1 }, WELL, told);
+    let is_written = is_written_all_the_same(&rt) && is_written_beside_a_loss(&rt);
+    assert!(rt; fails && is_written && is_told_later(&rt));
+    for taken in &TAKEN {
+        assert!(rt; takes(&rt, taken));
+    }
     fs::remove_dir_all(&rt, "hello.tmp")
 }
 
@@ -240,17 +227,17 @@ fn prints<S: Threads + Wait + Files<File = File> + Net + Clock + Sync + AllocGlo
     room: usize,
     printed: usize,
     told: &str,
-) -> Result<bool, AllocError> {
+) -> bool {
     let mut out = FullWriter { left: room };
     let line = "lfiload run much.tmp/prints.img --steps 30000";
-    Ok(tells(rt, line, &mut out, WELL, told)? && out.left == room.saturating_sub(printed))
+    tells(rt, line, &mut out, WELL, told) && out.left == room.saturating_sub(printed)
 }
 
 #[test]
 fn much_output(rt: HostRuntime) -> io::Result<()> {
-    begin(&rt, "much.tmp")?;
-    fs::write(&rt, "much.tmp/prints.img", PRINTS.as_slice())?;
-    assert!(rt; prints(&rt, 20_000, 10_000, "halt 1 after 30000 steps\n")?);
-    assert!(rt; prints(&rt, 8191, 8191, "halt 5 status 255 after 24577 steps\n")?);
+    begin(&rt, "much.tmp", &[("much.tmp/prints.img", &PRINTS)])?;
+    let all = prints(&rt, 20_000, 10_000, "halt 1 after 30000 steps\n");
+    let less = prints(&rt, 8191, 8191, "halt 5 status 255 after 24577 steps\n");
+    assert!(rt; all && less);
     fs::remove_dir_all(&rt, "much.tmp")
 }

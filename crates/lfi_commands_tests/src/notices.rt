@@ -3,7 +3,6 @@
 use crate::runs::{NOT_WELL, begin, connect, has_file, loaded, tells_over};
 use lfi_commands::{Disk, WrittenNotices};
 use lfi_image::CompleteImage;
-use std::alloc::AllocError;
 use std::fs::{self, File, Files};
 use std::io::{self, Read, Write};
 use std::net::Net;
@@ -101,7 +100,7 @@ fn is_loaded<S: Threads + Wait + Files<File = File> + Net + Clock + Sync + Alloc
     };
     let mut out = Vec::new(rt.alloc());
     let notices = WrittenNotices::new(&told);
-    let is_loaded = loaded(rt, reader, 2, &notices, &mut out)?.is_some();
+    let is_loaded = loaded(rt, reader, 2, &notices, &mut out).is_some();
     Ok(is_loaded && out.as_slice().starts_with(TWO_REPORT.as_bytes()))
 }
 
@@ -111,56 +110,56 @@ fn is_run<S: Threads + Wait + Files<File = File> + Net + Clock + Sync + AllocGlo
     rt: &S,
     line: &str,
     told: &File,
-) -> Result<bool, AllocError> {
+) -> bool {
     let mut disk = UntilToldDisk {
         text: TWO.as_slice(),
         told,
     };
     let mut out = Vec::new(rt.alloc());
     let notices = WrittenNotices::new(told);
-    let is_so = tells_over(rt, &mut disk, &notices, line, &mut out, NOT_WELL, "")?;
-    Ok(is_so && out.as_slice().starts_with(TWO_REPORT.as_bytes()))
+    let is_so = tells_over(rt, &mut disk, &notices, line, &mut out, NOT_WELL, "");
+    is_so && out.as_slice().starts_with(TWO_REPORT.as_bytes())
 }
 
 /// Connects as soon as somebody listens at the path, and sends the modules, and then strays until
 /// something was written to this file.
 fn send_until_told<S: Net>(rt: &S, path: &str, told: &File) -> io::Result<()> {
     let mut client = connect(rt, path)?;
-    client.write_all(&TWO)?;
+    let mut sent = client.write_all(&TWO);
     for _ in 0..TURNS {
-        if is_told(told) {
+        if sent.is_err() || is_told(told) {
             break;
         }
-        client.write_all(&STRAY)?;
+        sent = client.write_all(&STRAY);
     }
-    Ok(())
+    sent
 }
 
 /// Whether a file has the one notice.
-fn has_notice(rt: &HostRuntime, path: &str) -> io::Result<bool> {
+fn has_notice(rt: &HostRuntime, path: &str) -> bool {
     has_file(rt, path, b"module 1 refused\n".as_slice())
 }
 
 #[test]
 fn one_notice_of_a_refused_module(rt: HostRuntime) -> io::Result<()> {
-    begin(&rt, "noticed.tmp")?;
-    assert!(rt; is_loaded(&rt, "noticed.tmp/told")?);
-    assert!(rt; has_notice(&rt, "noticed.tmp/told")?);
+    begin(&rt, "noticed.tmp", &[])?;
+    let is_loaded = is_loaded(&rt, "noticed.tmp/told");
+    assert!(rt; matches!(is_loaded, Ok(true)) && has_notice(&rt, "noticed.tmp/told"));
     fs::remove_dir_all(&rt, "noticed.tmp")
 }
 
 #[test]
 fn one_notice_of_a_load_by_its_words(rt: HostRuntime) -> io::Result<()> {
-    begin(&rt, "load_noticed.tmp")?;
+    begin(&rt, "load_noticed.tmp", &[])?;
     let told = File::create(&rt, "load_noticed.tmp/told")?;
-    assert!(rt; is_run(&rt, "lfiload load any.stream", &told)?);
-    assert!(rt; has_notice(&rt, "load_noticed.tmp/told")?);
+    let is_run = is_run(&rt, "lfiload load any.stream", &told);
+    assert!(rt; is_run && has_notice(&rt, "load_noticed.tmp/told"));
     fs::remove_dir_all(&rt, "load_noticed.tmp")
 }
 
 #[test]
 fn one_notice_of_a_client(rt: HostRuntime) -> io::Result<()> {
-    begin(&rt, "serve_noticed.tmp")?;
+    begin(&rt, "serve_noticed.tmp", &[])?;
     let told = File::create(&rt, "serve_noticed.tmp/told")?;
     let line = "lfiload serve --socket serve_noticed.tmp/socket --connections 1";
     let (is_run, sent) = join(
@@ -168,8 +167,6 @@ fn one_notice_of_a_client(rt: HostRuntime) -> io::Result<()> {
         || is_run(&rt, line, &told),
         || send_until_told(&rt, "serve_noticed.tmp/socket", &told),
     );
-    sent?;
-    assert!(rt; is_run?);
-    assert!(rt; has_notice(&rt, "serve_noticed.tmp/told")?);
+    assert!(rt; is_run && sent.is_ok() && has_notice(&rt, "serve_noticed.tmp/told"));
     fs::remove_dir_all(&rt, "serve_noticed.tmp")
 }

@@ -90,24 +90,17 @@ pub fn run_over<
     run_noticed(rt, rt.alloc(), &mut disk, &NoNotices, line, out, errors)
 }
 
-/// Whether a run over this disk, with these notices and this output, ends with this status, and tells exactly this.
+/// Whether a run over this disk, with these notices and this output, ends with this status, and tells exactly this. Where
+/// memory is refused, it doesn't.
 pub fn tells_over<
     S: Threads + Wait + Files<File = File> + Net + Clock + Sync + AllocGlobal,
     D: Disk,
     N: Notices + Sync,
     O: Write,
->(
-    rt: &S,
-    disk: &mut D,
-    notices: &N,
-    line: &str,
-    out: &mut O,
-    status: u8,
-    told: &str,
-) -> Result<bool, AllocError> {
+>(rt: &S, disk: &mut D, notices: &N, line: &str, out: &mut O, status: u8, told: &str) -> bool {
     let mut errors = Errors::new(Vec::new(rt.alloc()));
-    let ended = run_noticed(rt, rt.alloc(), disk, notices, line, out, &mut errors)?;
-    Ok(ended == status && errors.writer().as_slice() == told.as_bytes())
+    let ended = run_noticed(rt, rt.alloc(), disk, notices, line, out, &mut errors);
+    ended == Ok(status) && errors.writer().as_slice() == told.as_bytes()
 }
 
 /// Whether a run over the system's files, with this output, ends with this status, and tells exactly this.
@@ -117,7 +110,7 @@ pub fn tells<S: Threads + Wait + Files<File = File> + Net + Clock + Sync + Alloc
     out: &mut O,
     status: u8,
     told: &str,
-) -> Result<bool, AllocError> {
+) -> bool {
     let mut disk = SystemDisk { rt };
     tells_over(rt, &mut disk, &NoNotices, line, out, status, told)
 }
@@ -129,33 +122,41 @@ pub fn writes<S: Threads + Wait + Files<File = File> + Net + Clock + Sync + Allo
     status: u8,
     written: &[u8],
     told: &str,
-) -> Result<bool, AllocError> {
+) -> bool {
     let mut out = Vec::new(rt.alloc());
-    Ok(tells(rt, line, &mut out, status, told)? && out.as_slice() == written)
+    tells(rt, line, &mut out, status, told) && out.as_slice() == written
 }
 
 /// The line of the first run that answers or writes otherwise.
 pub fn first_other<S: Threads + Wait + Files<File = File> + Net + Clock + Sync + AllocGlobal>(
     rt: &S,
     runs: &[Run],
-) -> Result<Option<&'static str>, AllocError> {
+) -> Option<&'static str> {
     for run in runs {
-        if !writes(rt, run.line, run.status, run.out.as_bytes(), run.err)? {
-            return Ok(Some(run.line));
+        if !writes(rt, run.line, run.status, run.out.as_bytes(), run.err) {
+            return Some(run.line);
         }
     }
-    Ok(None)
+    None
 }
 
 /// Whether a file has exactly these bytes.
-pub fn has_file(rt: &HostRuntime, path: &str, bytes: &[u8]) -> io::Result<bool> {
-    Ok(fs::read(rt, path)?.as_slice() == bytes)
+pub fn has_file(rt: &HostRuntime, path: &str, bytes: &[u8]) -> bool {
+    match fs::read(rt, path) {
+        Ok(read) => read.as_slice() == bytes,
+        Err(_) => false,
+    }
 }
 
-/// Makes an empty folder for a test's files. The test removes it at its end.
-pub fn begin(rt: &HostRuntime, folder: &str) -> io::Result<()> {
+/// Makes an empty folder for a test, and writes these files, each by its path and bytes. The test removes the folder at its
+/// end.
+pub fn begin(rt: &HostRuntime, folder: &str, files: &[(&str, &[u8])]) -> io::Result<()> {
     let _ = fs::remove_dir_all(rt, folder);
-    fs::create_dir(rt, folder)
+    let mut made = fs::create_dir(rt, folder);
+    for (path, bytes) in files {
+        made = made.and(fs::write(rt, path, *bytes));
+    }
+    made
 }
 
 /// Connects as soon as somebody listens at the path.
@@ -172,34 +173,29 @@ pub fn connect<S: Net>(rt: &S, path: &str) -> io::Result<UnixStream> {
 fn one_input<R: Read + Drop>(alloc: Global, reader: R) -> Result<Vec<Input<R>>, AllocError>
     ensures { IfOk result (λ inputs. length inputs.items ≡ 1) }
 {
+    let input = Input::new(alloc, reader)?;
     let mut inputs = Vec::new(alloc);
-    inputs.push(Input::new(alloc, reader)?)?;
+    inputs.push(input)?;
     Ok(inputs)
 }
 
-/// What a load came to: how it ended, and what became of module 0.
-#[derive(Clone, Copy)]
-pub struct LoadEnd {
-    pub ending: Ending,
-    pub first: Outcome,
-}
-
-/// Loads the modules of one reader's stream, and writes the report. Gives what it came to, where it could be carried out.
+/// Loads the modules of one reader's stream, and writes the report. Gives how it ended, and whether module 0 is complete with
+/// one word, where it could be carried out.
 pub fn loaded<S: Threads + Wait + Sync + AllocGlobal, R: Read + Send + Drop, N: Notices + Sync>(
     rt: &S,
     reader: R,
     verifiers: usize,
     notices: &N,
     out: &mut Vec<u8>,
-) -> Result<Option<LoadEnd>, AllocError>
+) -> Option<(Ending, bool)>
     requires { (1 ≤ verifiers) × (verifiers ≤ 8) }
 {
-    let inputs = one_input(rt.alloc(), reader)?;
+    let inputs = one_input(rt.alloc(), reader).ok()?;
     match load(rt, rt.alloc(), inputs, verifiers, notices, out) {
-        Ok(report) => Ok(Some(LoadEnd {
-            ending: Ending::of_report(&report),
-            first: report.modules[0].outcome,
-        })),
-        Err(_) => Ok(None),
+        Ok(report) => {
+            let is_complete = report.modules[0].outcome == Outcome::Complete { words: 1 };
+            Some((Ending::of_report(&report), is_complete))
+        }
+        Err(_) => None,
     }
 }

@@ -85,54 +85,54 @@ const MOVED_DOWN: [Row; 1] = [
 /// The registers before a row's words, by their places.
 const BEFORE: [(usize, u64); 4] = [(0, 9), (1, INDEX), (2, VALUE), (18, DATA)];
 
-/// Whether a run was one step that left sp so far below the slot's end.
-fn is_one_step(ran: &Outcome, down: u8) -> bool {
-    let sp = BASE + (1 << 32) - u64::from(down);
-    ran.halt == Halt::StepsUsed && ran.count == 1 && ran.after.sp == sp
+/// The tables, each with how far sp has moved down after the first word of a row and after both.
+const TABLES: [(&[Row], u64, u64); 4] = [
+    (&LOADS, 0, 0),
+    (&STORES, 0, 0),
+    (&MOVES, 16, 0),
+    (&MOVED_DOWN, 16, 16),
+];
+
+/// Runs two words, a step at a time.
+fn steps(alloc: Global, words: [u32; 2]) -> Result<[Outcome; 2], Fail> {
+    let mut machine = started(alloc, Profile::One, &words, &BEFORE)?;
+    Ok([run(&mut machine, 1), run(&mut machine, 1)])
 }
 
-/// Whether both words of a row do so; and how far sp has moved down after each.
-fn is_right(alloc: Global, row: &Row, first: u8, second: u8) -> Result<bool, Fail> {
+/// Whether a run was one step.
+fn is_one_step(ran: &Outcome) -> bool {
+    ran.halt == Halt::StepsUsed && ran.count == 1
+}
+
+/// Whether both words of a row do so, where sp has moved down so far after each.
+fn is_right(alloc: Global, row: &Row, first: u64, second: u64) -> Result<bool, Fail> {
     let (store, load, x0, x1) = *row;
-    let (one, two) = {
-        let mut machine = started(alloc, Profile::One, &[store, load], &BEFORE)?;
-        (run(&mut machine, 1), run(&mut machine, 1))
-    };
-    let after = two.after;
-    let kept = after.x[2] == VALUE && after.x[18] == DATA && after.pc == BASE + 65536 + 8;
-    let wanted = after.x[0] == x0 && after.x[1] == x1;
-    Ok(is_one_step(&one, first) && is_one_step(&two, second) && kept && wanted)
+    let [one, two] = steps(alloc, [store, load])?;
+    let (x, top) = (two.after.x, BASE + (1 << 32));
+    let seen = [x[0], x[1], x[2], x[18], two.after.pc];
+    let moved = [
+        top.wrapping_sub(one.after.sp),
+        top.wrapping_sub(two.after.sp),
+    ];
+    let wanted = [x0, x1, VALUE, DATA, BASE + 65536 + 8];
+    Ok(is_one_step(&one) && is_one_step(&two) && seen == wanted && moved == [first, second])
 }
 
-/// The place of the first row that is wrong, where sp has moved down so far after each word.
-fn first_wrong(alloc: Global, rows: &[Row], first: u8, second: u8) -> Result<Option<usize>, Fail> {
-    for (place, row) in rows.iter().enumerate() {
-        if !is_right(alloc, row, first, second)? {
-            return Ok(Some(place));
+/// The first row of the tables that is wrong.
+fn first_wrong(alloc: Global) -> Result<Option<Row>, Fail> {
+    for (rows, first, second) in &TABLES {
+        for row in *rows {
+            if !is_right(alloc, row, *first, *second)? {
+                return Ok(Some(*row));
+            }
         }
     }
     Ok(None)
 }
 
 #[test]
-fn loads(rt: HostRuntime) -> Result<(), Fail> {
-    let wrong = first_wrong(rt.alloc(), &LOADS, 0, 0)?;
-    assert!(rt; wrong.is_none(), "row {wrong:?}");
-    Ok(())
-}
-
-#[test]
-fn stores(rt: HostRuntime) -> Result<(), Fail> {
-    let wrong = first_wrong(rt.alloc(), &STORES, 0, 0)?;
-    assert!(rt; wrong.is_none(), "row {wrong:?}");
-    Ok(())
-}
-
-#[test]
-fn accesses_that_move_sp(rt: HostRuntime) -> Result<(), Fail> {
-    let wrong = first_wrong(rt.alloc(), &MOVES, 16, 0)?;
-    assert!(rt; wrong.is_none(), "row {wrong:?}");
-    let wrong = first_wrong(rt.alloc(), &MOVED_DOWN, 16, 16)?;
+fn loads_and_stores(rt: HostRuntime) -> Result<(), Fail> {
+    let wrong = first_wrong(rt.alloc())?;
     assert!(rt; wrong.is_none(), "row {wrong:?}");
     Ok(())
 }

@@ -1,12 +1,15 @@
 //! Each class that accesses no memory, run in the machine: one step of a lawful image, at the edges of its values.
 
-use crate::host::{image, ran, run_image};
-use lfi_machine::{Cause, Halt, start_registers};
+use crate::host::ran;
+use lfi_machine::Halt;
 use lfi_module::Profile;
 use std::alloc::Global;
 use std::test::Fail;
 
-/// The first word's address in slot 0.
+/// The base of slot 0.
+const BASE: u64 = 0x1_0000_0000;
+
+/// The first word's address in it.
 const CODE: u64 = 0x1_0001_0000;
 
 const ALL: u64 = u64::MAX;
@@ -85,21 +88,35 @@ const ROWS: [Row; 62] = [
 /// Whether a row's first word does so in one step. x18 holds the third word's address, and x30 the first's.
 fn is_right(alloc: Global, row: &Row) -> Result<bool, Fail> {
     let (word, [x0, x1, x2], before, value, flags, far) = *row;
-    let image = image(alloc, &[word, 0xD503201F, 0xD503201F])?;
-    let mut registers = start_registers(&image);
-    registers.x[0] = x0;
-    registers.x[1] = x1;
-    registers.x[2] = x2;
-    registers.x[18] = CODE + 8;
-    registers.x[30] = CODE;
-    registers.nzcv = before;
-    let mut wanted = registers;
-    wanted.x[0] = value;
-    let ran = run_image(alloc, image, registers, 1)?;
+    let flags_before = (33, u64::from(before));
+    let changes = [
+        (0, x0),
+        (1, x1),
+        (2, x2),
+        (18, CODE + 8),
+        (30, CODE),
+        flags_before,
+    ];
+    let words = [word, 0xD503201F, 0xD503201F];
+    let ran = ran(alloc, Profile::One, &words, &changes, 1)?;
+    let mut wanted = [0; 31];
+    wanted[0] = value;
+    wanted[1] = x1;
+    wanted[2] = x2;
+    wanted[18] = CODE + 8;
+    wanted[21] = BASE;
+    wanted[23] = BASE;
+    wanted[24] = BASE;
+    wanted[30] = CODE;
     let after = ran.after;
-    let same = after.x == wanted.x && after.sp == wanted.sp;
-    let moved = after.nzcv == flags && after.pc == CODE.wrapping_add(far);
-    Ok(ran.halt == Halt::StepsUsed && ran.count == 1 && same && moved)
+    let seen = [ran.count, after.sp, after.pc, u64::from(after.nzcv)];
+    let others = [
+        1,
+        BASE + (1 << 32),
+        CODE.wrapping_add(far),
+        u64::from(flags),
+    ];
+    Ok(ran.halt == Halt::StepsUsed && after.x == wanted && seen == others)
 }
 
 /// The place of the first row that is wrong.
@@ -144,19 +161,5 @@ fn conditions(rt: HostRuntime) -> Result<(), Fail> {
         let taken = branches_at(rt.alloc(), condition)?;
         assert!(rt; taken == HOLDS[usize::from(condition)], "{condition}");
     }
-    Ok(())
-}
-
-/// BL, BLR and BRK.
-#[test]
-fn links_and_breaks(rt: HostRuntime) -> Result<(), Fail> {
-    let words = [0x94000002, 0xD4200020, 0xD65F03C0];
-    let near = ran(rt.alloc(), Profile::One, &words, &[], 1000)?;
-    assert!(rt; near.halt == Halt::Stopped(Cause::Breakpoint(CODE + 4)) && near.count == 2);
-    assert!(rt; near.after.x[30] == CODE + 4);
-    let words = [0xD63F0240, 0xD4200020, 0xD65F03C0];
-    let far = ran(rt.alloc(), Profile::One, &words, &[(18, CODE + 8)], 1000)?;
-    assert!(rt; far.halt == Halt::Stopped(Cause::Breakpoint(CODE + 4)) && far.count == 2);
-    assert!(rt; far.after.x[30] == CODE + 4);
     Ok(())
 }

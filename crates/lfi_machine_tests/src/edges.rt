@@ -1,7 +1,6 @@
 //! The edges of the map, a byte at a time, and those of the registers at the start.
 
-use crate::host::{image, image_in, ran, run, started, with};
-use a64_semantics::Registers;
+use crate::host::{Outcome, denied, image_in, run, start, started};
 use lfi_machine::{Cause, Halt, Machine, StartFault, start_registers};
 use lfi_module::{ModuleNumber, Profile};
 use std::alloc::Global;
@@ -34,33 +33,19 @@ const EDGES: [Edge; 14] = [
     (BASE, 0x100, false, false), // 256 bytes below the slot
 ];
 
-/// Runs one access of a byte: LDURB W0 or STURB W0 at x18 and an offset.
-fn access(alloc: Global, word: u32, x18: u64) -> Result<(Halt, u64), Fail> {
-    let ran = ran(alloc, Profile::One, &[word], &[(18, x18)], 1)?;
-    Ok((ran.halt, ran.count))
-}
-
-/// What an access of a byte ends with, where it may be done or not.
-fn ending(edge: &Edge, may: bool) -> Halt {
-    let (x18, offset, _, _) = *edge;
-    if may {
-        return Halt::StepsUsed;
-    }
+/// Whether a byte is loaded and stored where it may be, and not where not: LDURB W0 or STURB W0 at x18 and an offset.
+fn is_edge(alloc: Global, edge: &Edge) -> Result<bool, Fail> {
+    let (x18, offset, loads, stores) = *edge;
     let at = if offset < 256 {
         x18.wrapping_add(u64::from(offset))
     } else {
         x18.wrapping_sub(512).wrapping_add(u64::from(offset))
     };
-    Halt::Stopped(Cause::NoAccess(at))
-}
-
-/// Whether a byte is loaded and stored where it may be, and not where not.
-fn is_edge(alloc: Global, edge: &Edge) -> Result<bool, Fail> {
-    let (x18, offset, loads, stores) = *edge;
     let offset = (offset % 512) << 12;
-    let (load, _) = access(alloc, 0x38400240 | offset, x18)?;
-    let (store, _) = access(alloc, 0x38000240 | offset, x18)?;
-    Ok(load == ending(edge, loads) && store == ending(edge, stores))
+    let load = denied(alloc, Profile::One, 0x38400240 | offset, x18)?;
+    let store = denied(alloc, Profile::One, 0x38000240 | offset, x18)?;
+    let is_done = [load.is_none(), store.is_none()] == [loads, stores];
+    Ok(is_done && [load.unwrap_or(at), store.unwrap_or(at)] == [at, at])
 }
 
 /// The place of the first edge that is elsewhere.
@@ -80,27 +65,27 @@ fn edges_of_the_map(rt: HostRuntime) -> Result<(), Fail> {
     Ok(())
 }
 
-/// Eight bytes across an edge: the word, what x18 holds, and the least address of a byte that is denied.
-type Across = (u32, u64, u64);
+/// Eight bytes across an edge: the word, what x18 holds, and the least address of a byte that is denied, if one is.
+type Across = (u32, u64, Option<u64>);
 
-const ACROSS: [Across; 8] = [
-    (0xF9400240, BASE + 4089, BASE + 4096),
-    (0xF9400240, BASE + 65529, BASE + 65529),
-    (0xF9000240, BASE + 69625, BASE + 69625),
-    (0xF9000240, END - 7, END),
-    (0xF9400240, END - 7, END),
-    (0xA9400640, END - 8, END),
-    (0xA9000640, END - 8, END),
-    (0xF85FF240, BASE, BASE - 1),
+const ACROSS: [Across; 9] = [
+    (0xF9400240, BASE + 4089, Some(BASE + 4096)),
+    (0xF9400240, BASE + 65529, Some(BASE + 65529)),
+    (0xF9000240, BASE + 69625, Some(BASE + 69625)),
+    (0xF9000240, END - 7, Some(END)),
+    (0xF9400240, END - 7, Some(END)),
+    (0xA9400640, END - 8, Some(END)),
+    (0xA9000640, END - 8, Some(END)),
+    (0xF85FF240, BASE, Some(BASE - 1)),
+    (0xF9400240, BASE + 69625, None),
 ];
 
-/// The place of the first access that isn't denied there.
-fn first_not_denied(alloc: Global, rows: &[Across]) -> Result<Option<usize>, Fail> {
-    for (place, row) in rows.iter().enumerate() {
-        let (word, x18, denied) = *row;
-        let (halt, count) = access(alloc, word, x18)?;
-        if halt != Halt::Stopped(Cause::NoAccess(denied)) || count != 0 {
-            return Ok(Some(place));
+/// The first access that is denied elsewhere.
+fn first_other_across(alloc: Global) -> Result<Option<Across>, Fail> {
+    for row in &ACROSS {
+        let (word, x18, at) = *row;
+        if denied(alloc, Profile::One, word, x18)? != at {
+            return Ok(Some(*row));
         }
     }
     Ok(None)
@@ -108,52 +93,50 @@ fn first_not_denied(alloc: Global, rows: &[Across]) -> Result<Option<usize>, Fai
 
 #[test]
 fn accesses_across_an_edge(rt: HostRuntime) -> Result<(), Fail> {
-    let wrong = first_not_denied(rt.alloc(), &ACROSS)?;
-    assert!(rt; wrong.is_none(), "row {wrong:?}");
-    let (halt, _) = access(rt.alloc(), 0xF9400240, BASE + 69625)?;
-    assert!(rt; halt == Halt::StepsUsed);
+    let other = first_other_across(rt.alloc())?;
+    assert!(rt; other.is_none(), "row {other:?}");
     Ok(())
 }
 
-/// A denied access changes neither sp nor memory: STR X0, [SP, #-4]!, with sp four bytes past the first data.
+/// Runs STR X0, [SP, #-4]!, with sp four bytes past the first data. Gives what it came to, and the byte at sp then.
+fn denied_store(alloc: Global) -> Result<(Outcome, Option<u8>), Fail> {
+    let changes = [(0, u64::MAX), (31, BASE + 69632)];
+    let mut machine = started(alloc, Profile::One, &[0xF81FCFE0], &changes)?;
+    let ran = run(&mut machine, 1000);
+    Ok((ran, machine.slot().read(BASE + 69632)))
+}
+
+/// A denied access changes neither sp nor memory.
 #[test]
 fn a_denied_access_changes_nothing(rt: HostRuntime) -> Result<(), Fail> {
-    let changes = [(0, u64::MAX), (31, BASE + 69632)];
-    let (ran, byte) = {
-        let mut machine = started(rt.alloc(), Profile::One, &[0xF81FCFE0], &changes)?;
-        (run(&mut machine, 1000), machine.slot().read(BASE + 69632))
-    };
-    assert!(rt; ran.halt == Halt::Stopped(Cause::NoAccess(BASE + 69628)));
-    assert!(rt; ran.count == 0);
-    assert!(rt; ran.after.sp == BASE + 69632);
-    assert!(rt; ran.after.pc == BASE + 65536);
-    assert!(rt; byte == Some(0));
+    let (ran, byte) = denied_store(rt.alloc())?;
+    let seen = [ran.count, ran.after.sp, ran.after.pc];
+    let kept = seen == [0, BASE + 69632, BASE + 65536] && byte == Some(0);
+    assert!(rt; kept && ran.halt == Halt::Stopped(Cause::NoAccess(BASE + 69628)));
     Ok(())
 }
 
-/// The registers that an image of three words starts from in this slot, at its last word.
-fn registers_in(alloc: Global, slot: ModuleNumber) -> Result<Registers, Fail> {
+/// Whether an image of three words starts at its last one from the registers that it should, in the slot at this base.
+fn starts(alloc: Global, slot: ModuleNumber, base: u64) -> Result<bool, Fail> {
     let image = image_in(alloc, slot, 2, &[0xD503201F, 0xD503201F, 0xD65F03C0])?;
-    Ok(start_registers(&image))
+    let registers = start_registers(&image);
+    let mut wanted = [0; 31];
+    wanted[18] = base;
+    wanted[21] = base;
+    wanted[23] = base;
+    wanted[24] = base;
+    wanted[30] = base;
+    let seen = [registers.sp, registers.pc, u64::from(registers.nzcv)];
+    let others = [base.wrapping_add(1 << 32), base.wrapping_add(65536 + 8), 0];
+    Ok(registers.x == wanted && seen == others)
 }
 
 /// The registers that an image starts from, in the first slot and in the last.
 #[test]
 fn registers_of_the_start(rt: HostRuntime) -> Result<(), Fail> {
-    for (slot, base) in &[(0, BASE), (15, 0x1F_0000_0000u64)] {
-        let base = *base;
-        let registers = registers_in(rt.alloc(), ModuleNumber::at(*slot))?;
-        let mut wanted = [0; 31];
-        wanted[18] = base;
-        wanted[21] = base;
-        wanted[23] = base;
-        wanted[24] = base;
-        wanted[30] = base;
-        assert!(rt; registers.x == wanted);
-        assert!(rt; registers.sp == base + (1 << 32));
-        assert!(rt; registers.pc == base + 65536 + 8);
-        assert!(rt; registers.nzcv == 0);
-    }
+    let first = starts(rt.alloc(), ModuleNumber::at(0), BASE)?;
+    let last = starts(rt.alloc(), ModuleNumber::at(15), 0x1F_0000_0000)?;
+    assert!(rt; first && last);
     Ok(())
 }
 
@@ -190,13 +173,17 @@ const HELD: [Held; 27] = [
     (0, u64::MAX, None),
 ];
 
+/// Why registers that are changed so are refused, if they are.
+fn refusal(alloc: Global, changes: &[(usize, u64)]) -> Result<Option<StartFault>, Fail> {
+    let (image, registers) = start(alloc, Profile::One, &[0xD503201F], changes)?;
+    Ok(Machine::new(alloc, image, registers).err())
+}
+
 /// The place of the first row of registers that are refused for another reason, or taken or refused as they shouldn't be.
 fn first_otherwise(alloc: Global, rows: &[Held]) -> Result<Option<usize>, Fail> {
     for (number, row) in rows.iter().enumerate() {
         let (place, value, fault) = *row;
-        let image = image(alloc, &[0xD503201F])?;
-        let registers = with(&start_registers(&image), place, value);
-        if Machine::new(alloc, image, registers).err() != fault {
+        if refusal(alloc, &[(place, value)])? != fault {
             return Ok(Some(number));
         }
     }
@@ -213,11 +200,7 @@ fn registers_one_past_their_range(rt: HostRuntime) -> Result<(), Fail> {
 /// Of several reasons the first counts.
 #[test]
 fn first_reason(rt: HostRuntime) -> Result<(), Fail> {
-    let image = image(rt.alloc(), &[0xD503201F])?;
-    let mut registers = start_registers(&image);
-    registers.x[21] = 0;
-    registers.pc = 0;
-    let refused = Machine::new(rt.alloc(), image, registers).err();
+    let refused = refusal(rt.alloc(), &[(21, 0), (32, 0)])?;
     assert!(rt; refused == Some(StartFault::Base));
     Ok(())
 }

@@ -1,13 +1,13 @@
 //! The runtime of the tests, and images of words.
 
-ghost use Rattle.std.specs.Prelude.{⊤, ◌≤◌, vec_len, IfOk};
+ghost use Rattle.std.specs.Prelude.{⊤, ◌≡◌, IfOk};
 
 use a64_semantics::Registers;
 use lfi_image::{Builder, CompleteImage, JudgedPage};
-use lfi_machine::{Answer, Data, DataFault, Halt, Machine, Runtime, start_registers};
+use lfi_machine::{Answer, Cause, Data, DataFault, Halt, Machine, Runtime, start_registers};
 use lfi_module::{Extent, ModuleNumber, PageSize, Profile, WordCount};
 use page_buf::SealedPage;
-use std::alloc::Global;
+use std::alloc::{AllocError, Global};
 use std::test::Fail;
 
 /// Ends at entry 0 with the low byte of x0, and answers every other with 2^64 - 1 in x0.
@@ -85,50 +85,48 @@ pub fn image_by(
     words: &[u32],
     profile: Profile,
 ) -> Result<CompleteImage, Fail> {
-    let code = code_of(alloc, words)?;
-    let Some(count) = WordCount::new((code.len() / 4) as u32) else {
-        return Err(Fail::from("no module has so many words"));
-    };
-    let Some(extent) = Extent::new(count, entry, profile, PageSize::SMALL) else {
-        return Err(Fail::from("the entry is no word of the module"));
+    let Some(extent) = extent_of(words.len() as u64, entry, profile) else {
+        return Err(Fail::from("no module has so many words, or the entry is none of them"));
     };
     let mut builder = Builder::new(alloc, extent, slot)?;
-    append_all(alloc, &mut builder, &code)?;
+    for words in words.chunks(1024) {
+        append(alloc, &mut builder, words)?;
+    }
     match builder.finish() {
         Ok(image) => Ok(image),
         Err(_) => Err(Fail::from("words are missing")),
     }
 }
 
+/// The extent of a module of so many words.
+fn extent_of(count: u64, entry: u32, profile: Profile) -> Option<Extent> {
+    let count = WordCount::new(u32::try_from(count).ok()?)?;
+    Extent::new(count, entry, profile, PageSize::SMALL)
+}
+
 /// The bytes of these words.
-fn code_of(alloc: Global, words: &[u32]) -> Result<Vec<u8>, Fail>
-    ensures { IfOk result (λ code. vec_len code ≤ 16384) }
-{
+fn code_of(alloc: Global, words: &[u32]) -> Result<Vec<u8>, AllocError> {
     let mut code = Vec::new(alloc);
     for word in words {
         code.extend_from_slice(&word.to_le_bytes())?;
     }
-    if code.len() > 16384 {
-        return Err(Fail::from("the code is too long"));
-    }
     Ok(code)
 }
 
-/// Appends these bytes, page by page.
-fn append_all(alloc: Global, builder: &mut Builder, code: &[u8]) -> Result<(), Fail> {
-    for bytes in code.chunks(4096) {
-        append(alloc, builder, bytes)?;
-    }
-    Ok(())
-}
-
-/// Appends a page of these bytes.
-fn append(alloc: Global, builder: &mut Builder, bytes: &[u8]) -> Result<(), Fail> {
-    let size = builder.size();
+/// The page of these words, a page of code at the most.
+fn page_of(alloc: Global, size: PageSize, words: &[u32]) -> Result<SealedPage, Fail>
+    ensures { IfOk result (λ page. page.size ≡ size) }
+{
+    let bytes = code_of(alloc, words)?;
     if bytes.is_empty() || bytes.len() > size.bytes() as usize || bytes.len() % 4 != 0 {
         return Err(Fail::from("the code is no page"));
     }
-    let page = SealedPage::of(alloc, size, bytes)?;
+    Ok(SealedPage::of(alloc, size, &bytes)?)
+}
+
+/// Appends the page of these words.
+fn append(alloc: Global, builder: &mut Builder, words: &[u32]) -> Result<(), Fail> {
+    let page = page_of(alloc, builder.size(), words)?;
     if page.len_words() != builder.due() as usize {
         return Err(Fail::from("the page has not the words due"));
     }
@@ -152,7 +150,7 @@ pub fn with(registers: &Registers, place: usize, value: u64) -> Registers {
 }
 
 /// The image of these words in slot 0, by a profile, and the registers of its start but for these, by their places and values.
-fn start(
+pub fn start(
     alloc: Global,
     profile: Profile,
     words: &[u32],
@@ -218,4 +216,14 @@ pub fn ran(
 ) -> Result<Outcome, Fail> {
     let (image, registers) = start(alloc, profile, words, changes)?;
     run_image(alloc, image, registers, steps)
+}
+
+/// The address at which an access through x18, which holds this, is denied in a module of one word, if it is.
+pub fn denied(alloc: Global, profile: Profile, word: u32, x18: u64) -> Result<Option<u64>, Fail> {
+    let ran = ran(alloc, profile, &[word], &[(18, x18)], 1)?;
+    match (ran.halt, ran.count) {
+        (Halt::StepsUsed, 1) => Ok(None),
+        (Halt::Stopped(Cause::NoAccess(at)), 0) => Ok(Some(at)),
+        _ => Err(Fail::from("the access is neither done nor denied")),
+    }
 }

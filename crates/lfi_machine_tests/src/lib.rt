@@ -15,3 +15,5 @@ mod late;
 mod ordered;
 #[cfg(test)]
 mod runs;
+#[cfg(test)]
+mod semantics;

@@ -1,7 +1,7 @@
 //! Ordered loads and stores of each size, run in the machine by the second profile.
 
-use crate::host::{Outcome, ran};
-use lfi_machine::{Cause, Halt};
+use crate::host::{denied, ran};
+use lfi_machine::Halt;
 use lfi_module::Profile;
 use std::alloc::Global;
 use std::test::Fail;
@@ -40,23 +40,13 @@ const ROWS: [Row; 10] = [
     (0xC89FFE5F, LOADED, 0), // STLR XZR, [X18]
 ];
 
-/// Runs these words by the second profile; x0, x2 and x18 are 9, VALUE and this.
-fn ran_at(alloc: Global, words: &[u32], x18: u64, steps: u64) -> Result<Outcome, Fail> {
-    ran(
-        alloc,
-        Profile::Two,
-        words,
-        &[(0, 9), (2, VALUE), (18, x18)],
-        steps,
-    )
-}
-
 /// Whether a row does so with x18 so.
 fn is_right(alloc: Global, row: &Row, x18: u64) -> Result<bool, Fail> {
     let (first, second, want) = *row;
-    let ran = ran_at(alloc, &[first, second], x18, 2)?;
-    let done = ran.halt == Halt::StepsUsed && ran.count == 2;
-    Ok(done && ran.after.x[0] == want && ran.after.pc == BASE + 65536 + 8)
+    let changes = [(0, 9), (2, VALUE), (18, x18)];
+    let ran = ran(alloc, Profile::Two, &[first, second], &changes, 2)?;
+    let seen = [ran.count, ran.after.x[0], ran.after.pc];
+    Ok(ran.halt == Halt::StepsUsed && seen == [2, want, BASE + 65536 + 8])
 }
 
 /// Across the end of a page, at an address that only a byte's access is aligned to.
@@ -81,83 +71,88 @@ const FORMS: [Form; 4] = [
     (8, 0xC8DFFE40, 0xC89FFE42),
 ];
 
-/// A region's first address and the first after it, and whether it may be loaded and stored. The module has one word, so what
-/// may be written begins at 69,632.
-type Region = (u64, u64, bool, bool);
+/// A region's first address and the first after it, and whether it may be stored to, too. The module has one word, so what may
+/// be written begins at 69,632.
+type Region = (u64, u64, bool);
 
 const REGIONS: [Region; 3] = [
-    (BASE, BASE + 4096, true, false),
-    (BASE + 65536, BASE + 69632, true, false),
-    (BASE + 69632, END, true, true),
+    (BASE, BASE + 4096, false),
+    (BASE + 65536, BASE + 69632, false),
+    (BASE + 69632, END, true),
 ];
 
-/// How an access of one word ends with x18 so.
-fn ending(alloc: Global, word: u32, x18: u64) -> Result<(Halt, u64), Fail> {
-    let ran = ran_at(alloc, &[word], x18, 1)?;
-    Ok((ran.halt, ran.count))
-}
+/// An access of a word with x18 so, and where it is denied, if it is.
+type Probe = (u32, u64, Option<u64>);
 
-/// How one ends that is denied at an address.
-fn denied(at: u64) -> (Halt, u64) {
-    (Halt::Stopped(Cause::NoAccess(at)), 0)
-}
-
-/// Whether a guarded register may not be so: a byte's access has no place after the slot without an offset.
-fn x18_may_not_be(at: u64) -> bool {
-    at >= END
-}
-
-/// Whether a form's load is done in a region at both ends, and denied after.
-fn loads_in(alloc: Global, form: &Form, region: &Region) -> Result<bool, Fail> {
+/// The loads of a form in a region at both ends, and over its end, but where data follows it. A guarded register may not be so
+/// high that a byte's access has a place after the slot.
+fn loads_in(form: &Form, region: &Region) -> [Option<Probe>; 3] {
     let (bytes, load, _) = *form;
-    let (first, end, _, _) = *region;
-    let done = (Halt::StepsUsed, 1);
-    let low = ending(alloc, load, first)? == done;
-    let high = ending(alloc, load, end.wrapping_sub(bytes))? == done;
-    let above = x18_may_not_be(end.wrapping_sub(bytes).wrapping_add(1))
-        || first == BASE + 65536
-        || ending(alloc, load, end.wrapping_sub(bytes).wrapping_add(1))? == denied(end);
-    Ok(low && high && above)
+    let (first, end, _) = *region;
+    let last = end.wrapping_sub(bytes);
+    let over = last.wrapping_add(1);
+    let above = if over < END && first != BASE + 65536 {
+        Some((load, over, Some(end)))
+    } else {
+        None
+    };
+    [Some((load, first, None)), Some((load, last, None)), above]
 }
 
-/// Whether a form's store is done in a region at both ends, if it may be, and denied before and after.
-fn stores_in(alloc: Global, form: &Form, region: &Region) -> Result<bool, Fail> {
+/// The stores of a form in a region at both ends, and before and over them, if it may be stored to.
+fn stores_in(form: &Form, region: &Region) -> [Option<Probe>; 4] {
     let (bytes, _, store) = *form;
-    let (first, end, _, stores) = *region;
-    let done = (Halt::StepsUsed, 1);
+    let (first, end, stores) = *region;
     let last = end.wrapping_sub(bytes);
     if !stores {
-        return Ok(
-            ending(alloc, store, first)? == denied(first)
-                && ending(alloc, store, last)? == denied(last),
-        );
+        let low = Some((store, first, Some(first)));
+        return [low, Some((store, last, Some(last))), None, None];
     }
-    let low = ending(alloc, store, first)? == done;
-    let high = ending(alloc, store, last)? == done;
-    let next = last.wrapping_add(1);
-    let above = x18_may_not_be(next) || ending(alloc, store, next)? == denied(end);
+    let over = last.wrapping_add(1);
     let before = first.wrapping_sub(1);
-    Ok(low && high && above && ending(alloc, store, before)? == denied(before))
+    let above = if over < END {
+        Some((store, over, Some(end)))
+    } else {
+        None
+    };
+    let below = Some((store, before, Some(before)));
+    [
+        Some((store, first, None)),
+        Some((store, last, None)),
+        above,
+        below,
+    ]
+}
+
+/// The first of these accesses that ends otherwise.
+fn first_other(alloc: Global, probes: &[Option<Probe>]) -> Result<Option<Probe>, Fail> {
+    for probe in probes {
+        if let Some((word, x18, at)) = *probe {
+            if denied(alloc, Profile::Two, word, x18)? != at {
+                return Ok(*probe);
+            }
+        }
+    }
+    Ok(None)
+}
+
+/// The first access at the edges of the map that ends otherwise.
+fn first_other_edge(alloc: Global) -> Result<Option<Probe>, Fail> {
+    for form in &FORMS {
+        for region in &REGIONS {
+            let load = first_other(alloc, &loads_in(form, region))?;
+            let other = load.or(first_other(alloc, &stores_in(form, region))?);
+            if other.is_some() {
+                return Ok(other);
+            }
+        }
+    }
+    Ok(None)
 }
 
 #[test]
 fn at_the_edges_of_the_map(rt: HostRuntime) -> Result<(), Fail> {
-    for form in &FORMS {
-        for region in &REGIONS {
-            assert!(rt; loads_in(rt.alloc(), form, region)?, "{form:?} {region:?}");
-            assert!(rt; stores_in(rt.alloc(), form, region)?, "{form:?} {region:?}");
-        }
-    }
-    Ok(())
-}
-
-/// A module of one word, run from the registers of the start: it loads the table's first entry, and may not store there.
-#[test]
-fn at_the_start(rt: HostRuntime) -> Result<(), Fail> {
-    let load = ran(rt.alloc(), Profile::Two, &[0xC8DFFE40], &[], 2)?;
-    assert!(rt; load.halt == Halt::Stopped(Cause::NoFetch(0x1_0001_0004)) && load.count == 1);
-    assert!(rt; load.after.x[0] == 0x0000_0100_0000_0000);
-    let store = ran(rt.alloc(), Profile::Two, &[0xC89FFE40], &[], 2)?;
-    assert!(rt; store.halt == Halt::Stopped(Cause::NoAccess(BASE)) && store.count == 0);
+    let other = first_other_edge(rt.alloc())?;
+    assert!(rt; other.is_none(), "{other:?}");
     Ok(())
 }

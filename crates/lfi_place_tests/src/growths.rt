@@ -6,66 +6,66 @@ use lfi_model::{Item, Judged};
 use lfi_module::{Extent, ModuleNumber, PageSize, Profile, WordCount};
 use lfi_queues::{Intake, Lane};
 use page_buf::{OpenPage, Pool, PoolMember};
-use std::alloc::{AllocError, Global};
+use std::alloc::Global;
 use std::test::Fail;
 
-/// A board, an intake and a lane. Whether one of them found no memory, and then was made.
-fn queues_again(alloc: Global) -> Result<bool, AllocError> {
-    let mut again = false;
-    if Board::new(alloc, 2, 1).is_err() {
-        Board::new(alloc, 2, 1)?;
-        again = true;
-    }
-    if Intake::<Item>::new(alloc, 2, 2).is_err() {
-        Intake::<Item>::new(alloc, 2, 2)?;
-        again = true;
-    }
-    if Lane::<Judged>::new(alloc, 2, 1).is_err() {
-        Lane::<Judged>::new(alloc, 2, 1)?;
-        again = true;
-    }
-    Ok(again)
+/// What takes memory to be made.
+#[derive(Clone, Copy)]
+enum Made {
+    Board,
+    Intake,
+    Lane,
+    Pool,
+    Member,
+    Page(PageSize),
+    /// A builder for the most words.
+    Builder,
 }
 
-/// A pool, a member of one, and a page of each size. Whether one of them found no memory, and then was made.
-fn pages_again(alloc: Global) -> Result<bool, AllocError> {
-    let mut again = false;
-    if Pool::new(alloc, 2).is_err() {
-        Pool::new(alloc, 2)?;
-        again = true;
-    }
-    if PoolMember::new(alloc).is_err() {
-        PoolMember::new(alloc)?;
-        again = true;
-    }
-    for size in [PageSize::SMALL, PageSize::LARGE] {
-        if OpenPage::new(alloc, size).is_err() {
-            OpenPage::new(alloc, size)?;
-            again = true;
+/// Each of them, in the order in which they are made.
+const ALL: [Made; 8] = [
+    Made::Board,
+    Made::Intake,
+    Made::Lane,
+    Made::Pool,
+    Made::Member,
+    Made::Page(PageSize::SMALL),
+    Made::Page(PageSize::LARGE),
+    Made::Builder,
+];
+
+/// Whether there is memory for it.
+fn is_made(alloc: Global, made: Made) -> bool {
+    match made {
+        Made::Board => Board::new(alloc, 2, 1).is_ok(),
+        Made::Intake => Intake::<Item>::new(alloc, 2, 2).is_ok(),
+        Made::Lane => Lane::<Judged>::new(alloc, 2, 1).is_ok(),
+        Made::Pool => Pool::new(alloc, 2).is_ok(),
+        Made::Member => PoolMember::new(alloc).is_ok(),
+        Made::Page(size) => OpenPage::new(alloc, size).is_ok(),
+        Made::Builder => {
+            let extent = Extent::of(WordCount::MOST, 0, Profile::One, PageSize::SMALL);
+            Builder::new(alloc, extent, ModuleNumber::at(0)).is_ok()
         }
     }
-    Ok(again)
-}
-
-/// A builder for the most words. Whether it found no memory, and then was made.
-fn builder_again(alloc: Global) -> Result<bool, AllocError> {
-    let extent = Extent::of(WordCount::MOST, 0, Profile::One, PageSize::SMALL);
-    let again = Builder::new(alloc, extent, ModuleNumber::at(0)).is_err();
-    if again {
-        Builder::new(alloc, extent, ModuleNumber::at(0))?;
-    }
-    Ok(again)
 }
 
 #[test]
 fn what_is_refused_is_made_again(rt: HostRuntime) -> Result<(), Fail> {
-    let queues = queues_again(rt.alloc())?;
-    let pages = pages_again(rt.alloc())?;
-    let builder = builder_again(rt.alloc())?;
-    if queues || pages || builder {
-        println!(rt; "made again")?;
-    } else {
-        println!(rt; "made at once")?;
+    let mut refused = 0u32;
+    let mut made = true;
+    for one in ALL.iter() {
+        if !is_made(rt.alloc(), *one) {
+            refused = refused.saturating_add(1);
+            made = is_made(rt.alloc(), *one) && made;
+        }
     }
+    assert!(rt; made);
+    let told = if refused > 0 {
+        "made again"
+    } else {
+        "made at once"
+    };
+    println!(rt; "{told}")?;
     Ok(())
 }

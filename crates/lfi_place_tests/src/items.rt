@@ -4,7 +4,7 @@ ghost use Rattle.std.specs.Prelude.{◌≡◌};
 
 use lfi_model::{Item, ItemKind, Judged, Reason};
 use lfi_module::{Extent, ModuleNumber, PageSize, Profile, WordCount};
-use page_buf::SealedPage;
+use page_buf::{OpenPage, PoolMember, SealedPage};
 use std::alloc::Global;
 use std::test::Fail;
 
@@ -40,15 +40,22 @@ pub fn module() -> ModuleNumber
     ModuleNumber::at(3)
 }
 
-/// The code of a page of the module: NOPs and this word.
-fn code(alloc: Global, extent: Extent, index: u32, last: u32) -> Result<Vec<u8>, Fail> {
-    let bytes = extent.words().bytes_in_page(extent.pages(), index) as usize;
-    let mut code = Vec::new(alloc);
-    for _ in 1..bytes / 4 {
-        code.extend_from_slice(&NOP.to_le_bytes())?;
+/// A page of this size and of so many words, which it has room for: NOPs, and this word at its end.
+pub fn page_ending(
+    alloc: Global,
+    size: PageSize,
+    words: u32,
+    last: u32,
+) -> Result<SealedPage, Fail> {
+    let mut page = OpenPage::new(alloc, size)?;
+    for _ in 1..words {
+        page.write(&NOP.to_le_bytes());
     }
-    code.extend_from_slice(&last.to_le_bytes())?;
-    Ok(code)
+    page.write(&last.to_le_bytes());
+    match page.seal() {
+        Ok(page) => Ok(page),
+        Err(_) => Err(Fail::from("the page was not sealed")),
+    }
 }
 
 /// A page's item.
@@ -81,10 +88,9 @@ fn end(extent: Extent, pages: u32, reason: Reason) -> Result<Item, Fail> {
 }
 
 /// A module of so many words, entered at word 7, or its last one, that goes by a profile and has small pages.
-pub fn extent_of(words: WordCount, profile: Profile) -> Result<Extent, Fail> {
+pub fn extent_of(words: WordCount, profile: Profile) -> Extent {
     let entry = 7.min(words.number() - 1);
-    let extent = Extent::new(words, entry, profile, PageSize::SMALL).ok_or("no such word")?;
-    Ok(extent)
+    Extent::of(words, entry, profile, PageSize::SMALL)
 }
 
 /// The item of this part, in such a module.
@@ -97,12 +103,9 @@ pub fn item_of(alloc: Global, extent: Extent, part: Part) -> Result<Item, Fail> 
             kind: ItemKind::Open,
         }),
         Part::Page(index, last) => {
-            let code = code(alloc, extent, index, last)?;
             let size = extent.pages();
-            if code.is_empty() || code.len() > size.bytes() as usize || code.len() % 4 != 0 {
-                return Err(Fail::from("the code is no page"));
-            }
-            page(extent, index, SealedPage::of(alloc, size, code.as_slice())?)
+            let words = extent.words().bytes_in_page(size, index) / 4;
+            page(extent, index, page_ending(alloc, size, words, last)?)
         }
         Part::End(pages, reason) => end(extent, pages, reason),
     }
@@ -110,6 +113,15 @@ pub fn item_of(alloc: Global, extent: Extent, part: Part) -> Result<Item, Fail> 
 
 /// The judged item of this part.
 pub fn judged(alloc: Global, part: Part) -> Result<Judged, Fail> {
-    let extent = extent_of(WordCount::of(WORDS), Profile::One)?;
+    let extent = extent_of(WordCount::of(WORDS), Profile::One);
     Ok(item_of(alloc, extent, part)?.judge())
+}
+
+/// How many pages are in the pool of this member, of 64 at most. It gets them all.
+pub fn pooled(member: &mut PoolMember) -> u64 {
+    let mut count = 0u64;
+    for _ in 0..64 {
+        count = count.wrapping_add(u64::from(member.get().is_some()));
+    }
+    count
 }

@@ -2,7 +2,11 @@
 #![tactic(auto)]
 
 #[cfg(test)]
+mod frames;
+#[cfg(test)]
 mod growths;
+#[cfg(test)]
+mod images;
 #[cfg(test)]
 mod items;
 #[cfg(test)]

@@ -6,7 +6,7 @@ ghost use Rattle.lfi_board.specs.Known.{board_id, board_of, sequencer_board};
 ghost use Rattle.lfi_board.specs.Rows.{NewReceivers};
 ghost use Rattle.lfi_place.specs.Turns.{lane_pass_of, seat_of};
 
-use crate::items::{Part, UNKNOWN, judged, mark, module};
+use crate::items::{Part, UNKNOWN, judged, module};
 use lfi_board::{Board, Claim, Phase, ReceiverSeat};
 use lfi_model::{Judged, Reason};
 use lfi_place::{Sequencer, SequencerTurn};
@@ -92,34 +92,47 @@ fn phases<R: Wait + AllocGlobal>(rt: &R, parts: [Part; 5]) -> Result<[Phase; 5],
     Ok(phases)
 }
 
-#[test]
-fn the_last_item_of_a_lawful_module_ends_it(rt: HostRuntime) -> Result<(), Fail> {
-    let phases = phases(
-        &rt,
+/// The phases after these items of a lawful module, the last of which ends it, and of one that is refused at its first
+/// fault.
+const ROWS: [([Part; 5], [Phase; 5]); 2] = [
+    (
         [
             Part::End(3, Reason::Close),
-            Part::Page(2, mark(3)),
-            Part::Page(0, mark(1)),
+            Part::Page(2, 0x9100_0C00),
+            Part::Page(0, 0x9100_0400),
             Part::Open,
-            Part::Page(1, mark(2)),
+            Part::Page(1, 0x9100_0800),
         ],
-    )?;
-    assert!(rt; phases[..4] == [Phase::Open; 4] && phases[4] == Phase::Done);
-    Ok(())
-}
-
-#[test]
-fn the_first_fault_refuses_a_module(rt: HostRuntime) -> Result<(), Fail> {
-    let phases = phases(
-        &rt,
+        [
+            Phase::Open,
+            Phase::Open,
+            Phase::Open,
+            Phase::Open,
+            Phase::Done,
+        ],
+    ),
+    (
         [
             Part::Page(1, UNKNOWN),
             Part::Open,
-            Part::Page(0, mark(1)),
-            Part::Page(2, mark(3)),
+            Part::Page(0, 0x9100_0400),
+            Part::Page(2, 0x9100_0C00),
             Part::End(3, Reason::Close),
         ],
-    )?;
-    assert!(rt; phases[..2] == [Phase::Open; 2] && phases[2..] == [Phase::Refused; 3]);
+        [
+            Phase::Open,
+            Phase::Open,
+            Phase::Refused,
+            Phase::Refused,
+            Phase::Refused,
+        ],
+    ),
+];
+
+#[test]
+fn the_last_item_ends_a_module_and_the_first_fault_refuses_it(rt: HostRuntime) -> Result<(), Fail> {
+    for (place, (parts, want)) in ROWS.iter().enumerate() {
+        assert!(rt; phases(&rt, *parts)? == *want, "row {place}");
+    }
     Ok(())
 }

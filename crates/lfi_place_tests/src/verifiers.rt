@@ -45,7 +45,7 @@ impl Row {
 
     /// Puts an item to the intake, so many times.
     fn put<R: AllocGlobal>(&mut self, rt: &R, part: Part, times: usize) -> Result<(), Fail> {
-        let extent = extent_of(WordCount::of(WORDS), Profile::One)?;
+        let extent = extent_of(WordCount::of(WORDS), Profile::One);
         for _ in 0..times {
             let item = item_of(rt.alloc(), extent, part)?;
             if self.intake.put(&mut self.put, item).is_err() {
@@ -55,8 +55,8 @@ impl Row {
         Ok(())
     }
 
-    /// Whether the next turns, so many, did this.
-    fn did<R: Wait>(&mut self, rt: &R, turns: usize, did: VerifierTurn) -> bool {
+    /// Whether the next turn does this, so many times.
+    fn did<R: Wait>(&mut self, rt: &R, did: VerifierTurn, turns: usize) -> bool {
         let mut all = true;
         for _ in 0..turns {
             all = self.verifier.turn(rt, &self.intake, &self.lanes, &OpenGate) == did && all;
@@ -64,73 +64,81 @@ impl Row {
         all
     }
 
-    /// What the next item of the lane brings.
-    fn take<R: Wait>(&mut self, rt: &R) -> Brought {
-        brings(self.lanes[3].take(rt, &mut self.take))
-    }
-
-    /// Whether the verifier judges two items, a page with a fault and an End, into their lane, and then finds nothing.
-    fn judges_two<R: Wait>(&mut self, rt: &R) -> bool {
-        self.did(rt, 2, VerifierTurn::Worked)
-            && self.take(rt) == Brought::Page(2, true)
-            && self.take(rt) == Brought::End(Reason::Close)
-            && self.take(rt) == Brought::Nothing
-            && self.did(rt, 1, VerifierTurn::Idle)
-    }
-
-    /// Whether the verifier puts 64 items of 66 in the lane, and each other one only once one is taken.
-    fn is_blocked_after_64<R: Wait>(&mut self, rt: &R) -> bool {
-        self.did(rt, 64, VerifierTurn::Worked)
-            && self.did(rt, 2, VerifierTurn::Blocked)
-            && self.take(rt) == Brought::Page(1, false)
-            && self.did(rt, 1, VerifierTurn::Worked)
-            && self.did(rt, 1, VerifierTurn::Blocked)
-            && self.take(rt) == Brought::Page(1, false)
-            && self.did(rt, 1, VerifierTurn::Worked)
-            && self.did(rt, 1, VerifierTurn::Idle)
+    /// Whether each of these steps comes to what it tells.
+    fn goes<R: Wait>(&mut self, rt: &R, steps: &[Step]) -> bool {
+        let mut all = true;
+        for step in steps {
+            let is_so = match step {
+                Step::Turn(did, turns) => self.did(rt, *did, *turns),
+                Step::Take(brought) => brings(self.lanes[3].take(rt, &mut self.take)) == *brought,
+            };
+            all = is_so && all;
+        }
+        all
     }
 }
 
-/// What an item brings.
-#[derive(Clone, Copy, PartialEq, Eq)]
-enum Brought {
-    Nothing,
-    Open,
-    /// A page of the module with this ordinal, and whether it has a fault.
-    Page(u32, bool),
-    End(Reason),
+/// What an item brings: its module, its ordinal, whether it is a page with a fault or one without, and the reason of an End.
+type Brought = (u16, u32, Option<bool>, Option<Reason>);
+
+/// What is done with a verifier, and what comes of it.
+#[derive(Clone, Copy)]
+enum Step {
+    /// The next turn does this, so many times.
+    Turn(VerifierTurn, usize),
+    /// The next item of the lane brings this.
+    Take(Option<Brought>),
 }
 
-/// What an item of module 3 brings, if there is one.
-fn brings(item: Option<Judged>) -> Brought {
-    let Some(item) = item else {
-        return Brought::Nothing;
+/// What an item brings, if there is one.
+fn brings(item: Option<Judged>) -> Option<Brought> {
+    let item = item?;
+    let (faulty, end) = match &item.kind {
+        ItemKind::Open => (None, None),
+        ItemKind::Page(page) => (Some(page.verdict().inner.is_some()), None),
+        ItemKind::End(reason) => (None, Some(*reason)),
     };
-    match &item.kind {
-        ItemKind::Page(page) if item.module.number() == 3 => Brought::Page(
-            item.ordinal,
-            page.verdict().inner.is_some(),
-        ),
-        ItemKind::Page(_) => Brought::Nothing,
-        ItemKind::Open => Brought::Open,
-        ItemKind::End(reason) => Brought::End(*reason),
-    }
+    Some((item.module.number(), item.ordinal, faulty, end))
 }
+
+/// The turns and items of a page with a fault and an End, judged into their lane.
+const TWO_JUDGED: [Step; 5] = [
+    Step::Turn(VerifierTurn::Worked, 2),
+    Step::Take(Some((3, 2, Some(true), None))),
+    Step::Take(Some((3, 1, None, Some(Reason::Close)))),
+    Step::Take(None),
+    Step::Turn(VerifierTurn::Idle, 1),
+];
 
 #[test]
 fn items_are_judged_into_their_lane(rt: HostRuntime) -> Result<(), Fail> {
     let mut row = Row::new(rt.alloc())?;
-    let was_idle = row.did(&rt, 1, VerifierTurn::Idle);
+    let was_idle = row.did(&rt, VerifierTurn::Idle, 1);
     row.put(&rt, Part::Page(1, UNKNOWN), 1)?;
     row.put(&rt, Part::End(0, Reason::Close), 1)?;
-    assert!(rt; was_idle && row.judges_two(&rt));
+    assert!(rt; was_idle && row.goes(&rt, &TWO_JUDGED));
     Ok(())
 }
+
+/// A page without a fault is taken.
+const TAKEN: Step = Step::Take(Some((3, 1, Some(false), None)));
+
+/// Of 66 items 64 are put in the lane, and each other one only once one is taken.
+const BLOCKED_AFTER_64: [Step; 8] = [
+    Step::Turn(VerifierTurn::Worked, 64),
+    Step::Turn(VerifierTurn::Blocked, 2),
+    TAKEN,
+    Step::Turn(VerifierTurn::Worked, 1),
+    Step::Turn(VerifierTurn::Blocked, 1),
+    TAKEN,
+    Step::Turn(VerifierTurn::Worked, 1),
+    Step::Turn(VerifierTurn::Idle, 1),
+];
 
 #[test]
 fn a_full_lane_blocks(rt: HostRuntime) -> Result<(), Fail> {
     let mut row = Row::new(rt.alloc())?;
     row.put(&rt, Part::Page(0, mark(1)), 66)?;
-    assert!(rt; row.is_blocked_after_64(&rt));
+    assert!(rt; row.goes(&rt, &BLOCKED_AFTER_64));
     Ok(())
 }

@@ -4,6 +4,7 @@ use crate::letter::fault_by_letter;
 use crate::pages::{fault_with, verdict_of};
 use crate::plain::fault_word_by_word;
 use crate::random::Draws;
+use crate::row::Row;
 use crate::words::{PROFILES, fault_of};
 use lfi_module::Profile;
 use lfi_rules::{Fault, Need, PageVerdict, broken_at, leave};
@@ -70,7 +71,7 @@ fn verdicts_of(
         let (start, stop) = (index / 16, index % 16);
         let verdict = match words.get(start..stop) {
             Some(piece) if !piece.is_empty() => {
-                Some(verdict_of(rt, piece, u32::try_from(start)?, n, profile)?)
+                Some(verdict_of(piece, u32::try_from(start)?, n, profile)?)
             }
             _ => None,
         };
@@ -125,31 +126,24 @@ fn has_fault_cut(
 }
 
 /// The first fault of a module, each place asked by itself.
-fn fault_by_places(
-    rt: &HostRuntime,
-    words: &[u32],
-    profile: Profile,
-) -> Result<Option<Fault>, Fail> {
-    let words = Vec::from_slice(rt.alloc(), words)?;
-    if words.len() > 4_194_304 {
-        return Err(Fail::new("the module is too long"));
-    }
-    for place in 0..words.len() {
+fn fault_by_places(words: &[u32], profile: Profile) -> Option<Fault> {
+    let words = Row(&words[..words.len().min(4_194_304)]);
+    for place in 0..words.0.len() {
         if let Some(rule) = broken_at(&words, place, profile) {
             let word = place as u32;
-            return Ok(Some(Fault { word, rule }));
+            return Some(Fault { word, rule });
         }
     }
-    Ok(None)
+    None
 }
 
 /// Whether a module has one fault: by the letter, at once, word by word, place by place and cut in every way.
 pub fn has_one_fault(rt: &HostRuntime, words: &[u32], profile: Profile) -> Result<bool, Fail> {
     let letter = fault_by_letter(words, profile);
     Ok(
-        fault_of(rt, words, profile)? == letter
+        fault_of(words, profile) == letter
             && fault_word_by_word(words, profile) == letter
-            && fault_by_places(rt, words, profile)? == letter
+            && fault_by_places(words, profile) == letter
             && has_fault_cut(rt, words, letter, profile)?,
     )
 }

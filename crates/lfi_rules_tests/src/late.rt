@@ -5,7 +5,7 @@ use crate::pages::fault_by_pages;
 use crate::words::{PROFILES, fault_of};
 use lfi_module::Profile;
 use lfi_rules::{Fault, Rule};
-use std::alloc::AllocError;
+use std::alloc::{AllocError, Global};
 use std::test::Fail;
 
 const NOP: u32 = 0xD503201F;
@@ -62,51 +62,43 @@ fn unmet_at(place: Option<u32>) -> Option<Fault> {
 #[test]
 fn probes_by_the_second_profile(rt: HostRuntime) -> Result<(), Fail> {
     for (words, place) in &ROWS {
+        let found = fault_of(words, Profile::Two);
         assert!(rt;
-            fault_of(&rt, words, Profile::Two)? == unmet_at(*place),
+            found == unmet_at(*place) && has_one_fault(&rt, words, Profile::Two)?,
             "{words:?}"
         );
-        assert!(rt; has_one_fault(&rt, words, Profile::Two)?, "{words:?}");
     }
     Ok(())
 }
 
 /// In the first profile the word after the move is the probe, or at fault.
 #[test]
-fn probes_by_the_first_profile(rt: HostRuntime) -> Result<(), Fail> {
+fn probes_by_the_first_profile(rt: HostRuntime) {
     for (words, _) in &ROWS[1..31] {
-        let fault = fault_of(&rt, words, Profile::One)?;
-        match fault {
-            Some(fault) => assert!(rt; fault.word == 1, "{words:?}"),
-            None => assert!(rt; false, "{words:?}"),
-        }
+        assert!(rt;
+            matches!(fault_of(words, Profile::One), Some(Fault { word: 1, .. })),
+            "{words:?}"
+        );
     }
-    Ok(())
 }
 
 /// A word between breaks its own rule first; the need stays for those after it.
 #[test]
-fn words_between_keep_their_rules(rt: HostRuntime) -> Result<(), Fail> {
+fn words_between_keep_their_rules(rt: HostRuntime) {
     let wrong = 0xAA0003F5; // MOV X21, X0
     for profile in PROFILES {
-        let fault = fault_of(&rt, &[STORE, MOVE, wrong, NOP, NOP, NOP], profile)?;
+        let fault = fault_of(&[STORE, MOVE, wrong, NOP, NOP, NOP], profile);
         let expected = Some(Fault {
             word: 2,
             rule: Rule::BaseKept,
         });
         assert!(rt; fault == expected, "{fault:?}");
     }
-    Ok(())
 }
 
 /// NOPs, but for a move at one place and a store at another.
-fn apart(
-    rt: &HostRuntime,
-    count: usize,
-    moved: usize,
-    stored: usize,
-) -> Result<Vec<u32>, AllocError> {
-    let mut words = Vec::with_capacity(rt.alloc(), count)?;
+fn apart(alloc: Global, count: usize, moved: usize, stored: usize) -> Result<Vec<u32>, AllocError> {
+    let mut words = Vec::with_capacity(alloc, count)?;
     for place in 0..count {
         words.push(if place == moved {
             MOVE
@@ -119,36 +111,37 @@ fn apart(
     Ok(words)
 }
 
-/// A probe in the next page, among four words or too late, and far from the ends of a module.
+/// So many words, the places of a move and of a store, and where the second profile finds the fault: a probe in the next
+/// page, among four words or too late, and far from the ends of a module.
+const APART: [(usize, u32, usize, Option<u32>); 8] = [
+    (1026, 1022, 1025, None),
+    (1026, 1022, 1026, Some(1025)),
+    (1026, 1021, 1025, None),
+    (1027, 1021, 1026, Some(1025)),
+    (1024, 1022, 1024, Some(1023)),
+    (6000, 3070, 3074, None),
+    (6000, 3070, 3075, Some(3074)),
+    (6000, 3071, 3073, None),
+];
+
+/// A module's fault by the second profile, at once and by pages of 1,024 words and of one, and that by the first.
+fn faults_of(words: &[u32]) -> Result<[Option<Fault>; 4], Fail> {
+    Ok([
+        fault_of(words, Profile::Two),
+        fault_by_pages(words, 1024, Profile::Two)?,
+        fault_by_pages(words, 1, Profile::Two)?,
+        fault_of(words, Profile::One),
+    ])
+}
+
 #[test]
 fn probes_across_a_seam(rt: HostRuntime) -> Result<(), Fail> {
-    for (count, moved, stored, place) in [
-        (1026usize, 1022usize, 1025usize, None),
-        (1026, 1022, 1026, Some(1025)),
-        (1026, 1021, 1025, None),
-        (1027, 1021, 1026, Some(1025)),
-        (1024, 1022, 1024, Some(1023)),
-        (6000, 3070, 3074, None),
-        (6000, 3070, 3075, Some(3074)),
-        (6000, 3071, 3073, None),
-    ] {
-        let words = apart(&rt, count, moved, stored)?;
-        let expected = unmet_at(place);
+    for (count, moved, stored, place) in APART {
+        let words = apart(rt.alloc(), count, moved as usize, stored)?;
+        let late = unmet_at(place);
+        let first = unmet_at(Some(moved.saturating_add(1)));
         assert!(rt;
-            fault_of(&rt, &words, Profile::Two)? == expected,
-            "{moved} {stored}"
-        );
-        assert!(rt;
-            fault_by_pages(&rt, &words, 1024, Profile::Two)? == expected,
-            "{moved} {stored}"
-        );
-        assert!(rt;
-            fault_by_pages(&rt, &words, 1, Profile::Two)? == expected,
-            "{moved} {stored}"
-        );
-        let first = unmet_at(Some(u32::try_from(moved)?.saturating_add(1)));
-        assert!(rt;
-            moved + 1 == count || fault_of(&rt, &words, Profile::One)? == first,
+            faults_of(&words)? == [late, late, late, first],
             "{moved} {stored}"
         );
     }

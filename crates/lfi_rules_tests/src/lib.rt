@@ -4,6 +4,10 @@
 #[cfg(test)]
 mod cuttings;
 #[cfg(test)]
+mod explained;
+#[cfg(test)]
+mod instructions;
+#[cfg(test)]
 mod late;
 #[cfg(test)]
 mod letter;
@@ -19,5 +23,7 @@ mod pages;
 mod plain;
 #[cfg(test)]
 mod random;
+#[cfg(test)]
+mod row;
 #[cfg(test)]
 mod words;

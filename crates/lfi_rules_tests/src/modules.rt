@@ -100,23 +100,21 @@ const UNMET_FAULT: Option<Fault> = Some(Fault {
 });
 
 #[test]
-fn needs_met(rt: HostRuntime) -> Result<(), Fail> {
+fn needs_met(rt: HostRuntime) {
     for words in MET.chunks(2) {
         for profile in PROFILES {
-            assert!(rt; fault_of(&rt, words, profile)? == None, "{words:?}");
+            assert!(rt; fault_of(words, profile) == None, "{words:?}");
         }
     }
-    Ok(())
 }
 
 #[test]
-fn needs_unmet(rt: HostRuntime) -> Result<(), Fail> {
+fn needs_unmet(rt: HostRuntime) {
     for words in UNMET.chunks(2) {
         for profile in PROFILES {
-            assert!(rt; fault_of(&rt, words, profile)? == UNMET_FAULT, "{words:?}");
+            assert!(rt; fault_of(words, profile) == UNMET_FAULT, "{words:?}");
         }
     }
-    Ok(())
 }
 
 /// Modules, and their first faults.
@@ -232,13 +230,12 @@ const MODULES: [(&[u32], Option<Fault>); 16] = [
 ];
 
 #[test]
-fn modules(rt: HostRuntime) -> Result<(), Fail> {
+fn modules(rt: HostRuntime) {
     for (words, fault) in &MODULES {
         for profile in PROFILES {
-            assert!(rt; fault_of(&rt, words, profile)? == *fault, "{words:?}");
+            assert!(rt; fault_of(words, profile) == *fault, "{words:?}");
         }
     }
-    Ok(())
 }
 
 #[test]

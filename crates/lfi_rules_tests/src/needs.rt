@@ -126,12 +126,19 @@ fn needs_opened_in_the_first_profile(rt: HostRuntime) {
     }
 }
 
+/// Which of Nothing, Call, Guard and Probe a word meets.
+fn needs_met(word: u32) -> [bool; 4] {
+    [
+        is_met(word, Need::Nothing),
+        is_met(word, Need::Call),
+        is_met(word, Need::Guard),
+        is_met(word, Need::Probe(1)),
+    ]
+}
+
 #[test]
 fn needs_met_by_a_word(rt: HostRuntime) {
     for (word, call, guard, probe) in MEETINGS {
-        assert!(rt; is_met(word, Need::Nothing), "{word:#x}");
-        assert!(rt; is_met(word, Need::Call) == call, "{word:#x}");
-        assert!(rt; is_met(word, Need::Guard) == guard, "{word:#x}");
-        assert!(rt; is_met(word, Need::Probe(1)) == probe, "{word:#x}");
+        assert!(rt; needs_met(word) == [true, call, guard, probe], "{word:#x}");
     }
 }

@@ -1,6 +1,7 @@
 //! Modules page by page: the verdict on a page, and the verdicts one after another.
 ghost use Rattle.std.specs.Prelude.{◌≤◌};
 
+use crate::row::Row;
 use crate::words::{PROFILES, fault_of};
 use lfi_module::Profile;
 use lfi_rules::{Fault, Need, PageVerdict, Rule, fault_after, judge, leave, seam};
@@ -12,17 +13,15 @@ const GUARD: u32 = 0x8B3E42BE;
 
 /// The verdict on a page that stands in a module of n words from `first` on, by a profile.
 pub fn verdict_of(
-    rt: &HostRuntime,
     words: &[u32],
     first: u32,
     n: u32,
     profile: Profile,
 ) -> Result<PageVerdict, Fail> {
-    let words = Vec::from_slice(rt.alloc(), words)?;
     if words.is_empty() || n > 4_194_304 || first > n || words.len() > (n - first) as usize {
         return Err(Fail::new("the page doesn't fit"));
     }
-    Ok(judge(&words, first, n, profile))
+    Ok(judge(&Row(words), first, n, profile))
 }
 
 /// The first fault once a page of `count` words comes after words that leave `tail` open.
@@ -39,19 +38,14 @@ pub fn fault_with(
 }
 
 /// The first fault of a module that is cut into pages of so many words, by their verdicts.
-pub fn fault_by_pages(
-    rt: &HostRuntime,
-    words: &[u32],
-    size: usize,
-    profile: Profile,
-) -> Result<Option<Fault>, Fail>
+pub fn fault_by_pages(words: &[u32], size: usize, profile: Profile) -> Result<Option<Fault>, Fail>
     requires { 1 ≤ size }
 {
     let n = u32::try_from(words.len())?;
     let mut left = Need::Nothing;
     let mut first = 0u32;
     for page in words.chunks(size) {
-        let verdict = verdict_of(rt, page, first, n, profile)?;
+        let verdict = verdict_of(page, first, n, profile)?;
         let fault = fault_with(n, left, &verdict, page.len())?;
         if fault.is_some() {
             return Ok(fault);
@@ -63,16 +57,11 @@ pub fn fault_by_pages(
 }
 
 /// The first fault of a module that is cut in two, by the verdicts on its parts.
-fn fault_of_two(
-    rt: &HostRuntime,
-    left: &[u32],
-    right: &[u32],
-    profile: Profile,
-) -> Result<Option<Fault>, Fail> {
+fn fault_of_two(left: &[u32], right: &[u32], profile: Profile) -> Result<Option<Fault>, Fail> {
     let at = u32::try_from(left.len())?;
     let n = at.saturating_add(u32::try_from(right.len())?);
-    let first = verdict_of(rt, left, 0, n, profile)?;
-    let second = verdict_of(rt, right, at, n, profile)?;
+    let first = verdict_of(left, 0, n, profile)?;
+    let second = verdict_of(right, at, n, profile)?;
     let fault = fault_with(n, Need::Nothing, &first, left.len())?;
     if fault.is_some() {
         return Ok(fault);
@@ -94,15 +83,11 @@ const SMALL: [&[u32]; 9] = [
 ];
 
 /// The first place at which a module is cut in two so that its fault is another than that of its words together.
-fn first_other_cut(
-    rt: &HostRuntime,
-    words: &[u32],
-    profile: Profile,
-) -> Result<Option<usize>, Fail> {
-    let whole = fault_of(rt, words, profile)?;
+fn first_other_cut(words: &[u32], profile: Profile) -> Result<Option<usize>, Fail> {
+    let whole = fault_of(words, profile);
     for at in 1..words.len() {
         let (left, right) = words.split_at(at);
-        if fault_of_two(rt, left, right, profile)? != whole {
+        if fault_of_two(left, right, profile)? != whole {
             return Ok(Some(at));
         }
     }
@@ -110,15 +95,10 @@ fn first_other_cut(
 }
 
 /// The first size of pages by which a module's fault is another than that of its words together.
-fn first_other(
-    rt: &HostRuntime,
-    words: &[u32],
-    sizes: &[usize],
-    profile: Profile,
-) -> Result<Option<usize>, Fail> {
-    let whole = fault_of(rt, words, profile)?;
+fn first_other(words: &[u32], sizes: &[usize], profile: Profile) -> Result<Option<usize>, Fail> {
+    let whole = fault_of(words, profile);
     for size in sizes {
-        if *size > 0 && fault_by_pages(rt, words, *size, profile)? != whole {
+        if *size > 0 && fault_by_pages(words, *size, profile)? != whole {
             return Ok(Some(*size));
         }
     }
@@ -129,7 +109,7 @@ fn first_other(
 fn cuts_small_modules(rt: HostRuntime) -> Result<(), Fail> {
     for words in SMALL {
         for profile in PROFILES {
-            let other = first_other_cut(&rt, words, profile)?;
+            let other = first_other_cut(words, profile)?;
             assert!(rt; other == None, "{words:?} at {other:?}");
         }
     }
@@ -139,7 +119,6 @@ fn cuts_small_modules(rt: HostRuntime) -> Result<(), Fail> {
 #[test]
 fn judges_a_page(rt: HostRuntime) -> Result<(), Fail> {
     let verdict = verdict_of(
-        &rt,
         &[0xF9400240, 0xF9400020, 0xD10043FF],
         1024,
         1100,
@@ -149,16 +128,15 @@ fn judges_a_page(rt: HostRuntime) -> Result<(), Fail> {
         word: 1025,
         rule: Rule::AccessConfined,
     });
-    assert!(rt; verdict.first == 1024);
-    assert!(rt; verdict.inner == inner);
-    assert!(rt; verdict.tail == Need::Probe(1));
-    assert!(rt; !verdict.head.call && !verdict.head.guard && !verdict.head.probe);
-    assert!(rt; seam(Need::Nothing, &verdict) == inner);
     let unmet = Some(Fault {
         word: 1024,
         rule: Rule::NeedMet,
     });
-    assert!(rt; seam(Need::Guard, &verdict) == unmet);
+    let head = verdict.head;
+    let found = (verdict.first, verdict.inner, verdict.tail);
+    assert!(rt; found == (1024, inner, Need::Probe(1)));
+    assert!(rt; [head.call, head.guard, head.probe] == [false; 3]);
+    assert!(rt; [seam(Need::Nothing, &verdict), seam(Need::Guard, &verdict)] == [inner, unmet]);
     Ok(())
 }
 
@@ -178,11 +156,10 @@ const HEADS_AND_TAILS: [(u32, bool, bool, bool, Need); 9] = [
 #[test]
 fn judges_heads_and_tails(rt: HostRuntime) -> Result<(), Fail> {
     for (word, call, guard, probe, tail) in HEADS_AND_TAILS {
-        let verdict = verdict_of(&rt, &[word], 0, 4_194_304, Profile::Two)?;
-        assert!(rt; verdict.head.call == call, "{word:#x}");
-        assert!(rt; verdict.head.guard == guard, "{word:#x}");
-        assert!(rt; verdict.head.probe == probe, "{word:#x}");
-        assert!(rt; verdict.tail == tail, "{word:#x}");
+        let verdict = verdict_of(&[word], 0, 4_194_304, Profile::Two)?;
+        let head = verdict.head;
+        let found = (head.call, head.guard, head.probe, verdict.tail);
+        assert!(rt; found == (call, guard, probe, tail), "{word:#x}");
     }
     Ok(())
 }
@@ -199,7 +176,7 @@ const SEAMS: [([u32; 2], u32, Rule); 4] = [
 #[test]
 fn orders_faults_at_a_seam(rt: HostRuntime) -> Result<(), Fail> {
     for (words, word, rule) in SEAMS {
-        let verdict = verdict_of(&rt, &words, 5, 7, Profile::Two)?;
+        let verdict = verdict_of(&words, 5, 7, Profile::Two)?;
         assert!(rt;
             seam(Need::Guard, &verdict) == Some(Fault { word, rule }),
             "{words:?}"
@@ -222,7 +199,7 @@ const FAR_BRANCHES: [(u32, u32, u32, bool); 6] = [
 #[test]
 fn judges_far_branches(rt: HostRuntime) -> Result<(), Fail> {
     for (word, first, n, stays) in FAR_BRANCHES {
-        let verdict = verdict_of(&rt, &[word], first, n, Profile::Two)?;
+        let verdict = verdict_of(&[word], first, n, Profile::Two)?;
         let outside = Some(Fault {
             word: first,
             rule: Rule::TargetInside,
@@ -377,10 +354,7 @@ fn has_fault(
         let word = changed.get(place.wrapping_sub(at)).copied();
         words.push(word.unwrap_or(NOP))?;
     }
-    Ok(
-        fault_of(rt, &words, profile)? == expected
-            && first_other(rt, &words, &SIZES, profile)? == None,
-    )
+    Ok(fault_of(&words, profile) == expected && first_other(&words, &SIZES, profile)? == None)
 }
 
 #[test]

@@ -78,16 +78,11 @@ const PLACES: [u32; 16] = [
 ];
 
 /// The first of so many words at random whose verdict, on a page of this word alone, isn't that of the rules one by one.
-fn first_other(
-    rt: &HostRuntime,
-    draws: &mut Draws,
-    count: u32,
-    profile: Profile,
-) -> Result<Option<u32>, Fail> {
+fn first_other(draws: &mut Draws, count: u32, profile: Profile) -> Result<Option<u32>, Fail> {
     for _i in 0..count {
         let word = draws.word();
         let place = PLACES[draws.below(16) as usize];
-        let verdict = verdict_of(rt, &[word], place, 8192, profile)?;
+        let verdict = verdict_of(&[word], place, 8192, profile)?;
         let (rule, opened) = rule_of(word, Need::Nothing, place, 8192, profile);
         let same = match verdict.inner {
             Some(fault) => rule == Some(fault.rule) && fault.word == place,
@@ -133,13 +128,13 @@ fn lawful_module(
 }
 
 /// Whether a module's first fault is that of the rules one by one: whole, and cut into pages of one to nine words.
-fn is_judged_alike(rt: &HostRuntime, words: &[u32], profile: Profile) -> Result<bool, Fail> {
+fn is_judged_alike(words: &[u32], profile: Profile) -> Result<bool, Fail> {
     let expected = fault_word_by_word(words, profile);
-    if fault_of(rt, words, profile)? != expected {
+    if fault_of(words, profile) != expected {
         return Ok(false);
     }
     for size in 1..10usize {
-        if fault_by_pages(rt, words, size, profile)? != expected {
+        if fault_by_pages(words, size, profile)? != expected {
             return Ok(false);
         }
     }
@@ -150,7 +145,7 @@ fn is_judged_alike(rt: &HostRuntime, words: &[u32], profile: Profile) -> Result<
 fn judges_words_at_random(rt: HostRuntime) -> Result<(), Fail> {
     for profile in PROFILES {
         let mut draws = Draws { state: 1 };
-        let other = first_other(&rt, &mut draws, 300_000, profile)?;
+        let other = first_other(&mut draws, 300_000, profile)?;
         assert!(rt; other == None, "{other:?}");
     }
     Ok(())
@@ -162,14 +157,14 @@ fn are_judged_alike(rt: &HostRuntime, draws: &mut Draws, profile: Profile) -> Re
         1usize, 7, 100, 2047, 2048, 2049, 4095, 4096, 4097, 5000, 6000,
     ] {
         let mut words = lawful_module(rt, draws, size, profile)?;
-        let mut alike = is_judged_alike(rt, &words, profile)?;
+        let mut alike = is_judged_alike(&words, profile)?;
         for _i in 0..8u32 {
             let place = draws.next() as usize % size;
             let word = draws.word();
             if place < words.len() {
                 words[place] = word;
             }
-            alike = alike && is_judged_alike(rt, &words, profile)?;
+            alike = alike && is_judged_alike(&words, profile)?;
         }
         if !alike {
             return Ok(false);

@@ -1,25 +1,19 @@
 //! Words and small modules, each with its first fault by this project's rules (docs/PROFILE.md); words are
 //! spelled by the Arm manual's C4.1.
+use crate::row::Row;
 use lfi_module::Profile;
 use lfi_rules::{Fault, Rule, check_all};
-use std::alloc::AllocError;
-use std::test::Fail;
 
 /// Both profiles: what is lawful in the first is so in the second, and a word that the tables name breaks the same rule in
 /// both.
 pub const PROFILES: [Profile; 2] = [Profile::One, Profile::Two];
 
 /// The first fault of a module of 1 to 4,194,304 words, by a profile.
-pub fn fault_of(
-    rt: &HostRuntime,
-    words: &[u32],
-    profile: Profile,
-) -> Result<Option<Fault>, AllocError> {
-    let words = Vec::from_slice(rt.alloc(), words)?;
+pub fn fault_of(words: &[u32], profile: Profile) -> Option<Fault> {
     if words.is_empty() || words.len() > 4_194_304 {
-        return Ok(None);
+        return None;
     }
-    Ok(check_all(&words, profile))
+    check_all(&Row(words), profile)
 }
 
 /// Words that are lawful modules.
@@ -576,72 +570,67 @@ const BROKEN: [(Rule, &[u32]); 9] = [
 ];
 
 /// The first of these words that, as a module of its own, hasn't this fault.
-fn first_other(
-    rt: &HostRuntime,
-    words: &[u32],
-    expected: Option<Fault>,
-    profile: Profile,
-) -> Result<Option<u32>, AllocError> {
+fn first_other(words: &[u32], expected: Option<Fault>, profile: Profile) -> Option<u32> {
     for word in words {
-        if fault_of(rt, &[*word], profile)? != expected {
-            return Ok(Some(*word));
+        if fault_of(&[*word], profile) != expected {
+            return Some(*word);
         }
     }
-    Ok(None)
+    None
 }
 
 #[test]
-fn lawful_words(rt: HostRuntime) -> Result<(), Fail> {
+fn lawful_words(rt: HostRuntime) {
     for profile in PROFILES {
-        assert!(rt; first_other(&rt, &LAWFUL, None, profile)? == None);
+        assert!(rt; first_other(&LAWFUL, None, profile) == None);
     }
-    Ok(())
 }
 
 #[test]
-fn broken_words(rt: HostRuntime) -> Result<(), Fail> {
+fn broken_words(rt: HostRuntime) {
     for (rule, words) in &BROKEN {
         let fault = Some(Fault {
             word: 0,
             rule: *rule,
         });
         for profile in PROFILES {
-            let other = first_other(&rt, words, fault, profile)?;
+            let other = first_other(words, fault, profile);
             assert!(rt; other == None, "{other:?} has not {rule}");
         }
     }
-    Ok(())
 }
 
-/// Sums into sp, but for the first operand: ADD SP, Xn, X22, UXTX; ADD SP, Xn, W0, UXTW; ADD and SUB SP, Xn, #16.
-const SUMS_INTO_STACK: [u32; 4] = [0x8B36601F, 0x8B20401F, 0x9100401F, 0xD100401F];
+/// Sums into sp, but for the first operand, and the one operand with which they are lawful: registers are added to x21 alone,
+/// and immediates to sp alone.
+const SUMS_INTO_STACK: [(u32, u32); 4] = [
+    (0x8B36601F, 21), // ADD SP, Xn, X22, UXTX
+    (0x8B20401F, 21), // ADD SP, Xn, W0, UXTW
+    (0x9100401F, 31), // ADD SP, Xn, #16
+    (0xD100401F, 31), // SUB SP, Xn, #16
+];
 
 /// The first operands, sp among them, with which such a sum is lawful before a store at sp: bit n stands for number n. `None`
 /// where another rule is broken than that of sp.
-fn lawful_operands(rt: &HostRuntime, sum: u32) -> Result<Option<u32>, AllocError> {
+fn lawful_operands(sum: u32) -> Option<u32> {
     let broken = Some(Fault {
         word: 0,
         rule: Rule::StackBounded,
     });
     let mut operands = 0;
     for number in 0..32u32 {
-        let fault = fault_of(rt, &[sum | number << 5, 0xF90003E0], Profile::Two)?;
+        let fault = fault_of(&[sum | number << 5, 0xF90003E0], Profile::Two);
         if fault == None {
             operands |= 1 << number;
         } else if fault != broken {
-            return Ok(None);
+            return None;
         }
     }
-    Ok(Some(operands))
+    Some(operands)
 }
 
-/// Registers are added to x21 alone, and immediates to sp alone.
 #[test]
-fn sums_into_the_stack_pointer(rt: HostRuntime) -> Result<(), Fail> {
-    let [by_offset, by_guard, up, down] = SUMS_INTO_STACK;
-    assert!(rt; lawful_operands(&rt, by_offset)? == Some(1 << 21));
-    assert!(rt; lawful_operands(&rt, by_guard)? == Some(1 << 21));
-    assert!(rt; lawful_operands(&rt, up)? == Some(1 << 31));
-    assert!(rt; lawful_operands(&rt, down)? == Some(1 << 31));
-    Ok(())
+fn sums_into_the_stack_pointer(rt: HostRuntime) {
+    for (sum, operand) in SUMS_INTO_STACK {
+        assert!(rt; lawful_operands(sum) == Some(1 << operand), "{sum:#x}");
+    }
 }

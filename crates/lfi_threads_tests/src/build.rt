@@ -9,77 +9,150 @@ pub const NOP: u32 = 0xD503201F;
 /// RET, a branch to the address in x30.
 pub const RET: u32 = 0xD65F03C0;
 
-/// A message of a stream.
+/// LDP X29, X30, [SP], #16: loads x30, and asks for a guard of it next.
+pub const LOAD_LINK: u32 = 0xA8C17BFD;
+
+/// ADD X30, X21, W30, UXTW: the guard of x30.
+pub const GUARD_LINK: u32 = 0x8B3E42BE;
+
+/// SVC #0, which the profile hasn't.
+pub const SVC: u32 = 0xD4000001;
+
+/// MOV X21, X0, which writes the base of the slot.
+pub const WRITE_BASE: u32 = 0xAA0003F5;
+
+/// A message, or several.
 #[derive(Clone, Copy)]
-pub struct Message {
-    header: [u8; 12],
-    /// How many words follow. They are NOPs, but for one of them.
+pub enum Sent {
+    /// Opens a module of so many words, entered at word 0.
+    Open(u16, u32),
+    /// A page of a module by its index, of so many words: NOP, but for the last one.
+    Page(u16, u32, u32, u32),
+    /// A page of a module by its index, of 1,024 words: NOP, but for one at a place.
+    Full(u16, u32, u32, u32),
+    /// So many full pages of NOPs of a module, from index 0 on.
+    Pages(u16, u32),
+    /// Opens a module of so many words, by the second profile, with large pages.
+    OpenLarge(u16, u32),
+    /// A large page of a module by its index, of so many words: NOP, but for the last one.
+    Large(u16, u32, u32, u32),
+    /// Closes a module.
+    Close(u16),
+}
+
+use Sent::{Close, Full, Large, Open, OpenLarge, Page, Pages};
+
+/// Messages of a module, of one kind. The first has this number, each other one the next.
+#[derive(Clone, Copy)]
+struct Messages {
+    kind: [u8; 2],
+    module: u16,
+    number: u32,
+    count: u32,
+    /// How many words follow each. They are NOPs, but for one at a place.
     words: u32,
     place: u32,
     word: u32,
 }
 
-fn with_header(kind: u8, module: u16, a: u32, b: u32, words: u32) -> Message {
-    let [m0, m1] = module.to_le_bytes();
-    let [a0, a1, a2, a3] = a.to_le_bytes();
-    let [b0, b1, b2, b3] = b.to_le_bytes();
-    Message {
-        header: [kind, 0, m0, m1, a0, a1, a2, a3, b0, b1, b2, b3],
-        words,
+/// A header, which no page follows.
+fn alone(kind: [u8; 2], module: u16, number: u32) -> Messages {
+    Messages {
+        kind,
+        module,
+        number,
+        count: 1,
+        words: 0,
         place: 0,
         word: NOP,
     }
 }
 
-/// A module of so many words, entered at word 0.
-pub fn open(module: u16, words: u32) -> Message {
-    with_header(1, module, words, 0, 0)
-}
-
-/// A page of a module, of so many words, at most 1,024.
-pub fn page(module: u16, index: u32, words: u32) -> Message {
-    with_header(2, module, index, words.saturating_mul(4), words)
-}
-
-/// The end of a module.
-pub fn close(module: u16) -> Message {
-    with_header(3, module, 0, 0, 0)
-}
-
-impl Message {
-    /// With this word at that place of its page.
-    pub fn with(mut self, place: u32, word: u32) -> Message {
-        self.place = place;
-        self.word = word;
-        self
+/// A page of a module, of so many words: NOPs, but for one at a place.
+fn page(kind: u8, module: u16, index: u32, words: u32, place: u32, word: u32) -> Messages {
+    Messages {
+        kind: [kind, 0],
+        module,
+        number: index,
+        count: 1,
+        words,
+        place,
+        word,
     }
 }
 
-fn push(bytes: &mut Vec<u8>, message: &Message) -> Result<(), AllocError> {
-    bytes.extend_from_slice(&message.header)?;
-    for place in 0..message.words {
-        let word = if place == message.place {
-            message.word
-        } else {
-            NOP
-        };
-        bytes.extend_from_slice(&word.to_le_bytes())?;
+impl Sent {
+    fn messages(self) -> Messages {
+        match self {
+            Open(module, count) => alone([1, 0], module, count),
+            Page(module, index, words, last) => {
+                page(2, module, index, words, words.saturating_sub(1), last)
+            }
+            Full(module, index, at, word) => page(2, module, index, 1024, at, word),
+            Pages(module, count) => Messages {
+                count,
+                ..page(2, module, 0, 1024, 0, NOP)
+            },
+            OpenLarge(module, count) => alone([4, 2], module, count),
+            Large(module, index, words, last) => {
+                page(5, module, index, words, words.saturating_sub(1), last)
+            }
+            Close(module) => alone([3, 0], module, 0),
+        }
     }
-    Ok(())
+}
+
+impl Messages {
+    /// The header of the message with this place among them.
+    fn header(&self, at: u32) -> [u8; 12] {
+        let [m0, m1] = self.module.to_le_bytes();
+        let [a0, a1, a2, a3] = self.number.saturating_add(at).to_le_bytes();
+        let [b0, b1, b2, b3] = self.words.saturating_mul(4).to_le_bytes();
+        [
+            self.kind[0],
+            self.kind[1],
+            m0,
+            m1,
+            a0,
+            a1,
+            a2,
+            a3,
+            b0,
+            b1,
+            b2,
+            b3,
+        ]
+    }
+
+    /// The word at this place of a page.
+    fn word_at(&self, place: u32) -> u32 {
+        if place == self.place { self.word } else { NOP }
+    }
 }
 
 /// Adds these messages to the bytes of a stream.
-pub fn push_all(bytes: &mut Vec<u8>, messages: &[Message]) -> Result<(), AllocError> {
-    for message in messages {
-        push(bytes, message)?;
+fn push(bytes: &mut Vec<u8>, messages: &Messages) -> Result<(), AllocError> {
+    for at in 0..messages.count {
+        bytes.extend_from_slice(&messages.header(at))?;
+        for place in 0..messages.words {
+            bytes.extend_from_slice(&messages.word_at(place).to_le_bytes())?;
+        }
     }
     Ok(())
 }
 
-/// The bytes of a stream of these messages.
-pub fn text(alloc: Global, messages: &[Message]) -> Result<Vec<u8>, AllocError> {
+/// Adds all that is sent to the bytes of a stream.
+pub fn push_all(bytes: &mut Vec<u8>, sent: &[Sent]) -> Result<(), AllocError> {
+    for one in sent {
+        push(bytes, &one.messages())?;
+    }
+    Ok(())
+}
+
+/// The bytes of what is sent.
+pub fn text_of(alloc: Global, sent: &[Sent]) -> Result<Vec<u8>, AllocError> {
     let mut bytes = Vec::new(alloc);
-    push_all(&mut bytes, messages)?;
+    push_all(&mut bytes, sent)?;
     Ok(bytes)
 }
 
@@ -93,6 +166,9 @@ pub fn one_word(module: u8, word: u32) -> [u8; 40] {
         3, 0, module, 0, 0, 0, 0, 0, 0, 0, 0, 0, // Close
     ]
 }
+
+/// Closes module 9, which nobody opened.
+pub const STRAY: [u8; 12] = [3, 0, 9, 0, 0, 0, 0, 0, 0, 0, 0, 0];
 
 /// Module 0, of one word.
 pub const MODULE_0: [u8; 40] = [

@@ -1,9 +1,8 @@
 //! Clients over sockets.
 
-use crate::build::{
-    MODULE_0, MODULE_3, MODULE_5, close, eight, is_text, open, page, piece, push_all,
-};
-use crate::workers::YIELDS;
+use crate::build::Sent::{Close, Open, Page};
+use crate::build::{MODULE_0, MODULE_3, MODULE_5, NOP, eight, is_text, piece, push_all};
+use crate::inputs::{YIELDS, comes_to};
 use lfi_model::{Item, Judged, Summary};
 use lfi_place::{Gate, OpenGate};
 use lfi_threads::{LoadError, NoNotices, serve_on};
@@ -80,16 +79,19 @@ pub(crate) fn connect_all<S: Net + AllocGlobal>(
     Ok(streams)
 }
 
-/// Sends a piece of each text, each by its client.
+/// Sends these texts in pieces of these sizes, a piece of each in turn, each by its client.
 pub(crate) fn send_pieces(
     streams: &[UnixStream],
     texts: &[&[u8]],
-    from: usize,
-    size: usize,
+    sizes: &[usize],
 ) -> io::Result<()> {
-    for (stream, text) in streams.iter().zip(texts) {
-        let mut stream: &UnixStream = stream;
-        stream.write_all(piece(*text, from, size))?;
+    let mut from = 0usize;
+    for size in sizes {
+        for (stream, text) in streams.iter().zip(texts) {
+            let mut stream: &UnixStream = stream;
+            stream.write_all(piece(*text, from, *size))?;
+        }
+        from = from.saturating_add(*size);
     }
     Ok(())
 }
@@ -102,12 +104,7 @@ pub(crate) fn send_all<S: Net + AllocGlobal>(
     sizes: &[usize],
 ) -> io::Result<()> {
     let streams = connect_all(rt, path, texts.len())?;
-    let mut from = 0usize;
-    for size in sizes {
-        send_pieces(streams.as_slice(), texts, from, *size)?;
-        from = from.saturating_add(*size);
-    }
-    Ok(())
+    send_pieces(streams.as_slice(), texts, sizes)
 }
 
 pub(crate) const BOTH: &str =
@@ -120,10 +117,10 @@ pub(crate) const TWO: [&[u8]; 2] = [&MODULE_0, &MODULE_3];
 fn eight_of_two_pages(alloc: Global) -> Result<Vec<u8>, AllocError> {
     let mut texts = Vec::new(alloc);
     for module in 0..8u16 {
-        let (first, second) = (page(module, 0, 1024), page(module, 1, 6));
+        let (first, second) = (Page(module, 0, 1024, NOP), Page(module, 1, 6, NOP));
         push_all(
             &mut texts,
-            &[open(module, 1030), first, second, close(module)],
+            &[Open(module, 1030), first, second, Close(module)],
         )?;
     }
     Ok(texts)
@@ -143,13 +140,13 @@ strays 0
 
 /// The clients' texts, the sizes of their pieces, and what is told.
 #[derive(Clone, Copy)]
-struct Case {
-    texts: &'static [&'static [u8]],
+struct Case<'a> {
+    texts: &'a [&'a [u8]],
     sizes: &'static [usize],
     want: &'static str,
 }
 
-const CASES: [Case; 3] = [
+const CASES: [Case<'static>; 3] = [
     Case {
         texts: &[&MODULE_0, &MODULE_3],
         sizes: &[4096],
@@ -172,39 +169,23 @@ const CASES: [Case; 3] = [
 #[test]
 fn clients_beside_each_other(rt: HostRuntime) -> Result<(), Fail> {
     let path = "beside.socket";
-    for case in CASES {
+    let texts = eight_of_two_pages(rt.alloc())?;
+    let [one, two, three] = CASES;
+    let in_pieces = Case {
+        texts: &eight(texts.as_slice()),
+        sizes: &[1, 2, 11, 100, 1000, 4096, 3, 4096, 4096],
+        want: EIGHT,
+    };
+    for case in [one, two, three, in_pieces] {
         let listener = UnixListener::bind(&rt, path)?;
         let (told, sent) = join(
             &rt,
             || served(&rt, listener, path, case.texts.len(), None, &OpenGate),
             || send_all(&rt, path, case.texts, case.sizes).is_ok(),
         );
-        assert!(rt; sent && fs::metadata(&rt, path).is_err());
-        assert!(rt; told?.is(rt.alloc(), true, case.want)?);
+        let told = told?.is(rt.alloc(), true, case.want)?;
+        assert!(rt; told && sent && fs::metadata(&rt, path).is_err());
     }
-    Ok(())
-}
-
-/// The sizes of the pieces of the next test.
-const SIZES: [usize; 9] = [1, 2, 11, 100, 1000, 4096, 3, 4096, 4096];
-
-/// Sends eight texts, that stand one after the other, beside each other and in pieces.
-fn send_eight<S: Net + AllocGlobal>(rt: &S, path: &str, texts: &[u8]) -> io::Result<()> {
-    send_all(rt, path, &eight(texts), &SIZES)
-}
-
-#[test]
-fn eight_clients_in_pieces(rt: HostRuntime) -> Result<(), Fail> {
-    let path = "eight.socket";
-    let texts = eight_of_two_pages(rt.alloc())?;
-    let listener = UnixListener::bind(&rt, path)?;
-    let (told, sent) = join(
-        &rt,
-        || served(&rt, listener, path, 8, None, &OpenGate),
-        || send_eight(&rt, path, texts.as_slice()).is_ok(),
-    );
-    assert!(rt; sent && fs::metadata(&rt, path).is_err());
-    assert!(rt; told?.is(rt.alloc(), true, EIGHT)?);
     Ok(())
 }
 
@@ -220,25 +201,29 @@ fn is_gone<S: Files>(rt: &S, path: &str) -> bool {
 }
 
 /// A client for each of these texts connects, and they send nothing until the path is gone and
-/// another file is there. The answer is whether it went.
+/// another file is there. The answer is whether it went, and all was sent.
 fn send_once_the_path_is_gone<S: Net + Files + AllocGlobal>(
     rt: &S,
     path: &str,
     texts: &[&[u8]],
-) -> io::Result<bool> {
-    let streams = connect_all(rt, path, texts.len())?;
+) -> bool {
+    let Ok(streams) = connect_all(rt, path, texts.len()) else {
+        return false;
+    };
     let gone = is_gone(rt, path);
-    fs::write(rt, path, HERE.as_slice())?;
-    send_pieces(streams.as_slice(), texts, 0, 4096)?;
-    Ok(gone)
+    let written = fs::write(rt, path, HERE.as_slice()).is_ok();
+    gone && written && send_pieces(streams.as_slice(), texts, &[4096]).is_ok()
 }
 
 /// What the file at a path has that is there after the path is gone.
 const HERE: [u8; 4] = *b"here";
 
 /// Whether a file has this.
-fn is_here<S: Files + AllocGlobal>(rt: &S, path: &str) -> io::Result<bool> {
-    Ok(fs::read(rt, path)?.as_slice() == HERE.as_slice())
+fn is_here<S: Files + AllocGlobal>(rt: &S, path: &str) -> bool {
+    match fs::read(rt, path) {
+        Ok(bytes) => bytes.as_slice() == HERE.as_slice(),
+        Err(_) => false,
+    }
 }
 
 #[test]
@@ -248,12 +233,11 @@ fn the_path_is_gone_once_all_are_taken(rt: HostRuntime) -> Result<(), Fail> {
     let (told, gone) = join(
         &rt,
         || served(&rt, listener, path, 2, None, &OpenGate),
-        || send_once_the_path_is_gone(&rt, path, &TWO).unwrap_or(false),
+        || send_once_the_path_is_gone(&rt, path, &TWO),
     );
-    assert!(rt; gone);
-    assert!(rt; told?.is(rt.alloc(), true, BOTH)?);
+    let told = told?.is(rt.alloc(), true, BOTH)?;
     // Who has the path next keeps it.
-    assert!(rt; is_here(&rt, path)?);
+    assert!(rt; gone && told && is_here(&rt, path));
     fs::remove_file(&rt, path)?;
     Ok(())
 }
@@ -274,32 +258,22 @@ impl Gate for FirstJudged {
     }
 }
 
-impl FirstJudged {
-    /// Waits until an item of module 0 was judged. The answer is whether one was.
-    fn wait(&self) -> bool {
-        for _ in 0..YIELDS {
-            if self.judged.load(Ordering::SeqCst) != 0 {
-                return true;
-            }
-            yield_now();
-        }
-        false
-    }
+/// A client that sends a text.
+fn connect_and_send<S: Net>(rt: &S, path: &str, text: &[u8]) -> io::Result<UnixStream> {
+    let mut stream = UnixStream::connect(rt, path)?;
+    stream.write_all(text)?;
+    Ok(stream)
 }
 
 /// One client sends module 0, and once an item of it was judged another sends module 3. The answer
-/// is whether one was judged before the second client connected.
-fn send_one_after_the_other<S: Net + AllocGlobal>(
-    rt: &S,
-    path: &str,
-    gate: &FirstJudged,
-) -> io::Result<bool> {
-    let mut first = UnixStream::connect(rt, path)?;
-    first.write_all(&MODULE_0)?;
-    let judged = gate.wait();
-    let mut second = UnixStream::connect(rt, path)?;
-    second.write_all(&MODULE_3)?;
-    Ok(judged)
+/// is whether both did, and one was judged before the second client connected.
+fn send_one_after_the_other<S: Net>(rt: &S, path: &str, judged: &AtomicU64) -> bool {
+    let Ok(_first) = connect_and_send(rt, path, &MODULE_0) else {
+        return false;
+    };
+    // The second one comes in any case, since it is waited for.
+    let judged = comes_to(judged, 1);
+    connect_and_send(rt, path, &MODULE_3).is_ok() && judged
 }
 
 #[test]
@@ -312,9 +286,9 @@ fn the_first_client_is_served_before_the_second_comes(rt: HostRuntime) -> Result
     let (told, judged) = join(
         &rt,
         || served(&rt, listener, path, 2, None, &gate),
-        || send_one_after_the_other(&rt, path, &gate).unwrap_or(false),
+        || send_one_after_the_other(&rt, path, &gate.judged),
     );
-    assert!(rt; judged);
-    assert!(rt; told?.is(rt.alloc(), true, BOTH)?);
+    let told = told?.is(rt.alloc(), true, BOTH)?;
+    assert!(rt; judged && told);
     Ok(())
 }

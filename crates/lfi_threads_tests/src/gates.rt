@@ -1,12 +1,12 @@
 //! Verifiers beside each other, and notices of refused modules.
 
-use crate::build::{NOP, RET, close, is_text, open, page, text};
-use crate::inputs::{Pieces, TURNS, loaded, reported_of};
-use lfi_model::{Item, Judged, Summary};
+use crate::build::Sent::{Close, Full, Open, Page};
+use crate::build::{NOP, RET, STRAY, SVC, Sent, WRITE_BASE, is_text, text_of};
+use crate::inputs::{Pieces, comes_to, loaded, reported};
+use lfi_model::{Item, Judged};
 use lfi_module::ModuleNumber;
-use lfi_place::Gate;
+use lfi_place::{Gate, OpenGate};
 use lfi_threads::{LoadError, Notices};
-use std::alloc::{AllocError, Global};
 use std::io::{self, Read};
 use std::sync::Wait;
 use std::sync::atomic::{AtomicU64, Ordering};
@@ -23,14 +23,8 @@ struct SecondFirst {
 
 impl Gate for SecondFirst {
     fn before(&self, item: &Item) {
-        if item.ordinal != 1 {
-            return;
-        }
-        for _ in 0..TURNS {
-            if self.judged.load(Ordering::SeqCst) != 0 {
-                self.seen.store(1, Ordering::SeqCst);
-                return;
-            }
+        if item.ordinal == 1 && comes_to(&self.judged, 1) {
+            self.seen.store(1, Ordering::SeqCst);
         }
     }
 
@@ -42,66 +36,62 @@ impl Gate for SecondFirst {
     }
 }
 
-/// A module of 1,025 NOPs, but for its words 5 and 1,024.
-fn two_pages(alloc: Global, fifth: u32, last: u32) -> Result<Vec<u8>, AllocError> {
-    let first = page(0, 0, 1024).with(5, fifth);
-    let second = page(0, 1, 1).with(0, last);
-    text(alloc, &[open(0, 1025), first, second, close(0)])
-}
-
-/// What is told of such a module, of which page 1 is judged first; whether the gate has seen that,
-/// and how many items came to it after they were judged.
+/// What is sent of module 0, of which page 1 is judged first, and what is told of it. How many items
+/// come to the gate after they were judged, where all are judged in each schedule.
 #[derive(Clone, Copy)]
-struct Seen {
-    told: Summary,
-    seen: u64,
-    after: u64,
+struct Row {
+    sent: &'static [Sent],
+    want: &'static str,
+    after: Option<u64>,
 }
 
-fn second_first<S: Threads + Wait + Sync + AllocGlobal>(
-    rt: &S,
-    fifth: u32,
-    last: u32,
-) -> Result<Seen, LoadError> {
-    let text = two_pages(rt.alloc(), fifth, last)?;
+const ROWS: [Row; 2] = [
+    Row {
+        sent: &[
+            Open(0, 1025),
+            Full(0, 0, 5, NOP),
+            Page(0, 1, 1, NOP),
+            Close(0),
+        ],
+        want: "module 0: complete, 1025 words\nstrays 0\n",
+        after: Some(4),
+    },
+    // The first fault is told, though the second one was judged first.
+    Row {
+        sent: &[
+            Open(0, 1025),
+            Full(0, 0, 5, SVC),
+            Page(0, 1, 1, WRITE_BASE),
+            Close(0),
+        ],
+        want: "module 0: refused, word 5 rule 1\nstrays 0\n",
+        after: None,
+    },
+];
+
+/// Whether page 1 of a row is judged first, and what is told and counted then is what the row says.
+fn is_so<S: Threads + Wait + Sync + AllocGlobal>(rt: &S, row: &Row) -> Result<bool, LoadError> {
+    let text = text_of(rt.alloc(), row.sent)?;
     let gate = SecondFirst {
         judged: AtomicU64::new(0),
         seen: AtomicU64::new(0),
         after: AtomicU64::new(0),
     };
     let told = loaded(rt, &[text.as_slice()], 4096, 2, &gate)?;
-    Ok(Seen {
-        told,
-        seen: gate.seen.load(Ordering::SeqCst),
-        after: gate.after.load(Ordering::SeqCst),
-    })
+    let seen = gate.seen.load(Ordering::SeqCst) == 1;
+    let after = gate.after.load(Ordering::SeqCst);
+    let counted = match row.after {
+        Some(count) => count == after,
+        None => true,
+    };
+    Ok(seen && counted && is_text(rt.alloc(), &told, row.want)?)
 }
 
 #[test]
 fn page_1_is_judged_first(rt: HostRuntime) -> Result<(), Fail> {
-    let seen = second_first(&rt, NOP, NOP)?;
-    assert!(rt; seen.seen == 1 && seen.after == 4);
-    assert!(rt;
-        is_text(
-            rt.alloc(),
-            &seen.told,
-            "module 0: complete, 1025 words\nstrays 0\n"
-        )?
-    );
-    Ok(())
-}
-
-#[test]
-fn the_first_fault_of_a_module_judged_out_of_order(rt: HostRuntime) -> Result<(), Fail> {
-    let seen = second_first(&rt, 0xD4000001, 0xAA0003F5)?;
-    assert!(rt; seen.seen == 1);
-    assert!(rt;
-        is_text(
-            rt.alloc(),
-            &seen.told,
-            "module 0: refused, word 5 rule 1\nstrays 0\n"
-        )?
-    );
+    for row in &ROWS {
+        assert!(rt; is_so(&rt, row)?);
+    }
     Ok(())
 }
 
@@ -120,6 +110,9 @@ impl Notices for Counted {
     }
 }
 
+/// How many strays come at the most.
+const TURNS: u32 = 100_000_000;
+
 /// A text, and then headers that are strays, until a notice has come.
 #[derive(Clone, Copy)]
 struct UntilNoticed<'a> {
@@ -127,9 +120,6 @@ struct UntilNoticed<'a> {
     notices: &'a Counted,
     turns: u32,
 }
-
-/// Closes module 9, which nobody opened.
-const STRAY: [u8; 12] = [3, 0, 9, 0, 0, 0, 0, 0, 0, 0, 0, 0];
 
 impl<'a> Read for UntilNoticed<'a> {
     fn read(&mut self, buf: &mut [u8]) -> io::Result<usize> {
@@ -143,71 +133,68 @@ impl<'a> Read for UntilNoticed<'a> {
     }
 }
 
-/// What is told of a text and the strays that follow it, until a notice has come; how many notices
-/// came, and the module of the last one, plus 1.
+/// What is sent, the number of the module of it that is refused, and what is told.
 #[derive(Clone, Copy)]
-struct Noticed {
-    told: Summary,
-    count: u64,
+struct Refused {
+    sent: &'static [Sent],
     module: u64,
+    want: &'static str,
 }
 
-fn load_until_noticed<S: Threads + Wait + Sync + AllocGlobal>(
+const REFUSED: [Refused; 2] = [
+    Refused {
+        sent: &[
+            Open(0, 1025),
+            Full(0, 0, 5, SVC),
+            Page(0, 1, 1, NOP),
+            Close(0),
+        ],
+        module: 0,
+        want: "module 0: refused, word 5 rule 1\nstrays 0\n",
+    },
+    // Module 15 is refused, and module 1 isn't.
+    Refused {
+        sent: &[
+            Open(15, 1),
+            Page(15, 0, 1, SVC),
+            Close(15),
+            Open(1, 1),
+            Page(1, 0, 1, RET),
+            Close(1),
+        ],
+        module: 15,
+        want: "module 1: complete, 1 words\nmodule 15: refused, word 0 rule 1\nstrays 0\n",
+    },
+];
+
+/// Whether one notice comes of what is sent and of the strays that follow it until then, of the
+/// module that is refused, and this is told.
+fn is_told_once<S: Threads + Wait + Sync + AllocGlobal>(
     rt: &S,
-    left: &[u8],
-) -> Result<Noticed, LoadError> {
+    row: &Refused,
+) -> Result<bool, LoadError> {
     let notices = Counted {
         count: AtomicU64::new(0),
         module: AtomicU64::new(0),
     };
+    let text = text_of(rt.alloc(), row.sent)?;
     let reader = UntilNoticed {
-        text: Pieces { left, most: 4096 },
+        text: Pieces::of(text.as_slice(), 4096),
         notices: &notices,
         turns: TURNS,
     };
-    let mut told = reported_of(rt, reader, &notices)?;
+    let mut told = reported(rt, &[reader], 2, &OpenGate, &notices)?;
     // How many strays came depends on the threads.
     told.strays = 0;
-    Ok(Noticed {
-        told,
-        count: notices.count.load(Ordering::SeqCst),
-        module: notices.module.load(Ordering::SeqCst),
-    })
+    let once = notices.count.load(Ordering::SeqCst) == 1;
+    let its = notices.module.load(Ordering::SeqCst) == row.module.saturating_add(1);
+    Ok(once && its && is_text(rt.alloc(), &told, row.want)?)
 }
 
 #[test]
 fn a_refused_module_is_told_of_once(rt: HostRuntime) -> Result<(), Fail> {
-    let text = two_pages(rt.alloc(), 0xD4000001, NOP)?;
-    let noticed = load_until_noticed(&rt, text.as_slice())?;
-    assert!(rt; noticed.count == 1 && noticed.module == 1);
-    let want = "module 0: refused, word 5 rule 1\nstrays 0\n";
-    assert!(rt; is_text(rt.alloc(), &noticed.told, want)?);
-    Ok(())
-}
-
-/// Module 15, which is refused, and module 1, which isn't.
-fn beside(alloc: Global) -> Result<Vec<u8>, AllocError> {
-    let refused = page(15, 0, 1).with(0, 0xD4000001);
-    let lawful = page(1, 0, 1).with(0, RET);
-    text(
-        alloc,
-        &[
-            open(15, 1),
-            refused,
-            close(15),
-            open(1, 1),
-            lawful,
-            close(1),
-        ],
-    )
-}
-
-#[test]
-fn a_refused_module_beside_a_lawful_one(rt: HostRuntime) -> Result<(), Fail> {
-    let text = beside(rt.alloc())?;
-    let noticed = load_until_noticed(&rt, text.as_slice())?;
-    assert!(rt; noticed.count == 1 && noticed.module == 16);
-    let want = "module 1: complete, 1 words\nmodule 15: refused, word 0 rule 1\nstrays 0\n";
-    assert!(rt; is_text(rt.alloc(), &noticed.told, want)?);
+    for row in &REFUSED {
+        assert!(rt; is_told_once(&rt, row)?);
+    }
     Ok(())
 }

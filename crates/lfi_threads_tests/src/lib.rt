@@ -14,6 +14,10 @@ mod inputs;
 #[cfg(test)]
 mod limits;
 #[cfg(test)]
+mod packs;
+#[cfg(test)]
 mod reads;
+#[cfg(test)]
+mod reports;
 #[cfg(test)]
 mod workers;

@@ -25,7 +25,7 @@ const LATE: u64 = 86_400_000;
 const ALL: usize = 4096;
 
 /// What clients do that have come and sent a text.
-#[derive(Clone, Copy, PartialEq, Eq)]
+#[derive(Clone, Copy)]
 enum Then {
     /// They go away.
     Go,
@@ -33,27 +33,36 @@ enum Then {
     Stay,
 }
 
+/// How long clients are waited for.
+#[derive(Clone, Copy)]
+enum Waits {
+    /// So many milliseconds.
+    For(u64),
+    /// The listener doesn't wait, and there is no limit.
+    Never,
+}
+
 /// The clients' texts, of which each sends so many bytes, and what they do then. How many are taken,
-/// in how many milliseconds; whether these were all, and what is told.
+/// in what time; whether these were all, and what is told.
 #[derive(Clone, Copy)]
 struct Row {
     texts: &'static [&'static [u8]],
     sends: usize,
     then: Then,
     connections: usize,
-    limit: u64,
+    waits: Waits,
     all_accepted: bool,
     want: &'static str,
 }
 
-const ROWS: [Row; 9] = [
+const ROWS: [Row; 10] = [
     // Nobody comes in time.
     Row {
         texts: &[],
         sends: ALL,
         then: Then::Go,
         connections: 2,
-        limit: SOON,
+        waits: Waits::For(SOON),
         all_accepted: false,
         want: "strays 0\n",
     },
@@ -63,7 +72,7 @@ const ROWS: [Row; 9] = [
         sends: 0,
         then: Then::Stay,
         connections: 1,
-        limit: SOON,
+        waits: Waits::For(SOON),
         all_accepted: true,
         want: "strays 0\n",
     },
@@ -73,7 +82,7 @@ const ROWS: [Row; 9] = [
         sends: 5,
         then: Then::Stay,
         connections: 1,
-        limit: SOON,
+        waits: Waits::For(SOON),
         all_accepted: true,
         want: "connection 0: fault 9\nstrays 0\n",
     },
@@ -83,7 +92,7 @@ const ROWS: [Row; 9] = [
         sends: 26,
         then: Then::Stay,
         connections: 1,
-        limit: SOON,
+        waits: Waits::For(SOON),
         all_accepted: true,
         want: "module 7: lost, fault 9\nconnection 0: fault 9\nstrays 0\n",
     },
@@ -93,7 +102,7 @@ const ROWS: [Row; 9] = [
         sends: 40,
         then: Then::Stay,
         connections: 1,
-        limit: SOON,
+        waits: Waits::For(SOON),
         all_accepted: true,
         want: "module 7: complete, 1 words\nstrays 0\n",
     },
@@ -103,7 +112,7 @@ const ROWS: [Row; 9] = [
         sends: ALL,
         then: Then::Stay,
         connections: 2,
-        limit: SOON,
+        waits: Waits::For(SOON),
         all_accepted: true,
         want: BOTH,
     },
@@ -113,7 +122,7 @@ const ROWS: [Row; 9] = [
         sends: ALL,
         then: Then::Go,
         connections: 2,
-        limit: SOON,
+        waits: Waits::For(SOON),
         all_accepted: false,
         want: "module 7: complete, 1 words\nstrays 0\n",
     },
@@ -123,7 +132,7 @@ const ROWS: [Row; 9] = [
         sends: ALL,
         then: Then::Go,
         connections: 2,
-        limit: LATE,
+        waits: Waits::For(LATE),
         all_accepted: true,
         want: BOTH,
     },
@@ -133,31 +142,40 @@ const ROWS: [Row; 9] = [
         sends: ALL,
         then: Then::Go,
         connections: 3,
-        limit: 0,
+        waits: Waits::For(0),
         all_accepted: false,
         want: BOTH,
     },
+    // One of three has come where the listener doesn't wait, and the next isn't accepted.
+    Row {
+        texts: &[&MODULE_7],
+        sends: ALL,
+        then: Then::Go,
+        connections: 3,
+        waits: Waits::Never,
+        all_accepted: false,
+        want: "module 7: complete, 1 words\nstrays 0\n",
+    },
 ];
 
-/// What is told of clients; of how many that stayed the connection was closed in the end, and whether
-/// the path was gone then.
+/// What is told of clients; whether the connections of all that stayed were closed in the end, and
+/// whether the path was gone then.
 #[derive(Clone, Copy)]
 struct Heard {
     told: Told,
-    closed: usize,
+    all_closed: bool,
     gone: bool,
 }
 
-/// How many of these clients have nothing to read, as their connections were closed.
-fn closed_of(clients: &[UnixStream]) -> usize {
-    let mut closed = 0usize;
+/// Whether all of these clients have nothing to read, as their connections were closed.
+fn are_all_closed(clients: &[UnixStream]) -> bool {
     for client in clients {
         let mut client: &UnixStream = client;
-        if client.read(&mut [0]).is_ok_and(|count| count == 0) {
-            closed = closed.saturating_add(1);
+        if !matches!(client.read(&mut [0]), Ok(0)) {
+            return false;
         }
     }
-    closed
+    true
 }
 
 /// What came of the clients of a row, who have come and sent their texts before any is taken.
@@ -166,17 +184,23 @@ fn hear<S: Threads + Wait + Files + Clock + Net + Sync + AllocGlobal>(
     row: &Row,
 ) -> Result<Heard, Fail> {
     let path = "limited.socket";
-    let limit = Some(Duration::from_millis(row.limit));
     let listener = UnixListener::bind(rt, path)?;
+    let limit = match row.waits {
+        Waits::For(limit) => Some(Duration::from_millis(limit)),
+        Waits::Never => {
+            listener.set_nonblocking(true)?;
+            None
+        }
+    };
     let mut clients = connect_all(rt, path, row.texts.len())?;
-    send_pieces(clients.as_slice(), row.texts, 0, row.sends)?;
-    if row.then == Then::Go {
+    send_pieces(clients.as_slice(), row.texts, &[row.sends])?;
+    if let Then::Go = row.then {
         clients.clear();
     }
     let told = served(rt, listener, path, row.connections, limit, &OpenGate)?;
     Ok(Heard {
         told,
-        closed: closed_of(clients.as_slice()),
+        all_closed: are_all_closed(clients.as_slice()),
         gone: fs::metadata(rt, path).is_err(),
     })
 }
@@ -187,12 +211,8 @@ fn is_so<S: Threads + Wait + Files + Clock + Net + Sync + AllocGlobal>(
     row: &Row,
 ) -> Result<bool, Fail> {
     let heard = hear(rt, row)?;
-    let stayed = match row.then {
-        Then::Go => 0,
-        Then::Stay => row.texts.len(),
-    };
     let told = heard.told.is(rt.alloc(), row.all_accepted, row.want)?;
-    Ok(told && heard.closed == stayed && heard.gone)
+    Ok(told && heard.all_closed && heard.gone)
 }
 
 #[test]
@@ -232,26 +252,7 @@ fn one_more<S: Threads + Wait + Files + Clock + Net + Sync + AllocGlobal>(
 #[test]
 fn a_client_more_than_are_taken(rt: HostRuntime) -> Result<(), Fail> {
     let more = one_more(&rt, &TWO)?;
-    assert!(rt; more.told.is(rt.alloc(), true, BOTH)?);
-    assert!(rt; more.reads == 0 && !more.connects);
-    Ok(())
-}
-
-/// What is told of three clients of a listener that doesn't wait, where one has come.
-fn told_unwaited<S: Threads + Wait + Files + Clock + Net + Sync + AllocGlobal>(
-    rt: &S,
-    text: &[u8],
-) -> Result<Told, Fail> {
-    let path = "not_accepted.socket";
-    let listener = UnixListener::bind(rt, path)?;
-    send_all(rt, path, &[text], &[4096])?;
-    listener.set_nonblocking(true)?;
-    Ok(served(rt, listener, path, 3, None, &OpenGate)?)
-}
-
-#[test]
-fn a_client_that_is_not_accepted(rt: HostRuntime) -> Result<(), Fail> {
-    let told = told_unwaited(&rt, &MODULE_7)?;
-    assert!(rt; told.is(rt.alloc(), false, "module 7: complete, 1 words\nstrays 0\n")?);
+    let told = more.told.is(rt.alloc(), true, BOTH)?;
+    assert!(rt; told && more.reads == 0 && !more.connects);
     Ok(())
 }

@@ -1,7 +1,8 @@
 //! Readers that fail or end once, and would give more bytes after that.
 
-use crate::build::{RET, is_text, one_word};
-use crate::inputs::{Pieces, reported_of};
+use crate::build::{MODULE_0, STRAY, is_text};
+use crate::inputs::{Pieces, reported};
+use lfi_place::OpenGate;
 use lfi_threads::{LoadError, NoNotices};
 use std::io::{self, ErrorKind, Read};
 use std::sync::Wait;
@@ -82,15 +83,14 @@ fn is_told<S: Threads + Wait + Sync + AllocGlobal>(
     answer: Answer,
     want: &str,
 ) -> Result<bool, LoadError> {
-    let left: &[u8] = &one_word(0, RET);
     let reads = AtomicU64::new(0);
     let reader = Counted {
-        text: Pieces { left, most },
+        text: Pieces::of(&MODULE_0, most),
         read,
         answer,
         reads: &reads,
     };
-    let told = reported_of(rt, reader, &NoNotices)?;
+    let told = reported(rt, &[reader], 2, &OpenGate, &NoNotices)?;
     let counted = reads.load(Ordering::SeqCst) == read.saturating_add(1);
     Ok(counted && is_text(rt.alloc(), &told, want)?)
 }
@@ -109,9 +109,6 @@ struct Strays {
     left: u32,
 }
 
-/// Closes module 9, which nobody opened.
-const STRAY: [u8; 12] = [3, 0, 9, 0, 0, 0, 0, 0, 0, 0, 0, 0];
-
 impl Read for Strays {
     fn read(&mut self, buf: &mut [u8]) -> io::Result<usize> {
         if self.left == 0 || buf.len() < 12 {
@@ -125,7 +122,7 @@ impl Read for Strays {
 
 #[test]
 fn more_than_a_million_turns(rt: HostRuntime) -> Result<(), Fail> {
-    let told = reported_of(&rt, Strays { left: 1_100_000 }, &NoNotices)?;
+    let told = reported(&rt, &[Strays { left: 1_100_000 }], 2, &OpenGate, &NoNotices)?;
     assert!(rt; is_text(rt.alloc(), &told, "strays 1100000\n")?);
     Ok(())
 }

@@ -1,19 +1,15 @@
 //! What a gate sees of verifiers, one alone and eight beside each other.
 
-use crate::build::{NOP, RET, close, eight, is_text, one_word, open, page, text};
-use crate::inputs::loaded;
+use crate::build::Sent::{Close, Full, Open, Page};
+use crate::build::{NOP, RET, eight, is_text, one_word, text_of};
+use crate::inputs::{comes_to, loaded};
 use lfi_model::{Item, Judged, Summary};
 use lfi_place::Gate;
 use lfi_threads::LoadError;
-use std::alloc::{AllocError, Global};
 use std::sync::Wait;
 use std::sync::atomic::{AtomicU64, Ordering};
 use std::test::Fail;
-use std::thread;
 use std::thread::Threads;
-
-/// How often one that waits for other threads lets them go on at the most.
-pub const YIELDS: u32 = 10_000_000;
 
 /// A gate that counts what comes to it before and after it is judged, and what comes otherwise than
 /// in turns.
@@ -40,51 +36,36 @@ impl Gate for InTurns {
     }
 }
 
-/// A module of 1,025 NOPs.
-fn two_pages(alloc: Global) -> Result<Vec<u8>, AllocError> {
-    let (first, second) = (page(0, 0, 1024), page(0, 1, 1).with(0, NOP));
-    text(alloc, &[open(0, 1025), first, second, close(0)])
-}
-
-/// What is told of a text that one verifier judges, and what the gate has counted.
-#[derive(Clone, Copy)]
-struct Alone {
-    told: Summary,
-    before: u64,
-    after: u64,
-    otherwise: u64,
-}
-
-fn judged_alone<S: Threads + Wait + Sync + AllocGlobal>(
+/// Whether this is told of a module of 1,025 NOPs that one verifier judges, and each of its four
+/// items comes to the gate in its turn.
+fn comes_in_turns<S: Threads + Wait + Sync + AllocGlobal>(
     rt: &S,
-    text: &[u8],
-) -> Result<Alone, LoadError> {
+    want: &str,
+) -> Result<bool, LoadError> {
+    let sent = [
+        Open(0, 1025),
+        Full(0, 0, 0, NOP),
+        Page(0, 1, 1, NOP),
+        Close(0),
+    ];
+    let text = text_of(rt.alloc(), &sent)?;
     let gate = InTurns {
         before: AtomicU64::new(0),
         after: AtomicU64::new(0),
         otherwise: AtomicU64::new(0),
     };
-    let told = loaded(rt, &[text], 4096, 1, &gate)?;
-    Ok(Alone {
-        told,
-        before: gate.before.load(Ordering::SeqCst),
-        after: gate.after.load(Ordering::SeqCst),
-        otherwise: gate.otherwise.load(Ordering::SeqCst),
-    })
+    let told = loaded(rt, &[text.as_slice()], 4096, 1, &gate)?;
+    let counted = [
+        gate.before.load(Ordering::SeqCst),
+        gate.after.load(Ordering::SeqCst),
+        gate.otherwise.load(Ordering::SeqCst),
+    ];
+    Ok(counted == [4, 4, 0] && is_text(rt.alloc(), &told, want)?)
 }
 
 #[test]
 fn one_verifier_comes_before_and_after_each_item(rt: HostRuntime) -> Result<(), Fail> {
-    let text = two_pages(rt.alloc())?;
-    let alone = judged_alone(&rt, text.as_slice())?;
-    assert!(rt; alone.before == 4 && alone.after == 4 && alone.otherwise == 0);
-    assert!(rt;
-        is_text(
-            rt.alloc(),
-            &alone.told,
-            "module 0: complete, 1025 words\nstrays 0\n"
-        )?
-    );
+    assert!(rt; comes_in_turns(&rt, "module 0: complete, 1025 words\nstrays 0\n")?);
     Ok(())
 }
 
@@ -101,12 +82,8 @@ impl Gate for EightMeet {
             return;
         }
         self.there.fetch_add(1, Ordering::SeqCst);
-        for _ in 0..YIELDS {
-            if self.there.load(Ordering::SeqCst) == 8 {
-                self.met.fetch_add(1, Ordering::SeqCst);
-                return;
-            }
-            thread::yield_now();
+        if comes_to(&self.there, 8) {
+            self.met.fetch_add(1, Ordering::SeqCst);
         }
     }
 

@@ -1,0 +1,202 @@
+//! Pages in raw memory: how much they take, when they are sealed, and the pool of those that are used again.
+
+use crate::items::pooled;
+use a64_word::Words;
+use lfi_image::JudgedPage;
+use lfi_module::PageSize;
+use page_buf::{OpenPage, Pool, PoolMember, SealedPage};
+use std::alloc::{AllocError, Global};
+use std::marker::Send;
+use std::test::Fail;
+use std::thread::{self, Threads};
+
+/// Writes so many bytes at a time to a page of this size: whether so many of each are taken, and the page is full then.
+fn is_filled(alloc: Global, size: PageSize, writes: &[(usize, usize)]) -> Result<bool, AllocError> {
+    let bytes = [7; 16_000];
+    let mut page = OpenPage::new(alloc, size)?;
+    let mut all = page.is_empty();
+    for (count, taken) in writes {
+        all = page.write(&bytes[..(*count).min(16_000)]) == *taken && all;
+    }
+    let len = size.bytes() as usize;
+    all = all && page.len() == len && !page.is_empty();
+    Ok(match page.seal() {
+        Ok(page) => all && page.len_words() == size.words() as usize && page.bytes().len() == len,
+        Err(_) => false,
+    })
+}
+
+#[test]
+fn a_write_takes_what_fits(rt: HostRuntime) -> Result<(), Fail> {
+    let small = [(3, 3), (4000, 4000), (200, 93), (4000, 0)];
+    let is_small_filled = is_filled(rt.alloc(), PageSize::SMALL, &small)?;
+    // A large page takes four times as much.
+    let large = [(16_000, 16_000), (16_000, 384), (16_000, 0)];
+    let is_large_filled = is_filled(rt.alloc(), PageSize::LARGE, &large)?;
+    assert!(rt; is_small_filled && is_large_filled);
+    Ok(())
+}
+
+/// Whether pages of no bytes and of six are given back, and one of eight is sealed.
+fn is_sealed_at_eight(page: OpenPage) -> bool {
+    let Err(mut page) = page.seal() else {
+        return false;
+    };
+    page.write(&[1, 2, 3, 4, 5, 6]);
+    let Err(mut page) = page.seal() else {
+        return false;
+    };
+    let taken = page.write(&[7, 8]);
+    match page.seal() {
+        Ok(page) => taken == 2 && page.bytes() == [1, 2, 3, 4, 5, 6, 7, 8].as_slice(),
+        Err(_) => false,
+    }
+}
+
+#[test]
+fn half_a_word_is_not_sealed(rt: HostRuntime) -> Result<(), Fail> {
+    let page = OpenPage::new(rt.alloc(), PageSize::SMALL)?;
+    assert!(rt; is_sealed_at_eight(page));
+    Ok(())
+}
+
+// RET is the bytes C0 03 5F D6, and NOP 1F 20 03 D5.
+#[test]
+fn words_are_read_lowest_byte_first(rt: HostRuntime) -> Result<(), Fail> {
+    let bytes = [0xC0, 0x03, 0x5F, 0xD6, 0x1F, 0x20, 0x03, 0xD5];
+    let page = SealedPage::of(rt.alloc(), PageSize::SMALL, &bytes)?;
+    let words = [SealedPage::word(&page, 0), SealedPage::word(&page, 1)];
+    let same = [Words::word(&page, 0), Words::word(&page, 1)];
+    let want = [0xD65F_03C0, 0xD503_201F];
+    let counts = (page.count(), page.len_words());
+    assert!(rt; counts == (2, 2) && words == want && same == want);
+    Ok(())
+}
+
+fn needs_send<T: Send>() {}
+
+#[test]
+fn pages_move_between_threads(_: HostRuntime) {
+    needs_send::<OpenPage>();
+    needs_send::<SealedPage>();
+    needs_send::<JudgedPage>();
+}
+
+#[test]
+fn a_new_pool_has_no_page(rt: HostRuntime) -> Result<(), Fail> {
+    let (pool, mut seats) = Pool::new(rt.alloc(), 2)?;
+    let count = seats.len();
+    let mut none = true;
+    for seat in &mut seats {
+        none = pool.get(seat).is_none() && none;
+    }
+    assert!(rt; none && count == 2);
+    Ok(())
+}
+
+/// Gives a page of these bytes: nothing where the pool takes it, and otherwise whether it comes back as it was.
+fn given(
+    member: &mut PoolMember,
+    alloc: Global,
+    size: PageSize,
+    bytes: &[u8],
+) -> Result<Option<bool>, Fail> {
+    let mut page = OpenPage::new(alloc, size)?;
+    page.write(bytes);
+    let Ok(page) = page.seal() else {
+        return Err(Fail::from("the page was not sealed"));
+    };
+    Ok(match member.give(page) {
+        Ok(()) => None,
+        Err(back) => Some(back.bytes() == bytes),
+    })
+}
+
+/// Gives small pages of 4,096 bytes, so many: whether the pool takes all.
+fn takes(member: &mut PoolMember, alloc: Global, pages: u32) -> Result<bool, Fail> {
+    let mut all = true;
+    for _ in 0..pages {
+        all = given(member, alloc, PageSize::SMALL, &[7; 4096])?.is_none() && all;
+    }
+    Ok(all)
+}
+
+/// Gets a page from the pool and writes it: whether there is one, it was empty and has then these bytes alone.
+fn is_used_again(member: &mut PoolMember) -> bool {
+    let Some(mut page) = member.get() else {
+        return false;
+    };
+    let was_empty = page.is_empty();
+    page.write(&[9, 8, 7, 6]);
+    match page.seal() {
+        Ok(page) => was_empty && page.bytes() == [9, 8, 7, 6].as_slice(),
+        Err(_) => false,
+    }
+}
+
+/// Whether so many pages are got and written, and the next one is none.
+fn are_used_again(mut member: PoolMember, pages: u32) -> bool {
+    let mut all = true;
+    for _ in 0..pages {
+        all = is_used_again(&mut member) && all;
+    }
+    all && member.get().is_none()
+}
+
+#[test]
+fn sixty_four_pages_lie_in_a_pool(rt: HostRuntime) -> Result<(), Fail> {
+    let mut member = PoolMember::new(rt.alloc())?;
+    let taken = takes(&mut member, rt.alloc(), 64)?;
+    let more = given(&mut member, rt.alloc(), PageSize::SMALL, &[1, 2, 3, 4])?;
+    let other = member.another()?;
+    assert!(rt; taken && more == Some(true) && are_used_again(other, 64));
+    Ok(())
+}
+
+#[test]
+fn a_large_page_is_not_pooled(rt: HostRuntime) -> Result<(), Fail> {
+    let mut member = PoolMember::new(rt.alloc())?;
+    let large = given(&mut member, rt.alloc(), PageSize::LARGE, &[1, 2, 3, 4])?;
+    assert!(rt; large == Some(true) && member.get().is_none());
+    Ok(())
+}
+
+/// Gets a page, if there is one, and gives it back: whether it is not given back.
+fn keeps(member: &mut PoolMember) -> bool {
+    let Some(mut page) = member.get() else {
+        return false;
+    };
+    page.write(&[1, 2, 3, 4]);
+    match page.seal() {
+        Ok(page) => member.give(page).is_err(),
+        Err(_) => true,
+    }
+}
+
+/// Gets a page and gives it back, so many times: how many it got and didn't give back.
+fn get_and_give(mut member: PoolMember, rounds: u32) -> u64 {
+    let mut kept = 0u64;
+    for _ in 0..rounds {
+        kept = kept.wrapping_add(u64::from(keeps(&mut member)));
+    }
+    kept
+}
+
+/// Two threads that may not wait get and give, 10,000 times each: how many pages both kept.
+fn both<R: Threads>(rt: &R, first: PoolMember, second: PoolMember) -> u64 {
+    let (first, second) = thread::join(
+        rt,
+        move || get_and_give(first, 10_000),
+        move || get_and_give(second, 10_000),
+    );
+    first.wrapping_add(second)
+}
+
+#[test]
+fn two_threads_share_a_pool(rt: HostRuntime) -> Result<(), Fail> {
+    let mut member = PoolMember::new(rt.alloc())?;
+    let taken = takes(&mut member, rt.alloc(), 3)?;
+    let kept = both(&rt, member.another()?, member.another()?);
+    assert!(rt; taken && kept.wrapping_add(pooled(&mut member)) == 3);
+    Ok(())
+}

@@ -1,0 +1,11 @@
+//! Worked rows of `lfi_reference` and of `lfi_stage`: whole streams, and the reports on them.
+
+mod connections;
+mod cuts;
+mod modules;
+mod plain;
+mod rows;
+mod settled;
+mod stage;
+mod streams;
+mod turned;
