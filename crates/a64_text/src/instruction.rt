@@ -27,7 +27,7 @@ impl fmt::Display for Assembly<Instruction> {
             Instruction::CountLeadingZeros(i) => Assembly(i).fmt(f),
             Instruction::MultiplyAdd(i) => Assembly(i).fmt(f),
             Instruction::MultiplyHigh(i) => Assembly(i).fmt(f),
-            Instruction::Nop => write!(f, "nop"),
+            Instruction::Nop => f.write_str("nop"),
             Instruction::Branch(i) => Assembly(i).fmt(f),
             Instruction::ConditionalBranch(i) => Assembly(i).fmt(f),
             Instruction::CompareBranch(i) => Assembly(i).fmt(f),

@@ -47,7 +47,7 @@ impl fmt::Display for Mask {
     fn fmt<W: fmt::Write>(&self, f: &mut fmt::Formatter<W>) -> fmt::Result {
         match self.0 {
             Some(mask) => write!(f, "#0x{mask:x}"),
-            None => write!(f, "#?"),
+            None => f.write_str("#?"),
         }
     }
 }

@@ -8,7 +8,7 @@ use atomic_table::Seat;
 use lfi_module::ModuleNumber;
 
 /// What a claim was answered.
-#[derive(Clone, Copy, PartialEq, Eq, Debug)]
+#[derive(Clone, Copy, PartialEq, Eq)]
 pub enum Claim {
     /// The module was free, and is the seat's own now.
     Mine,
@@ -17,7 +17,7 @@ pub enum Claim {
 }
 
 /// What was answered to a sequencer that ends its module.
-#[derive(Clone, Copy, PartialEq, Eq, Debug)]
+#[derive(Clone, Copy, PartialEq, Eq)]
 pub enum Change {
     /// The module was open, and has ended now.
     Made,
@@ -28,7 +28,7 @@ pub enum Change {
 }
 
 /// How far a module is. A later phase never goes back to an earlier one, and Refused and Done stay.
-#[derive(Clone, Copy, PartialEq, Eq, Debug)]
+#[derive(Clone, Copy, PartialEq, Eq)]
 pub enum Phase {
     Free,
     Open,

@@ -9,7 +9,7 @@ use lfi_rules::{Fault, check_all};
 use std::fmt;
 
 /// What is found of code.
-#[derive(Clone, Copy, PartialEq, Eq, Debug)]
+#[derive(Clone, Copy, PartialEq, Eq)]
 pub enum Verdict {
     /// No word breaks a rule.
     Lawful { words: u32 },

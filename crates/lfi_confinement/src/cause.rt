@@ -1,7 +1,7 @@
 //! Why a machine stops.
 
 /// Why a machine stops, with the address or status that belongs to it.
-#[derive(Clone, Copy, PartialEq, Eq, Debug)]
+#[derive(Clone, Copy, PartialEq, Eq)]
 pub enum Cause {
     /// An access without permission: the least address of a byte that may not be accessed so.
     NoAccess(u64),

@@ -57,7 +57,7 @@ impl fmt::Display for Among {
     fn fmt<W: fmt::Write>(&self, f: &mut fmt::Formatter<W>) -> fmt::Result {
         match self.0 {
             Need::Probe(count) if count > 1 => write!(f, "one of the next {count}"),
-            _ => write!(f, "next"),
+            _ => f.write_str("next"),
         }
     }
 }

@@ -125,7 +125,7 @@ impl fmt::Display for At {
         let address = &self.0;
         match address.form {
             Form::Offset => write!(f, "{}, and let it go through xD", Guard(address.base)),
-            Form::PreIndex | Form::PostIndex => write!(f, "{}", Indexed(address.base)),
+            Form::PreIndex | Form::PostIndex => Indexed(address.base).fmt(f),
             Form::Index {
                 register,
                 extend: _,
@@ -140,7 +140,7 @@ impl fmt::Display for At {
                     index: register,
                     shift,
                 };
-                write!(f, "{}", BySum(sum))
+                BySum(sum).fmt(f)
             }
         }
     }
@@ -155,8 +155,8 @@ impl fmt::Display for Access {
 
     fn fmt<W: fmt::Write>(&self, f: &mut fmt::Formatter<W>) -> fmt::Result {
         match self.0 {
-            Some(address) => write!(f, "{}", At(address)),
-            None => write!(f, "let it go through x18, x21, x23, x24 or sp"),
+            Some(address) => At(address).fmt(f),
+            None => f.write_str("let it go through x18, x21, x23, x24 or sp"),
         }
     }
 }
@@ -192,7 +192,7 @@ impl fmt::Display for WritesAddress {
                 f,
                 "let it write a free register xM; then add x{number}, x21, wM, uxtw writes x{number}"
             ),
-            None => write!(f, "{}", Guarded("xD")),
+            None => Guarded("xD").fmt(f),
         }
     }
 }
@@ -206,7 +206,7 @@ impl fmt::Display for Bounded {
 
     fn fmt<W: fmt::Write>(&self, f: &mut fmt::Formatter<W>) -> fmt::Result {
         let Some(register) = self.0 else {
-            return write!(f, "let it go through x30");
+            return f.write_str("let it go through x30");
         };
         let register = GeneralRegister(Width::W, register);
         write!(
@@ -256,25 +256,22 @@ impl fmt::Display for Mending {
     fn fmt<W: fmt::Write>(&self, f: &mut fmt::Formatter<W>) -> fmt::Result {
         let told = &self.0;
         match told.fault.rule {
-            Rule::Spelled => write!(
-                f,
-                "put instructions of the profile in its place: docs/PROFILE.md lists them, and what stands in for others"
+            Rule::Spelled => f.write_str(
+                "put instructions of the profile in its place: docs/PROFILE.md lists them, and what stands in for others",
             ),
-            Rule::AccessConfined => write!(f, "{}", Access(told.at.address())),
-            Rule::BaseKept => write!(f, "let it write a free register in place of x21"),
-            Rule::AddressGuarded => write!(f, "{}", WritesAddress(told.at.written_address())),
-            Rule::LinkGuarded => write!(f, "{}", Guarded("x30")),
-            Rule::OffsetNarrow => write!(
-                f,
-                "let it write w22; or a free register xM, and then mov w22, wM writes w22"
+            Rule::AccessConfined => Access(told.at.address()).fmt(f),
+            Rule::BaseKept => f.write_str("let it write a free register in place of x21"),
+            Rule::AddressGuarded => WritesAddress(told.at.written_address()).fmt(f),
+            Rule::LinkGuarded => Guarded("x30").fmt(f),
+            Rule::OffsetNarrow => f.write_str(
+                "let it write w22; or a free register xM, and then mov w22, wM writes w22",
             ),
-            Rule::StackBounded => write!(f, "{}", Guarded("sp")),
-            Rule::TargetInside => write!(
-                f,
-                "let it go to a word of the module; code outside is called by ldr x30, [x21, #8j], j being 0 to 511, with blr x30 right after it"
+            Rule::StackBounded => Guarded("sp").fmt(f),
+            Rule::TargetInside => f.write_str(
+                "let it go to a word of the module; code outside is called by ldr x30, [x21, #8j], j being 0 to 511, with blr x30 right after it",
             ),
-            Rule::BranchBounded => write!(f, "{}", Bounded(told.at.branch_register())),
-            Rule::NeedMet => write!(f, "{}", Met(asked_in(told))),
+            Rule::BranchBounded => Bounded(told.at.branch_register()).fmt(f),
+            Rule::NeedMet => Met(asked_in(told)).fmt(f),
         }
     }
 }

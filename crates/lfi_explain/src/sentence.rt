@@ -54,7 +54,7 @@ impl fmt::Display for ByForm {
     fn fmt<W: fmt::Write>(&self, f: &mut fmt::Formatter<W>) -> fmt::Result {
         match self.0 {
             Form::Offset => Ok(()),
-            Form::PreIndex | Form::PostIndex => write!(f, " and changes it"),
+            Form::PreIndex | Form::PostIndex => f.write_str(" and changes it"),
             Form::Index {
                 register,
                 extend,
@@ -247,9 +247,9 @@ impl fmt::Display for Within {
                     left: left_behind(count, self.gone),
                     calm: self.calm,
                 };
-                write!(f, "{late}")
+                late.fmt(f)
             }
-            _ => write!(f, "; this word isn't that"),
+            _ => f.write_str("; this word isn't that"),
         }
     }
 }
@@ -263,9 +263,8 @@ impl fmt::Display for Last {
 
     fn fmt<W: fmt::Write>(&self, f: &mut fmt::Formatter<W>) -> fmt::Result {
         match self.0 {
-            Need::Nothing => write!(
-                f,
-                "a move of sp by an immediate is followed by a load or store at [sp] within 4 words, with only calm words before it; this word isn't that"
+            Need::Nothing => f.write_str(
+                "a move of sp by an immediate is followed by a load or store at [sp] within 4 words, with only calm words before it; this word isn't that",
             ),
             opened => write!(
                 f,
@@ -290,7 +289,7 @@ impl fmt::Display for Unmet {
 
     fn fmt<W: fmt::Write>(&self, f: &mut fmt::Formatter<W>) -> fmt::Result {
         match self.need {
-            Need::Nothing => write!(f, "{}", Last(self.opened)),
+            Need::Nothing => Last(self.opened).fmt(f),
             need => {
                 let within = Within {
                     need,
@@ -362,7 +361,7 @@ impl fmt::Display for Unspelled {
                 let name = ordered_name(i.load, i.size);
                 write!(f, "; {name} is an instruction of profile 2")
             }
-            _ => write!(f, "; none spells this one"),
+            _ => f.write_str("; none spells this one"),
         }
     }
 }
@@ -377,18 +376,18 @@ impl fmt::Display for Does {
     fn fmt<W: fmt::Write>(&self, f: &mut fmt::Formatter<W>) -> fmt::Result {
         let told = &self.0;
         match told.fault.rule {
-            Rule::Spelled => write!(f, "{}", Unspelled(told.at.in_second)),
-            Rule::AccessConfined => write!(f, "{}", Through(told.at.address())),
-            Rule::BaseKept => write!(f, "; this one writes it"),
-            Rule::AddressGuarded => write!(f, "{}", WritesAddress(told.at.written_address())),
-            Rule::LinkGuarded => write!(f, "; this one writes it otherwise"),
-            Rule::OffsetNarrow => write!(f, "; this one writes all of it"),
-            Rule::StackBounded => write!(f, "; this one writes it otherwise"),
+            Rule::Spelled => Unspelled(told.at.in_second).fmt(f),
+            Rule::AccessConfined => Through(told.at.address()).fmt(f),
+            Rule::BaseKept => f.write_str("; this one writes it"),
+            Rule::AddressGuarded => WritesAddress(told.at.written_address()).fmt(f),
+            Rule::LinkGuarded => f.write_str("; this one writes it otherwise"),
+            Rule::OffsetNarrow => f.write_str("; this one writes all of it"),
+            Rule::StackBounded => f.write_str("; this one writes it otherwise"),
             Rule::TargetInside => {
                 let goes = GoesTo(told.at.target(told.fault.word));
                 write!(f, "; it has {}{goes}", told.words)
             }
-            Rule::BranchBounded => write!(f, "{}", BranchesThrough(told.at.branch_register())),
+            Rule::BranchBounded => BranchesThrough(told.at.branch_register()).fmt(f),
             Rule::NeedMet => {
                 let unmet = Unmet {
                     need: told.unmet(),
@@ -396,7 +395,7 @@ impl fmt::Display for Does {
                     gone: told.gone(),
                     calm: told.at.is_calm(),
                 };
-                write!(f, "{unmet}")
+                unmet.fmt(f)
             }
         }
     }

@@ -132,7 +132,7 @@ impl fmt::Display for Spelling {
     /// Writes the assembly text, or `.inst 0x00000000` with the word where no instruction spells it.
     fn fmt<W: fmt::Write>(&self, f: &mut fmt::Formatter<W>) -> fmt::Result {
         match self.instruction {
-            Some(instruction) => write!(f, "{}", Assembly(instruction)),
+            Some(instruction) => Assembly(instruction).fmt(f),
             None => write!(f, ".inst 0x{}", WordDigits(self.word)),
         }
     }

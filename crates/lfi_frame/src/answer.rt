@@ -3,7 +3,7 @@
 use lfi_module::{Extent, ModuleNumber, PageSize};
 
 /// What the bytes that a call used have brought.
-#[derive(Clone, Copy, Debug, PartialEq, Eq)]
+#[derive(Clone, Copy, PartialEq, Eq)]
 pub enum Got {
     /// The whole piece was used, or it was empty, and nothing came to its end.
     More,
@@ -32,7 +32,7 @@ pub enum Got {
 }
 
 /// One call's answer: how many bytes of the piece it used, and what they brought.
-#[derive(Clone, Copy, Debug, PartialEq, Eq)]
+#[derive(Clone, Copy, PartialEq, Eq)]
 pub struct Step {
     /// The bytes used, from the piece's first on.
     pub used: usize,

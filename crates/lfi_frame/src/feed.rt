@@ -10,7 +10,7 @@ use crate::fault::FrameFault;
 use crate::header::{HEADER_BYTES, Header};
 
 /// Where in its stream a feed is.
-#[derive(Clone, Copy, Debug, PartialEq, Eq)]
+#[derive(Clone, Copy, PartialEq, Eq)]
 pub enum Position {
     /// So many bytes of a header have come, 0 to 11. With 0 it is between two messages.
     Header { filled: usize },
@@ -22,7 +22,7 @@ pub enum Position {
 
 /// A reader of a stream that comes in pieces, cut anywhere. Of the stream it holds the bytes of one
 /// header alone; it takes no memory.
-#[derive(Debug, Drop)]
+#[derive(Drop)]
 pub struct Feed {
     held: [u8; HEADER_BYTES],
     position: Position,

@@ -22,7 +22,7 @@ pub const HEADER_BYTES: usize = 12;
 const WORD_BYTES: u32 = 4;
 
 /// What a message is about, by the first byte of its header.
-#[derive(Clone, Copy, Debug, PartialEq, Eq)]
+#[derive(Clone, Copy, PartialEq, Eq)]
 pub(crate) enum MessageKind {
     /// A module begins that goes by this profile: 1 for the first, 4 for the second.
     Open(Profile),
@@ -49,7 +49,7 @@ impl MessageKind {
 }
 
 /// The five numbers of a header, as they come.
-#[derive(Clone, Copy, Debug, PartialEq, Eq)]
+#[derive(Clone, Copy, PartialEq, Eq)]
 pub struct Header {
     /// 1 for an Open, 2 for a Page, 3 for a Close, 4 for an Open by the second profile, 5 for a
     /// large Page.

@@ -7,7 +7,7 @@ use lfi_rules::Fault;
 use std::fmt;
 
 /// Why an image file was not read, or not written. Its numbers are those of reports (docs/PROFILE.md, "Faults").
-#[derive(Clone, Copy, Debug, PartialEq, Eq)]
+#[derive(Clone, Copy, PartialEq, Eq)]
 pub enum ImageFault {
     /// The file does not begin with `LFI1`.
     Magic,

@@ -6,7 +6,7 @@ ghost use Rattle.lfi_machine.specs.Halting.{halt_number};
 use lfi_confinement::Cause;
 
 /// Why a run stops.
-#[derive(Clone, Copy, PartialEq, Eq, Debug)]
+#[derive(Clone, Copy, PartialEq, Eq)]
 pub enum Halt {
     /// The machine stops.
     Stopped(Cause),

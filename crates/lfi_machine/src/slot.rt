@@ -15,7 +15,7 @@ use std::alloc::{AllocError, Global};
 use std::marker::Model;
 
 /// How bytes are accessed.
-#[derive(Clone, Copy, PartialEq, Eq, Debug)]
+#[derive(Clone, Copy, PartialEq, Eq)]
 pub enum Access {
     /// They are read.
     Load,
@@ -37,7 +37,7 @@ impl Access {
 }
 
 /// What may go wrong when the runtime writes a byte.
-#[derive(Clone, Copy, PartialEq, Eq, Debug)]
+#[derive(Clone, Copy, PartialEq, Eq)]
 pub enum DataFault {
     /// The byte may not be written.
     NotWritable,

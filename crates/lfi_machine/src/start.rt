@@ -12,7 +12,7 @@ use lfi_image::CompleteImage;
 use lfi_rules::registers::{BASE, FIRST_ADDRESS, LINK, OFFSET, SECOND_ADDRESS, THIRD_ADDRESS};
 
 /// Why a machine isn't made.
-#[derive(Clone, Copy, PartialEq, Eq, Debug)]
+#[derive(Clone, Copy, PartialEq, Eq)]
 pub enum StartFault {
     /// x21 isn't the slot's base.
     Base,

@@ -3,7 +3,7 @@
 use lfi_module::Extent;
 
 /// What ended the input of a connection.
-#[derive(Clone, Copy, Debug, PartialEq, Eq)]
+#[derive(Clone, Copy, PartialEq, Eq)]
 pub enum Cause {
     /// The input ended, or came to a header with a fault.
     End,
@@ -14,7 +14,7 @@ pub enum Cause {
 }
 
 /// How far a connection has come with a module.
-#[derive(Clone, Copy, Debug, PartialEq, Eq)]
+#[derive(Clone, Copy, PartialEq, Eq)]
 pub enum Progress {
     /// The connection hasn't claimed it.
     Unclaimed,

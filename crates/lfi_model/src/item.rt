@@ -8,7 +8,7 @@ use page_buf::SealedPage;
 use std::marker::Model;
 
 /// Why a module ended.
-#[derive(Clone, Copy, Debug, PartialEq, Eq)]
+#[derive(Clone, Copy, PartialEq, Eq)]
 pub enum Reason {
     /// Its connection closed it.
     Close,

@@ -8,7 +8,7 @@ use lfi_rules::Fault;
 use std::fmt;
 
 /// What became of a module.
-#[derive(Clone, Copy, Debug, PartialEq, Eq)]
+#[derive(Clone, Copy, PartialEq, Eq)]
 pub enum Outcome {
     /// No connection claimed it.
     Unused,

@@ -14,7 +14,7 @@ use std::fmt;
 pub const CONNECTIONS: usize = 8;
 
 /// What became of each module and each connection of a run, as it is told to users.
-#[derive(Clone, Copy, Debug, PartialEq, Eq)]
+#[derive(Clone, Copy, PartialEq, Eq)]
 pub struct Summary {
     /// By the modules' numbers.
     pub outcomes: [Outcome; ModuleNumber::COUNT],

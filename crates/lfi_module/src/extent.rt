@@ -9,7 +9,7 @@ use crate::profile::Profile;
 use std::marker::Model;
 
 /// How many words a module has: 1 to 4,194,304.
-#[derive(Clone, Copy, PartialEq, Eq, Debug)]
+#[derive(Clone, Copy, PartialEq, Eq)]
 pub struct WordCount {
     words: u32,
 }
@@ -94,7 +94,7 @@ impl WordCount {
 
 /// How many words a module has, the one at which it is entered, the profile that it goes by, and how large its pages are:
 /// small, or in the second profile small or large.
-#[derive(Clone, Copy, PartialEq, Eq, Debug)]
+#[derive(Clone, Copy, PartialEq, Eq)]
 pub struct Extent {
     words: WordCount,
     entry: u32,

@@ -6,7 +6,7 @@ ghost use Rattle.lfi_module.specs.Numbers.{module_count, base_of};
 use std::marker::Model;
 
 /// The number of a module, 0 to 15, which is that of its slot.
-#[derive(Clone, Copy, PartialEq, Eq, Debug)]
+#[derive(Clone, Copy, PartialEq, Eq)]
 pub struct ModuleNumber {
     number: u16,
 }

@@ -7,7 +7,7 @@ ghost use Rattle.lfi_module.specs.Pages.{IsPageSize};
 use std::marker::Model;
 
 /// How many words a full page has: 1,024 or 4,096. Only a module's last page may have fewer.
-#[derive(Clone, Copy, PartialEq, Eq, Debug)]
+#[derive(Clone, Copy, PartialEq, Eq)]
 pub struct PageSize {
     words: u32,
 }

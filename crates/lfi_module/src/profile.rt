@@ -7,7 +7,7 @@ ghost use Rattle.lfi_module.specs.Pages.{HasPages};
 use crate::page_size::PageSize;
 
 /// Which instructions and rules a module goes by: docs/PROFILE.md.
-#[derive(Clone, Copy, PartialEq, Eq, Debug)]
+#[derive(Clone, Copy, PartialEq, Eq)]
 pub enum Profile {
     /// The first profile.
     One,

@@ -16,7 +16,7 @@ use std::alloc::{AllocError, Global};
 use std::sync::Wait;
 
 /// What a turn did.
-#[derive(Clone, Copy, Debug, PartialEq, Eq)]
+#[derive(Clone, Copy, PartialEq, Eq)]
 pub enum SequencerTurn {
     /// It took an item.
     Worked,

@@ -32,7 +32,7 @@ impl Gate for OpenGate {
 }
 
 /// What a turn did.
-#[derive(Clone, Copy, Debug, PartialEq, Eq)]
+#[derive(Clone, Copy, PartialEq, Eq)]
 pub enum VerifierTurn {
     /// It put an item in its module's lane.
     Worked,

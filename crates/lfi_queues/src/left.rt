@@ -22,7 +22,7 @@ use std::collections::LinkedList;
 pub const TAKERS: usize = 8;
 
 /// What is asked of a part.
-#[derive(Clone, Copy, PartialEq, Eq, Debug)]
+#[derive(Clone, Copy, PartialEq, Eq)]
 enum Asked {
     /// Its first item.
     FirstItem,

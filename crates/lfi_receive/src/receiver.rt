@@ -27,7 +27,7 @@ use page_buf::PoolMember;
 use std::alloc::Global;
 
 /// What a turn did.
-#[derive(Clone, Copy, Debug, PartialEq, Eq)]
+#[derive(Clone, Copy, PartialEq, Eq)]
 pub enum ReceiverTurn {
     /// It used bytes, and no item came of them; or it was given none.
     More,

@@ -11,7 +11,7 @@ use lfi_module::Profile;
 use std::alloc::{AllocError, Global};
 
 /// How large a module is, the word at which it is entered, the profile that it goes by, and whether its pages are large.
-#[derive(Clone, Copy, PartialEq, Eq, Debug)]
+#[derive(Clone, Copy, PartialEq, Eq)]
 pub struct PlainExtent {
     /// How many words it has.
     pub words: u32,

@@ -13,7 +13,7 @@ const SMALL_PAGE: u8 = 2;
 const LARGE_PAGE: u8 = 5;
 
 /// How a text goes on where it stands between two messages.
-#[derive(Clone, Copy, Debug, PartialEq, Eq)]
+#[derive(Clone, Copy, PartialEq, Eq)]
 pub enum PlainRest {
     /// By fewer bytes than a header has.
     Short,

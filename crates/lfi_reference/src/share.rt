@@ -40,7 +40,7 @@ pub struct PlainItem {
 }
 
 /// How far a connection has come with a module.
-#[derive(Clone, Copy, Debug, PartialEq, Eq)]
+#[derive(Clone, Copy, PartialEq, Eq)]
 pub enum PlainProgress {
     /// The connection hasn't claimed it.
     Unclaimed,

@@ -10,7 +10,7 @@ use a64_word::{BranchKind, Instruction, PairMode, Size, Transfer, Width};
 use lfi_module::Profile;
 
 /// What an instruction asks of the words after it.
-#[derive(Clone, Copy, PartialEq, Eq, Debug)]
+#[derive(Clone, Copy, PartialEq, Eq)]
 pub enum Need {
     /// No condition.
     Nothing,

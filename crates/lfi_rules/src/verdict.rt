@@ -14,7 +14,7 @@ use a64_word::{Words, decode};
 use lfi_module::Profile;
 
 /// What the first words of a page meet.
-#[derive(Clone, Copy, PartialEq, Eq, Debug)]
+#[derive(Clone, Copy, PartialEq, Eq)]
 pub struct HeadMeets {
     /// The first is the call through x30.
     pub call: bool,
@@ -29,7 +29,7 @@ pub struct HeadMeets {
 }
 
 /// What is known of a page by itself.
-#[derive(Clone, Copy, PartialEq, Eq, Debug)]
+#[derive(Clone, Copy, PartialEq, Eq)]
 pub struct PageVerdict {
     /// The place of its first word in the module.
     pub first: u32,

@@ -92,7 +92,7 @@ fn words_between_keep_their_rules(rt: HostRuntime) {
             word: 2,
             rule: Rule::BaseKept,
         });
-        assert!(rt; fault == expected, "{fault:?}");
+        assert!(rt; fault == expected);
     }
 }
 

@@ -5,7 +5,7 @@ use lfi_model::Reason;
 use lfi_module::{Extent, ModuleNumber};
 
 /// What the bytes that a call used have brought.
-#[derive(Clone, Copy, Debug, PartialEq, Eq)]
+#[derive(Clone, Copy, PartialEq, Eq)]
 pub enum Event {
     /// Nothing that a host has to do.
     Nothing,

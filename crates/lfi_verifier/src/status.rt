@@ -4,7 +4,7 @@ ghost use Rattle.std.specs.Prelude.{◌≡◌};
 ghost use Rattle.lfi_verifier.specs.Statuses.{status_number};
 
 /// What a call found, or why it found nothing.
-#[derive(Clone, Copy, PartialEq, Eq, Debug)]
+#[derive(Clone, Copy, PartialEq, Eq)]
 pub(crate) enum Status {
     /// No word breaks a rule: of a whole module; or none of those that came, of an unfinished one that is added to. Of other
     /// calls: what was asked for is done.
