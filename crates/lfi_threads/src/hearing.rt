@@ -120,7 +120,7 @@ impl<'a> Watch<'a> {
 }
 
 /// Why a receiver's thread ends.
-#[derive(Clone, Copy, Debug, PartialEq, Eq)]
+#[derive(Clone, Copy)]
 enum Leaving {
     /// Its receiver has finished.
     Finished,
