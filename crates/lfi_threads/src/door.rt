@@ -7,7 +7,7 @@ use crate::client::Streams;
 use crate::deadline::{Deadline, Span};
 use crate::ends::{Ends, Waited};
 use std::fs::Files;
-use std::os::unix::net::{SocketAddr, UnixListener, UnixStream};
+use std::os::unix::net::{UnixListener, UnixStream};
 use std::rt::Clock;
 use std::sync::Wait;
 use std::time::Duration;
@@ -15,22 +15,6 @@ use std::{fs, io, thread};
 
 /// How long nobody looks for a client, where the time for it is limited, in milliseconds.
 const PAUSE: u64 = 5;
-
-/// Whether nobody has come to a listener that doesn't wait, and somebody may.
-fn is_nobody_yet(came: &io::Result<(UnixStream, SocketAddr)>) -> bool {
-    match came {
-        Ok(_) => false,
-        Err(error) => error.kind() == io::ErrorKind::WouldBlock,
-    }
-}
-
-/// The stream of a client that came, where one did.
-fn stream_of(came: io::Result<(UnixStream, SocketAddr)>) -> Option<UnixStream> {
-    match came {
-        Ok((stream, _)) => Some(stream),
-        Err(_) => None,
-    }
-}
 
 /// The listener at a path, and until when clients are waited for and heard. The path is removed when
 /// this is dropped, and so once, whatever comes before; that this fails isn't told.
@@ -79,7 +63,10 @@ impl<'a, S: Files> Door<'a, S> {
         S: Wait + Clock,
     {
         match &self.deadline {
-            Deadline::Never => stream_of(self.listener.accept()),
+            Deadline::Never => {
+                let (stream, _) = self.listener.accept().ok()?;
+                Some(stream)
+            }
             Deadline::After(span) => self.accept_within(span),
         }
     }
@@ -93,9 +80,13 @@ impl<'a, S: Files> Door<'a, S> {
         for _ in self.rt.forever() {
             // Before it looks: who came in time is taken.
             let left = span.left(self.rt);
-            let came = self.listener.accept();
-            if left.is_zero() || !is_nobody_yet(&came) {
-                return stream_of(came);
+            match self.listener.accept() {
+                Ok((stream, _)) => return Some(stream),
+                Err(error) if error.kind() == io::ErrorKind::WouldBlock => {}
+                Err(_) => return None,
+            }
+            if left.is_zero() {
+                return None;
             }
             thread::sleep(self.rt, left.min(Duration::from_millis(PAUSE)));
         }

@@ -225,6 +225,17 @@ pub fn eight(texts: &[u8]) -> [&[u8]; 8] {
 }
 
 /// Whether this is the text of what is told.
-pub fn is_text(alloc: Global, told: &Summary, want: &str) -> Result<bool, AllocError> {
-    Ok(format!(in alloc; "{told}")?.as_str() == want)
+pub fn is_text(alloc: Global, told: &Summary, want: &str) -> bool {
+    match format!(in alloc; "{told}") {
+        Ok(text) => text.as_str() == want,
+        Err(_) => false,
+    }
+}
+
+/// Whether something is told, and this is its text.
+pub fn is_told<E: Drop>(alloc: Global, told: Result<Summary, E>, want: &str) -> bool {
+    match told {
+        Ok(told) => is_text(alloc, &told, want),
+        Err(_) => false,
+    }
 }

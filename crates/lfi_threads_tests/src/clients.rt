@@ -26,16 +26,17 @@ pub(crate) struct Told {
     pub(crate) all_accepted: bool,
 }
 
-impl Told {
-    /// Whether all clients or not all were accepted, as this says, and this is the text of what is
-    /// told of them.
-    pub(crate) fn is(
-        &self,
-        alloc: Global,
-        all_accepted: bool,
-        want: &str,
-    ) -> Result<bool, AllocError> {
-        Ok(self.all_accepted == all_accepted && is_text(alloc, &self.summary, want)?)
+/// Whether something is told of clients, of whom all or not all were accepted, as this says, and this
+/// is the text of it.
+pub(crate) fn are_told(
+    alloc: Global,
+    told: Result<Told, LoadError>,
+    all_accepted: bool,
+    want: &str,
+) -> bool {
+    match told {
+        Ok(told) => told.all_accepted == all_accepted && is_text(alloc, &told.summary, want),
+        Err(_) => false,
     }
 }
 
@@ -183,8 +184,8 @@ fn clients_beside_each_other(rt: HostRuntime) -> Result<(), Fail> {
             || served(&rt, listener, path, case.texts.len(), None, &OpenGate),
             || send_all(&rt, path, case.texts, case.sizes).is_ok(),
         );
-        let told = told?.is(rt.alloc(), true, case.want)?;
-        assert!(rt; told && sent && fs::metadata(&rt, path).is_err());
+        let gone = fs::metadata(&rt, path).is_err();
+        assert!(rt; sent && gone && are_told(rt.alloc(), told, true, case.want));
     }
     Ok(())
 }
@@ -235,10 +236,9 @@ fn the_path_is_gone_once_all_are_taken(rt: HostRuntime) -> Result<(), Fail> {
         || served(&rt, listener, path, 2, None, &OpenGate),
         || send_once_the_path_is_gone(&rt, path, &TWO),
     );
-    let told = told?.is(rt.alloc(), true, BOTH)?;
     // Who has the path next keeps it.
-    assert!(rt; gone && told && is_here(&rt, path));
-    fs::remove_file(&rt, path)?;
+    let kept = is_here(&rt, path) && fs::remove_file(&rt, path).is_ok();
+    assert!(rt; gone && kept && are_told(rt.alloc(), told, true, BOTH));
     Ok(())
 }
 
@@ -288,7 +288,6 @@ fn the_first_client_is_served_before_the_second_comes(rt: HostRuntime) -> Result
         || served(&rt, listener, path, 2, None, &gate),
         || send_one_after_the_other(&rt, path, &gate.judged),
     );
-    let told = told?.is(rt.alloc(), true, BOTH)?;
-    assert!(rt; judged && told);
+    assert!(rt; judged && are_told(rt.alloc(), told, true, BOTH));
     Ok(())
 }

@@ -1,16 +1,15 @@
 //! Verifiers beside each other, and notices of refused modules.
 
 use crate::build::Sent::{Close, Full, Open, Page};
-use crate::build::{NOP, RET, STRAY, SVC, Sent, WRITE_BASE, is_text, text_of};
-use crate::inputs::{Pieces, comes_to, loaded, reported};
-use lfi_model::{Item, Judged};
+use crate::build::{NOP, RET, STRAY, SVC, Sent, WRITE_BASE, is_told, text_of};
+use crate::inputs::{Pieces, comes_to, loaded_of, reported};
+use lfi_model::{Item, Judged, Summary};
 use lfi_module::ModuleNumber;
 use lfi_place::{Gate, OpenGate};
 use lfi_threads::{LoadError, Notices};
 use std::io::{self, Read};
 use std::sync::Wait;
 use std::sync::atomic::{AtomicU64, Ordering};
-use std::test::Fail;
 use std::thread::Threads;
 
 /// A gate that keeps page 0 (ordinal 1) from being judged before page 1 (ordinal 2) was.
@@ -70,29 +69,24 @@ const ROWS: [Row; 2] = [
 ];
 
 /// Whether page 1 of a row is judged first, and what is told and counted then is what the row says.
-fn is_so<S: Threads + Wait + Sync + AllocGlobal>(rt: &S, row: &Row) -> Result<bool, LoadError> {
-    let text = text_of(rt.alloc(), row.sent)?;
+fn is_so<S: Threads + Wait + Sync + AllocGlobal>(rt: &S, row: &Row) -> bool {
     let gate = SecondFirst {
         judged: AtomicU64::new(0),
         seen: AtomicU64::new(0),
         after: AtomicU64::new(0),
     };
-    let told = loaded(rt, &[text.as_slice()], 4096, 2, &gate)?;
+    let told = loaded_of(rt, row.sent, 2, &gate);
     let seen = gate.seen.load(Ordering::SeqCst) == 1;
     let after = gate.after.load(Ordering::SeqCst);
-    let counted = match row.after {
-        Some(count) => count == after,
-        None => true,
-    };
-    Ok(seen && counted && is_text(rt.alloc(), &told, row.want)?)
+    let counted = row.after.unwrap_or(after) == after;
+    seen && counted && is_told(rt.alloc(), told, row.want)
 }
 
 #[test]
-fn page_1_is_judged_first(rt: HostRuntime) -> Result<(), Fail> {
+fn page_1_is_judged_first(rt: HostRuntime) {
     for row in &ROWS {
-        assert!(rt; is_so(&rt, row)?);
+        assert!(rt; is_so(&rt, row));
     }
-    Ok(())
 }
 
 /// Notices that are counted, and the module of the last one, plus 1.
@@ -119,6 +113,17 @@ struct UntilNoticed<'a> {
     text: Pieces<'a>,
     notices: &'a Counted,
     turns: u32,
+}
+
+impl<'a> UntilNoticed<'a> {
+    fn of(text: &'a [u8], notices: &'a Counted) -> UntilNoticed<'a> {
+        let text = Pieces::of(text, 4096);
+        UntilNoticed {
+            text,
+            notices,
+            turns: TURNS,
+        }
+    }
 }
 
 impl<'a> Read for UntilNoticed<'a> {
@@ -167,34 +172,40 @@ const REFUSED: [Refused; 2] = [
     },
 ];
 
+/// A report as if no stray had come. How many came depends on the threads.
+fn without_strays(told: Result<Summary, LoadError>) -> Result<Summary, LoadError> {
+    let mut told = told?;
+    told.strays = 0;
+    Ok(told)
+}
+
+/// The report on what is sent, as if no strays had followed it until a notice came.
+fn noticed<S: Threads + Wait + Sync + AllocGlobal>(
+    rt: &S,
+    sent: &[Sent],
+    notices: &Counted,
+) -> Result<Summary, LoadError> {
+    let text = text_of(rt.alloc(), sent)?;
+    let reader = UntilNoticed::of(text.as_slice(), notices);
+    without_strays(reported(rt, &[reader], 2, &OpenGate, notices))
+}
+
 /// Whether one notice comes of what is sent and of the strays that follow it until then, of the
 /// module that is refused, and this is told.
-fn is_told_once<S: Threads + Wait + Sync + AllocGlobal>(
-    rt: &S,
-    row: &Refused,
-) -> Result<bool, LoadError> {
+fn is_told_once<S: Threads + Wait + Sync + AllocGlobal>(rt: &S, row: &Refused) -> bool {
     let notices = Counted {
         count: AtomicU64::new(0),
         module: AtomicU64::new(0),
     };
-    let text = text_of(rt.alloc(), row.sent)?;
-    let reader = UntilNoticed {
-        text: Pieces::of(text.as_slice(), 4096),
-        notices: &notices,
-        turns: TURNS,
-    };
-    let mut told = reported(rt, &[reader], 2, &OpenGate, &notices)?;
-    // How many strays came depends on the threads.
-    told.strays = 0;
+    let told = noticed(rt, row.sent, &notices);
     let once = notices.count.load(Ordering::SeqCst) == 1;
     let its = notices.module.load(Ordering::SeqCst) == row.module.saturating_add(1);
-    Ok(once && its && is_text(rt.alloc(), &told, row.want)?)
+    once && its && is_told(rt.alloc(), told, row.want)
 }
 
 #[test]
-fn a_refused_module_is_told_of_once(rt: HostRuntime) -> Result<(), Fail> {
+fn a_refused_module_is_told_of_once(rt: HostRuntime) {
     for row in &REFUSED {
-        assert!(rt; is_told_once(&rt, row)?);
+        assert!(rt; is_told_once(&rt, row));
     }
-    Ok(())
 }

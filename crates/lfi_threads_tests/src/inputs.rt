@@ -2,7 +2,7 @@
 
 ghost use Rattle.std.specs.Prelude.{◌≤◌};
 
-use crate::build::{MODULE_0, NOP, is_text, one_word};
+use crate::build::{MODULE_0, NOP, Sent, is_told, one_word, text_of};
 use lfi_model::Summary;
 use lfi_place::{Gate, OpenGate};
 use lfi_receive::Input;
@@ -11,7 +11,6 @@ use std::alloc::{AllocError, Global};
 use std::io::{self, ErrorKind, Read};
 use std::sync::Wait;
 use std::sync::atomic::{AtomicU64, Ordering};
-use std::test::Fail;
 use std::thread::{Threads, yield_now};
 
 /// How often one that waits for other threads lets them go on at the most.
@@ -107,6 +106,19 @@ pub fn loaded<S: Threads + Wait + Sync + AllocGlobal, G: Gate + Sync>(
     reported(rt, readers.as_slice(), verifiers, gate, &NoNotices)
 }
 
+/// The report on what is sent, of which a read gives at most 4,096 bytes.
+pub fn loaded_of<S: Threads + Wait + Sync + AllocGlobal, G: Gate + Sync>(
+    rt: &S,
+    sent: &[Sent],
+    verifiers: usize,
+    gate: &G,
+) -> Result<Summary, LoadError>
+    requires verifiers { (1 ≤ verifiers) × (verifiers ≤ 8) }
+{
+    let text = text_of(rt.alloc(), sent)?;
+    loaded(rt, &[text.as_slice()], 4096, verifiers, gate)
+}
+
 /// Whether this is told of these texts, each in pieces of so many bytes.
 pub fn tells<S: Threads + Wait + Sync + AllocGlobal>(
     rt: &S,
@@ -114,11 +126,11 @@ pub fn tells<S: Threads + Wait + Sync + AllocGlobal>(
     most: usize,
     verifiers: usize,
     want: &str,
-) -> Result<bool, LoadError>
+) -> bool
     requires verifiers { (1 ≤ verifiers) × (verifiers ≤ 8) }
 {
-    let told = loaded(rt, texts, most, verifiers, &OpenGate)?;
-    Ok(is_text(rt.alloc(), &told, want)?)
+    let told = loaded(rt, texts, most, verifiers, &OpenGate);
+    is_told(rt.alloc(), told, want)
 }
 
 /// A text whose first read waits until the first read of another one has begun.
@@ -155,8 +167,9 @@ fn that_meets<'a>(
     }
 }
 
-/// The report on two streams whose readers wait for each other, and how many of them met the other.
-fn met_report<S: Threads + Wait + Sync + AllocGlobal>(rt: &S) -> Result<(Summary, u64), LoadError> {
+/// Whether two streams whose readers wait for each other both meet the other, and this is told of
+/// them.
+fn both_meet<S: Threads + Wait + Sync + AllocGlobal>(rt: &S, want: &str) -> bool {
     let second = one_word(1, NOP);
     let [mine, other] = &[AtomicU64::new(0), AtomicU64::new(0)];
     let met = &AtomicU64::new(0);
@@ -164,14 +177,12 @@ fn met_report<S: Threads + Wait + Sync + AllocGlobal>(rt: &S) -> Result<(Summary
         that_meets(&MODULE_0, mine, other, met),
         that_meets(&second, other, mine, met),
     ];
-    let told = reported(rt, &readers, 2, &OpenGate, &NoNotices)?;
-    Ok((told, met.load(Ordering::SeqCst)))
+    let told = reported(rt, &readers, 2, &OpenGate, &NoNotices);
+    met.load(Ordering::SeqCst) == 2 && is_told(rt.alloc(), told, want)
 }
 
 #[test]
-fn two_readers_that_wait_for_each_other(rt: HostRuntime) -> Result<(), Fail> {
-    let (told, met) = met_report(&rt)?;
+fn two_readers_that_wait_for_each_other(rt: HostRuntime) {
     let want = "module 0: complete, 1 words\nmodule 1: complete, 1 words\nstrays 0\n";
-    assert!(rt; met == 2 && is_text(rt.alloc(), &told, want)?);
-    Ok(())
+    assert!(rt; both_meet(&rt, want));
 }

@@ -2,16 +2,15 @@
 //! are heard for some time.
 
 use crate::build::{MODULE_0, MODULE_3, MODULE_7};
-use crate::clients::{BOTH, TWO, Told, connect_all, send_all, send_pieces, served};
+use crate::clients::{BOTH, TWO, are_told, connect_all, send_all, send_pieces, served};
 use lfi_place::OpenGate;
 use std::fs;
 use std::fs::Files;
-use std::io::Read;
+use std::io::{self, Read};
 use std::net::Net;
 use std::os::unix::net::{UnixListener, UnixStream};
 use std::rt::Clock;
 use std::sync::Wait;
-use std::test::Fail;
 use std::thread::Threads;
 use std::time::Duration;
 
@@ -40,6 +39,26 @@ enum Waits {
     For(u64),
     /// The listener doesn't wait, and there is no limit.
     Never,
+}
+
+impl Waits {
+    /// The limit, where there is one.
+    fn limit(self) -> Option<Duration> {
+        match self {
+            Waits::For(limit) => Some(Duration::from_millis(limit)),
+            Waits::Never => None,
+        }
+    }
+
+    /// A listener at this path that waits so.
+    fn listener<S: Files + Net>(self, rt: &S, path: &str) -> io::Result<UnixListener> {
+        let listener = UnixListener::bind(rt, path)?;
+        match self {
+            Waits::For(_) => {}
+            Waits::Never => listener.set_nonblocking(true)?,
+        }
+        Ok(listener)
+    }
 }
 
 /// The clients' texts, of which each sends so many bytes, and what they do then. How many are taken,
@@ -158,15 +177,6 @@ const ROWS: [Row; 10] = [
     },
 ];
 
-/// What is told of clients; whether the connections of all that stayed were closed in the end, and
-/// whether the path was gone then.
-#[derive(Clone, Copy)]
-struct Heard {
-    told: Told,
-    all_closed: bool,
-    gone: bool,
-}
-
 /// Whether all of these clients have nothing to read, as their connections were closed.
 fn are_all_closed(clients: &[UnixStream]) -> bool {
     for client in clients {
@@ -178,81 +188,81 @@ fn are_all_closed(clients: &[UnixStream]) -> bool {
     true
 }
 
-/// What came of the clients of a row, who have come and sent their texts before any is taken.
-fn hear<S: Threads + Wait + Files + Clock + Net + Sync + AllocGlobal>(
-    rt: &S,
-    row: &Row,
-) -> Result<Heard, Fail> {
-    let path = "limited.socket";
-    let listener = UnixListener::bind(rt, path)?;
-    let limit = match row.waits {
-        Waits::For(limit) => Some(Duration::from_millis(limit)),
-        Waits::Never => {
-            listener.set_nonblocking(true)?;
-            None
-        }
-    };
+/// The clients of a row that stay, once all have come and sent what they send.
+fn come<S: Net + AllocGlobal>(rt: &S, path: &str, row: &Row) -> io::Result<Vec<UnixStream>> {
     let mut clients = connect_all(rt, path, row.texts.len())?;
     send_pieces(clients.as_slice(), row.texts, &[row.sends])?;
     if let Then::Go = row.then {
         clients.clear();
     }
-    let told = served(rt, listener, path, row.connections, limit, &OpenGate)?;
-    Ok(Heard {
-        told,
-        all_closed: are_all_closed(clients.as_slice()),
-        gone: fs::metadata(rt, path).is_err(),
-    })
+    Ok(clients)
 }
 
-/// Whether a row comes to what it says, and the path is gone then.
-fn is_so<S: Threads + Wait + Files + Clock + Net + Sync + AllocGlobal>(
+/// Whether what a row says is told of its clients, who have come and sent their texts before any is
+/// taken, the connections of all that stayed are closed in the end, and the path is gone then.
+fn is_heard<S: Threads + Wait + Files + Clock + Net + Sync + AllocGlobal>(
     rt: &S,
+    path: &str,
+    listener: UnixListener,
     row: &Row,
-) -> Result<bool, Fail> {
-    let heard = hear(rt, row)?;
-    let told = heard.told.is(rt.alloc(), row.all_accepted, row.want)?;
-    Ok(told && heard.all_closed && heard.gone)
+) -> bool {
+    let Ok(clients) = come(rt, path, row) else {
+        return false;
+    };
+    let limit = row.waits.limit();
+    let told = served(rt, listener, path, row.connections, limit, &OpenGate);
+    let all_closed = are_all_closed(clients.as_slice());
+    let gone = fs::metadata(rt, path).is_err();
+    all_closed && gone && are_told(rt.alloc(), told, row.all_accepted, row.want)
 }
 
-#[test]
-fn clients_in_some_time(rt: HostRuntime) -> Result<(), Fail> {
-    for row in &ROWS {
-        assert!(rt; is_so(&rt, row)?);
+/// Whether a row comes to what it says.
+fn is_so<S: Threads + Wait + Files + Clock + Net + Sync + AllocGlobal>(rt: &S, row: &Row) -> bool {
+    let path = "limited.socket";
+    match row.waits.listener(rt, path) {
+        Ok(listener) => is_heard(rt, path, listener, row),
+        Err(_) => false,
     }
-    Ok(())
-}
-
-/// What became of a client more than were taken.
-#[derive(Clone, Copy)]
-struct More {
-    told: Told,
-    /// How many bytes it reads.
-    reads: usize,
-    /// Whether another one connects then.
-    connects: bool,
-}
-
-fn one_more<S: Threads + Wait + Files + Clock + Net + Sync + AllocGlobal>(
-    rt: &S,
-    texts: &[&[u8]],
-) -> Result<More, Fail> {
-    let path = "one_more.socket";
-    let listener = UnixListener::bind(rt, path)?;
-    send_all(rt, path, texts, &[4096])?;
-    let mut third = UnixStream::connect(rt, path)?;
-    let told = served(rt, listener, path, 2, None, &OpenGate)?;
-    Ok(More {
-        told,
-        reads: third.read(&mut [0]).unwrap_or(0),
-        connects: UnixStream::connect(rt, path).is_ok(),
-    })
 }
 
 #[test]
-fn a_client_more_than_are_taken(rt: HostRuntime) -> Result<(), Fail> {
-    let more = one_more(&rt, &TWO)?;
-    let told = more.told.is(rt.alloc(), true, BOTH)?;
-    assert!(rt; told && more.reads == 0 && !more.connects);
-    Ok(())
+fn clients_in_some_time(rt: HostRuntime) {
+    for row in &ROWS {
+        assert!(rt; is_so(&rt, row));
+    }
+}
+
+/// The client that comes once clients have come and sent these texts.
+fn one_more<S: Net + AllocGlobal>(rt: &S, path: &str, texts: &[&[u8]]) -> io::Result<UnixStream> {
+    send_all(rt, path, texts, &[4096])?;
+    UnixStream::connect(rt, path)
+}
+
+/// Whether two clients are taken and told of, and one more reads no byte, and none connects then.
+fn two_are_taken<S: Threads + Wait + Files + Clock + Net + Sync + AllocGlobal>(
+    rt: &S,
+    path: &str,
+    listener: UnixListener,
+) -> bool {
+    let Ok(mut third) = one_more(rt, path, &TWO) else {
+        return false;
+    };
+    let told = served(rt, listener, path, 2, None, &OpenGate);
+    let reads = third.read(&mut [0]).unwrap_or(0);
+    let connects = UnixStream::connect(rt, path).is_ok();
+    reads == 0 && !connects && are_told(rt.alloc(), told, true, BOTH)
+}
+
+/// Whether of three clients that have come two are taken, and nothing is of the third.
+fn one_is_left<S: Threads + Wait + Files + Clock + Net + Sync + AllocGlobal>(rt: &S) -> bool {
+    let path = "one_more.socket";
+    match UnixListener::bind(rt, path) {
+        Ok(listener) => two_are_taken(rt, path, listener),
+        Err(_) => false,
+    }
+}
+
+#[test]
+fn a_client_more_than_are_taken(rt: HostRuntime) {
+    assert!(rt; one_is_left(&rt));
 }

@@ -1,13 +1,12 @@
 //! Readers that fail or end once, and would give more bytes after that.
 
-use crate::build::{MODULE_0, STRAY, is_text};
+use crate::build::{MODULE_0, STRAY, is_told};
 use crate::inputs::{Pieces, reported};
 use lfi_place::OpenGate;
-use lfi_threads::{LoadError, NoNotices};
+use lfi_threads::NoNotices;
 use std::io::{self, ErrorKind, Read};
 use std::sync::Wait;
 use std::sync::atomic::{AtomicU64, Ordering};
-use std::test::Fail;
 use std::thread::Threads;
 
 /// What a reader answers once in place of the bytes that are next.
@@ -74,15 +73,13 @@ const ROWS: [(usize, u64, Answer, &str); 9] = [
     ),
 ];
 
-/// Whether this is told of module 0, of which a read gives so many bytes and one is answered
-/// otherwise, which is the last.
-fn is_told<S: Threads + Wait + Sync + AllocGlobal>(
+/// Whether what a row says is told of module 0, of which a read gives so many bytes and one is
+/// answered otherwise, which is the last.
+fn is_so<S: Threads + Wait + Sync + AllocGlobal>(
     rt: &S,
-    most: usize,
-    read: u64,
-    answer: Answer,
-    want: &str,
-) -> Result<bool, LoadError> {
+    row: &(usize, u64, Answer, &'static str),
+) -> bool {
+    let (most, read, answer, want) = *row;
     let reads = AtomicU64::new(0);
     let reader = Counted {
         text: Pieces::of(&MODULE_0, most),
@@ -90,17 +87,16 @@ fn is_told<S: Threads + Wait + Sync + AllocGlobal>(
         answer,
         reads: &reads,
     };
-    let told = reported(rt, &[reader], 2, &OpenGate, &NoNotices)?;
+    let told = reported(rt, &[reader], 2, &OpenGate, &NoNotices);
     let counted = reads.load(Ordering::SeqCst) == read.saturating_add(1);
-    Ok(counted && is_text(rt.alloc(), &told, want)?)
+    counted && is_told(rt.alloc(), told, want)
 }
 
 #[test]
-fn a_read_that_is_answered_otherwise_is_the_last(rt: HostRuntime) -> Result<(), Fail> {
-    for (most, read, answer, want) in ROWS {
-        assert!(rt; is_told(&rt, most, read, answer, want)?);
+fn a_read_that_is_answered_otherwise_is_the_last(rt: HostRuntime) {
+    for row in &ROWS {
+        assert!(rt; is_so(&rt, row));
     }
-    Ok(())
 }
 
 /// So many headers, a read each, that are strays.
@@ -121,8 +117,7 @@ impl Read for Strays {
 }
 
 #[test]
-fn more_than_a_million_turns(rt: HostRuntime) -> Result<(), Fail> {
-    let told = reported(&rt, &[Strays { left: 1_100_000 }], 2, &OpenGate, &NoNotices)?;
-    assert!(rt; is_text(rt.alloc(), &told, "strays 1100000\n")?);
-    Ok(())
+fn more_than_a_million_turns(rt: HostRuntime) {
+    let told = reported(&rt, &[Strays { left: 1_100_000 }], 2, &OpenGate, &NoNotices);
+    assert!(rt; is_told(rt.alloc(), told, "strays 1100000\n"));
 }

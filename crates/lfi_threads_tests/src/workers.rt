@@ -1,14 +1,14 @@
 //! What a gate sees of verifiers, one alone and eight beside each other.
 
 use crate::build::Sent::{Close, Full, Open, Page};
-use crate::build::{NOP, RET, eight, is_text, one_word, text_of};
-use crate::inputs::{comes_to, loaded};
+use crate::build::{NOP, RET, Sent, eight, is_told, one_word};
+use crate::inputs::{comes_to, loaded, loaded_of};
 use lfi_model::{Item, Judged, Summary};
 use lfi_place::Gate;
 use lfi_threads::LoadError;
+use std::alloc::{AllocError, Global};
 use std::sync::Wait;
 use std::sync::atomic::{AtomicU64, Ordering};
-use std::test::Fail;
 use std::thread::Threads;
 
 /// A gate that counts what comes to it before and after it is judged, and what comes otherwise than
@@ -36,37 +36,34 @@ impl Gate for InTurns {
     }
 }
 
+/// A module of 1,025 NOPs.
+const TWO_PAGES: [Sent; 4] = [
+    Open(0, 1025),
+    Full(0, 0, 0, NOP),
+    Page(0, 1, 1, NOP),
+    Close(0),
+];
+
 /// Whether this is told of a module of 1,025 NOPs that one verifier judges, and each of its four
 /// items comes to the gate in its turn.
-fn comes_in_turns<S: Threads + Wait + Sync + AllocGlobal>(
-    rt: &S,
-    want: &str,
-) -> Result<bool, LoadError> {
-    let sent = [
-        Open(0, 1025),
-        Full(0, 0, 0, NOP),
-        Page(0, 1, 1, NOP),
-        Close(0),
-    ];
-    let text = text_of(rt.alloc(), &sent)?;
+fn comes_in_turns<S: Threads + Wait + Sync + AllocGlobal>(rt: &S, want: &str) -> bool {
     let gate = InTurns {
         before: AtomicU64::new(0),
         after: AtomicU64::new(0),
         otherwise: AtomicU64::new(0),
     };
-    let told = loaded(rt, &[text.as_slice()], 4096, 1, &gate)?;
+    let told = loaded_of(rt, &TWO_PAGES, 1, &gate);
     let counted = [
         gate.before.load(Ordering::SeqCst),
         gate.after.load(Ordering::SeqCst),
         gate.otherwise.load(Ordering::SeqCst),
     ];
-    Ok(counted == [4, 4, 0] && is_text(rt.alloc(), &told, want)?)
+    counted == [4, 4, 0] && is_told(rt.alloc(), told, want)
 }
 
 #[test]
-fn one_verifier_comes_before_and_after_each_item(rt: HostRuntime) -> Result<(), Fail> {
-    assert!(rt; comes_in_turns(&rt, "module 0: complete, 1025 words\nstrays 0\n")?);
-    Ok(())
+fn one_verifier_comes_before_and_after_each_item(rt: HostRuntime) {
+    assert!(rt; comes_in_turns(&rt, "module 0: complete, 1025 words\nstrays 0\n"));
 }
 
 /// A gate that keeps each page 0 (ordinal 1) until eight of them are there at the same time.
@@ -102,25 +99,35 @@ module 7: complete, 1 words
 strays 0
 ";
 
-/// What is told of modules 0 to 7, which eight verifiers judge, and how many of these met.
-fn met_at_once<S: Threads + Wait + Sync + AllocGlobal>(
-    rt: &S,
-) -> Result<(Summary, u64), LoadError> {
-    let mut texts = Vec::new(rt.alloc());
+/// Modules 0 to 7, each of one word and in a text of its own, one text after the other.
+fn eight_of_one_word(alloc: Global) -> Result<Vec<u8>, AllocError> {
+    let mut texts = Vec::new(alloc);
     for module in 0..8u8 {
         texts.extend_from_slice(&one_word(module, RET))?;
     }
+    Ok(texts)
+}
+
+/// The report on modules 0 to 7, which eight verifiers judge.
+fn judged_by_eight<S: Threads + Wait + Sync + AllocGlobal>(
+    rt: &S,
+    gate: &EightMeet,
+) -> Result<Summary, LoadError> {
+    let texts = eight_of_one_word(rt.alloc())?;
+    loaded(rt, &eight(texts.as_slice()), 4096, 8, gate)
+}
+
+/// Whether all eight verifiers meet, and this is told of what they judge.
+fn eight_meet<S: Threads + Wait + Sync + AllocGlobal>(rt: &S, want: &str) -> bool {
     let gate = EightMeet {
         there: AtomicU64::new(0),
         met: AtomicU64::new(0),
     };
-    let told = loaded(rt, &eight(texts.as_slice()), 4096, 8, &gate)?;
-    Ok((told, gate.met.load(Ordering::SeqCst)))
+    let told = judged_by_eight(rt, &gate);
+    gate.met.load(Ordering::SeqCst) == 8 && is_told(rt.alloc(), told, want)
 }
 
 #[test]
-fn eight_verifiers_at_work_at_once(rt: HostRuntime) -> Result<(), Fail> {
-    let (told, met) = met_at_once(&rt)?;
-    assert!(rt; met == 8 && is_text(rt.alloc(), &told, EIGHT)?);
-    Ok(())
+fn eight_verifiers_at_work_at_once(rt: HostRuntime) {
+    assert!(rt; eight_meet(&rt, EIGHT));
 }

@@ -3,8 +3,7 @@
 use crate::inputs::{Pieces, tells};
 use crate::packs::devices::{ONE_WORD, Shape, StreamWriter, code, pack};
 use lfi_module::Profile;
-use std::alloc::{AllocError, Global};
-use std::test::Fail;
+use std::alloc::Global;
 
 const SHAPES: [Shape; 3] = [
     Shape {
@@ -25,28 +24,29 @@ const SHAPES: [Shape; 3] = [
     },
 ];
 
+/// Packs a module of this shape. The answer is whether it was packed.
+fn pack_one(alloc: Global, shape: &Shape, stream: &mut StreamWriter) -> bool {
+    match code(alloc, shape.words) {
+        Ok(file) => pack(shape, Pieces::of(file.as_slice(), 700), stream) == Some(Ok(())),
+        Err(_) => false,
+    }
+}
+
 /// Packs modules of these shapes, one after the other. The answer is whether all were packed.
-fn pack_all(
-    alloc: Global,
-    shapes: &[Shape],
-    stream: &mut StreamWriter,
-) -> Result<bool, AllocError> {
+fn pack_all(alloc: Global, shapes: &[Shape], stream: &mut StreamWriter) -> bool {
     for shape in shapes {
-        let file = code(alloc, shape.words)?;
-        let packed = pack(shape, Pieces::of(file.as_slice(), 700), stream);
-        if packed != Some(Ok(())) {
-            return Ok(false);
+        if !pack_one(alloc, shape, stream) {
+            return false;
         }
     }
-    Ok(true)
+    true
 }
 
 #[test]
-fn three_files(rt: HostRuntime) -> Result<(), Fail> {
+fn three_files(rt: HostRuntime) {
     let mut stream = StreamWriter::new(rt.alloc(), 100_000, 4096);
-    let packed = pack_all(rt.alloc(), &SHAPES, &mut stream)?;
+    let packed = pack_all(rt.alloc(), &SHAPES, &mut stream);
     let want =
         "module 5: complete, 2 words\nmodule 6: complete, 1025 words\nmodule 7: complete, 3072 words\nstrays 0\n";
-    assert!(rt; packed && tells(&rt, &[stream.taken.as_slice()], 5000, 1, want)?);
-    Ok(())
+    assert!(rt; packed && tells(&rt, &[stream.taken.as_slice()], 5000, 1, want));
 }

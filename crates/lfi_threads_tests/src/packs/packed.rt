@@ -5,9 +5,8 @@ use crate::inputs::Pieces;
 use crate::packs::devices::{ONE_WORD, RET, Shape, StreamWriter, code, pack};
 use lfi_module::{PageSize, Profile};
 use lfi_pack::PackFault;
-use std::alloc::{AllocError, Global};
+use std::alloc::Global;
 use std::io::ErrorKind;
-use std::test::Fail;
 
 /// A module, how many bytes of its code a read gives and how many a write takes at most; how long its
 /// stream is, and bytes that stand at places of it.
@@ -104,27 +103,36 @@ fn stands(text: &[u8], at: usize, bytes: &[u8]) -> bool {
     piece(text, at, bytes.len()) == bytes
 }
 
-/// Whether the stream of a row is as long as the row says, its code begins after two headers, and all
-/// bytes stand where the row says.
-fn is_packed(alloc: Global, row: &Row) -> Result<bool, AllocError> {
-    let words = code(alloc, row.shape.words)?;
-    let mut stream = StreamWriter::new(alloc, 20_000, row.write);
-    let code = Pieces::of(words.as_slice(), row.read);
-    let packed = pack(&row.shape, code, &mut stream);
-    let taken = stream.taken.as_slice();
-    let mut stand = stands(taken, 24, piece(words.as_slice(), 0, 4096));
+/// Whether a stream is as long as a row says, this code begins in it after two headers, and all bytes
+/// stand where the row says.
+fn is_stream_of(row: &Row, stream: &[u8], code: &[u8]) -> bool {
+    let mut stand = stands(stream, 24, piece(code, 0, 4096));
     for (at, bytes) in row.stand {
-        stand &= stands(taken, *at, *bytes);
+        stand &= stands(stream, *at, *bytes);
     }
-    Ok(packed == Some(Ok(())) && taken.len() == row.len && stand)
+    stream.len() == row.len && stand
+}
+
+/// Whether a row's module is packed of this code, and its stream is as the row says.
+fn is_packed_of(alloc: Global, row: &Row, code: &[u8]) -> bool {
+    let mut stream = StreamWriter::new(alloc, 20_000, row.write);
+    let packed = pack(&row.shape, Pieces::of(code, row.read), &mut stream);
+    packed == Some(Ok(())) && is_stream_of(row, stream.taken.as_slice(), code)
+}
+
+/// Whether a row is packed as it says.
+fn is_packed(alloc: Global, row: &Row) -> bool {
+    match code(alloc, row.shape.words) {
+        Ok(code) => is_packed_of(alloc, row, code.as_slice()),
+        Err(_) => false,
+    }
 }
 
 #[test]
-fn modules_by_hand(rt: HostRuntime) -> Result<(), Fail> {
-    for (place, row) in ROWS.iter().enumerate() {
-        assert!(rt; is_packed(rt.alloc(), row)?, "row {place}");
+fn modules_by_hand(rt: HostRuntime) {
+    for row in &ROWS {
+        assert!(rt; is_packed(rt.alloc(), row));
     }
-    Ok(())
 }
 
 /// Whether packing one RET fails once so many bytes are written, and these are its first ones.
@@ -136,11 +144,10 @@ fn fails_after(alloc: Global, left: usize) -> bool {
 }
 
 #[test]
-fn a_write_fails_after_each_length(rt: HostRuntime) -> Result<(), Fail> {
+fn a_write_fails_after_each_length(rt: HostRuntime) {
     for left in 0..40usize {
         assert!(rt; fails_after(rt.alloc(), left), "after {left} bytes");
     }
-    Ok(())
 }
 
 /// How many bytes of code come for 1,025 words, with what a read fails then, and how packing ends.
@@ -167,38 +174,45 @@ const NOT_AS_TOLD: [(usize, Option<ErrorKind>, PackFault); 8] = [
     ),
 ];
 
-/// How packing 1,025 words ends where so many bytes of code come and then a read fails or there are
-/// no more; `None` where more is written than the pages take.
-fn packed_of(
-    alloc: Global,
-    len: usize,
-    fails: Option<ErrorKind>,
-) -> Result<Option<Result<(), PackFault>>, AllocError> {
-    let words = code(alloc, 1026)?;
+/// 1,025 words.
+const TWO_PAGES: Shape = Shape {
+    words: 1025,
+    ..ONE_WORD
+};
+
+/// Whether packing 1,025 words of this code ends so, and no more is written than the pages take.
+fn ends_so(alloc: Global, code: Pieces<'_>, want: PackFault) -> bool {
+    let mut stream = StreamWriter::new(alloc, 10_000, 4096);
+    let packed = pack(&TWO_PAGES, code, &mut stream);
+    packed == Some(Err(want)) && stream.taken.len() <= 4136
+}
+
+/// Whether packing 1,025 words ends as a row says, of whose code so much comes.
+fn is_so(alloc: Global, row: &(usize, Option<ErrorKind>, PackFault), code: &[u8]) -> bool {
+    let (len, fails, want) = *row;
     let code = Pieces {
-        left: piece(words.as_slice(), 0, len),
+        left: piece(code, 0, len),
         most: 4096,
         fails,
         rest: &[],
     };
-    let shape = Shape {
-        words: 1025,
-        ..ONE_WORD
+    ends_so(alloc, code, want)
+}
+
+/// Whether each row of code that isn't as it was told comes to what it says.
+fn all_are_so(alloc: Global) -> bool {
+    let Ok(code) = code(alloc, 1026) else {
+        return false;
     };
-    let mut stream = StreamWriter::new(alloc, 10_000, 4096);
-    let packed = pack(&shape, code, &mut stream);
-    Ok(if stream.taken.len() > 4136 {
-        None
-    } else {
-        packed
-    })
+    for row in &NOT_AS_TOLD {
+        if !is_so(alloc, row, code.as_slice()) {
+            return false;
+        }
+    }
+    true
 }
 
 #[test]
-fn code_that_is_not_as_told(rt: HostRuntime) -> Result<(), Fail> {
-    for (len, fails, want) in NOT_AS_TOLD {
-        let packed = packed_of(rt.alloc(), len, fails)?;
-        assert!(rt; packed == Some(Err(want)), "{len} bytes");
-    }
-    Ok(())
+fn code_that_is_not_as_told(rt: HostRuntime) {
+    assert!(rt; all_are_so(rt.alloc()));
 }

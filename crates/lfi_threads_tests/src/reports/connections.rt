@@ -4,10 +4,8 @@ use crate::build::Sent::{Close, Open, Page};
 use crate::build::{MODULE_0, MODULE_3, MODULE_5, NOP, Sent, eight, one_word, piece, push_all};
 use crate::inputs::tells;
 use crate::reports::plain::{Given, tells_plainly};
-use lfi_threads::LoadError;
 use std::alloc::{AllocError, Global};
 use std::sync::Wait;
-use std::test::Fail;
 use std::thread::Threads;
 
 /// Two modules of 2,049 NOPs each, numbers 2 n and 2 n + 1, whose pages come in turns.
@@ -60,63 +58,65 @@ module 15: complete, 2049 words
 strays 0
 ";
 
-/// Whether the stage tells of all 16 modules that they are complete, where eight connections bring
-/// these texts, in pieces of several lengths and with each number of verifiers.
-fn sixteen_are_complete(
+/// Whether the stage tells this of these texts, in pieces of so many bytes, with each number of
+/// verifiers.
+fn all_tell(
     rt: &(impl Threads + Wait + Sync + AllocGlobal),
-    texts: &[u8],
-) -> Result<bool, LoadError> {
-    for most in [4096usize, 5000, 13] {
-        for verifiers in 1..=8usize {
-            if !tells(rt, &eight(texts), most, verifiers, SIXTEEN)? {
-                return Ok(false);
-            }
+    texts: &[&[u8]],
+    most: usize,
+    want: &str,
+) -> bool {
+    for verifiers in 1..=8usize {
+        if !tells(rt, texts, most, verifiers, want) {
+            return false;
         }
     }
-    Ok(true)
+    true
+}
+
+/// Whether the stage tells of all 16 modules that they are complete, where eight connections bring
+/// their texts, in pieces of so many bytes and with each number of verifiers.
+fn sixteen_are_complete(rt: &(impl Threads + Wait + Sync + AllocGlobal), most: usize) -> bool {
+    match sixteen_modules(rt.alloc()) {
+        Ok(texts) => {
+            texts.len() == 8 * TWO_MODULES && all_tell(rt, &eight(texts.as_slice()), most, SIXTEEN)
+        }
+        Err(_) => false,
+    }
 }
 
 #[test]
-fn eight_streams_of_two_modules(rt: HostRuntime) -> Result<(), Fail> {
-    let texts = sixteen_modules(rt.alloc())?;
-    assert!(rt; texts.len() == 8 * TWO_MODULES && sixteen_are_complete(&rt, texts.as_slice())?);
-    Ok(())
+fn eight_streams_of_two_modules(rt: HostRuntime) {
+    for most in [4096usize, 5000, 13] {
+        assert!(rt; sixteen_are_complete(&rt, most));
+    }
 }
 
 #[test]
-fn two_streams_of_module_3(rt: HostRuntime) -> Result<(), Fail> {
+fn two_streams_of_module_3(rt: HostRuntime) {
     let second = one_word(3, NOP);
     let want = "module 3: complete, 1 words\nstrays 3\n";
     for most in [1usize, 12, 13, 40] {
-        assert!(rt; tells(&rt, &[&MODULE_3, &second], most, 2, want)?);
+        assert!(rt; tells(&rt, &[&MODULE_3, &second], most, 2, want));
     }
-    Ok(())
 }
 
 /// Whether this is told of a whole stream, one that is cut off, and an empty one, by the plain
 /// program, and by the stage with each number of verifiers.
-fn is_told_of_three(
-    rt: &(impl Threads + Wait + Sync + AllocGlobal),
-    want: &str,
-) -> Result<bool, LoadError> {
+fn is_told_of_three(rt: &(impl Threads + Wait + Sync + AllocGlobal), want: &str) -> bool {
     let cut = piece(&MODULE_0, 0, 30);
-    for verifiers in 1..=8usize {
-        if !tells(rt, &[&MODULE_5, cut, &[]], 7, verifiers, want)? {
-            return Ok(false);
-        }
-    }
     let given = [
         Given::whole(&MODULE_5, &[5]),
         Given::whole(cut, &[0]),
         Given::whole(&[], &[1]),
     ];
-    Ok(tells_plainly(rt.alloc(), &given, want)?)
+    let plainly = tells_plainly(rt.alloc(), &given, want);
+    plainly && all_tell(rt, &[&MODULE_5, cut, &[]], 7, want)
 }
 
 #[test]
-fn one_that_is_cut_off_beside_others(rt: HostRuntime) -> Result<(), Fail> {
+fn one_that_is_cut_off_beside_others(rt: HostRuntime) {
     let want =
         "module 0: lost, fault 9\nmodule 5: complete, 1 words\nconnection 1: fault 9\nstrays 0\n";
-    assert!(rt; is_told_of_three(&rt, want)?);
-    Ok(())
+    assert!(rt; is_told_of_three(&rt, want));
 }

@@ -4,7 +4,6 @@ use crate::build::Sent::{Close, Full, Open, Page};
 use crate::build::{GUARD_LINK, LOAD_LINK, NOP, RET, SVC, Sent, WRITE_BASE, text_of};
 use crate::reports::plain::{Given, placed_of};
 use std::alloc::{AllocError, Global};
-use std::test::Fail;
 
 /// What is sent of module 0, how many of its pages are placed, and how many words the first of them
 /// has.
@@ -58,17 +57,23 @@ const ROWS: [Row; 5] = [
     },
 ];
 
+/// How many pages are placed of what is sent, and how many words the first of them has.
+fn placed_of_sent(alloc: Global, sent: &[Sent]) -> Result<(usize, usize), AllocError> {
+    let text = text_of(alloc, sent)?;
+    placed_of(alloc, Given::whole(text.as_slice(), &[0]))
+}
+
 /// Whether so much of a row is placed.
-fn is_placed(alloc: Global, row: &Row) -> Result<bool, AllocError> {
-    let text = text_of(alloc, row.sent)?;
-    let (pages, words) = placed_of(alloc, Given::whole(text.as_slice(), &[0]))?;
-    Ok(pages == row.pages && words == row.words)
+fn is_placed(alloc: Global, row: &Row) -> bool {
+    match placed_of_sent(alloc, row.sent) {
+        Ok((pages, words)) => pages == row.pages && words == row.words,
+        Err(_) => false,
+    }
 }
 
 #[test]
-fn placed_pages(rt: HostRuntime) -> Result<(), Fail> {
+fn placed_pages(rt: HostRuntime) {
     for row in &ROWS {
-        assert!(rt; is_placed(rt.alloc(), row)?);
+        assert!(rt; is_placed(rt.alloc(), row));
     }
-    Ok(())
 }

@@ -1,6 +1,6 @@
 //! Streams in memory through the plain program.
 
-use crate::build::is_text;
+use crate::build::is_told;
 use lfi_model::{Cause, Summary};
 use lfi_reference::{PlainStream, report_on};
 use std::alloc::{AllocError, Global};
@@ -76,6 +76,6 @@ pub fn placed_of(alloc: Global, given: Given<'_>) -> Result<(usize, usize), Allo
 }
 
 /// Whether the plain program tells this of these streams.
-pub fn tells_plainly(alloc: Global, given: &[Given<'_>], want: &str) -> Result<bool, AllocError> {
-    is_text(alloc, &plainly(alloc, given)?, want)
+pub fn tells_plainly(alloc: Global, given: &[Given<'_>], want: &str) -> bool {
+    is_told(alloc, plainly(alloc, given), want)
 }

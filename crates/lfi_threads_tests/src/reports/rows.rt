@@ -3,9 +3,7 @@
 use crate::build::Sent::{Close, Full, Large, Open, OpenLarge, Page, Pages};
 use crate::build::{GUARD_LINK, LOAD_LINK, NOP, RET, SVC, Sent, WRITE_BASE, text_of};
 use crate::reports::stage::both_tell;
-use lfi_threads::LoadError;
 use std::sync::Wait;
-use std::test::Fail;
 use std::thread::Threads;
 
 /// SUB SP, SP, #16: asks for an access through sp next.
@@ -222,17 +220,18 @@ const ROWS: [Row; 29] = [
 ];
 
 /// Whether the stage and the plain program both tell what is wanted of a row.
-fn is_told(rt: &(impl Threads + Wait + Sync + AllocGlobal), row: &Row) -> Result<bool, LoadError> {
-    let text = text_of(rt.alloc(), row.sent)?;
-    both_tell(rt, text.as_slice(), &ALL, row.want)
+fn is_told(rt: &(impl Threads + Wait + Sync + AllocGlobal), row: &Row) -> bool {
+    match text_of(rt.alloc(), row.sent) {
+        Ok(text) => both_tell(rt, text.as_slice(), &ALL, row.want),
+        Err(_) => false,
+    }
 }
 
 #[test]
-fn both_tell_what_is_wanted(rt: HostRuntime) -> Result<(), Fail> {
+fn both_tell_what_is_wanted(rt: HostRuntime) {
     for (place, row) in ROWS.iter().enumerate() {
-        assert!(rt; is_told(&rt, row)?, "row {place}");
+        assert!(rt; is_told(&rt, row), "row {place}");
     }
-    Ok(())
 }
 
 /// Streams of one header, for which module 0 alone is claimed, and what is told of each.
@@ -280,9 +279,8 @@ const HEADERS: [([u8; 12], &str); 10] = [
 ];
 
 #[test]
-fn header_faults(rt: HostRuntime) -> Result<(), Fail> {
-    for (header, want) in HEADERS {
-        assert!(rt; both_tell(&rt, &header, &[0], want)?);
+fn header_faults(rt: HostRuntime) {
+    for (header, want) in &HEADERS {
+        assert!(rt; both_tell(&rt, header, &[0], want));
     }
-    Ok(())
 }

@@ -1,16 +1,15 @@
 //! Streams through the stage, and through the plain program beside it.
 
 use crate::build::Sent::{Close, Open, Page};
-use crate::build::{MODULE_0, RET, Sent, is_text, text_of};
+use crate::build::{MODULE_0, RET, Sent, is_told, text_of};
 use crate::inputs::{Pieces, loaded, reported, tells};
 use crate::reports::cuts::cut_short;
 use crate::reports::plain::{Given, plainly, tells_plainly};
 use lfi_model::Cause;
 use lfi_place::OpenGate;
-use lfi_threads::{LoadError, NoNotices};
+use lfi_threads::NoNotices;
 use std::io::ErrorKind;
 use std::sync::Wait;
-use std::test::Fail;
 use std::thread::Threads;
 
 /// The first length at which the stage tells otherwise of a module of one word, of which so many
@@ -19,7 +18,7 @@ fn first_cut_otherwise(
     rt: &(impl Threads + Wait + Sync + AllocGlobal),
     most: usize,
     cause: Cause,
-) -> Result<Option<usize>, LoadError> {
+) -> Option<usize> {
     for len in 0..=40usize {
         let reader = Pieces {
             left: &MODULE_0[..len],
@@ -27,24 +26,26 @@ fn first_cut_otherwise(
             fails: (cause == Cause::Failed).then_some(ErrorKind::Interrupted),
             rest: &MODULE_0[len..],
         };
-        let told = reported(rt, &[reader], 1, &OpenGate, &NoNotices)?;
-        if !is_text(rt.alloc(), &told, cut_short(len, cause))? {
-            return Ok(Some(len));
+        let told = reported(rt, &[reader], 1, &OpenGate, &NoNotices);
+        if !is_told(rt.alloc(), told, cut_short(len, cause)) {
+            return Some(len);
         }
     }
-    Ok(None)
+    None
 }
 
+/// The lengths of pieces, and how the input ends.
+const CUT: [(usize, Cause); 3] = [
+    (usize::MAX, Cause::End),
+    (1, Cause::End),
+    (usize::MAX, Cause::Failed),
+];
+
 #[test]
-fn cut_or_failed_once_at_every_byte(rt: HostRuntime) -> Result<(), Fail> {
-    for (most, cause) in [
-        (usize::MAX, Cause::End),
-        (1, Cause::End),
-        (usize::MAX, Cause::Failed),
-    ] {
-        assert!(rt; first_cut_otherwise(&rt, most, cause)?.is_none());
+fn cut_or_failed_once_at_every_byte(rt: HostRuntime) {
+    for (most, cause) in &CUT {
+        assert!(rt; first_cut_otherwise(&rt, *most, *cause).is_none());
     }
-    Ok(())
 }
 
 /// What is sent in pieces of each length from 1 to a longest one, and what is told of it.
@@ -61,29 +62,35 @@ const IN_PIECES: [(&[Sent], usize, &str); 2] = [
     ),
 ];
 
-/// The first of these lengths of pieces, from 1 on, in which the stage tells otherwise of what is
-/// sent.
-fn first_pieces_otherwise(
+/// Whether the stage tells this of a text, in pieces of each of these lengths, from 1 on.
+fn is_told_in_pieces(
     rt: &(impl Threads + Wait + Sync + AllocGlobal),
-    sent: &[Sent],
+    text: &[u8],
     longest: usize,
     want: &str,
-) -> Result<Option<usize>, LoadError> {
-    let text = text_of(rt.alloc(), sent)?;
+) -> bool {
     for most in 1..=longest {
-        if !tells(rt, &[text.as_slice()], most, 1, want)? {
-            return Ok(Some(most));
+        if !tells(rt, &[text], most, 1, want) {
+            return false;
         }
     }
-    Ok(None)
+    true
+}
+
+/// Whether the stage tells what a row says of what is sent, in pieces of each length.
+fn is_so(rt: &(impl Threads + Wait + Sync + AllocGlobal), row: &(&[Sent], usize, &str)) -> bool {
+    let (sent, longest, want) = *row;
+    match text_of(rt.alloc(), sent) {
+        Ok(text) => is_told_in_pieces(rt, text.as_slice(), longest, want),
+        Err(_) => false,
+    }
 }
 
 #[test]
-fn in_pieces_of_every_length(rt: HostRuntime) -> Result<(), Fail> {
-    for (sent, longest, want) in IN_PIECES {
-        assert!(rt; first_pieces_otherwise(&rt, sent, longest, want)?.is_none());
+fn in_pieces_of_every_length(rt: HostRuntime) {
+    for row in &IN_PIECES {
+        assert!(rt; is_so(&rt, row));
     }
-    Ok(())
 }
 
 /// The modules that are claimed for a stream of which at most the first message is an Open.
@@ -102,14 +109,19 @@ fn both_tell_the_same(
     rt: &(impl Threads + Wait + Sync + AllocGlobal),
     at: usize,
     byte: u8,
-) -> Result<bool, LoadError> {
+) -> bool {
     let mut bytes = MODULE_0;
     if at < 40 {
         bytes[at] = byte;
     }
     let modules = claimed_by(bytes[0], bytes[2]);
-    let plain = plainly(rt.alloc(), &[Given::whole(&bytes, &modules)])?;
-    Ok(plain == loaded(rt, &[&bytes], usize::MAX, 1, &OpenGate)?)
+    let Ok(plain) = plainly(rt.alloc(), &[Given::whole(&bytes, &modules)]) else {
+        return false;
+    };
+    let Ok(told) = loaded(rt, &[&bytes], usize::MAX, 1, &OpenGate) else {
+        return false;
+    };
+    plain == told
 }
 
 /// The first place of a module of one word at which this byte makes the stage and the plain program
@@ -117,21 +129,20 @@ fn both_tell_the_same(
 fn first_spoiled_otherwise(
     rt: &(impl Threads + Wait + Sync + AllocGlobal),
     byte: u8,
-) -> Result<Option<usize>, LoadError> {
+) -> Option<usize> {
     for at in 0..40usize {
-        if !both_tell_the_same(rt, at, byte)? {
-            return Ok(Some(at));
+        if !both_tell_the_same(rt, at, byte) {
+            return Some(at);
         }
     }
-    Ok(None)
+    None
 }
 
 #[test]
-fn spoiled_in_every_byte(rt: HostRuntime) -> Result<(), Fail> {
+fn spoiled_in_every_byte(rt: HostRuntime) {
     for byte in [0u8, 1, 2, 3, 4, 16, 128, 255] {
-        assert!(rt; first_spoiled_otherwise(&rt, byte)?.is_none());
+        assert!(rt; first_spoiled_otherwise(&rt, byte).is_none());
     }
-    Ok(())
 }
 
 /// Whether the stage and the plain program, for which these modules are claimed, both tell this of
@@ -141,7 +152,7 @@ pub fn both_tell(
     bytes: &[u8],
     modules: &[u16],
     want: &str,
-) -> Result<bool, LoadError> {
-    let plain = tells_plainly(rt.alloc(), &[Given::whole(bytes, modules)], want)?;
-    Ok(plain && tells(rt, &[bytes], usize::MAX, 1, want)?)
+) -> bool {
+    let plain = tells_plainly(rt.alloc(), &[Given::whole(bytes, modules)], want);
+    plain && tells(rt, &[bytes], usize::MAX, 1, want)
 }
