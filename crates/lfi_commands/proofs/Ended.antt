@@ -1,9 +1,10 @@
 -- A line that is carried out is no wrong words.
-use Rattle.std.proofs.Common.{◌≡◌, ℕ, List, Bool, true, false, Option, inr}
+use Rattle.std.proofs.Common.{◌≡◌, ◌⊎◌, ℕ, List, Bool, true, false, Option, Result, Ok, Err, IfOk, IfErr, OnErr, inl, inr, refl, subst, sym}
 use Rattle.lfi_command_line.specs.declared.line.Line.{Line}
 use Rattle.lfi_command_line.specs.declared.line.Line.TheVariants.{Check, Load, Serve, Run, Disassemble, Pack}
 use Rattle.lfi_command_line.specs.declared.line.Explain.TheVariants.{Nothing, First, All}
-use Rattle.lfi_command_line.specs.CommandLine.{IsLine}
+use Rattle.lfi_command_line.specs.CommandLine.{AreWrong, IsLine}
+use Rattle.lfi_module.specs.declared.profile.Profile.{Profile}
 use Rattle.lfi_image.specs.declared.fault.ImageFault.{ImageFault}
 use Rattle.lfi_image.specs.declared.fault.ImageFault.TheVariants as image_fault
 use Rattle.lfi_confinement.specs.declared.cause.Cause.TheVariants as causes
@@ -18,9 +19,15 @@ use Rattle.lfi_commands.specs.declared.ending.Ending.{Ending}
 use Rattle.lfi_commands.specs.declared.ending.Ending.TheVariants.{Well, NotWell, WrongWords, Failed}
 use Rattle.lfi_commands.specs.Checking.{ending_of}
 use Rattle.lfi_commands.specs.Endings.{ending_of_halt, ending_of_run, EndsLoad}
-use Rattle.lfi_commands.specs.Left.{Left}
+use Rattle.lfi_commands.specs.Left.{Left, left}
+use Rattle.lfi_commands.specs.Packing.{FindsPacked, TellsNoModule}
 use Rattle.lfi_commands.specs.Running.{EndsRun}
-use Rattle.lfi_commands.specs.Runs.{CarriesOut, Runs}
+use Rattle.lfi_commands.specs.Failures.{failure_line, is_of_output, Told}
+use Rattle.lfi_commands.specs.declared.failure.Failure.{Failure}
+use Rattle.lfi_commands.proofs.Failing.{fails_by}
+use Rattle.lfi_commands.specs.Runs.{CarriesOut, FailsAs, Runs, TellsFailure, TellsNoPages, TellsTooMany, TellsTooManyModules}
+use Rattle.lfi_commands.specs.inner.Found.{EndsUnlessLost}
+use Rattle.lfi_commands.specs.declared.failure.Failure.TheVariants.{NoMemory}
 
 by_verdict : (verdict : Verdict) → WrongWords ≡ ending_of verdict → ⊥
 by_verdict (Lawful words) ends = cc
@@ -67,3 +74,42 @@ runs_line words file_at old new line Well is carried = inr (line, is, carried)
 runs_line words file_at old new line NotWell is carried = (line, is, carried)
 runs_line words file_at old new line WrongWords is carried = absurd (by_line line file_at old new carried)
 runs_line words file_at old new line Failed is carried = inr (line, is, carried)
+
+-- the ending of a run of an image, which is told
+pub ends_run : (is_lost : Bool) (run : ImageRun) (ending : Ending) → EndsUnlessLost is_lost (ending_of_run run) ending → EndsRun is_lost run ending
+ends_run true run ending ends = ends
+ends_run false run ending ends = ends
+
+-- wrong words, of which is told
+module _ (words : List (List ℕ)) (file_at : List ℕ → Option (List ℕ)) (out : Option (List ℕ)) (put : Option (List (List ℕ × List ℕ))) (was : Bool) (errors told : Option (List ℕ)) where
+  abbrev AreWrongOf : Bool → Type 0
+  AreWrongOf lost =
+      let old = left out put was errors in
+      let new = left out put lost told in
+      AreWrong words ⊎ (TellsTooMany words old new ⊎ (TellsTooManyModules words old new ⊎ TellsNoPages words old new))
+
+  pub ends_wrong : (lost : Bool) (ending : Ending) → EndsUnlessLost lost WrongWords ending → AreWrongOf lost → Runs words file_at (left out put was errors) (left out put lost told) ending
+  ends_wrong true ending ends wrong = subst (Runs words file_at (left out put was errors) (left out put true told)) (sym ends) (inl (NoMemory, tt, tt, refl, λ other. refl))
+  ends_wrong false ending ends wrong = subst (Runs words file_at (left out put was errors) (left out put false told)) (sym ends) (wrong, refl, refl)
+
+-- code files of which one is no module, which is told
+pub packs_none : (profile : Profile) (pages first entry : ℕ) (paths : List (List ℕ)) (file_at : List ℕ → Option (List ℕ)) (out_old out_new : Option (List ℕ)) (is_lost : Bool) (errors_old errors_new : Option (List ℕ)) (ending : Ending)
+    → TellsNoModule entry paths file_at out_old out_new is_lost errors_old errors_new → EndsUnlessLost is_lost NotWell ending
+    → FindsPacked profile pages first entry paths file_at out_old out_new is_lost errors_old errors_new ending
+packs_none profile pages first entry paths file_at out_old out_new true errors_old errors_new ending tells ends =
+    subst (FindsPacked profile pages first entry paths file_at out_old out_new true errors_old errors_new) (sym ends) (tells, refl)
+packs_none profile pages first entry paths file_at out_old out_new false errors_old errors_new ending tells ends =
+    subst (FindsPacked profile pages first entry paths file_at out_old out_new false errors_old errors_new) (sym ends) (tells, refl)
+
+pub runs_failed : (words : List (List ℕ)) (file_at : List ℕ → Option (List ℕ)) (old new : Left) (ending : Ending) → ending ≡ Failed → TellsFailure words old new → Runs words file_at old new ending
+runs_failed words file_at old new ending is tells = subst (Runs words file_at old new) (sym is) (inl tells)
+
+-- a line that was carried out, or of which a failure is told
+pub runs_ended : (words : List (List ℕ)) (file_at : List ℕ → Option (List ℕ)) (line : Line) (came : Result Ending Failure) (old mid new : Left) (ending : Ending) → IsLine words line
+    → IfOk came (CarriesOut line file_at old mid) → IfOk came (λ well. (ending ≡ well) × (new ≡ mid)) → IfErr came (FailsAs line)
+    → IfErr came (λ failure. is_of_output failure ≡ false → new.out ≡ old.out) → OnErr came (new.put ≡ old.put) → OnErr came (mid.errors ≡ old.errors)
+    → IfErr came (λ failure. (ending ≡ Failed) × Told new.is_lost mid.errors new.errors (failure_line failure)) → Runs words file_at old new ending
+runs_ended words file_at line (Ok well) old mid new ending is carried same fails out put errors told =
+    subst (λ left. Runs words file_at old left ending) (sym same.1) (subst (Runs words file_at old mid) (sym same.0) (runs_line words file_at old mid line well is carried))
+runs_ended words file_at line (Err failure) old mid new ending is carried same fails out put errors told =
+    runs_failed words file_at old new ending told.0 (failure, fails_by words line failure is fails, subst (λ e. Told new.is_lost e new.errors (failure_line failure)) errors told.1, put, out)

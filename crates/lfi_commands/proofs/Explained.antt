@@ -1,5 +1,8 @@
 -- What is said of bytes that are known, carried to what is left of a file.
-use Rattle.std.proofs.Common.{◌≡◌, ℕ, List, Option, Some, None, IfSome, ap, refl, subst, sym}
+use Rattle.std.proofs.Common.{◌≡◌, ℕ, ◌*◌, ◌<◌, ◌≤◌, List, Option, Some, None, IfSome, ap, arith, length, length-take, option_map, refl, subst, sym, take}
+use Rattle.lfi_image.specs.Image.{FileOf}
+use Rattle.lfi_image.specs.Reading.{IsFault}
+use Rattle.lfi_module.specs.Numbers.{most_words}
 use Rattle.lfi_module.specs.declared.profile.Profile.{Profile}
 use Rattle.lfi_rules.specs.declared.fault.Fault.{Fault}
 use Rattle.lfi_command_line.specs.declared.line.Explain.{Explain}
@@ -9,12 +12,23 @@ use Rattle.lfi_code.specs.declared.verdict.Verdict.TheVariants.{Lawful, Refused,
 use Rattle.lfi_commands.specs.declared.ending.Ending.{Ending}
 use Rattle.lfi_commands.specs.declared.ending.Ending.TheVariants.{Well, NotWell, WrongWords, Failed}
 use Rattle.lfi_code.specs.Checking.{Checks, IsCode}
+use Rattle.lfi_run.specs.declared.image_run.ImageRun.{ImageRun}
+use Rattle.lfi_run.specs.declared.image_run.ImageRun.TheVariants as image_run
+use Rattle.lfi_run.specs.Runs.{CameOf}
+use Rattle.lfi_commands.proofs.Joined.{all_taken}
 use Rattle.lfi_commands.specs.Explaining.{WritesFault, WritesRefused, WritesVerdict}
 use Rattle.lfi_commands.specs.Listing.{FindsListing}
 
 -- `more` is known wherever `known` is, and the same there
 abbrev pub Knows : (more known : Option (List ℕ)) → Type 0
 Knows more known = IfSome known (λ xs. more ≡ Some xs)
+
+few_bytes : (all : List ℕ) (most : ℕ) → 4 * most_words < most → IsCode all → length all ≤ most
+few_bytes all most more code = let few = code.2 in omega (arith, more, few)
+
+-- where the first bytes are code, there are no others
+all_code : (all : List ℕ) (most : ℕ) → 4 * most_words < most → IsCode (take most all) → take most all ≡ all
+all_code all most more code = let few = code.2 in let size = length-take most all in all_taken all most (omega (arith, size, more, few))
 
 pub carried : (P : List ℕ → Type 0) (more known : Option (List ℕ)) → Knows more known → IfSome more P → IfSome known P
 carried P more None same holds = tt
@@ -48,3 +62,19 @@ pub refused_now : (profile : Profile) (how : Explain) (code : List ℕ) (fault :
 refused_now profile Nothing code fault old new checks writes = writes
 refused_now profile First code fault old new checks writes = (code, refl, checks, writes)
 refused_now profile All code fault old new checks writes = (code, refl, checks, writes)
+
+-- and so is what came of an image's file
+pub came_known : (more known : Option (List ℕ)) (steps : ℕ) (old new : Option (List ℕ)) (run : ImageRun) → Knows more known → CameOf more steps old new run → CameOf known steps old new run
+came_known more known steps old new (image_run.Refused fault) same came = (carried (λ xs. IsFault xs fault) more known same came.0, came.1)
+came_known more known steps old new (image_run.Ended halt count) same came = (came.0, came.1, carried (λ xs. FileOf came.0 xs) more known same came.2, came.3)
+
+-- what is found of the first bytes, one more than code can have, is found of all of them
+pub checks_all : (profile : Profile) (all : List ℕ) (most : ℕ) (verdict : Verdict) → 4 * most_words < most → Checks profile (take most all) verdict → Checks profile all verdict
+checks_all profile all most (Lawful n) more checks = subst (λ bytes. Checks profile bytes (Lawful n)) (all_code all most more checks.0) checks
+checks_all profile all most (Refused fault) more checks = subst (λ bytes. Checks profile bytes (Refused fault)) (all_code all most more checks.0) checks
+checks_all profile all most BadLength more checks = λ code. checks (subst IsCode (sym (all_taken all most (few_bytes all most more code))) code)
+
+pub checks_left : (profile : Profile) (left : Option (List ℕ)) (bytes : List ℕ) (most : ℕ) (verdict : Verdict) → 4 * most_words < most → IfSome (option_map (take most) left) (λ all. bytes ≡ all)
+    → Checks profile bytes verdict → IfSome left (λ all. Checks profile all verdict)
+checks_left profile None bytes most verdict more same checks = tt
+checks_left profile (Some all) bytes most verdict more same checks = checks_all profile all most verdict more (subst (λ xs. Checks profile xs verdict) same checks)

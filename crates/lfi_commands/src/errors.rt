@@ -4,7 +4,9 @@ ghost use Rattle.std.specs.Prelude.{◌≡◌, ◌++◌, false, true, IfSome, On
 ghost use Rattle.lfi_commands.specs.Errors.{is_lost_of, writer_of};
 ghost use Rattle.lfi_commands.specs.Failures.{failure_line, Told};
 ghost use Rattle.lfi_commands.specs.Packing.{no_module_line};
+ghost use Rattle.lfi_commands.specs.inner.Found.{EndsUnlessLost};
 
+use crate::ending::Ending;
 use crate::failure::Failure;
 use crate::packing::NoModule;
 use std::fmt::Display;
@@ -41,6 +43,13 @@ impl<W> Errors<W> {
         ensures { result ≡ is_lost_of self.now }
     {
         self.is_lost
+    }
+
+    /// This ending, of a run of which something was told here; where some of that is lost, the run has failed.
+    pub(crate) fn unless_lost(&self, ending: Ending) -> Ending
+        ensures { EndsUnlessLost (is_lost_of self.now) ending result }
+    {
+        if self.is_lost { Ending::Failed } else { ending }
     }
 
     /// Keeps that something was lost, where this write failed. Nothing else changes it.

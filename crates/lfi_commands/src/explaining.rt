@@ -1,10 +1,12 @@
 //! Verdicts that are explained, and listings.
 
-ghost use Rattle.std.specs.Prelude.{◌≡◌, ◌≤◌, Some, false, true, codes, length, IfOk, IfErr, IfSome, OnOk};
+ghost use Rattle.std.specs.Prelude.{◌≡◌, ◌≤◌, ℕ, Some, false, true, codes, length, IfOk, IfErr, IfSome, OnOk};
 ghost use Rattle.std.specs.Io.KnownBytes.{Appends};
 ghost use Rattle.a64_word.specs.Words.{words_of};
 ghost use Rattle.lfi_module.specs.Numbers.{most_words};
 ghost use Rattle.lfi_rules.specs.Faults.{FirstFault};
+ghost use Rattle.lfi_explain.specs.declared.explanation.Explanation.{Explanation};
+ghost use Rattle.lfi_explain.specs.Explanations.{explanation_line, Explains, WritesRefusals};
 ghost use Rattle.lfi_code.specs.Checking.{Checks, IsCode};
 ghost use Rattle.lfi_commands.specs.Failures.{is_of_a_write};
 ghost use Rattle.lfi_commands.specs.Explaining.{WritesFault, WritesVerdict};
@@ -29,6 +31,36 @@ fn slot() -> ModuleNumber
     ModuleNumber::at(0)
 }
 
+/// Writes the explanation of the first fault of this code.
+fn write_explanation<W: Write>(
+    code: &Code<'_>,
+    fault: Fault,
+    profile: Profile,
+    writer: &mut W,
+) -> io::Result<()>
+    requires fault { FirstFault profile (words_of code.now) (length (words_of code.now)) (Some fault) }
+    requires most { length (words_of code.now) ≤ most_words }
+    ensures { OnOk result ((e : Explanation) × Explains profile (words_of code.now) 0 fault e
+        × Appends (W.contents writer.old) (W.contents writer.new) (explanation_line e)) }
+{
+    let explanation = explain(code, slot(), fault, profile);
+    writeln!(writer, "{explanation}")
+}
+
+/// Writes what is told of each word of this code that breaks a rule, and how many these are.
+fn write_each_refusal<W: Write>(
+    alloc: Global,
+    code: &Code<'_>,
+    profile: Profile,
+    writer: &mut W,
+) -> io::Result<()>
+    requires most { length (words_of code.now) ≤ most_words }
+    ensures { OnOk result ((refused : ℕ) × WritesRefusals profile (words_of code.now) 0 (W.contents writer.old) (W.contents writer.new) refused) }
+{
+    write_refusals(alloc, code, slot(), profile, writer)?;
+    Ok(())
+}
+
 /// Writes what is asked of the first fault of this code.
 fn write_fault<W: Write>(
     alloc: Global,
@@ -44,14 +76,8 @@ fn write_fault<W: Write>(
 {
     match how {
         Explain::Nothing => writeln!(writer, "{fault}"),
-        Explain::First => {
-            let explanation = explain(code, slot(), fault, profile);
-            writeln!(writer, "{explanation}")
-        }
-        Explain::All => {
-            write_refusals(alloc, code, slot(), profile, writer)?;
-            Ok(())
-        }
+        Explain::First => write_explanation(code, fault, profile, writer),
+        Explain::All => write_each_refusal(alloc, code, profile, writer),
     }
 }
 

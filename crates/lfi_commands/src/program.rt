@@ -1,20 +1,20 @@
 //! The program, from its words to its ending.
 
-ghost use Rattle.std.specs.Prelude.{◌≡◌, ◌≤◌, ℕ, List, [], ◌∷◌, Option, IfOk, IfErr, IfSome, OnErr, ◌+◌, false, length, map, option_map, string_bytes};
+ghost use Rattle.std.specs.Prelude.{◌≡◌, ◌≤◌, ℕ, List, [], ◌∷◌, Option, IfOk, IfErr, IfSome, OnErr, ◌+◌, false, true, length, map, option_map, string_bytes};
 ghost use Rattle.lfi_command_line.specs.CommandLine.{IsLineFault};
 ghost use Rattle.lfi_commands.specs.Errors.{is_lost_of, writer_of};
 ghost use Rattle.lfi_code.specs.Checking.{Checks};
 ghost use Rattle.lfi_commands.specs.Explaining.{WritesVerdict};
-ghost use Rattle.lfi_commands.specs.Failures.{is_of_a_write, is_of_output, FailsOn, FailsServing, IsOfReading};
+ghost use Rattle.lfi_commands.specs.Failures.{failure_line, is_of_a_write, is_of_output, FailsOn, FailsServing, IsOfReading, Told};
 ghost use Rattle.lfi_commands.specs.Images.{WritesImages};
 ghost use Rattle.lfi_commands.specs.Left.{left};
 ghost use Rattle.lfi_commands.specs.Listing.{FindsListing};
 ghost use Rattle.lfi_commands.specs.Loading.{asked_images, folder_or_none, HasLoaded};
-ghost use Rattle.lfi_commands.specs.Packing.{FindsPacked};
+ghost use Rattle.lfi_commands.specs.Packing.{AreModules, FindsPacked, WritesStream};
 ghost use Rattle.lfi_module.specs.Pages.{HasPages};
 ghost use Rattle.lfi_commands.specs.Serving.{HasServedAll, IsLimit};
 ghost use Rattle.lfi_commands.specs.Runs.{FailsAs, CarriesOut, Runs};
-ghost use Rattle.lfi_commands.specs.inner.Found.{FindsRun, FindsVerdict};
+ghost use Rattle.lfi_commands.specs.inner.Found.{FindsRun, FindsVerdict, HasEnded};
 ghost use Rattle.lfi_commands.specs.inner.Opening.{IsInRange};
 
 use crate::commands::{CommandFault, check_file, load, serve};
@@ -33,6 +33,7 @@ use lfi_command_line::{Explain, Line, LineFault, read_line};
 use lfi_module::{PageSize, Profile};
 use lfi_place::ModuleReport;
 use lfi_run::run_image;
+use lfi_stage::settle::Report;
 use lfi_threads::Notices;
 use std::alloc::Global;
 use std::fs::Files;
@@ -106,6 +107,29 @@ fn run_disassemble<'a, D: Disk, O: Write>(
     }
 }
 
+/// Writes a stream of this code, a module each, numbered from the first number on, entered at this word, and cut into pages of
+/// this size.
+fn write_packed<'a, O: Write>(
+    first: usize,
+    entry: u32,
+    profile: Profile,
+    pages: PageSize,
+    files: &[Vec<u8>],
+    out: &mut O,
+) -> Result<Ending, Failure<'a>>
+    requires numbers { first + length files.now ≤ 16 }
+    requires modules { AreModules entry (map (λ file. file.items) files.now) }
+    requires pages { HasPages profile pages }
+    ensures written { IfOk result (λ ending. (ending ≡ Ending.Well)
+        × WritesStream profile pages first entry (map (λ file. file.items) files.now) (O.contents out.old) (O.contents out.new)) }
+    ensures failure { IfErr result (λ failure. is_of_output failure ≡ true) }
+{
+    match write_stream(first, entry, profile, pages, files, out) {
+        Ok(()) => Ok(Ending::Well),
+        Err(cause) => Err(Failure::of_output(cause)),
+    }
+}
+
 /// Writes a stream of the code in these files, a module each, numbered from the first number on, entered at this word, and
 /// cut into pages of this size.
 /// All files are read before anything is written.
@@ -128,20 +152,13 @@ fn run_pack<'a, D: Disk, O: Write, E: Write>(
     ensures output { IfErr result (λ failure. is_of_output failure ≡ false → out.new ≡ out.old) }
     ensures errors { OnErr result (errors.new ≡ errors.old) }
 {
-    let files = match read_modules(alloc, disk, paths, entry) {
-        Ok(files) => files,
-        Err(Stop::Failed(failure)) => return Err(failure),
+    match read_modules(alloc, disk, paths, entry) {
+        Ok(files) => write_packed(first, entry, profile, pages, &files, out),
+        Err(Stop::Failed(failure)) => Err(failure),
         Err(Stop::NoModule(no_module)) => {
             errors.tell_no_module(no_module);
-            if !errors.is_lost() {
-                return Ok(Ending::NotWell);
-            }
-            return Ok(Ending::Failed);
+            Ok(errors.unless_lost(Ending::NotWell))
         }
-    };
-    match write_stream(first, entry, profile, pages, &files, out) {
-        Ok(()) => Ok(Ending::Well),
-        Err(cause) => Err(Failure::of_output(cause)),
     }
 }
 
@@ -160,6 +177,34 @@ fn write_asked_images<D: Disk, E: Write>(
     match folder {
         Some(folder) => write_images(alloc, disk, folder, modules, errors),
         None => true,
+    }
+}
+
+/// Writes what is asked for beside the text of a report: what is told of refused modules and of faults, and the whole images to
+/// a folder where one is named. It gives how the load ends, of which all connections were taken or not.
+fn end_load<'a, D: Disk, O: Write, E: Write>(
+    alloc: Global,
+    disk: &mut D,
+    report: &Report,
+    all_taken: bool,
+    folder: Option<&str>,
+    explain: bool,
+    out: &mut O,
+    errors: &mut Errors<E>,
+) -> Result<Ending, Failure<'a>>
+    ensures ended { IfOk result (HasEnded report.now all_taken (option_map (λ s. s.now) folder.entry) explain
+        (left (O.contents out.old) (D.put_files disk.old) (is_lost_of errors.old) (E.contents (writer_of errors.old)))
+        (left (O.contents out.new) (D.put_files disk.new) (is_lost_of errors.new) (E.contents (writer_of errors.new)))) }
+    ensures failure { IfErr result (λ failure. is_of_output failure ≡ true) }
+    ensures disk { OnErr result (disk.new ≡ disk.old) }
+    ensures errors { OnErr result (errors.new ≡ errors.old) }
+{
+    match write_asked_refused(explain, &report.modules, &report.faults, out) {
+        Ok(()) => {
+            let all = write_asked_images(alloc, disk, folder, &report.modules, errors);
+            Ok(Ending::of_load(report, all_taken, all))
+        }
+        Err(error) => Err(Failure::of_output(DeviceCause::of(&error))),
     }
 }
 
@@ -196,12 +241,7 @@ fn run_load<
 {
     let inputs = open_all(alloc, disk, paths)?;
     let report = load(rt, alloc, inputs, verifiers, notices, out)?;
-    match write_asked_refused(explain, &report.modules, &report.faults, out) {
-        Ok(()) => {}
-        Err(error) => return Err(Failure::of_output(DeviceCause::of(&error))),
-    }
-    let all = write_asked_images(alloc, disk, folder, &report.modules, errors);
-    Ok(Ending::of_load(&report, true, all))
+    end_load(alloc, disk, &report, true, folder, explain, out, errors)
 }
 
 /// The limit of time of so many seconds, where they are said.
@@ -262,12 +302,16 @@ fn run_serve<
         notices,
         out,
     )?;
-    match write_asked_refused(explain, &served.report.modules, &served.report.faults, out) {
-        Ok(()) => {}
-        Err(error) => return Err(Failure::of_output(DeviceCause::of(&error))),
-    }
-    let all = write_asked_images(alloc, disk, folder, &served.report.modules, errors);
-    Ok(Ending::of_load(&served.report, served.all_accepted, all))
+    end_load(
+        alloc,
+        disk,
+        &served.report,
+        served.all_accepted,
+        folder,
+        explain,
+        out,
+        errors,
+    )
 }
 
 /// Runs the image in a file for at most so many steps, and tells what comes of it.
@@ -288,10 +332,7 @@ fn run_run<'a, D: Disk, O: Write, E: Write>(
     let mut reader = open(disk, path)?;
     let run = run_image(alloc, &mut reader, steps, out)?;
     errors.write_line(run);
-    if !errors.is_lost() {
-        return Ok(Ending::of_run(&run));
-    }
-    Ok(Ending::Failed)
+    Ok(errors.unless_lost(Ending::of_run(&run)))
 }
 
 /// Carries out what the program is asked for.
@@ -307,15 +348,15 @@ fn run<
     alloc: Global,
     disk: &mut D,
     notices: &N,
-    line: Line<'a>,
+    line: &Line<'a>,
     out: &mut O,
     errors: &mut Errors<E>,
 ) -> Result<Ending, Failure<'a>>
-    requires { IsInRange line }
-    ensures found { IfOk result (CarriesOut line.entry (D.file_at disk.old)
+    requires { IsInRange line.now }
+    ensures found { IfOk result (CarriesOut line.now (D.file_at disk.old)
         (left (O.contents out.old) (D.put_files disk.old) (is_lost_of errors.old) (E.contents (writer_of errors.old)))
         (left (O.contents out.new) (D.put_files disk.new) (is_lost_of errors.new) (E.contents (writer_of errors.new)))) }
-    ensures failure { IfErr result (FailsAs line.entry) }
+    ensures failure { IfErr result (FailsAs line.now) }
     ensures output { IfErr result (λ failure. is_of_output failure ≡ false → out.new ≡ out.old) }
     ensures disk { OnErr result (disk.new ≡ disk.old) }
     ensures errors { OnErr result (errors.new ≡ errors.old) }
@@ -325,14 +366,14 @@ fn run<
             file,
             explain,
             profile,
-        } => run_check(alloc, disk, file, profile, explain, out),
+        } => run_check(alloc, disk, *file, *profile, *explain, out),
         Line::Load {
             verifiers,
             out: folder,
             explain,
             streams,
         } => run_load(
-            rt, alloc, disk, notices, verifiers, folder, explain, &streams, out, errors,
+            rt, alloc, disk, notices, *verifiers, *folder, *explain, streams, out, errors,
         ),
         Line::Serve {
             socket,
@@ -346,17 +387,17 @@ fn run<
             alloc,
             disk,
             notices,
-            socket,
-            connections,
-            verifiers,
-            seconds,
-            folder,
-            explain,
+            *socket,
+            *connections,
+            *verifiers,
+            *seconds,
+            *folder,
+            *explain,
             out,
             errors,
         ),
-        Line::Run { image, steps } => run_run(alloc, disk, image, steps, out, errors),
-        Line::Disassemble { file, profile } => run_disassemble(alloc, disk, file, profile, out),
+        Line::Run { image, steps } => run_run(alloc, disk, *image, *steps, out, errors),
+        Line::Disassemble { file, profile } => run_disassemble(alloc, disk, *file, *profile, out),
         Line::Pack {
             module,
             entry,
@@ -364,8 +405,29 @@ fn run<
             pages,
             codes,
         } => run_pack(
-            alloc, disk, module, entry, profile, pages, &codes, out, errors,
+            alloc, disk, *module, *entry, *profile, *pages, codes, out, errors,
         ),
+    }
+}
+
+/// Tells of a failure. The run has failed then.
+fn tell_failure<E: Write>(failure: Failure<'_>, errors: &mut Errors<E>) -> Ending
+    ensures told { Told (is_lost_of errors.new) (E.contents (writer_of errors.old)) (E.contents (writer_of errors.new)) (failure_line failure.entry) }
+    ensures failed { result ≡ Ending.Failed }
+{
+    errors.tell(&failure);
+    Ending::Failed
+}
+
+/// How a run ends, by what came of its line. A failure is told.
+fn ended<E: Write>(came: Result<Ending, Failure<'_>>, errors: &mut Errors<E>) -> Ending
+    ensures well { IfOk came.entry (λ ending. (result ≡ ending) × (errors.new ≡ errors.old)) }
+    ensures failed { IfErr came.entry (λ failure. (result ≡ Ending.Failed)
+        × Told (is_lost_of errors.new) (E.contents (writer_of errors.old)) (E.contents (writer_of errors.new)) (failure_line failure)) }
+{
+    match came {
+        Ok(ending) => ending,
+        Err(failure) => tell_failure(failure, errors),
     }
 }
 
@@ -377,37 +439,28 @@ fn tell_fault<O: Write, E: Write>(fault: &LineFault, out: &mut O, errors: &mut E
         (left (O.contents out.new) put (is_lost_of errors.new) (E.contents (writer_of errors.new))) result }
 {
     match fault {
-        LineFault::NoMemory => errors.tell(&Failure::NoMemory),
+        LineFault::NoMemory => tell_failure(Failure::NoMemory, errors),
         LineFault::Help(text) => match write!(out, "{text}") {
-            Ok(()) => return Ending::Well,
-            Err(error) => errors.tell(&Failure::of_output(DeviceCause::of(&error))),
+            Ok(()) => Ending::Well,
+            Err(error) => tell_failure(Failure::of_output(DeviceCause::of(&error)), errors),
         },
         LineFault::Wrong(text) => {
             errors.write_text(text);
-            if !errors.is_lost() {
-                return Ending::WrongWords;
-            }
+            errors.unless_lost(Ending::WrongWords)
         }
         LineFault::TooManyStreams => {
             errors.write_line("lfiload: at most 8 streams");
-            if !errors.is_lost() {
-                return Ending::WrongWords;
-            }
+            errors.unless_lost(Ending::WrongWords)
         }
         LineFault::TooManyModules => {
             errors.write_line("lfiload: at most 16 modules");
-            if !errors.is_lost() {
-                return Ending::WrongWords;
-            }
+            errors.unless_lost(Ending::WrongWords)
         }
         LineFault::NoPages => {
             errors.write_line("lfiload: pages are small, or large with --profile 2");
-            if !errors.is_lost() {
-                return Ending::WrongWords;
-            }
+            errors.unless_lost(Ending::WrongWords)
         }
     }
-    Ending::Failed
 }
 
 /// Carries out what the words of the command line ask for, of which the first is the program's name: reads and writes
@@ -433,13 +486,7 @@ pub fn run_words<
         (left (O.contents out.new) (D.put_files disk.new) (is_lost_of errors.new) (E.contents (writer_of errors.new))) result }
 {
     match read_line(alloc, words) {
-        Ok(line) => match run(rt, alloc, disk, notices, line, out, errors) {
-            Ok(ending) => ending,
-            Err(failure) => {
-                errors.tell(&failure);
-                Ending::Failed
-            }
-        },
+        Ok(line) => ended(run(rt, alloc, disk, notices, &line, out, errors), errors),
         Err(fault) => tell_fault(&fault, out, errors),
     }
 }

@@ -1,22 +1,31 @@
 use Rattle.std.proofs.Common.{sym, subst}
 use Rattle.std.proofs.KnownBytes.{Appends-trans}
+use Rattle.std.proofs.lemmas.Result.{IfErr-weaker, IfOk-weaker}
 use Rattle.lfi_model.specs.Texts.{summary_text}
 use Rattle.lfi_stage.specs.Summaries.{summary_of}
 use Rattle.lfi_commands.specs.Serving.{IsLimit}
+use Rattle.lfi_commands.proofs.Failing.{fails_serving_output, is_no_other}
 use Rattle.lfi_commands.proofs.program.run_serve.Goals as goal
 
-pub returns-clause-found : goal.returns-clause-found
-returns-clause-found g c =
-    let told = c.in-Ok-write_asked_refused.ensures in
+pub returns : goal.returns
+returns g c =
+    let served = c.in_ok-served.served in
+    let result = c.end_load.result in
     record {
-      found = c.in_ok-served.served;
-      served = c.in_ok-served.ensures.report;
-      limited = subst (IsLimit c.args.seconds) (sym c.in_ok-served.ensures.limit) c.limit_of.ensures;
-      explained = told.0;
-      explains = told.1;
-      written = Appends-trans (g.O.Write.contents c.args.out.now) (g.O.Write.contents c.serve.new.writer) (g.O.Write.contents c.write_asked_refused.new.out)
-          (summary_text (summary_of c.in_ok-served.served.report)) told.0 c.in_ok-served.ensures.written told.2;
-      all = c.write_asked_images-all.result;
-      images = c.write_asked_images-all.ensures;
-      ends = c.of_load.ensures;
+      found = IfOk-weaker result _ _ (λ ending ended. record {
+        found = served;
+        served = c.in_ok-served.ensures.report;
+        limited = subst (IsLimit c.args.seconds) (sym c.in_ok-served.ensures.limit) c.limit_of.ensures;
+        explained = ended.explained;
+        explains = ended.explains;
+        written = Appends-trans (g.O.Write.contents c.args.out.now) (g.O.Write.contents c.serve.new.writer) (g.O.Write.contents c.end_load.new.out)
+            (summary_text (summary_of served.report)) ended.explained c.in_ok-served.ensures.written ended.written;
+        all = ended.all;
+        images = ended.images;
+        ends = ended.ends;
+      }) c.end_load.ensures.ended;
+      failure = IfErr-weaker result _ _ fails_serving_output c.end_load.ensures.failure;
+      output = IfErr-weaker result _ _ (λ failure is other. is_no_other failure is other) c.end_load.ensures.failure;
+      disk = c.end_load.ensures.disk;
+      errors = c.end_load.ensures.errors;
     }

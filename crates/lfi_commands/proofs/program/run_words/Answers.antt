@@ -1,25 +1,24 @@
-use Rattle.std.proofs.Common.{ap, inl, map, string_bytes, subst}
+use Rattle.std.proofs.Common.{ap, map, string_bytes}
+use Rattle.std.proofs.lemmas.Result.{IfErr-weaker, IfOk-weaker, on_err_weaker}
 use Rattle.lfi_commands.specs.Errors.{is_lost_of, writer_of}
-use Rattle.lfi_commands.specs.Failures.{failure_line, Told}
-use Rattle.lfi_commands.proofs.Ended.{runs_line}
-use Rattle.lfi_commands.proofs.Failing.{fails_by}
+use Rattle.lfi_commands.specs.Left.{left}
+use Rattle.lfi_commands.proofs.Ended.{runs_ended}
 use Rattle.lfi_commands.proofs.program.run_words.Goals as goal
 
-pub returns-in-Ok-run : goal.returns-in-Ok-run
-returns-in-Ok-run g c =
-    runs_line (map string_bytes c.args.words.now) (g.D.Disk.file_at c.args.disk.now) _ _ c.in-Ok.line c.in-Ok-run.ending c.in-Ok.ensures.line c.in-Ok-run.ensures.found
-
-pub returns-in-Err-run : goal.returns-in-Err-run
-returns-in-Err-run g c =
-    let failure = c.in-Err-run.failure in
-    let after = c.tell.new.self in
-    inl (
-      failure,
-      fails_by (map string_bytes c.args.words.now) c.in-Ok.line failure c.in-Ok.ensures.line c.in-Err-run.ensures.failure,
-      subst (λ errors. Told (is_lost_of after) (g.E.Write.contents (writer_of errors)) (g.E.Write.contents (writer_of after)) (failure_line failure)) c.in-Err-run.ensures.errors c.tell.ensures.told,
-      ap (λ disk. g.D.Disk.put_files disk) c.in-Err-run.ensures.disk,
-      λ other. ap g.O.Write.contents (c.in-Err-run.ensures.output other),
-    )
+pub returns-in-Ok : goal.returns-in-Ok
+returns-in-Ok g c =
+    let came = c.run.result in
+    let out = g.O.Write.contents c.run.new.out in
+    let put = g.D.Disk.put_files c.run.new.disk in
+    runs_ended (map string_bytes c.args.words.now) (g.D.Disk.file_at c.args.disk.now) c.in-Ok.line came _
+    (left out put (is_lost_of c.run.new.errors) (g.E.Write.contents (writer_of c.run.new.errors))) _ c.ended.result c.in-Ok.ensures.line
+    c.run.ensures.found
+    (IfOk-weaker came _ _ (λ ending well. (well.0, ap (λ errors. left out put (is_lost_of errors) (g.E.Write.contents (writer_of errors))) well.1)) c.ended.ensures.well)
+    c.run.ensures.failure
+    (IfErr-weaker came _ _ (λ failure same other. ap g.O.Write.contents (same other)) c.run.ensures.output)
+    (on_err_weaker came (λ same. ap (λ disk. g.D.Disk.put_files disk) same) c.run.ensures.disk)
+    (on_err_weaker came (λ same. ap (λ errors. g.E.Write.contents (writer_of errors)) same) c.run.ensures.errors)
+    c.ended.ensures.failed
 
 pub returns-in-Err : goal.returns-in-Err
 returns-in-Err g c =
