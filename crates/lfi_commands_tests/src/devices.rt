@@ -1,9 +1,15 @@
 //! Readers and writers that give and take little, or fail.
 
-use crate::runs::{FAILED, ONE_RET, ONE_RET_REPORT, RET, begin, loaded, run_over, tells};
+ghost use Rattle.std.specs.Prelude.{◌≡◌, IfOk, length};
+
+use crate::runs::{FAILED, ONE_RET, ONE_RET_REPORT, RET, begin, run_over, tells};
 use lfi_code::Verdict;
-use lfi_commands::{CommandFault, DeviceCause, Ending, Errors, Failure, Target, check, check_file};
+use lfi_commands::{
+    CommandFault, DeviceCause, Ending, Errors, Failure, Target, check, check_file, load,
+};
+use lfi_model::Outcome;
 use lfi_module::Profile;
+use lfi_receive::Input;
 use lfi_threads::NoNotices;
 use std::alloc::{AllocError, Global};
 use std::fs::{self, File, Files};
@@ -155,9 +161,38 @@ fn checks(
     check(alloc, code, Profile::One, &mut out) == expected && out.as_slice() == written.as_bytes()
 }
 
+/// The input of one reader.
+fn one_input<R: Read + Drop>(alloc: Global, reader: R) -> Result<Vec<Input<R>>, AllocError>
+    ensures { IfOk result (λ inputs. length inputs.items ≡ 1) }
+{
+    let input = Input::new(alloc, reader)?;
+    let mut inputs = Vec::new(alloc);
+    inputs.push(input)?;
+    Ok(inputs)
+}
+
+/// Whether the load of this input ends so, and has module 0 complete with one word or not.
+fn ends_so<S: Threads + Wait + Sync + AllocGlobal>(
+    rt: &S,
+    inputs: Vec<Input<SlowReader<'_>>>,
+    ending: Ending,
+    is_complete: bool,
+    out: &mut Vec<u8>,
+) -> bool
+    requires { length inputs.items ≡ 1 }
+{
+    match load(rt, rt.alloc(), inputs, 1, &NoNotices, out) {
+        Ok(report) => {
+            let complete = report.modules[0].outcome == Outcome::Complete { words: 1 };
+            complete == is_complete && Ending::of_report(&report) == ending
+        }
+        Err(_) => false,
+    }
+}
+
 /// Whether the load of a stream, of which a read fails after so many bytes, ends so, writes exactly this, and has its module
 /// complete or not.
-fn loads<S: Threads + Wait + Files<File = File> + Net + Clock + Sync + AllocGlobal>(
+fn loads<S: Threads + Wait + Sync + AllocGlobal>(
     rt: &S,
     left: usize,
     ending: Ending,
@@ -169,8 +204,11 @@ fn loads<S: Threads + Wait + Files<File = File> + Net + Clock + Sync + AllocGlob
         bytes: ONE_RET.as_slice(),
         left,
     };
-    let end = loaded(rt, stream, 1, &NoNotices, &mut out);
-    out.as_slice() == written.as_bytes() && end == Some((ending, is_complete))
+    let is_so = match one_input(rt.alloc(), stream) {
+        Ok(inputs) => ends_so(rt, inputs, ending, is_complete, &mut out),
+        Err(AllocError) => false,
+    };
+    is_so && out.as_slice() == written.as_bytes()
 }
 
 /// What is told of the stream, where a read fails after so many bytes.
@@ -343,7 +381,7 @@ pub fn loses<S: Threads + Wait + Files<File = File> + Net + Clock + Sync + Alloc
 ) -> bool {
     let mut errors = Errors::new(FullWriter { left });
     let status = run_over(rt, line, out, &mut errors);
-    status == Ok(FAILED) && errors.is_lost()
+    status == FAILED && errors.is_lost()
 }
 
 #[test]

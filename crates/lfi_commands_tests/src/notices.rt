@@ -1,6 +1,6 @@
 //! The notice of a refused module.
 
-use crate::runs::{NOT_WELL, begin, connect, has_file, loaded, tells_over};
+use crate::runs::{NOT_WELL, begin, connect, has_file, tells_over};
 use lfi_commands::{Disk, WrittenNotices};
 use lfi_image::CompleteImage;
 use std::fs::{self, File, Files};
@@ -86,24 +86,6 @@ impl<'a> Disk for UntilToldDisk<'a> {
 /// What the report on modules 1 and 2 begins with.
 const TWO_REPORT: &str = "module 1: refused, word 1 rule 10\nmodule 2: complete, 1 words\n";
 
-/// Whether the modules are loaded, and the report on them is written, with what follows until a notice is written to this
-/// file.
-fn is_loaded<S: Threads + Wait + Files<File = File> + Net + Clock + Sync + AllocGlobal>(
-    rt: &S,
-    path: &str,
-) -> io::Result<bool> {
-    let told = File::create(rt, path)?;
-    let reader = UntilTold {
-        text: TWO.as_slice(),
-        told: &told,
-        turns: TURNS,
-    };
-    let mut out = Vec::new(rt.alloc());
-    let notices = WrittenNotices::new(&told);
-    let is_loaded = loaded(rt, reader, 2, &notices, &mut out).is_some();
-    Ok(is_loaded && out.as_slice().starts_with(TWO_REPORT.as_bytes()))
-}
-
 /// Whether the program, run on the words of a line with notices that are written to this file, ends as it does where a module
 /// was refused, and writes the report.
 fn is_run<S: Threads + Wait + Files<File = File> + Net + Clock + Sync + AllocGlobal>(
@@ -138,14 +120,6 @@ fn send_until_told<S: Net>(rt: &S, path: &str, told: &File) -> io::Result<()> {
 /// Whether a file has the one notice.
 fn has_notice(rt: &HostRuntime, path: &str) -> bool {
     has_file(rt, path, b"module 1 refused\n".as_slice())
-}
-
-#[test]
-fn one_notice_of_a_refused_module(rt: HostRuntime) -> io::Result<()> {
-    begin(&rt, "noticed.tmp", &[])?;
-    let is_loaded = is_loaded(&rt, "noticed.tmp/told");
-    assert!(rt; matches!(is_loaded, Ok(true)) && has_notice(&rt, "noticed.tmp/told"));
-    fs::remove_dir_all(&rt, "noticed.tmp")
 }
 
 #[test]

@@ -1,14 +1,10 @@
 //! Runs of the program over the system's files, and what they must answer.
 
-ghost use Rattle.std.specs.Prelude.{◌≡◌, ◌≤◌, IfOk, length};
-
-use lfi_commands::{Disk, Ending, Errors, SystemDisk, load, run_words};
-use lfi_model::Outcome;
-use lfi_receive::Input;
+use lfi_commands::{Disk, Errors, SystemDisk, run_words};
 use lfi_threads::{NoNotices, Notices};
 use std::alloc::{AllocError, Global};
 use std::fs::{self, File, Files};
-use std::io::{self, Read, Write};
+use std::io::{self, Write};
 use std::net::Net;
 use std::os::unix::net::UnixStream;
 use std::rt::Clock;
@@ -44,6 +40,9 @@ pub const NOT_WELL: u8 = 1;
 /// That of a run in which a device failed.
 pub const FAILED: u8 = 3;
 
+/// No exit status: there was no memory for the words.
+const NO_WORDS: u8 = 255;
+
 /// What a run must answer and write.
 #[derive(Clone, Copy)]
 pub struct Run {
@@ -60,7 +59,8 @@ fn words(alloc: Global, line: &str) -> Result<Vec<String>, AllocError> {
         .try_collect(alloc)
 }
 
-/// Runs the program on the words of a line, over any disk, notices and writers. Gives its exit status.
+/// Runs the program on the words of a line, over any disk, notices and writers. Gives its exit status; `NO_WORDS` where memory
+/// is refused before it runs.
 pub fn run_noticed<
     S: Threads + Wait + Files + Net + Clock + Sync,
     D: Disk,
@@ -75,9 +75,11 @@ pub fn run_noticed<
     line: &str,
     out: &mut O,
     errors: &mut Errors<E>,
-) -> Result<u8, AllocError> {
-    let words = words(alloc, line)?;
-    Ok(run_words(rt, alloc, disk, notices, &words, out, errors).status())
+) -> u8 {
+    match words(alloc, line) {
+        Ok(words) => run_words(rt, alloc, disk, notices, &words, out, errors).status(),
+        Err(AllocError) => NO_WORDS,
+    }
 }
 
 /// Runs the program on the words of a line, over the system's files and any writers. Gives its exit status.
@@ -85,7 +87,7 @@ pub fn run_over<
     S: Threads + Wait + Files<File = File> + Net + Clock + Sync + AllocGlobal,
     O: Write,
     E: Write,
->(rt: &S, line: &str, out: &mut O, errors: &mut Errors<E>) -> Result<u8, AllocError> {
+>(rt: &S, line: &str, out: &mut O, errors: &mut Errors<E>) -> u8 {
     let mut disk = SystemDisk { rt };
     run_noticed(rt, rt.alloc(), &mut disk, &NoNotices, line, out, errors)
 }
@@ -100,7 +102,7 @@ pub fn tells_over<
 >(rt: &S, disk: &mut D, notices: &N, line: &str, out: &mut O, status: u8, told: &str) -> bool {
     let mut errors = Errors::new(Vec::new(rt.alloc()));
     let ended = run_noticed(rt, rt.alloc(), disk, notices, line, out, &mut errors);
-    ended == Ok(status) && errors.writer().as_slice() == told.as_bytes()
+    ended == status && errors.writer().as_slice() == told.as_bytes()
 }
 
 /// Whether a run over the system's files, with this output, ends with this status, and tells exactly this.
@@ -167,35 +169,4 @@ pub fn connect<S: Net>(rt: &S, path: &str) -> io::Result<UnixStream> {
         }
     }
     Err(io::Error::from(io::ErrorKind::TimedOut))
-}
-
-/// The input of one reader.
-fn one_input<R: Read + Drop>(alloc: Global, reader: R) -> Result<Vec<Input<R>>, AllocError>
-    ensures { IfOk result (λ inputs. length inputs.items ≡ 1) }
-{
-    let input = Input::new(alloc, reader)?;
-    let mut inputs = Vec::new(alloc);
-    inputs.push(input)?;
-    Ok(inputs)
-}
-
-/// Loads the modules of one reader's stream, and writes the report. Gives how it ended, and whether module 0 is complete with
-/// one word, where it could be carried out.
-pub fn loaded<S: Threads + Wait + Sync + AllocGlobal, R: Read + Send + Drop, N: Notices + Sync>(
-    rt: &S,
-    reader: R,
-    verifiers: usize,
-    notices: &N,
-    out: &mut Vec<u8>,
-) -> Option<(Ending, bool)>
-    requires { (1 ≤ verifiers) × (verifiers ≤ 8) }
-{
-    let inputs = one_input(rt.alloc(), reader).ok()?;
-    match load(rt, rt.alloc(), inputs, verifiers, notices, out) {
-        Ok(report) => {
-            let is_complete = report.modules[0].outcome == Outcome::Complete { words: 1 };
-            Some((Ending::of_report(&report), is_complete))
-        }
-        Err(_) => None,
-    }
 }
