@@ -239,9 +239,14 @@ fn run_load<
     ensures disk { OnErr result (disk.new ≡ disk.old) }
     ensures errors { OnErr result (errors.new ≡ errors.old) }
 {
-    let inputs = open_all(alloc, disk, paths)?;
-    let report = load(rt, alloc, inputs, verifiers, notices, out)?;
-    end_load(alloc, disk, &report, true, folder, explain, out, errors)
+    let inputs = match open_all(alloc, disk, paths) {
+        Ok(inputs) => inputs,
+        Err(failure) => return Err(failure),
+    };
+    match load(rt, alloc, inputs, verifiers, notices, out) {
+        Ok(report) => end_load(alloc, disk, &report, true, folder, explain, out, errors),
+        Err(fault) => Err(Failure::from(fault)),
+    }
 }
 
 /// The limit of time of so many seconds, where they are said.
@@ -301,17 +306,20 @@ fn run_serve<
         limit_of(seconds),
         notices,
         out,
-    )?;
-    end_load(
-        alloc,
-        disk,
-        &served.report,
-        served.all_accepted,
-        folder,
-        explain,
-        out,
-        errors,
-    )
+    );
+    match served {
+        Ok(served) => end_load(
+            alloc,
+            disk,
+            &served.report,
+            served.all_accepted,
+            folder,
+            explain,
+            out,
+            errors,
+        ),
+        Err(fault) => Err(Failure::from(fault)),
+    }
 }
 
 /// Runs the image in a file for at most so many steps, and tells what comes of it.
@@ -361,19 +369,19 @@ fn run<
     ensures disk { OnErr result (disk.new ≡ disk.old) }
     ensures errors { OnErr result (errors.new ≡ errors.old) }
 {
-    match line {
+    match *line {
         Line::Check {
             file,
             explain,
             profile,
-        } => run_check(alloc, disk, *file, *profile, *explain, out),
+        } => run_check(alloc, disk, file, profile, explain, out),
         Line::Load {
             verifiers,
             out: folder,
             explain,
-            streams,
+            ref streams,
         } => run_load(
-            rt, alloc, disk, notices, *verifiers, *folder, *explain, streams, out, errors,
+            rt, alloc, disk, notices, verifiers, folder, explain, streams, out, errors,
         ),
         Line::Serve {
             socket,
@@ -387,25 +395,25 @@ fn run<
             alloc,
             disk,
             notices,
-            *socket,
-            *connections,
-            *verifiers,
-            *seconds,
-            *folder,
-            *explain,
+            socket,
+            connections,
+            verifiers,
+            seconds,
+            folder,
+            explain,
             out,
             errors,
         ),
-        Line::Run { image, steps } => run_run(alloc, disk, *image, *steps, out, errors),
-        Line::Disassemble { file, profile } => run_disassemble(alloc, disk, *file, *profile, out),
+        Line::Run { image, steps } => run_run(alloc, disk, image, steps, out, errors),
+        Line::Disassemble { file, profile } => run_disassemble(alloc, disk, file, profile, out),
         Line::Pack {
             module,
             entry,
             profile,
             pages,
-            codes,
+            ref codes,
         } => run_pack(
-            alloc, disk, *module, *entry, *profile, *pages, codes, out, errors,
+            alloc, disk, module, entry, profile, pages, codes, out, errors,
         ),
     }
 }

@@ -8,20 +8,20 @@ use Rattle.lfi_commands.proofs.Failing.{fails_on_output, is_no_other}
 use Rattle.lfi_commands.proofs.Inputs.{known_left}
 use Rattle.lfi_commands.proofs.program.run_load.Goals as goal
 
-pub returns : goal.returns
-returns g c =
-    let inputs = c.in_ok-inputs.inputs.items in
-    let are = c.in_ok-inputs.ensures.inputs in
-    let report = c.in_ok-report.report in
+pub returns-in-Ok-load : goal.returns-in-Ok-load
+returns-in-Ok-load g c =
+    let inputs = c.in-Ok.inputs.items in
+    let are = c.in-Ok.ensures.inputs in
+    let report = c.in-Ok-load.report in
     let result = c.end_load.result in
     record {
       found = IfOk-weaker result _ _ (λ ending ended. record {
         report = report;
-        loaded = λ bytes known. subst (λ n. IsLoaded n c.args.verifiers bytes report) are.all (c.in_ok-report.ensures.report bytes (known_left _ inputs bytes are known));
+        loaded = λ bytes known. subst (λ n. IsLoaded n c.args.verifiers bytes report) are.all (c.in-Ok-load.ensures.report bytes (known_left _ inputs bytes are known));
         explained = ended.explained;
         explains = ended.explains;
         written = Appends-trans (g.O.Write.contents c.args.out.now) (g.O.Write.contents c.load.new.writer) (g.O.Write.contents c.end_load.new.out)
-            (summary_text (summary_of report)) ended.explained c.in_ok-report.ensures.written ended.written;
+            (summary_text (summary_of report)) ended.explained c.in-Ok-load.ensures.written ended.written;
         all = ended.all;
         images = ended.images;
         ends = ended.ends;

@@ -7,19 +7,19 @@ use Rattle.lfi_commands.specs.Serving.{IsLimit}
 use Rattle.lfi_commands.proofs.Failing.{fails_serving_output, is_no_other}
 use Rattle.lfi_commands.proofs.program.run_serve.Goals as goal
 
-pub returns : goal.returns
-returns g c =
-    let served = c.in_ok-served.served in
+pub returns-in-Ok-served : goal.returns-in-Ok-served
+returns-in-Ok-served g c =
+    let served = c.in-Ok-served.served in
     let result = c.end_load.result in
     record {
       found = IfOk-weaker result _ _ (λ ending ended. record {
         found = served;
-        served = c.in_ok-served.ensures.report;
-        limited = subst (IsLimit c.args.seconds) (sym c.in_ok-served.ensures.limit) c.limit_of.ensures;
+        served = c.in-Ok-served.ensures.report;
+        limited = subst (IsLimit c.args.seconds) (sym c.in-Ok-served.ensures.limit) c.limit_of.ensures;
         explained = ended.explained;
         explains = ended.explains;
-        written = Appends-trans (g.O.Write.contents c.args.out.now) (g.O.Write.contents c.serve.new.writer) (g.O.Write.contents c.end_load.new.out)
-            (summary_text (summary_of served.report)) ended.explained c.in_ok-served.ensures.written ended.written;
+        written = Appends-trans (g.O.Write.contents c.args.out.now) (g.O.Write.contents c.serve-served.new.writer) (g.O.Write.contents c.end_load.new.out)
+            (summary_text (summary_of served.report)) ended.explained c.in-Ok-served.ensures.written ended.written;
         all = ended.all;
         images = ended.images;
         ends = ended.ends;
