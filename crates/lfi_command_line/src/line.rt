@@ -12,7 +12,7 @@ use lfi_module::{PageSize, Profile};
 use std::alloc::Global;
 
 /// What `check` explains.
-#[derive(Clone, Copy, PartialEq, Eq, Debug)]
+#[derive(Clone, Copy, PartialEq, Eq)]
 pub enum Explain {
     /// Nothing: it tells the first fault in a line.
     Nothing,
@@ -23,7 +23,7 @@ pub enum Explain {
 }
 
 /// What the program is asked for.
-#[derive(Debug, Drop)]
+#[derive(Drop)]
 pub enum Line<'a> {
     /// Whether the code in a file is lawful by a profile, and what is to be explained where it isn't.
     Check {

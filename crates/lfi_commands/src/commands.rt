@@ -32,7 +32,7 @@ use std::thread::Threads;
 use std::time::Duration;
 
 /// Why a command comes to no answer, or can't tell it.
-#[derive(Clone, Copy, PartialEq, Eq, Debug)]
+#[derive(Clone, Copy, PartialEq, Eq)]
 pub enum CommandFault {
     /// There was no memory.
     NoMemory,
@@ -43,7 +43,7 @@ pub enum CommandFault {
 }
 
 /// Why streams weren't loaded, or the report on them isn't told.
-#[derive(Clone, Copy, PartialEq, Eq, Debug)]
+#[derive(Clone, Copy, PartialEq, Eq)]
 pub enum LoadFault {
     /// They weren't loaded, for this.
     NotLoaded(LoadError),

@@ -7,7 +7,7 @@ ghost use Rattle.lfi_commands.specs.Causes.{cause_of, cause_line, cause_text};
 use std::{fmt, io};
 
 /// Why a device failed.
-#[derive(Clone, Copy, PartialEq, Eq, Debug)]
+#[derive(Clone, Copy, PartialEq, Eq)]
 pub enum DeviceCause {
     NotFound,
     PermissionDenied,

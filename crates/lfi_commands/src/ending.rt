@@ -12,7 +12,7 @@ use lfi_run::{Cause, Halt, ImageRun};
 use lfi_stage::settle::Report;
 
 /// How a run of the program ends.
-#[derive(Clone, Copy, PartialEq, Eq, Debug)]
+#[derive(Clone, Copy, PartialEq, Eq)]
 pub enum Ending {
     /// The code is lawful; or each module is complete or unused and no connection has a fault; or an image ran until it ended
     /// with a status, came to BRK or used all steps; or help was asked for.

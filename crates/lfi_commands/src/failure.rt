@@ -12,7 +12,7 @@ use std::alloc::AllocError;
 use std::{fmt, io};
 
 /// What can't be written.
-#[derive(Debug, Drop)]
+#[derive(Drop)]
 pub enum Target {
     /// The standard output.
     StandardOutput,
@@ -21,7 +21,7 @@ pub enum Target {
 }
 
 /// Why a command could not be carried out.
-#[derive(Debug, Drop)]
+#[derive(Drop)]
 pub enum Failure<'a> {
     /// The file at this path can't be read.
     CannotRead(&'a str, DeviceCause),

@@ -20,7 +20,7 @@ use std::fmt;
 use std::io::Write;
 
 /// Why the code in a file is no module that can be packed.
-#[derive(Clone, Copy, Debug, PartialEq, Eq)]
+#[derive(Clone, Copy, PartialEq, Eq)]
 pub enum NoModule<'a> {
     /// The file at this path isn't 1 to 4,194,304 whole words.
     BadLength { path: &'a str },
