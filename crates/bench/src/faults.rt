@@ -1,11 +1,10 @@
 //! Why something can't be measured.
 
 use std::alloc::AllocError;
-use std::error::Error;
 use std::{fmt, io};
 
 /// Why something can't be measured.
-#[derive(Clone, Copy, Debug)]
+#[derive(Clone, Copy)]
 pub(crate) enum Fault {
     /// A device failed, or memory was refused.
     System(io::Error),
@@ -21,8 +20,6 @@ impl fmt::Display for Fault {
         }
     }
 }
-
-impl Error for Fault {}
 
 impl From<io::Error> for Fault {
     fn from(error: io::Error) -> Fault {

@@ -5,15 +5,15 @@ ghost use Rattle.std.specs.Prelude.{◌≡◌, IfOk, length};
 ghost use Rattle.a64_word.specs.Words.{words_of};
 
 use crate::faults::Fault;
-use crate::times::micros;
-use lfi_image::{Builder, CompleteImage, JudgedPage, read_image, write_image};
+use crate::times::{micros, nanos_since};
+use lfi_image::{Builder, CompleteImage, ImageFault, JudgedPage, read_image, write_image};
 use lfi_module::{Extent, ModuleNumber, PageSize, Profile, WordCount};
 use lfi_rules::judge;
 use page_buf::{OpenPage, SealedPage};
 use std::alloc::Global;
 use std::fs::{self, File};
 use std::io;
-use std::time::{CpuClock, Duration, Instant};
+use std::time::Instant;
 
 /// Where the image is written.
 const PATH: &str = "bench.img";
@@ -24,13 +24,15 @@ const NOP: [u8; 4] = [0x1F, 0x20, 0x03, 0xD5];
 /// More than any gap between the pages of an image, so that it is taken from behind them.
 const BEHIND_BYTES: usize = 65_536;
 
-/// A page of this size of the first words of some code.
-fn page(alloc: Global, size: PageSize, code: &[u8], words: usize) -> Result<SealedPage, Fault>
+/// A page of this size, of so many NOPs.
+fn page(alloc: Global, size: PageSize, words: usize) -> Result<SealedPage, Fault>
     ensures size { IfOk result (λ page. page.size ≡ size) }
     ensures words { IfOk result (λ page. length (words_of page.bytes) ≡ words) }
 {
     let mut page = OpenPage::new(alloc, size)?;
-    page.write(&code[..words.saturating_mul(4).min(code.len())]);
+    for _ in 0..words {
+        page.write(&NOP);
+    }
     match page.seal() {
         Ok(page) => {
             if page.len_words() == words {
@@ -43,9 +45,9 @@ fn page(alloc: Global, size: PageSize, code: &[u8], words: usize) -> Result<Seal
     }
 }
 
-/// Places the next page of a module: the first words of this code, as many as are due.
-fn append_page(alloc: Global, builder: &mut Builder, code: &[u8]) -> Result<(), Fault> {
-    let page = page(alloc, builder.size(), code, builder.due() as usize)?;
+/// Places the next page of a module: as many NOPs as are due.
+fn append_page(alloc: Global, builder: &mut Builder) -> Result<(), Fault> {
+    let page = page(alloc, builder.size(), builder.due() as usize)?;
     let page = JudgedPage::judge(page, builder.placed(), builder.words(), builder.profile());
     if builder.append(page).is_ok() {
         Ok(())
@@ -60,25 +62,19 @@ fn extent(words: u32) -> Option<Extent> {
     Extent::new(words, 0, Profile::One, PageSize::SMALL)
 }
 
-/// An image of so many words, each page of which has the first words of this code.
-fn image(alloc: Global, words: u32, code: &[u8]) -> Result<CompleteImage, Fault> {
+/// An image of so many NOPs.
+fn image(alloc: Global, words: u32) -> Result<CompleteImage, Fault> {
     let Some(extent) = extent(words) else {
         return Err(Fault::Is("no module has so many words"));
     };
     let mut builder = Builder::new(alloc, extent, ModuleNumber::at(0))?;
-    for _ in 0..builder.words().pages(PageSize::SMALL) {
-        append_page(alloc, &mut builder, code)?;
+    for _ in 0..extent.words().pages(PageSize::SMALL) {
+        append_page(alloc, &mut builder)?;
     }
     match builder.finish() {
         Ok(image) => Ok(image),
         Err(_) => Err(Fault::Is("words are missing")),
     }
-}
-
-/// An image of so many NOPs.
-fn build(alloc: Global, words: u32) -> Result<CompleteImage, Fault> {
-    let code = NOP.repeat(alloc, 1024)?;
-    image(alloc, words, &code)
 }
 
 /// How many pages of a module have a fault, where each of its pages but the last is this one.
@@ -98,151 +94,95 @@ fn faulty_pages(page: &SealedPage, words: u32) -> u32 {
     faulty
 }
 
-/// A time, and what the processor spent in it.
-#[derive(Clone, Copy)]
-struct Spent {
-    time: Duration,
-    processor: Duration,
-}
-
-impl Spent {
-    const NEVER: Spent = Spent {
-        time: Duration::MAX,
-        processor: Duration::MAX,
-    };
-
-    /// The lesser of each.
-    fn least(self, other: Spent) -> Spent {
-        Spent {
-            time: self.time.min(other.time),
-            processor: self.processor.min(other.processor),
-        }
-    }
-
-    /// What is left without another's part.
-    fn without(self, other: Spent) -> Spent {
-        Spent {
-            time: self.time.saturating_sub(other.time),
-            processor: self.processor.saturating_sub(other.processor),
-        }
-    }
-}
-
-/// Since when a time runs.
-#[derive(Clone, Copy)]
-struct Since {
-    start: Instant,
-    processor: Duration,
-}
-
-impl Since {
-    fn now(rt: &HostRuntime) -> io::Result<Since> {
-        Ok(Since {
-            start: Instant::now(rt)?,
-            processor: rt.process_cpu_time()?,
-        })
-    }
-
-    fn spent(self, rt: &HostRuntime) -> io::Result<Spent> {
-        Ok(Spent {
-            time: self.start.elapsed(rt)?,
-            processor: rt.process_cpu_time()?.saturating_sub(self.processor),
-        })
-    }
-}
-
-/// Writes the image to its file.
-fn write(rt: &HostRuntime, image: &CompleteImage) -> Result<Spent, Fault> {
-    let since = Since::now(rt)?;
+/// Writes the image to its file: in how many nanoseconds.
+fn write(rt: &HostRuntime, image: &CompleteImage) -> Result<u64, Fault> {
+    let start = Instant::now(rt)?;
     let mut file = File::create(rt, PATH)?;
     let is_written = write_image(image, &mut file).is_ok();
-    let spent = since.spent(rt);
+    let time = nanos_since(rt, start);
     drop(file);
     if is_written {
-        Ok(spent?)
+        time
     } else {
         Err(Fault::Is("the image was not written"))
     }
 }
 
-/// Reads the image from its file.
-fn read(rt: &HostRuntime, words: u32) -> Result<Spent, Fault> {
-    let since = Since::now(rt)?;
-    let mut file = File::open(rt, PATH)?;
-    let read = read_image(rt.alloc(), &mut file);
-    let spent = since.spent(rt);
-    let count = match &read {
+/// How many words an image that was read has; 0 where none was read.
+fn words_of_read(read: Result<CompleteImage, ImageFault>) -> u32 {
+    match read {
         Ok(image) => image.words().number(),
         Err(_) => 0,
-    };
-    drop(read);
+    }
+}
+
+/// Reads the image from its file: in how many nanoseconds.
+fn read(rt: &HostRuntime, words: u32) -> Result<u64, Fault> {
+    let start = Instant::now(rt)?;
+    let mut file = File::open(rt, PATH)?;
+    let read = read_image(rt.alloc(), &mut file);
+    let time = nanos_since(rt, start);
     drop(file);
-    if count == words {
-        Ok(spent?)
+    if words_of_read(read) == words {
+        time
     } else {
         Err(Fault::Is("the image was not read"))
     }
 }
 
 /// Reads the image from its file into the memory of the one that was built.
-fn read_in_place(rt: &HostRuntime, built: CompleteImage, words: u32) -> Result<Spent, Fault> {
+fn read_in_place(rt: &HostRuntime, built: CompleteImage, words: u32) -> Result<u64, Fault> {
     // While this stands behind the image's pages, their memory does not go back to the system.
     let behind: Vec<u8> = Vec::with_capacity(rt.alloc(), BEHIND_BYTES)?;
     drop(built);
-    let spent = read(rt, words);
+    let time = read(rt, words);
     drop(behind);
-    spent
+    time
 }
 
-/// Judges so many words by a page of them, and nothing else.
-fn judge_by(rt: &HostRuntime, page: &SealedPage, words: u32) -> Result<Spent, Fault> {
-    let since = Since::now(rt)?;
+/// Judges so many words by a page of them, and nothing else: in how many nanoseconds.
+fn judge_by(rt: &HostRuntime, page: &SealedPage, words: u32) -> Result<u64, Fault> {
+    let start = Instant::now(rt)?;
     if faulty_pages(page, words) == 0 {
-        Ok(since.spent(rt)?)
+        nanos_since(rt, start)
     } else {
         Err(Fault::Is("the code breaks a rule"))
     }
 }
 
 /// Judges so many words of a page.
-fn judge_alone(rt: &HostRuntime, words: u32) -> Result<Spent, Fault> {
-    let code = NOP.repeat(rt.alloc(), 1024)?;
-    let page = page(rt.alloc(), PageSize::SMALL, &code, 1024)?;
+fn judge_alone(rt: &HostRuntime, words: u32) -> Result<u64, Fault> {
+    let page = page(rt.alloc(), PageSize::SMALL, 1024)?;
     judge_by(rt, &page, words)
 }
 
-/// What a round took.
+/// What a round took, in nanoseconds.
 #[derive(Clone, Copy)]
 struct Round {
-    build: Spent,
-    write: Spent,
+    write: u64,
     /// Into memory that another image had.
-    read: Spent,
+    read: u64,
     /// Into memory that is new from the system.
-    read_new: Spent,
-    judge: Spent,
+    read_new: u64,
+    judge: u64,
 }
 
 impl Round {
     const NEVER: Round = Round {
-        build: Spent::NEVER,
-        write: Spent::NEVER,
-        read: Spent::NEVER,
-        read_new: Spent::NEVER,
-        judge: Spent::NEVER,
+        write: u64::MAX,
+        read: u64::MAX,
+        read_new: u64::MAX,
+        judge: u64::MAX,
     };
 
     /// Builds an image, writes it, reads it back twice, and judges as many words.
     fn run(rt: &HostRuntime, words: u32) -> Result<Round, Fault> {
-        let since = Since::now(rt)?;
-        let built = build(rt.alloc(), words)?;
-        let build = since.spent(rt);
+        let built = image(rt.alloc(), words)?;
         let write = write(rt, &built);
         let read_into_old = read_in_place(rt, built, words);
         let read_new = read(rt, words);
         let removed = fs::remove_file(rt, PATH);
         let round = Round {
-            build: build?,
             write: write?,
             read: read_into_old?,
             read_new: read_new?,
@@ -254,38 +194,35 @@ impl Round {
 
     fn least(self, other: Round) -> Round {
         Round {
-            build: self.build.least(other.build),
-            write: self.write.least(other.write),
-            read: self.read.least(other.read),
-            read_new: self.read_new.least(other.read_new),
-            judge: self.judge.least(other.judge),
+            write: self.write.min(other.write),
+            read: self.read.min(other.read),
+            read_new: self.read_new.min(other.read_new),
+            judge: self.judge.min(other.judge),
         }
     }
 
     fn print(self, rt: &HostRuntime, words: u32) -> io::Result<()> {
-        for (what, spent) in [
-            ("built and judged", self.build),
+        let alone = self.read.saturating_sub(self.judge);
+        let alone_new = self.read_new.saturating_sub(self.judge);
+        let rows = [
             ("written", self.write),
             ("read and judged", self.read),
             ("read and judged, in new memory", self.read_new),
             ("judged alone", self.judge),
-            ("read without judging", self.read.without(self.judge)),
-            (
-                "read without judging, in new memory",
-                self.read_new.without(self.judge),
-            ),
-        ] {
-            print_spent(rt, what, words, spent)?;
+            ("read without judging", alone),
+            ("read without judging, in new memory", alone_new),
+        ];
+        for (what, nanos) in rows.iter() {
+            print_time(rt, *what, words, *nanos)?;
         }
         Ok(())
     }
 }
 
-fn print_spent(rt: &HostRuntime, what: &str, words: u32, spent: Spent) -> io::Result<()> {
-    let time = micros(spent.time);
+fn print_time(rt: &HostRuntime, what: &str, words: u32, nanos: u64) -> io::Result<()> {
+    let time = micros(nanos);
     let speed = 4 * words as u64 / time;
-    let processor = micros(spent.processor);
-    println!(rt; "{what}: {time} us, {speed} MB/s, processor {processor} us")
+    println!(rt; "{what}: {time} us, {speed} MB/s")
 }
 
 /// What the system tells of the most memory that this process has had at once.

@@ -19,6 +19,7 @@ mod times;
 
 use crate::faults::Fault;
 use std::env;
+use std::process::ExitCode;
 
 /// What is measured.
 #[derive(Clone, Copy, PartialEq)]
@@ -31,19 +32,6 @@ enum Mode {
 impl Mode {
     /// All that there are.
     const ALL: [Mode; 3] = [Mode::Image, Mode::Pages, Mode::Queues];
-
-    /// The mode that a word names.
-    fn of(word: &str) -> Option<Mode> {
-        if word == "image" {
-            Some(Mode::Image)
-        } else if word == "pages" {
-            Some(Mode::Pages)
-        } else if word == "queues" {
-            Some(Mode::Queues)
-        } else {
-            None
-        }
-    }
 
     /// How much is measured where no word says it.
     fn count(self) -> u64 {
@@ -68,29 +56,29 @@ struct Asked {
 /// The number that a word is, or what stands for one that is none.
 fn number_of(word: Option<String>, none: Option<u64>) -> Option<u64> {
     match word {
-        Some(word) => match word.parse::<u64>() {
-            Ok(number) => Some(number),
-            Err(_) => none,
-        },
+        Some(word) => word.parse::<u64>().ok().or(none),
         None => None,
     }
 }
 
 /// The mode that a word names; all where there is no word.
 fn mode_of(word: Option<String>) -> Result<Option<Mode>, Fault> {
-    let Some(word) = word else {
-        return Ok(None);
-    };
-    match Mode::of(word.as_str()) {
-        Some(mode) => Ok(Some(mode)),
-        None => Err(Fault::Is("the modes are image, pages and queues")),
+    match word {
+        Some(word) => match word.as_str() {
+            "image" => Ok(Some(Mode::Image)),
+            "pages" => Ok(Some(Mode::Pages)),
+            "queues" => Ok(Some(Mode::Queues)),
+            _ => Err(Fault::Is("the modes are image, pages and queues")),
+        },
+        None => Ok(None),
     }
 }
 
 impl Asked {
     fn read(rt: &HostRuntime) -> Result<Asked, Fault> {
-        let mut words = env::args(rt)?.skip(1);
-        let mode = mode_of(words.next());
+        let mut words = env::args(rt)?;
+        // The first word is the program's name.
+        let mode = mode_of(words.nth(1));
         let count = number_of(words.next(), None);
         let rounds = number_of(words.next(), Some(1));
         drop(words);
@@ -109,19 +97,32 @@ impl Asked {
     }
 }
 
-fn main(rt: HostRuntime) -> anyhow::Result<()> {
-    let asked = Asked::read(&rt)?;
-    let timed = asked.rounds.is_some();
-    for mode in Mode::ALL {
-        if asked.wants(mode) {
-            let count = asked.count.unwrap_or(mode.count());
-            let measured = match mode {
-                Mode::Image => image::run(&rt, count, asked.rounds),
-                Mode::Pages => pages::run(&rt, count, timed),
-                Mode::Queues => queues::run(&rt, count, asked.rounds),
-            };
-            measured?;
+/// Tells what went wrong, if anything did.
+fn end(rt: &HostRuntime, measured: Result<(), Fault>) -> ExitCode {
+    match measured {
+        Ok(()) => ExitCode::SUCCESS,
+        Err(fault) => {
+            let _ = eprintln!(rt; "Error: {fault}");
+            ExitCode::FAILURE
         }
     }
-    Ok(())
+}
+
+fn main(rt: HostRuntime) -> ExitCode {
+    let asked = match Asked::read(&rt) {
+        Ok(asked) => asked,
+        Err(fault) => return end(&rt, Err(fault)),
+    };
+    let mut measured = Ok(());
+    for mode in Mode::ALL.iter() {
+        if asked.wants(*mode) && measured.is_ok() {
+            let count = asked.count.unwrap_or(mode.count());
+            measured = match mode {
+                Mode::Image => image::run(&rt, count, asked.rounds),
+                Mode::Pages => pages::run(&rt, count, asked.rounds),
+                Mode::Queues => queues::run(&rt, count, asked.rounds),
+            };
+        }
+    }
+    end(&rt, measured)
 }

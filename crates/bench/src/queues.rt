@@ -1,17 +1,18 @@
 //! How long a put and a take need, of the intake and beside it of an array queue: `bench queues ITEMS [ROUNDS]`. With a
 //! second word it passes so many items through as many times, and prints the least time of an item.
 
-ghost use Rattle.std.specs.Prelude.{◌≡◌, IfSome};
+ghost use Rattle.std.specs.Prelude.{◌≡◌};
 
 use crate::carriers::{PartPut, PartTake, Piece, Puts, Ring, RingPut, RingTake, Takes};
 use crate::faults::Fault;
+use crate::times::nanos_since;
 use lfi_queues::{Intake, LanePut, LaneTake, PutPass, TakePass};
-use lfi_shared_tests::ends::Ends;
 use std::io;
 use std::rt::Clock;
 use std::sync::Wait;
+use std::sync::atomic::{AtomicBool, Ordering};
 use std::thread::{self, Scope, Threads};
-use std::time::{Duration, Instant};
+use std::time::Instant;
 
 /// The passes of one putter and one taker.
 #[derive(Drop)]
@@ -37,10 +38,10 @@ fn by_turns<R: Wait, P: Puts + Drop, T: Takes + Drop>(
 }
 
 /// Puts so many, unless it is told to stop.
-fn put_many<R: Wait, P: Puts + Drop>(rt: &R, ends: &Ends, mut put: P, items: u64) -> u64 {
+fn put_many<R: Wait, P: Puts + Drop>(rt: &R, stop: &AtomicBool, mut put: P, items: u64) -> u64 {
     let mut done = 0u64;
     for _ in rt.forever() {
-        if done >= items || ends.is_stopped() {
+        if done >= items || stop.load(Ordering::SeqCst) {
             break;
         }
         if put.put(rt, [done; 5]) {
@@ -53,10 +54,10 @@ fn put_many<R: Wait, P: Puts + Drop>(rt: &R, ends: &Ends, mut put: P, items: u64
 }
 
 /// Takes so many, unless it is told to stop.
-fn take_many<R: Wait, T: Takes + Drop>(rt: &R, ends: &Ends, mut take: T, items: u64) -> u64 {
+fn take_many<R: Wait, T: Takes + Drop>(rt: &R, stop: &AtomicBool, mut take: T, items: u64) -> u64 {
     let mut done = 0u64;
     for _ in rt.forever() {
-        if done >= items || ends.is_stopped() {
+        if done >= items || stop.load(Ordering::SeqCst) {
             break;
         }
         match take.take(rt) {
@@ -67,60 +68,56 @@ fn take_many<R: Wait, T: Takes + Drop>(rt: &R, ends: &Ends, mut take: T, items: 
     done
 }
 
-/// Starts a putting thread and a taking one. Where one can't be made, or passes are missing, all are told to stop.
+/// Starts a putting thread and a taking one. Where one can't be made, all are told to stop.
 fn start_pair<'s, 'e, R: Wait + Sync, P: Puts + Drop + Send + 'e, T: Takes + Drop + Send + 'e>(
     scope: &Scope<'s, &'e ()>,
     rt: &'e R,
-    ends: &'e Ends,
-    pair: Option<Pair<P, T>>,
+    stop: &'e AtomicBool,
+    pair: Pair<P, T>,
     items: u64,
 ) {
-    let Some(Pair { put, take }) = pair else {
-        ends.stop();
-        return;
-    };
-    let putting = scope.spawn(move || put_many(rt, ends, put, items));
-    let taking = scope.spawn(move || take_many(rt, ends, take, items));
-    if putting.is_err() || taking.is_err() {
-        ends.stop();
+    let Pair { put, take } = pair;
+    let putting = scope.spawn(move || put_many(rt, stop, put, items)).is_ok();
+    let taking = scope
+        .spawn(move || take_many(rt, stop, take, items))
+        .is_ok();
+    if !(putting && taking) {
+        stop.store(true, Ordering::SeqCst);
     }
 }
 
-/// Runs two pairs of threads to their ends: the time in which they do.
+/// Runs two pairs of threads to their ends: the nanoseconds in which they do.
 fn run_pairs<R: Threads + Wait + Sync + Clock, P: Puts + Drop + Send, T: Takes + Drop + Send>(
     rt: &R,
-    first: Option<Pair<P, T>>,
-    second: Option<Pair<P, T>>,
+    first: Pair<P, T>,
+    second: Pair<P, T>,
     items: u64,
-) -> Result<Duration, Fault> {
-    let ends = Ends::new();
-    let ends = &ends;
+) -> Result<u64, Fault> {
+    let stop = AtomicBool::new(false);
+    let stop = &stop;
     let start = Instant::now(rt);
     thread::scope(thread::scope_env(), rt, move |scope| {
-        start_pair(scope, rt, ends, first, items);
-        start_pair(scope, rt, ends, second, items);
+        start_pair(scope, rt, stop, first, items);
+        start_pair(scope, rt, stop, second, items);
     });
-    if ends.is_stopped() {
-        Err(Fault::Is("a thread or its pass was refused"))
+    if stop.load(Ordering::SeqCst) {
+        Err(Fault::Is("a thread was refused"))
     } else {
-        Ok(start?.elapsed(rt)?)
+        nanos_since(rt, start?)
     }
 }
 
-/// The time in which one thread puts and takes so many.
+/// The nanoseconds in which one thread puts and takes so many.
 fn alone<R: Wait + Clock, P: Puts + Drop, T: Takes + Drop>(
     rt: &R,
-    pair: Option<Pair<P, T>>,
+    mut pair: Pair<P, T>,
     items: u64,
-) -> Result<Duration, Fault> {
-    let Some(mut pair) = pair else {
-        return Err(Fault::Is("no passes"));
-    };
+) -> Result<u64, Fault> {
     let start = Instant::now(rt);
     let came = by_turns(rt, &mut pair, items);
     drop(pair);
     if came == items {
-        Ok(start?.elapsed(rt)?)
+        nanos_since(rt, start?)
     } else {
         Err(Fault::Is("an item didn't come"))
     }
@@ -129,90 +126,84 @@ fn alone<R: Wait + Clock, P: Puts + Drop, T: Takes + Drop>(
 /// The passes of one putter and one taker of the intake.
 fn part_pair<'a>(
     intake: &'a Intake<Piece>,
-    put: Option<PutPass<Piece>>,
-    take: Option<TakePass<Piece>>,
-) -> Option<Pair<PartPut<'a>, PartTake<'a>>>
-    requires put { IfSome put (λ pass. pass.queue ≡ intake.now) }
-    requires take { IfSome take (λ pass. pass.queue ≡ intake.now) }
+    put: PutPass<Piece>,
+    take: TakePass<Piece>,
+) -> Pair<PartPut<'a>, PartTake<'a>>
+    requires put { put.queue ≡ intake.now }
+    requires take { take.queue ≡ intake.now }
 {
-    match (put, take) {
-        (Some(put), Some(take)) => Some(Pair {
-            put: PartPut { intake, pass: put },
-            take: PartTake { intake, pass: take },
-        }),
-        _ => None,
+    Pair {
+        put: PartPut { intake, pass: put },
+        take: PartTake { intake, pass: take },
     }
 }
 
 /// The passes of one putter and one taker of the array queue.
 fn ring_pair<'a>(
     ring: &'a Ring,
-    put: Option<LanePut<Piece>>,
-    take: Option<LaneTake<Piece>>,
-) -> Option<Pair<RingPut<'a>, RingTake<'a>>>
-    requires put { IfSome put (λ pass. pass.queue ≡ ring.now) }
-    requires take { IfSome take (λ pass. pass.queue ≡ ring.now) }
+    put: LanePut<Piece>,
+    take: LaneTake<Piece>,
+) -> Pair<RingPut<'a>, RingTake<'a>>
+    requires put { put.queue ≡ ring.now }
+    requires take { take.queue ≡ ring.now }
 {
-    match (put, take) {
-        (Some(put), Some(take)) => Some(Pair {
-            put: RingPut { ring, pass: put },
-            take: RingTake { ring, pass: take },
-        }),
-        _ => None,
+    Pair {
+        put: RingPut { ring, pass: put },
+        take: RingTake { ring, pass: take },
     }
 }
 
-/// The time in which one thread puts so many to the intake and takes them.
-fn intake_alone<R: Wait + Clock + AllocGlobal>(rt: &R, items: u64) -> Result<Duration, Fault> {
+/// The nanoseconds in which one thread puts so many to the intake and takes them.
+fn intake_alone<R: Wait + Clock + AllocGlobal>(rt: &R, items: u64) -> Result<u64, Fault> {
     let (intake, mut puts, mut takes) = Intake::<Piece>::new(rt.alloc(), 1, 1)?;
-    let pair = part_pair(&intake, puts.pop(), takes.pop());
+    let pair = part_pair(&intake, puts.swap_remove(0), takes.swap_remove(0));
     alone(rt, pair, items)
 }
 
-/// The time in which one thread puts so many to the array queue and takes them.
-fn ring_alone<R: Wait + Clock + AllocGlobal>(rt: &R, items: u64) -> Result<Duration, Fault> {
+/// The nanoseconds in which one thread puts so many to the array queue and takes them.
+fn ring_alone<R: Wait + Clock + AllocGlobal>(rt: &R, items: u64) -> Result<u64, Fault> {
     let (ring, mut puts, mut takes) = Ring::new(rt.alloc(), 1, 1)?;
-    let pair = ring_pair(&ring, puts.pop(), takes.pop());
+    let pair = ring_pair(&ring, puts.swap_remove(0), takes.swap_remove(0));
     alone(rt, pair, items)
 }
 
-/// The time in which two threads put so many each to the intake, and two take as many.
+/// The nanoseconds in which two threads put so many each to the intake, and two take as many.
 fn intake_together<R: Threads + Wait + Sync + Clock + AllocGlobal>(
     rt: &R,
     items: u64,
-) -> Result<Duration, Fault> {
+) -> Result<u64, Fault> {
     let (intake, mut puts, mut takes) = Intake::<Piece>::new(rt.alloc(), 2, 2)?;
-    let second = part_pair(&intake, puts.pop(), takes.pop());
-    let first = part_pair(&intake, puts.pop(), takes.pop());
+    let second = part_pair(&intake, puts.swap_remove(1), takes.swap_remove(1));
+    let first = part_pair(&intake, puts.swap_remove(0), takes.swap_remove(0));
     run_pairs(rt, first, second, items)
 }
 
-/// The time in which two threads put so many each to the array queue, and two take as many.
+/// The nanoseconds in which two threads put so many each to the array queue, and two take as many.
 fn ring_together<R: Threads + Wait + Sync + Clock + AllocGlobal>(
     rt: &R,
     items: u64,
-) -> Result<Duration, Fault> {
+) -> Result<u64, Fault> {
     let (ring, mut puts, mut takes) = Ring::new(rt.alloc(), 2, 2)?;
-    let second = ring_pair(&ring, puts.pop(), takes.pop());
-    let first = ring_pair(&ring, puts.pop(), takes.pop());
+    let second = ring_pair(&ring, puts.swap_remove(1), takes.swap_remove(1));
+    let first = ring_pair(&ring, puts.swap_remove(0), takes.swap_remove(0));
     run_pairs(rt, first, second, items)
 }
 
-/// The least times of so many rounds: of the intake by one thread, of the array queue by one, and of both by four.
+/// The least times of so many rounds, in nanoseconds: of the intake by one thread, of the array queue by one, and of both by four.
 #[derive(Clone, Copy)]
 struct Least {
-    intake_alone: Duration,
-    ring_alone: Duration,
-    intake_together: Duration,
-    ring_together: Duration,
+    intake_alone: u64,
+    ring_alone: u64,
+    intake_together: u64,
+    ring_together: u64,
 }
 
 impl Least {
     const NONE: Least = Least {
-        intake_alone: Duration::MAX,
-        ring_alone: Duration::MAX,
-        intake_together: Duration::MAX,
-        ring_together: Duration::MAX,
+        intake_alone: u64::MAX,
+        ring_alone: u64::MAX,
+        intake_together: u64::MAX,
+        ring_together: u64::MAX,
     };
 
     /// Passes so many items through once more.
@@ -232,7 +223,7 @@ impl Least {
     /// Prints the times of one item.
     fn print<R: Print>(self, rt: &R, items: u64) -> io::Result<()> {
         let all = items.saturating_mul(2);
-        for (what, items, least) in [
+        let rows = [
             ("intake, one thread", items, self.intake_alone),
             ("array queue, one thread", items, self.ring_alone),
             (
@@ -245,9 +236,9 @@ impl Least {
                 all,
                 self.ring_together,
             ),
-        ] {
-            let nanos = u64::try_from(least.as_nanos()).unwrap_or(u64::MAX);
-            let each = nanos / items.max(1);
+        ];
+        for (what, items, least) in rows.iter() {
+            let each = *least / (*items).max(1);
             println!(rt; "{what}: {each} ns an item")?;
         }
         Ok(())

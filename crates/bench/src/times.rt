@@ -2,11 +2,19 @@
 
 ghost use Rattle.std.specs.Prelude.{◌<◌};
 
-use std::time::Duration;
+use crate::faults::Fault;
+use std::rt::Clock;
+use std::time::Instant;
 
-/// A time in microseconds, at least one.
-pub(crate) fn micros(time: Duration) -> u64
+/// How many nanoseconds have gone since then.
+pub(crate) fn nanos_since<R: Clock>(rt: &R, start: Instant) -> Result<u64, Fault> {
+    let nanos = start.elapsed(rt)?.as_nanos();
+    Ok(u64::try_from(nanos).unwrap_or(u64::MAX))
+}
+
+/// The same in microseconds, at least one.
+pub(crate) fn micros(nanos: u64) -> u64
     ensures { 0 < result }
 {
-    u64::try_from(time.as_micros()).unwrap_or(u64::MAX).max(1)
+    (nanos / 1000).max(1)
 }

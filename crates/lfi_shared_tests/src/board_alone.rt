@@ -1,85 +1,81 @@
 //! The board by itself, on one thread.
 
-ghost use Rattle.std.specs.Prelude.{◌≡◌, IfOk};
+ghost use Rattle.std.specs.Prelude.{◌≡◌};
 ghost use Rattle.lfi_board.specs.Known.{board_id};
 ghost use Rattle.lfi_board.specs.Rows.{NewReceivers, IsNewReceiver};
 
-use lfi_board::{Board, Change, Claim, Phase, ReceiverSeat, Seats};
+use lfi_board::{Board, Change, Claim, Phase, ReceiverSeat, SequencerSeat, WatchSeat};
 use lfi_module::ModuleNumber;
-use std::test::Fail;
+use std::process::Abort;
 
-fn needs_send<T: Send>(_: &T) {}
+fn needs_send<T: Send>() {}
 
-fn needs_sync<T: Sync>(_: &T) {}
+fn needs_sync<T: Sync>() {}
+
+#[test]
+fn boards_are_shared_and_seats_move(_: HostRuntime) {
+    needs_sync::<Board>();
+    needs_send::<Board>();
+    needs_send::<ReceiverSeat>();
+    needs_send::<SequencerSeat>();
+    needs_send::<WatchSeat>();
+}
 
 /// The seats of a new board's two receivers.
 fn both(
+    rt: &impl Abort,
     board: &Board,
     mut row: [Option<ReceiverSeat>; 8],
-) -> Result<(ReceiverSeat, ReceiverSeat), Fail>
+) -> (ReceiverSeat, ReceiverSeat)
     requires { NewReceivers (board_id board.now) 2 2 row }
-    ensures { IfOk result (λ r. IsNewReceiver (board_id board.now) 2 r.0 × IsNewReceiver (board_id board.now) 2 r.1) }
+    ensures { IsNewReceiver (board_id board.now) 2 result.0 × IsNewReceiver (board_id board.now) 2 result.1 }
 {
     let _ = board;
-    let first = row[0].take().ok_or("no first seat")?;
-    let second = row[1].take().ok_or("no second seat")?;
-    Ok((first, second))
+    let first = row[0].take().expect(rt, "no first seat");
+    let second = row[1].take().expect(rt, "no second seat");
+    (first, second)
 }
 
 #[test]
-fn a_module_has_one_claim_and_one_end(rt: HostRuntime) -> Result<(), Fail> {
-    let (board, seats) = Board::new(rt.alloc(), 2, 1)?;
-    let Seats {
-        receivers,
-        mut sequencers,
-        watchers,
-    } = seats;
-    let (mut first, mut second) = both(&board, receivers)?;
-    needs_sync(&board);
-    needs_send(&board);
-    needs_send(&first);
-    needs_send(&watchers);
+fn a_module_has_one_claim_and_one_end(rt: HostRuntime) {
+    let (board, seats) = Board::new(rt.alloc(), 2, 1).expect(&rt, "no board");
+    let (mut first, mut second) = both(&rt, &board, seats.receivers);
+    let mut sequencers = seats.sequencers;
     let three = ModuleNumber::at(3);
-    assert!(rt; board.claim(&mut first, three) == Claim::Mine);
-    assert!(rt; board.claim(&mut second, three) == Claim::Taken);
+    let claims = [
+        board.claim(&mut first, three),
+        board.claim(&mut second, three),
+    ];
     let sequencer = &mut sequencers[3];
-    assert!(rt; board.refuse(sequencer) == Change::Made);
-    assert!(rt; board.finish(sequencer) == Change::WasEnded);
-    assert!(rt; board.look(&mut second, three) == Phase::Refused);
-    Ok(())
+    let changes = [board.refuse(sequencer), board.finish(sequencer)];
+    let phase = board.look(&mut second, three);
+    assert!(rt; claims == [Claim::Mine, Claim::Taken]);
+    assert!(rt; changes == [Change::Made, Change::WasEnded] && phase == Phase::Refused);
 }
 
 #[test]
-fn ends_are_counted(rt: HostRuntime) -> Result<(), Fail> {
-    let (board, seats) = Board::new(rt.alloc(), 2, 1)?;
-    let Seats {
-        receivers,
-        mut sequencers,
-        mut watchers,
-    } = seats;
-    let (_, mut second) = both(&board, receivers)?;
-    needs_send(&sequencers);
-    let sequencer = &mut sequencers[4];
-    assert!(rt; board.refuse(sequencer) == Change::WasFree);
+fn ends_are_counted(rt: HostRuntime) {
+    let (board, seats) = Board::new(rt.alloc(), 2, 1).expect(&rt, "no board");
+    let (_, mut second) = both(&rt, &board, seats.receivers);
+    let mut sequencers = seats.sequencers;
+    let mut watchers = seats.watchers;
+    let change = board.refuse(&mut sequencers[4]);
     let watcher = &mut watchers[0];
-    assert!(rt; board.ended(watcher) == 0);
-    assert!(rt; board.one_ended(&mut second) == 0);
-    assert!(rt; board.ended(watcher) == 1);
-    Ok(())
+    let before = board.ended(watcher);
+    let told = board.one_ended(&mut second);
+    let after = board.ended(watcher);
+    assert!(rt; change == Change::WasFree && [before, told, after] == [0, 0, 1]);
 }
 
 #[test]
-fn the_holder_is_who_claimed(rt: HostRuntime) -> Result<(), Fail> {
-    let (board, seats) = Board::new(rt.alloc(), 2, 0)?;
-    let Seats {
-        receivers,
-        sequencers: _,
-        watchers: _,
-    } = seats;
-    let (mut first, mut second) = both(&board, receivers)?;
+fn the_holder_is_who_claimed(rt: HostRuntime) {
+    let (board, seats) = Board::new(rt.alloc(), 2, 0).expect(&rt, "no board");
+    let (mut first, mut second) = both(&rt, &board, seats.receivers);
     let three = ModuleNumber::at(3);
-    assert!(rt; board.claim(&mut first, three) == Claim::Mine);
-    assert!(rt; board.claim(&mut second, three) == Claim::Taken);
+    let claims = [
+        board.claim(&mut first, three),
+        board.claim(&mut second, three),
+    ];
     let mut row = [
         Some(first),
         None,
@@ -90,7 +86,8 @@ fn the_holder_is_who_claimed(rt: HostRuntime) -> Result<(), Fail> {
         None,
         None,
     ];
-    assert!(rt; board.holder(&mut row, three) == Some(0));
-    assert!(rt; board.holder(&mut row, ModuleNumber::at(4)) == None);
-    Ok(())
+    let holder = board.holder(&mut row, three);
+    let none = board.holder(&mut row, ModuleNumber::at(4));
+    assert!(rt; claims == [Claim::Mine, Claim::Taken]);
+    assert!(rt; holder == Some(0) && none.is_none());
 }

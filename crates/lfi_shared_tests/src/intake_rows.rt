@@ -1,65 +1,79 @@
 //! The intake: on one thread, and on two that may not wait.
 
 ghost use Rattle.std.specs.Prelude.{◌≡◌, Some};
-ghost use Rattle.lfi_queues.specs.Passes.{AreAllPasses, IsPass};
+ghost use Rattle.lfi_queues.specs.Passes.{AreAllPasses, IsPass, IsSamePass};
 
 use lfi_queues::{Intake, PutPass, TakePass, Taken};
-use std::process::Abort;
-use std::test::Fail;
 use std::thread::{self, Threads};
 
-/// Puts the numbers from this one on, so many.
-fn fill(rt: &impl Abort, intake: &Intake<u64>, pass: &mut PutPass<u64>, first: u64, count: u64)
+/// Puts the numbers from this one on, so many: how many were put.
+fn fill(intake: &Intake<u64>, pass: &mut PutPass<u64>, first: u64, count: u64) -> u64
     requires { pass.old.queue ≡ intake.now }
-    ensures { pass.new.queue ≡ intake.now }
+    ensures { IsSamePass pass.old pass.new }
 {
+    let mut done = 0u64;
     for number in 0..count {
-        assert!(rt;
-            intake.put(pass, first.wrapping_add(number)).is_ok(),
-            "{number}"
-        );
+        let is_put = intake.put(pass, first.wrapping_add(number)).is_ok();
+        done = done.wrapping_add(u64::from(is_put));
     }
+    done
 }
 
-/// Takes the numbers from 0 on, so many, and there are no more.
-fn empty(rt: &impl Abort, intake: &Intake<u64>, pass: &mut TakePass<u64>, count: u64)
+/// Takes in so many tries: how many of the numbers from 0 on came, in order.
+fn take_some(intake: &Intake<u64>, pass: &mut TakePass<u64>, tries: u64) -> u64
     requires { pass.old.queue ≡ intake.now }
-    ensures { pass.new.queue ≡ intake.now }
+    ensures { IsSamePass pass.old pass.new }
 {
-    for number in 0..count {
-        assert!(rt;
-            matches!(intake.take(pass), Taken::Item(it) if it == number),
-            "{number}"
-        );
+    let mut next = 0u64;
+    for _ in 0..tries {
+        let is_next = matches!(intake.take(pass), Taken::Item(it) if it == next);
+        next = next.wrapping_add(u64::from(is_next));
     }
-    assert!(rt; matches!(intake.take(pass), Taken::Empty));
+    next
+}
+
+/// Takes so many numbers: whether they are those from 0 on, and there are no more.
+fn is_emptied(intake: &Intake<u64>, pass: &mut TakePass<u64>, count: u64) -> bool
+    requires { pass.old.queue ≡ intake.now }
+{
+    let came = take_some(intake, pass, count);
+    matches!(intake.take(pass), Taken::Empty) && came == count
 }
 
 #[test]
-fn room_for_256(rt: HostRuntime) -> Result<(), Fail> {
-    let (intake, mut puts, mut takes) = Intake::<u64>::new(rt.alloc(), 2, 1)?;
-    empty(&rt, &intake, &mut takes[0], 0);
-    fill(&rt, &intake, &mut puts[1], 0, 256);
-    fill(&rt, &intake, &mut puts[0], 1000, 256);
-    Ok(())
+fn room_for_256(rt: HostRuntime) {
+    let (intake, mut puts, mut takes) = Intake::<u64>::new(rt.alloc(), 2, 1).expect(
+        &rt,
+        "no intake",
+    );
+    let none = is_emptied(&intake, &mut takes[0], 0);
+    let second = fill(&intake, &mut puts[1], 0, 256);
+    let first = fill(&intake, &mut puts[0], 1000, 256);
+    assert!(rt; none && [first, second] == [256, 256]);
 }
 
 #[test]
-fn more_than_256(rt: HostRuntime) -> Result<(), Fail> {
-    let (intake, mut puts, mut takes) = Intake::<u64>::new(rt.alloc(), 1, 1)?;
-    fill(&rt, &intake, &mut puts[0], 0, 1000);
-    empty(&rt, &intake, &mut takes[0], 1000);
-    Ok(())
+fn more_than_256(rt: HostRuntime) {
+    let (intake, mut puts, mut takes) = Intake::<u64>::new(rt.alloc(), 1, 1).expect(
+        &rt,
+        "no intake",
+    );
+    let put = fill(&intake, &mut puts[0], 0, 1000);
+    assert!(rt; put == 1000 && is_emptied(&intake, &mut takes[0], 1000));
 }
 
 #[test]
-fn parts_by_turns(rt: HostRuntime) -> Result<(), Fail> {
-    let (intake, mut puts, mut takes) = Intake::<u64>::new(rt.alloc(), 2, 1)?;
-    fill(&rt, &intake, &mut puts[0], 0, 1);
-    fill(&rt, &intake, &mut puts[0], 2, 1);
-    fill(&rt, &intake, &mut puts[1], 1, 1);
-    empty(&rt, &intake, &mut takes[0], 3);
-    Ok(())
+fn parts_by_turns(rt: HostRuntime) {
+    let (intake, mut puts, mut takes) = Intake::<u64>::new(rt.alloc(), 2, 1).expect(
+        &rt,
+        "no intake",
+    );
+    let put = [
+        fill(&intake, &mut puts[0], 0, 1),
+        fill(&intake, &mut puts[0], 2, 1),
+        fill(&intake, &mut puts[1], 1, 1),
+    ];
+    assert!(rt; put == [1, 1, 1] && is_emptied(&intake, &mut takes[0], 3));
 }
 
 /// Puts the numbers from 0 on, so many: how many were put, and the pass.
@@ -67,29 +81,17 @@ fn put_all(intake: &Intake<u64>, mut pass: PutPass<u64>, count: u64) -> (u64, Pu
     requires { IsPass intake.now 1 0 pass }
     ensures { IsPass intake.now 1 0 result.1 }
 {
-    let mut done = 0u64;
-    for number in 0..count {
-        if intake.put(&mut pass, number).is_ok() {
-            done = done.wrapping_add(1);
-        }
-    }
+    let done = fill(intake, &mut pass, 0, count);
     (done, pass)
 }
 
 /// Takes in so many tries: how many of the numbers from 0 on came, in order, and the pass.
-fn take_some(intake: &Intake<u64>, mut pass: TakePass<u64>, tries: u64) -> (u64, TakePass<u64>)
+fn take_all(intake: &Intake<u64>, mut pass: TakePass<u64>, tries: u64) -> (u64, TakePass<u64>)
     requires { IsPass intake.now 1 0 pass }
     ensures { IsPass intake.now 1 0 result.1 }
 {
-    let mut next = 0u64;
-    for _ in 0..tries {
-        if let Taken::Item(item) = intake.take(&mut pass) {
-            if item == next {
-                next = next.wrapping_add(1);
-            }
-        }
-    }
-    (next, pass)
+    let came = take_some(intake, &mut pass, tries);
+    (came, pass)
 }
 
 /// One thread puts the numbers below 1,000, and another takes. Neither may wait.
@@ -113,7 +115,7 @@ fn put_and_take<R: Threads>(
         move || -> (u64, TakePass<u64>)
             requires { IsPass intake.now 1 0 take }
             ensures { IsPass intake.entry.now 1 0 result.1 }
-        { take_some(intake, take, 3000) },
+        { take_all(intake, take, 3000) },
     )
 }
 
@@ -123,21 +125,16 @@ type PutRow = [Option<PutPass<u64>>; 1];
 /// The taker's pass, at its place.
 type TakeRow = [Option<TakePass<u64>>; 8];
 
-/// Takes what is left, the numbers from this one on, and tells the first that doesn't come, or 1,001.
-fn rest_from(
-    rt: &impl Abort,
-    intake: &Intake<u64>,
-    puts: &mut PutRow,
-    takes: &mut TakeRow,
-    first: u64,
-) -> u64
+/// Takes what is left: how far the numbers from this one on came, with none after them; 1,001 where others did.
+fn rest_from(intake: &Intake<u64>, puts: &mut PutRow, takes: &mut TakeRow, first: u64) -> u64
     requires counts { (intake.now.putters ≡ 1) × (intake.now.takers ≡ 1) }
     requires puts { AreAllPasses intake.now 1 puts.old }
     requires takes { AreAllPasses intake.now 1 takes.old }
 {
     for next in first..1001 {
         match intake.rest(puts, takes) {
-            Some(item) => assert!(rt; item == next, "{next}"),
+            Some(item) if item == next => {}
+            Some(_) => return 1001,
             None => return next,
         }
     }
@@ -146,28 +143,23 @@ fn rest_from(
 
 /// Takes what is left, with both passes in hand.
 #[tactic(auto, using(crate::proofs::Rows::one_put, crate::proofs::Rows::one_take))]
-fn rest_of(
-    rt: &impl Abort,
-    intake: &Intake<u64>,
-    put: PutPass<u64>,
-    take: TakePass<u64>,
-    first: u64,
-) -> u64
+fn rest_of(intake: &Intake<u64>, put: PutPass<u64>, take: TakePass<u64>, first: u64) -> u64
     requires counts { (intake.now.putters ≡ 1) × (intake.now.takers ≡ 1) }
     requires put { IsPass intake.now 1 0 put }
     requires take { IsPass intake.now 1 0 take }
 {
     let mut puts = [Some(put)];
     let mut takes = [Some(take), None, None, None, None, None, None, None];
-    rest_from(rt, intake, &mut puts, &mut takes, first)
+    rest_from(intake, &mut puts, &mut takes, first)
 }
 
 #[test]
-fn two_threads_that_may_not_wait(rt: HostRuntime) -> Result<(), Fail> {
-    let (intake, mut puts, mut takes) = Intake::<u64>::new(rt.alloc(), 1, 1)?;
+fn two_threads_that_may_not_wait(rt: HostRuntime) {
+    let (intake, mut puts, mut takes) = Intake::<u64>::new(rt.alloc(), 1, 1).expect(
+        &rt,
+        "no intake",
+    );
     let (put, take) = (puts.swap_remove(0), takes.swap_remove(0));
     let ((done, put), (taken, take)) = put_and_take(&rt, &intake, put, take);
-    assert!(rt; done == 1000);
-    assert!(rt; rest_of(&rt, &intake, put, take, taken) == 1000);
-    Ok(())
+    assert!(rt; done == 1000 && rest_of(&intake, put, take, taken) == 1000);
 }

@@ -5,7 +5,6 @@
 mod board_alone;
 #[cfg(test)]
 mod board_rows;
-pub mod ends;
 #[cfg(test)]
 mod intake_rows;
 #[cfg(test)]

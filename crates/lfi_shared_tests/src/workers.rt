@@ -3,12 +3,12 @@
 ghost use Rattle.std.specs.Prelude.{◌≡◌, ◌<◌, ◌≤◌, vec_len};
 ghost use Rattle.lfi_queues.specs.Passes.{AreAllPasses, IsSamePass, new_passes};
 
-use crate::ends::Ends;
 use crate::passes::{PutRow, Queue, TakeRow};
 use lfi_queues::{LanePut, LaneTake};
 use std::alloc::Global;
 use std::process::Abort;
 use std::sync::Wait;
+use std::sync::atomic::{AtomicU64, Ordering};
 use std::thread;
 use std::thread::{Promise, Scope, Threads};
 
@@ -41,7 +41,7 @@ impl<'a> Promise<Taker> for PassOf<'a> {
 fn put_all<R: Wait>(
     rt: &R,
     queue: &Queue,
-    ends: &Ends,
+    ended: &AtomicU64,
     mut pass: LanePut<u64>,
     thread: u64,
 ) -> LanePut<u64>
@@ -60,7 +60,7 @@ fn put_all<R: Wait>(
             Err(_) => thread::yield_now(),
         }
     }
-    ends.one_ended();
+    ended.fetch_add(1, Ordering::SeqCst);
     pass
 }
 
@@ -68,7 +68,7 @@ fn put_all<R: Wait>(
 fn take_all<R: Wait + Abort>(
     rt: &R,
     queue: &Queue,
-    ends: &Ends,
+    ended: &AtomicU64,
     mut taker: Taker,
     putters: u64,
 ) -> Taker
@@ -81,7 +81,7 @@ fn take_all<R: Wait + Abort>(
             Some(number) => taker.numbers.push(number).expect(rt, "no memory"),
             None if all_ended => break,
             None => {
-                all_ended = ends.have_ended(putters);
+                all_ended = ended.load(Ordering::SeqCst) >= putters;
                 thread::yield_now();
             }
         }
@@ -96,7 +96,7 @@ fn run_takers<'s, 'e, R: Threads + Wait + Abort + Sync>(
     rt: &'e R,
     alloc: Global,
     queue: &'e Queue,
-    ends: &'e Ends,
+    ended: &'e AtomicU64,
     mut takes: Vec<LaneTake<u64>>,
     putters: u64,
     lists: &mut Vec<Vec<u64>>,
@@ -114,11 +114,11 @@ fn run_takers<'s, 'e, R: Threads + Wait + Abort + Sync>(
     };
     let Ok(thread) = scope.spawn_with(
         PassOf { queue, number },
-        move || take_all(rt, queue, ends, taker, putters),
+        move || take_all(rt, queue, ended, taker, putters),
     ) else {
         panic!(rt; "no thread")
     };
-    let mut row = run_takers(scope, rt, alloc, queue, ends, takes, putters, lists);
+    let mut row = run_takers(scope, rt, alloc, queue, ended, takes, putters, lists);
     let Taker { pass, numbers } = thread.join(rt);
     row[number] = Some(pass);
     lists.push(numbers).expect(rt, "no memory");
@@ -131,7 +131,7 @@ fn run_putters<'s, 'e, R: Threads + Wait + Abort + Sync>(
     rt: &'e R,
     alloc: Global,
     queue: &'e Queue,
-    ends: &'e Ends,
+    ended: &'e AtomicU64,
     mut puts: Vec<LanePut<u64>>,
     takes: Vec<LaneTake<u64>>,
     putters: u64,
@@ -143,17 +143,17 @@ fn run_putters<'s, 'e, R: Threads + Wait + Abort + Sync>(
     ensures takes { AreAllPasses queue.now (vec_len takes) result.1 }
 {
     let Some(pass) = puts.pop() else {
-        let row = run_takers(scope, rt, alloc, queue, ends, takes, putters, lists);
+        let row = run_takers(scope, rt, alloc, queue, ended, takes, putters, lists);
         return ([None, None, None, None, None, None, None, None], row);
     };
     let number = puts.len();
     let Ok(thread) = scope.spawn_with(
         PassOf { queue, number },
-        move || put_all(rt, queue, ends, pass, number as u64),
+        move || put_all(rt, queue, ended, pass, number as u64),
     ) else {
         panic!(rt; "no thread")
     };
-    let (mut row, takes) = run_putters(scope, rt, alloc, queue, ends, puts, takes, putters, lists);
+    let (mut row, takes) = run_putters(scope, rt, alloc, queue, ended, puts, takes, putters, lists);
     row[number] = Some(thread.join(rt));
     (row, takes)
 }
@@ -187,7 +187,7 @@ fn relay_in<'s, 'e, R: Threads + Wait + Abort + Sync>(
     rt: &'e R,
     alloc: Global,
     queue: &'e Queue,
-    ends: &'e Ends,
+    ended: &'e AtomicU64,
     puts: Vec<LanePut<u64>>,
     takes: Vec<LaneTake<u64>>,
 ) -> Vec<Vec<u64>>
@@ -198,7 +198,7 @@ fn relay_in<'s, 'e, R: Threads + Wait + Abort + Sync>(
     let mut lists = Vec::new(alloc);
     let putters = puts.len() as u64;
     let (mut puts, mut takes) = run_putters(
-        scope, rt, alloc, queue, ends, puts, takes, putters, &mut lists,
+        scope, rt, alloc, queue, ended, puts, takes, putters, &mut lists,
     );
     let left = drain(rt, alloc, queue, &mut puts, &mut takes);
     lists.push(left).expect(rt, "no memory");
@@ -217,12 +217,12 @@ pub(crate) fn relay<R: Threads + Wait + Abort + Sync>(
     requires { (putters ≤ 8) × (0 < takers) × (takers ≤ 8) }
 {
     let (queue, puts, takes) = Queue::new(alloc, putters, takers).expect(rt, "no memory");
-    let (queue, ends) = (&queue, &Ends::new());
+    let (queue, ended) = (&queue, &AtomicU64::new(0));
     thread::scope(
         thread::scope_env(),
         rt,
         move |scope| -> Vec<Vec<u64>>
             requires { (0 < queue.now.takers) × ((puts.items ≡ new_passes queue.now queue.now.putters) × (vec_len puts ≡ queue.now.putters) × (queue.now.putters ≤ 8)) × ((takes.items ≡ new_passes queue.now queue.now.takers) × (vec_len takes ≡ queue.now.takers) × (queue.now.takers ≤ 8)) }
-        { relay_in(scope, rt, alloc, queue, ends, puts, takes) },
+        { relay_in(scope, rt, alloc, queue, ended, puts, takes) },
     )
 }

@@ -1,5 +1,5 @@
-use Rattle.std.proofs.Common.{◌≡◌}
+use Rattle.lfi_queues.specs.Passes.{IsSamePass}
 use Rattle.lfi_shared_tests.proofs.intake_rows.fill.Given as goal
 
 abbrev pub invariant-loop-number : goal.invariant-loop-number
-invariant-loop-number g l = l.pass.queue ≡ l.intake
+invariant-loop-number l = IsSamePass l.fn.pass l.pass
