@@ -1,12 +1,16 @@
 -- The passes that are made with new lanes.
 use Rattle.std.proofs.Common.{◌≡◌, ℕ, zero, suc, ◌<◌, List, [], ◌∷◌, length, get_or, Some, refl, sym, subst, ap, ◌∙◌, arith}
 use Rattle.std.proofs.lemmas.Option.{slice_get_read}
-use Rattle.std.specs.Prelude.{slice_get}
+use Rattle.std.specs.Prelude.{slice_get, Result, Ok, IfOk}
 use Rattle.std.specs.Option.{option_map, option_map_or}
 use Rattle.std.specs.Global.{Vec}
 use Rattle.lfi_model.specs.Item.{ItemView}
 use Rattle.lfi_queues.specs.Passes.{QueueId, PassView}
 use Rattle.lfi_place.specs.Lanes.{AreRows, new_row}
+
+-- what holds where a call has succeeded, of what it brings
+pub brought : {A B : Type 0} (P : A → Type 0) (r : Result A B) (x : A) → r ≡ Ok x → IfOk r P → P x
+brought P r x e h = subst (λ o. IfOk o P) e h
 
 pub row_given : (lanes : List QueueId) (count : ℕ) (rows : List (Vec (PassView ItemView))) (row : Vec (PassView ItemView)) → AreRows lanes count rows → 0 < count → row ≡ get_or rows 0 row → new_row lanes 0 ≡ row.items
 row_given lanes count rows row are some value =

@@ -7,7 +7,6 @@ use lfi_module::{Extent, ModuleNumber, PageSize, Profile, WordCount};
 use lfi_queues::{Intake, Lane};
 use page_buf::{OpenPage, Pool, PoolMember};
 use std::alloc::Global;
-use std::test::Fail;
 
 /// What takes memory to be made.
 #[derive(Clone, Copy)]
@@ -51,7 +50,7 @@ fn is_made(alloc: Global, made: Made) -> bool {
 }
 
 #[test]
-fn what_is_refused_is_made_again(rt: HostRuntime) -> Result<(), Fail> {
+fn what_is_refused_is_made_again(rt: HostRuntime) {
     let mut refused = 0u32;
     let mut made = true;
     for one in ALL.iter() {
@@ -66,6 +65,5 @@ fn what_is_refused_is_made_again(rt: HostRuntime) -> Result<(), Fail> {
     } else {
         "made at once"
     };
-    println!(rt; "{told}")?;
-    Ok(())
+    println!(rt; "{told}").expect(&rt, "not told");
 }

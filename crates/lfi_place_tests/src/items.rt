@@ -5,8 +5,7 @@ ghost use Rattle.std.specs.Prelude.{◌≡◌};
 use lfi_model::{Item, ItemKind, Judged, Reason};
 use lfi_module::{Extent, ModuleNumber, PageSize, Profile, WordCount};
 use page_buf::{OpenPage, PoolMember, SealedPage};
-use std::alloc::Global;
-use std::test::Fail;
+use std::process::Abort;
 
 /// How many words the module has.
 pub const WORDS: u32 = 2049;
@@ -42,49 +41,45 @@ pub fn module() -> ModuleNumber
 
 /// A page of this size and of so many words, which it has room for: NOPs, and this word at its end.
 pub fn page_ending(
-    alloc: Global,
+    rt: &(impl Abort + AllocGlobal),
     size: PageSize,
     words: u32,
     last: u32,
-) -> Result<SealedPage, Fail> {
-    let mut page = OpenPage::new(alloc, size)?;
+) -> SealedPage {
+    let mut page = OpenPage::new(rt.alloc(), size).expect(rt, "no page");
     for _ in 1..words {
         page.write(&NOP.to_le_bytes());
     }
     page.write(&last.to_le_bytes());
     match page.seal() {
-        Ok(page) => Ok(page),
-        Err(_) => Err(Fail::from("the page was not sealed")),
+        Ok(page) => page,
+        Err(_) => panic!(rt; "the page was not sealed"),
     }
 }
 
 /// A page's item.
-fn page(extent: Extent, index: u32, page: SealedPage) -> Result<Item, Fail> {
+fn page(rt: &impl Abort, extent: Extent, index: u32, page: SealedPage) -> Item {
     let words = extent.words();
     let bytes = page.bytes().len();
     let pages = extent.pages();
-    if index > 4095 || page.size() != pages || !words.is_due(pages, index, index, bytes) {
-        return Err(Fail::from("no page of the module"));
-    }
-    Ok(Item {
+    assert!(rt; index <= 4095 && page.size() == pages && words.is_due(pages, index, index, bytes));
+    Item {
         module: module(),
         ordinal: index + 1,
         extent,
         kind: ItemKind::Page(page),
-    })
+    }
 }
 
 /// An End's item.
-fn end(extent: Extent, pages: u32, reason: Reason) -> Result<Item, Fail> {
-    if pages > 4096 {
-        return Err(Fail::from("no module has so many pages"));
-    }
-    Ok(Item {
+fn end(rt: &impl Abort, extent: Extent, pages: u32, reason: Reason) -> Item {
+    assert!(rt; pages <= 4096);
+    Item {
         module: module(),
         ordinal: pages + 1,
         extent,
         kind: ItemKind::End(reason),
-    })
+    }
 }
 
 /// A module of so many words, entered at word 7, or its last one, that goes by a profile and has small pages.
@@ -94,27 +89,27 @@ pub fn extent_of(words: WordCount, profile: Profile) -> Extent {
 }
 
 /// The item of this part, in such a module.
-pub fn item_of(alloc: Global, extent: Extent, part: Part) -> Result<Item, Fail> {
+pub fn item_of(rt: &(impl Abort + AllocGlobal), extent: Extent, part: Part) -> Item {
     match part {
-        Part::Open => Ok(Item {
+        Part::Open => Item {
             module: module(),
             ordinal: 0,
             extent,
             kind: ItemKind::Open,
-        }),
+        },
         Part::Page(index, last) => {
             let size = extent.pages();
             let words = extent.words().bytes_in_page(size, index) / 4;
-            page(extent, index, page_ending(alloc, size, words, last)?)
+            page(rt, extent, index, page_ending(rt, size, words, last))
         }
-        Part::End(pages, reason) => end(extent, pages, reason),
+        Part::End(pages, reason) => end(rt, extent, pages, reason),
     }
 }
 
 /// The judged item of this part.
-pub fn judged(alloc: Global, part: Part) -> Result<Judged, Fail> {
+pub fn judged(rt: &(impl Abort + AllocGlobal), part: Part) -> Judged {
     let extent = extent_of(WordCount::of(WORDS), Profile::One);
-    Ok(item_of(alloc, extent, part)?.judge())
+    item_of(rt, extent, part).judge()
 }
 
 /// How many pages are in the pool of this member, of 64 at most. It gets them all.

@@ -7,8 +7,7 @@ use lfi_module::{Extent, PageSize, Profile, WordCount};
 use lfi_place::{ImageState, ModuleReport, RefusedWord, Sequence};
 use lfi_rules::{Fault, Rule};
 use page_buf::PoolMember;
-use std::alloc::Global;
-use std::test::Fail;
+use std::process::Abort;
 
 /// The items of a lawful module, in their order.
 const LAWFUL: [Part; 5] = [
@@ -97,16 +96,17 @@ fn told(report: ModuleReport) -> Seen {
 type Extents = [Extent; 2];
 
 /// What became of a module whose items came in this order, and how many pages are in its pool.
-fn placed(alloc: Global, extents: Extents, parts: &[Part]) -> Result<(Seen, u64), Fail> {
-    let mut member = PoolMember::new(alloc)?;
-    let mut sequence = Sequence::new(alloc, module(), member.another()?)?;
+fn placed(rt: &(impl Abort + AllocGlobal), extents: Extents, parts: &[Part]) -> (Seen, u64) {
+    let mut member = PoolMember::new(rt.alloc()).expect(rt, "no pool");
+    let other = member.another().expect(rt, "no other member");
+    let mut sequence = Sequence::new(rt.alloc(), module(), other).expect(rt, "no sequence");
     let [mut extent, later] = extents;
     for part in parts {
-        sequence.handle(item_of(alloc, extent, *part)?.judge());
+        sequence.handle(item_of(rt, extent, *part).judge());
         extent = later;
     }
-    let count = pooled(&mut member);
-    Ok((told(sequence.into_report()), count))
+    let seen = told(sequence.into_report());
+    (seen, pooled(&mut member))
 }
 
 /// The module of the items.
@@ -128,15 +128,15 @@ fn order(number: usize) -> [usize; 5] {
 }
 
 /// The first order of these parts that doesn't come to this.
-fn first_other(alloc: Global, parts: &[Part; 5], want: Seen) -> Result<Option<usize>, Fail> {
+fn first_other(rt: &(impl Abort + AllocGlobal), parts: &[Part; 5], want: Seen) -> Option<usize> {
     for number in 0..120 {
         let ordered = order(number).map(|place| parts[place.min(4)]);
-        let (seen, _) = placed(alloc, usual(), &ordered)?;
+        let (seen, _) = placed(rt, usual(), &ordered);
         if seen != want {
-            return Ok(Some(number));
+            return Some(number);
         }
     }
-    Ok(None)
+    None
 }
 
 /// How many of the orders before this one are the same.
@@ -156,11 +156,10 @@ fn each_order_is_another(rt: HostRuntime) {
 }
 
 #[test]
-fn every_order_comes_to_the_same(rt: HostRuntime) -> Result<(), Fail> {
-    let lawful = first_other(rt.alloc(), &LAWFUL, WHOLE)?;
-    let unlawful = first_other(rt.alloc(), &UNLAWFUL, UNSPELLED)?;
+fn every_order_comes_to_the_same(rt: HostRuntime) {
+    let lawful = first_other(&rt, &LAWFUL, WHOLE);
+    let unlawful = first_other(&rt, &UNLAWFUL, UNSPELLED);
     assert!(rt; lawful.is_none() && unlawful.is_none());
-    Ok(())
 }
 
 /// What became of a module that isn't whole: its outcome and how many words are placed.
@@ -187,7 +186,7 @@ fn refused(rule: Rule, placed: u32, word: u32, before: Option<u32>) -> Seen {
 const LOAD_LINK: u32 = 0xF940_02BE;
 
 #[test]
-fn items_are_placed(rt: HostRuntime) -> Result<(), Fail> {
+fn items_are_placed(rt: HostRuntime) {
     let [open, first, second, third, end] = LAWFUL;
     let unmet = [open, Part::Page(0, LOAD_LINK), second, third, end];
     let one = extent_of(WordCount::of(1), Profile::One);
@@ -210,14 +209,13 @@ fn items_are_placed(rt: HostRuntime) -> Result<(), Fail> {
         (usual(), &[], part(Outcome::Unused, None)),
     ];
     for (place, (extents, parts, want)) in rows.iter().enumerate() {
-        let (seen, _) = placed(rt.alloc(), *extents, *parts)?;
+        let (seen, _) = placed(&rt, *extents, *parts);
         assert!(rt; seen == *want, "row {place}");
     }
-    Ok(())
 }
 
 #[test]
-fn a_large_page_is_placed_at_once(rt: HostRuntime) -> Result<(), Fail> {
+fn a_large_page_is_placed_at_once(rt: HostRuntime) {
     let large = Extent::of(WordCount::of(WORDS), 7, Profile::Two, PageSize::LARGE);
     let whole = Seen {
         whole: Some([7, NOP, NOP, mark(1)]),
@@ -225,14 +223,13 @@ fn a_large_page_is_placed_at_once(rt: HostRuntime) -> Result<(), Fail> {
     };
     let (page, end) = (Part::Page(0, mark(1)), Part::End(1, Reason::Close));
     for parts in [[Part::Open, page, end], [end, page, Part::Open]].iter() {
-        let (seen, _) = placed(rt.alloc(), [large; 2], parts)?;
+        let (seen, _) = placed(&rt, [large; 2], parts);
         assert!(rt; seen == whole);
     }
-    Ok(())
 }
 
 #[test]
-fn pages_that_are_not_placed_go_to_the_pool(rt: HostRuntime) -> Result<(), Fail> {
+fn pages_that_are_not_placed_go_to_the_pool(rt: HostRuntime) {
     let [open, first, second, third, end] = LAWFUL;
     let unlawful = Part::Page(1, UNKNOWN);
     let again = Part::Page(0, mark(99));
@@ -247,14 +244,13 @@ fn pages_that_are_not_placed_go_to_the_pool(rt: HostRuntime) -> Result<(), Fail>
         ([open, first, second, third, end, again], WHOLE, 1),
     ];
     for (place, (parts, seen, count)) in rows.iter().enumerate() {
-        let found = placed(rt.alloc(), usual(), parts)?;
+        let found = placed(&rt, usual(), parts);
         assert!(rt; found == (*seen, *count), "row {place}");
     }
-    Ok(())
 }
 
 #[test]
-fn items_of_other_extents_never_come(rt: HostRuntime) -> Result<(), Fail> {
+fn items_of_other_extents_never_come(rt: HostRuntime) {
     let words = WordCount::of(WORDS);
     let [own, _] = usual();
     let small = extent_of(words, Profile::Two);
@@ -272,8 +268,7 @@ fn items_of_other_extents_never_come(rt: HostRuntime) -> Result<(), Fail> {
     ]
     .iter()
     {
-        let (seen, _) = placed(rt.alloc(), [*first, *later], parts)?;
+        let (seen, _) = placed(&rt, [*first, *later], parts);
         assert!(rt; seen == part(Outcome::Unused, Some(0)));
     }
-    Ok(())
 }

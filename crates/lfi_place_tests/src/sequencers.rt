@@ -1,7 +1,7 @@
 //! Sequencers: what they take from their lanes, what they tell the board, and memory that is
 //! refused.
 
-ghost use Rattle.std.specs.Prelude.{◌≡◌, IfOk};
+ghost use Rattle.std.specs.Prelude.{◌≡◌};
 ghost use Rattle.lfi_board.specs.Known.{board_id, board_of, sequencer_board};
 ghost use Rattle.lfi_board.specs.Rows.{NewReceivers};
 ghost use Rattle.lfi_place.specs.Turns.{lane_pass_of, seat_of};
@@ -12,9 +12,8 @@ use lfi_model::{Judged, Reason};
 use lfi_place::{Sequencer, SequencerTurn};
 use lfi_queues::{Lane, LanePut};
 use page_buf::PoolMember;
-use std::alloc::Global;
+use std::process::Abort;
 use std::sync::Wait;
-use std::test::Fail;
 
 /// A sequencer with its lane and its board, on which its module is claimed.
 #[derive(Drop)]
@@ -29,52 +28,42 @@ struct Row {
 }
 
 /// The seat of a new board's one receiver.
-fn receiver(board: &Board, mut row: [Option<ReceiverSeat>; 8]) -> Result<ReceiverSeat, Fail>
+fn receiver(rt: &impl Abort, board: &Board, mut row: [Option<ReceiverSeat>; 8]) -> ReceiverSeat
     requires { NewReceivers (board_id board.now) 1 1 row }
-    ensures { IfOk result (λ seat. board_of seat ≡ board_id board.now) }
+    ensures { board_of result ≡ board_id board.now }
 {
     let _ = board;
-    Ok(row[0].take().ok_or("no seat")?)
+    row[0].take().expect(rt, "no seat")
 }
 
 impl Row {
-    fn new(alloc: Global) -> Result<Row, Fail> {
-        let (board, mut seats) = Board::new(alloc, 1, 1)?;
-        let mut seat = receiver(&board, seats.receivers)?;
-        if board.claim(&mut seat, module()) != Claim::Mine {
-            return Err(Fail::from("the module is free"));
-        }
-        let (lane, mut puts, mut takes) = Lane::new(alloc, 1, 1)?;
+    fn new(rt: &(impl Abort + AllocGlobal)) -> Row {
+        let (board, mut seats) = Board::new(rt.alloc(), 1, 1).expect(rt, "no board");
+        let mut seat = receiver(rt, &board, seats.receivers);
+        assert!(rt; board.claim(&mut seat, module()) == Claim::Mine);
+        let of = seats.sequencers.swap_remove(3);
+        let (lane, mut puts, mut takes) = Lane::new(rt.alloc(), 1, 1).expect(rt, "no lane");
         let put = puts.swap_remove(0);
         let take = takes.swap_remove(0);
-        let of = seats.sequencers.swap_remove(3);
-        let sequencer = Sequencer::new(alloc, module(), take, of, PoolMember::new(alloc)?)?;
-        Ok(Row {
+        let member = PoolMember::new(rt.alloc()).expect(rt, "no pool");
+        let made = Sequencer::new(rt.alloc(), module(), take, of, member);
+        Row {
             board,
             seat,
             lane,
             put,
-            sequencer,
-        })
+            sequencer: made.expect(rt, "no sequencer"),
+        }
     }
 
     /// Puts an item in the lane where the sequencer finds nothing, and turns it: the module's phase then, where one turn
     /// takes the item and the next one finds nothing again.
-    fn phase_after<R: Wait + AllocGlobal>(&mut self, rt: &R, part: Part) -> Result<Phase, Fail> {
-        let item = judged(rt.alloc(), part)?;
+    fn phase_after<R: Wait + Abort + AllocGlobal>(&mut self, rt: &R, part: Part) -> Phase {
         let before = self.turn(rt);
-        let is_put = self.lane.put(rt, &mut self.put, item).is_ok();
-        let took = self.turn(rt);
-        let after = self.turn(rt);
-        if before == SequencerTurn::Idle
-            && is_put
-            && took == SequencerTurn::Worked
-            && after == SequencerTurn::Idle
-        {
-            Ok(self.board.look(&mut self.seat, module()))
-        } else {
-            Err(Fail::from("another turn"))
-        }
+        let is_put = self.lane.put(rt, &mut self.put, judged(rt, part)).is_ok();
+        let turns = [before, self.turn(rt), self.turn(rt)];
+        assert!(rt; is_put && turns == TAKEN);
+        self.board.look(&mut self.seat, module())
     }
 
     fn turn<R: Wait>(&mut self, rt: &R) -> SequencerTurn {
@@ -82,14 +71,21 @@ impl Row {
     }
 }
 
+/// The turns before an item is put in the lane, and after.
+const TAKEN: [SequencerTurn; 3] = [
+    SequencerTurn::Idle,
+    SequencerTurn::Worked,
+    SequencerTurn::Idle,
+];
+
 /// The module's phase after each of five items.
-fn phases<R: Wait + AllocGlobal>(rt: &R, parts: [Part; 5]) -> Result<[Phase; 5], Fail> {
-    let mut row = Row::new(rt.alloc())?;
+fn phases<R: Wait + Abort + AllocGlobal>(rt: &R, parts: &[Part; 5]) -> [Phase; 5] {
+    let mut row = Row::new(rt);
     let mut phases = [Phase::Free; 5];
-    for (place, part) in parts.into_iter().enumerate() {
-        phases[place] = row.phase_after(rt, part)?;
+    for place in 0..5usize {
+        phases[place] = row.phase_after(rt, parts[place]);
     }
-    Ok(phases)
+    phases
 }
 
 /// The phases after these items of a lawful module, the last of which ends it, and of one that is refused at its first
@@ -130,9 +126,8 @@ const ROWS: [([Part; 5], [Phase; 5]); 2] = [
 ];
 
 #[test]
-fn the_last_item_ends_a_module_and_the_first_fault_refuses_it(rt: HostRuntime) -> Result<(), Fail> {
+fn the_last_item_ends_a_module_and_the_first_fault_refuses_it(rt: HostRuntime) {
     for (place, (parts, want)) in ROWS.iter().enumerate() {
-        assert!(rt; phases(&rt, *parts)? == *want, "row {place}");
+        assert!(rt; phases(&rt, parts) == *want, "row {place}");
     }
-    Ok(())
 }

@@ -8,9 +8,8 @@ use lfi_model::{Item, ItemKind, Judged, Reason};
 use lfi_module::{Profile, WordCount};
 use lfi_place::{Lanes, OpenGate, Verifier, VerifierTurn};
 use lfi_queues::{Intake, Lane, LaneTake, PutPass};
-use std::alloc::Global;
+use std::process::Abort;
 use std::sync::Wait;
-use std::test::Fail;
 
 /// A verifier with its intake, and the lane of the items' module.
 #[derive(Drop)]
@@ -26,33 +25,30 @@ struct Row {
 }
 
 impl Row {
-    fn new(alloc: Global) -> Result<Row, Fail> {
-        let (intake, mut puts, mut takes) = Intake::new(alloc, 1, 1)?;
+    fn new(rt: &(impl Abort + AllocGlobal)) -> Row {
+        let (intake, mut puts, mut takes) = Intake::new(rt.alloc(), 1, 1).expect(rt, "no intake");
         let Lanes {
             lanes,
             puts: mut rows,
             takes: mut taking,
-        } = Lanes::new(alloc, 1)?;
+        } = Lanes::new(rt.alloc(), 1).expect(rt, "no lanes");
         let verifier = Verifier::new(takes.swap_remove(0), rows.swap_remove(0));
-        Ok(Row {
+        Row {
             intake,
             put: puts.swap_remove(0),
             lanes,
             take: taking.swap_remove(3),
             verifier,
-        })
+        }
     }
 
     /// Puts an item to the intake, so many times.
-    fn put<R: AllocGlobal>(&mut self, rt: &R, part: Part, times: usize) -> Result<(), Fail> {
+    fn put(&mut self, rt: &(impl Abort + AllocGlobal), part: Part, times: usize) {
         let extent = extent_of(WordCount::of(WORDS), Profile::One);
         for _ in 0..times {
-            let item = item_of(rt.alloc(), extent, part)?;
-            if self.intake.put(&mut self.put, item).is_err() {
-                return Err(Fail::from("the intake refused it"));
-            }
+            let item = item_of(rt, extent, part);
+            assert!(rt; self.intake.put(&mut self.put, item).is_ok());
         }
-        Ok(())
     }
 
     /// Whether the next turn does this, so many times.
@@ -111,13 +107,12 @@ const TWO_JUDGED: [Step; 5] = [
 ];
 
 #[test]
-fn items_are_judged_into_their_lane(rt: HostRuntime) -> Result<(), Fail> {
-    let mut row = Row::new(rt.alloc())?;
+fn items_are_judged_into_their_lane(rt: HostRuntime) {
+    let mut row = Row::new(&rt);
     let was_idle = row.did(&rt, VerifierTurn::Idle, 1);
-    row.put(&rt, Part::Page(1, UNKNOWN), 1)?;
-    row.put(&rt, Part::End(0, Reason::Close), 1)?;
+    row.put(&rt, Part::Page(1, UNKNOWN), 1);
+    row.put(&rt, Part::End(0, Reason::Close), 1);
     assert!(rt; was_idle && row.goes(&rt, &TWO_JUDGED));
-    Ok(())
 }
 
 /// A page without a fault is taken.
@@ -136,9 +131,8 @@ const BLOCKED_AFTER_64: [Step; 8] = [
 ];
 
 #[test]
-fn a_full_lane_blocks(rt: HostRuntime) -> Result<(), Fail> {
-    let mut row = Row::new(rt.alloc())?;
-    row.put(&rt, Part::Page(0, mark(1)), 66)?;
+fn a_full_lane_blocks(rt: HostRuntime) {
+    let mut row = Row::new(&rt);
+    row.put(&rt, Part::Page(0, mark(1)), 66);
     assert!(rt; row.goes(&rt, &BLOCKED_AFTER_64));
-    Ok(())
 }

@@ -6,8 +6,7 @@ use lfi_image::{Builder, JudgedPage, Places};
 use lfi_module::{Extent, ModuleNumber, PageSize, Profile, WordCount};
 use lfi_rules::{Fault, Rule};
 use page_buf::SealedPage;
-use std::alloc::Global;
-use std::test::Fail;
+use std::process::Abort;
 
 /// LDP X29, X30, [SP], #16, which opens the need for a guard into x30.
 const LOAD_LINK: u32 = 0xA8C1_7BFD;
@@ -19,19 +18,16 @@ const GUARD_LINK: u32 = 0x8B3E_42BE;
 const MOVE_STACK: u32 = 0xD100_43FF;
 
 #[test]
-fn a_judged_page_and_its_parts(rt: HostRuntime) -> Result<(), Fail> {
-    let page = SealedPage::of(rt.alloc(), PageSize::SMALL, &MOVE_STACK.to_le_bytes())?;
+fn a_judged_page_and_its_parts(rt: HostRuntime) {
+    let bytes = MOVE_STACK.to_le_bytes();
+    let page = SealedPage::of(rt.alloc(), PageSize::SMALL, &bytes).expect(&rt, "no page");
     let judged = JudgedPage::judge(page, 1024, WordCount::of(1025), Profile::One);
-    let whole = (
-        judged.first(),
-        judged.words().number(),
-        judged.page().len_words(),
-    );
+    let len = judged.page().len_words() as u32;
+    let whole = [judged.first(), judged.words().number(), len];
     let inner = judged.verdict().inner;
     let (page, verdict) = judged.into_parts();
-    let parts = (verdict.first, page.len_words());
-    assert!(rt; whole == (1024, 1025, 1) && inner.is_none() && parts == (1024, 1));
-    Ok(())
+    let parts = [verdict.first, page.len_words() as u32];
+    assert!(rt; whole == [1024, 1025, 1] && inner.is_none() && parts == [1024, 1]);
 }
 
 /// A page: its last word, its fault, and how many words are placed and how many due after it.
@@ -41,15 +37,9 @@ type Appended = (u32, Option<Fault>, u32, u32);
 /// and the slot where it isn't whole. Nothing where it answers to a page otherwise.
 type Made = Option<Result<Numbers, [u32; 4]>>;
 
-/// What a builder makes of these pages.
-fn made(alloc: Global, mut builder: Builder, pages: &[Appended]) -> Result<Made, Fail> {
-    for (last, fault, placed, due) in pages {
-        let found = append(alloc, &mut builder, *last)?;
-        if found != *fault || builder.placed() != *placed || builder.due() != *due {
-            return Ok(None);
-        }
-    }
-    Ok(Some(match builder.finish() {
+/// The numbers of what a builder has made.
+fn made_by(builder: Builder) -> Result<Numbers, [u32; 4]> {
+    match builder.finish() {
         Ok(image) => Ok(numbers(&image)),
         Err(builder) => Err([
             builder.words().number(),
@@ -57,7 +47,18 @@ fn made(alloc: Global, mut builder: Builder, pages: &[Appended]) -> Result<Made,
             builder.entry(),
             u32::from(builder.slot().number()),
         ]),
-    }))
+    }
+}
+
+/// What a builder makes of these pages.
+fn made(rt: &(impl Abort + AllocGlobal), mut builder: Builder, pages: &[Appended]) -> Made {
+    let mut all = true;
+    for (last, fault, placed, due) in pages {
+        let found = append(rt, &mut builder, *last);
+        let counts = [builder.placed(), builder.due()];
+        all = found == *fault && counts == [*placed, *due] && all;
+    }
+    if all { Some(made_by(builder)) } else { None }
 }
 
 /// Large pages have four times the words.
@@ -104,7 +105,7 @@ const INSIDE: [Appended; 1] = [(
 )];
 
 #[test]
-fn pages_are_appended(rt: HostRuntime) -> Result<(), Fail> {
+fn pages_are_appended(rt: HostRuntime) {
     let (one, small) = (Profile::One, PageSize::SMALL);
     let two_words = Extent::of(WordCount::of(2), 1, one, small);
     let large = Extent::of(WordCount::of(4097), 0, Profile::Two, PageSize::LARGE);
@@ -131,26 +132,18 @@ fn pages_are_appended(rt: HostRuntime) -> Result<(), Fail> {
         (one_word, last, &INSIDE, Err([1, 0, 0, 15])),
     ];
     for (place, (extent, slot, pages, want)) in rows.iter().enumerate() {
-        let builder = Builder::new(rt.alloc(), *extent, *slot)?;
-        assert!(rt;
-            made(rt.alloc(), builder, *pages)? == Some(*want),
-            "row {place}"
-        );
+        let builder = Builder::new(rt.alloc(), *extent, *slot).expect(&rt, "no builder");
+        let made = made(&rt, builder, *pages);
+        assert!(rt; made == Some(*want), "row {place}");
     }
-    Ok(())
 }
 
 #[test]
-fn places_are_reserved_before_the_module_is_known(rt: HostRuntime) -> Result<(), Fail> {
-    let places = Places::new(rt.alloc(), WordCount::MOST)?;
+fn places_are_reserved_before_the_module_is_known(rt: HostRuntime) {
+    let places = Places::new(rt.alloc(), WordCount::MOST).expect(&rt, "no places");
     let extent = Extent::of(WordCount::of(1025), 1024, Profile::One, PageSize::SMALL);
     assert!(rt; extent.words().number() <= places.words().number());
     let builder = Builder::in_places(places, extent, ModuleNumber::at(15));
-    let made = made(
-        rt.alloc(),
-        builder,
-        &[(NOP, None, 1024, 1), (RET, None, 1025, 0)],
-    )?;
+    let made = made(&rt, builder, &[(NOP, None, 1024, 1), (RET, None, 1025, 0)]);
     assert!(rt; made == Some(Ok([1025, 1025, 1024, 15, NOP, RET])));
-    Ok(())
 }

@@ -7,7 +7,7 @@ use lfi_module::{Extent, ModuleNumber, PageSize, Profile, WordCount};
 use lfi_rules::{Fault, Rule};
 use std::alloc::Global;
 use std::io::{self, ErrorKind, Read, Write};
-use std::test::Fail;
+use std::process::Abort;
 
 /// Gives at most `step` bytes a call, and fails once it has given `left` bytes. It counts its calls.
 #[derive(Drop)]
@@ -134,21 +134,20 @@ fn is_cut_at(image: &CompleteImage, file: &[u8], left: usize, step: usize) -> bo
 }
 
 #[test]
-fn a_writer_that_fails(rt: HostRuntime) -> Result<(), Fail> {
+fn a_writer_that_fails(rt: HostRuntime) {
     let extent = Extent::of(WordCount::of(1), 0, Profile::One, PageSize::SMALL);
-    let image = image(rt.alloc(), extent, ModuleNumber::at(0), &[RET])?;
+    let image = image(&rt, extent, ModuleNumber::at(0), &[RET]);
     for left in 0..28 {
         assert!(rt; is_cut_at(&image, &ONE_RET, left, 1), "after {left} bytes");
     }
     let (answer, _, due, _) = write_by(&image, &ONE_RET, 100, 0);
     assert!(rt; answer == Err(ImageFault::Device) && due == 28);
-    Ok(())
 }
 
 /// An image of 17 full pages and one word, all NOPs.
-fn long_image(alloc: Global) -> Result<CompleteImage, Fail> {
+fn long_image(rt: &(impl Abort + AllocGlobal)) -> CompleteImage {
     let extent = Extent::of(WordCount::of(17_409), 17_408, Profile::One, PageSize::SMALL);
-    image(alloc, extent, ModuleNumber::at(7), &[NOP; 18])
+    image(rt, extent, ModuleNumber::at(7), &[NOP; 18])
 }
 
 /// The bytes of its file.
@@ -158,16 +157,15 @@ const LONG_FILE: usize = 69_660;
 const FAILS_AFTER: [usize; 7] = [24, 25, 4120, 65_559, 65_560, 65_561, 69_659];
 
 #[test]
-fn long_files_are_written(rt: HostRuntime) -> Result<(), Fail> {
-    let image = long_image(rt.alloc())?;
-    let file = file_of(rt.alloc(), &image)?;
+fn long_files_are_written(rt: HostRuntime) {
+    let image = long_image(&rt);
+    let file = file_of(&rt, &image);
     // A page a call: the header, and eighteen pages.
     let at_once = write_by(&image, &file, ALL, ALL);
     assert!(rt; at_once == (Ok(()), 19, 0, true) && file.len() == LONG_FILE);
     for left in FAILS_AFTER.iter() {
         assert!(rt; is_cut_at(&image, &file, *left, 5000), "after {left} bytes");
     }
-    Ok(())
 }
 
 /// The long file in small pieces, and on a device that fails: at the ends of the header and of pages, and beside them.
@@ -189,13 +187,12 @@ const LONG: [Reading; 14] = [
 ];
 
 #[test]
-fn long_files_are_read(rt: HostRuntime) -> Result<(), Fail> {
-    let file = file_of(rt.alloc(), &long_image(rt.alloc())?)?;
+fn long_files_are_read(rt: HostRuntime) {
+    let file = file_of(&rt, &long_image(&rt));
     let other = first_other(rt.alloc(), &file, &LONG);
     assert!(rt; other.is_none(), "{other:?}");
     // A page a call: the header, eighteen pages and the end.
     assert!(rt; read_by(rt.alloc(), &file, ALL, ALL) == (None, 20, 0));
-    Ok(())
 }
 
 /// Word 1,500 of the long file, which is in its second page, the bytes 4,120 to 8,215.
@@ -205,13 +202,12 @@ const FAULTY: Option<ImageFault> = Some(ImageFault::Unlawful(Fault {
 }));
 
 /// The long file, with a word that is no instruction, and a byte too many.
-fn faulty_file(alloc: Global) -> Result<Vec<u8>, Fail> {
-    let mut file = file_of(alloc, &long_image(alloc)?)?;
-    file.push(0)?;
-    if file.len() > 6028 {
-        file[6024..6028].copy_from_slice(&UNKNOWN.to_le_bytes());
-    }
-    Ok(file)
+fn faulty_file(rt: &(impl Abort + AllocGlobal)) -> Vec<u8> {
+    let mut file = file_of(rt, &long_image(rt));
+    file.push(0).expect(rt, "no place for a byte");
+    assert!(rt; file.len() > 6028);
+    file[6024..6028].copy_from_slice(&UNKNOWN.to_le_bytes());
+    file
 }
 
 /// The faulty file on a device that fails, and with an early end or a late one: the fault comes before them.
@@ -228,16 +224,15 @@ const FAILING: [Reading; 9] = [
 ];
 
 #[test]
-fn a_fault_comes_before_a_failed_read_and_an_early_end(rt: HostRuntime) -> Result<(), Fail> {
-    let file = faulty_file(rt.alloc())?;
+fn a_fault_comes_before_a_failed_read_and_an_early_end(rt: HostRuntime) {
+    let file = faulty_file(&rt);
     let other = first_other(rt.alloc(), &file, &FAILING);
     assert!(rt; other.is_none(), "{other:?}");
-    Ok(())
 }
 
 #[test]
-fn what_follows_a_fault_is_unread(rt: HostRuntime) -> Result<(), Fail> {
-    let file = faulty_file(rt.alloc())?;
+fn what_follows_a_fault_is_unread(rt: HostRuntime) {
+    let file = faulty_file(&rt);
     // The third page and those after it, and the byte too many.
     let unread = LONG_FILE + 1 - 8216;
     let mut reader = file.as_slice();
@@ -245,5 +240,4 @@ fn what_follows_a_fault_is_unread(rt: HostRuntime) -> Result<(), Fail> {
     assert!(rt; fault == FAULTY && reader.len() == unread);
     // The header and two pages.
     assert!(rt; read_by(rt.alloc(), &file, ALL, ALL) == (FAULTY, 3, unread));
-    Ok(())
 }

@@ -6,8 +6,8 @@ use lfi_image::ImageFault;
 use lfi_module::{PageSize, Profile};
 use lfi_rules::{Fault, Rule, check_all};
 use page_buf::SealedPage;
-use std::alloc::{AllocError, Global};
-use std::test::Fail;
+use std::alloc::Global;
+use std::process::Abort;
 
 /// The first word is no instruction.
 const FIRST_UNKNOWN: ImageFault = ImageFault::Unlawful(Fault {
@@ -109,43 +109,43 @@ fn code_that_is_none(rt: HostRuntime) {
     }
 }
 
-/// Whether the file of a word has the fault that the rules tell of the word, and whether that is none.
-fn is_judged(
-    alloc: Global,
+/// Whether the word of a file is lawful; none where the file has another fault than the rules tell of the word.
+fn judged(
+    rt: &(impl Abort + AllocGlobal),
     number: u8,
     profile: Profile,
     word: [u8; 4],
-) -> Result<(bool, bool), AllocError> {
-    let page = SealedPage::of(alloc, PageSize::SMALL, &word)?;
+) -> Option<bool> {
+    let page = SealedPage::of(rt.alloc(), PageSize::SMALL, &word).expect(rt, "no page");
     let want = check_all(&page, profile).map(ImageFault::Unlawful);
-    Ok((fault_of(alloc, &file(number, word)) == want, want.is_none()))
+    if fault_of(rt.alloc(), &file(number, word)) == want {
+        Some(want.is_none())
+    } else {
+        None
+    }
 }
 
 /// How many words that are RET with one byte set to some value are lawful; none where the file of one has another fault
 /// than its word.
-fn lawful_of(alloc: Global, number: u8, profile: Profile) -> Result<Option<u32>, AllocError> {
+fn lawful_of(rt: &(impl Abort + AllocGlobal), number: u8, profile: Profile) -> Option<u32> {
     let mut lawful = 0u32;
     for at in 0..4usize {
         for value in 0..=255u8 {
             let mut word = RET.to_le_bytes();
             word[at] = value;
-            let (is_judged, is_lawful) = is_judged(alloc, number, profile, word)?;
-            if !is_judged {
-                return Ok(None);
-            }
+            let is_lawful = judged(rt, number, profile, word)?;
             lawful = lawful.saturating_add(u32::from(is_lawful));
         }
     }
-    Ok(Some(lawful))
+    Some(lawful)
 }
 
 #[test]
-fn each_code_byte(rt: HostRuntime) -> Result<(), Fail> {
-    let one = lawful_of(rt.alloc(), 1, Profile::One)?.unwrap_or(0);
-    let two = lawful_of(rt.alloc(), 2, Profile::Two)?.unwrap_or(0);
+fn each_code_byte(rt: HostRuntime) {
+    let one = lawful_of(&rt, 1, Profile::One).unwrap_or(0);
+    let two = lawful_of(&rt, 2, Profile::Two).unwrap_or(0);
     // RET itself four times by each profile, at least.
     assert!(rt; one >= 4 && two >= 4);
-    Ok(())
 }
 
 /// Magic, profile, words and base are wrong at once. Each byte puts one right; the fault that is left after it.
@@ -174,8 +174,9 @@ fn the_first_fault_counts(rt: HostRuntime) {
 }
 
 #[test]
-fn a_fault_prints_as_words(rt: HostRuntime) -> Result<(), Fail> {
-    let text = format!(in rt.alloc(); "{FIRST_UNKNOWN}, {}", ImageFault::Magic)?;
-    assert!(rt; text.as_str() == "word 0 breaks rule 1, it is no image file");
-    Ok(())
+fn a_fault_prints_as_words(rt: HostRuntime) {
+    let text = format!(in rt.alloc(); "{FIRST_UNKNOWN}, {}", ImageFault::Magic);
+    assert!(rt;
+        text.expect(&rt, "no text").as_str() == "word 0 breaks rule 1, it is no image file"
+    );
 }

@@ -5,11 +5,16 @@ use crate::items::NOP;
 use lfi_image::{ImageFault, read_image};
 use lfi_module::{Extent, ModuleNumber, PageSize, Profile, WordCount};
 use std::alloc::Global;
-use std::test::Fail;
+use std::process::Abort;
 
 /// The file of the image of pages that end with these words.
-fn file(alloc: Global, extent: Extent, slot: ModuleNumber, pages: &[u32]) -> Result<Vec<u8>, Fail> {
-    file_of(alloc, &image(alloc, extent, slot, pages)?)
+fn file(
+    rt: &(impl Abort + AllocGlobal),
+    extent: Extent,
+    slot: ModuleNumber,
+    pages: &[u32],
+) -> Vec<u8> {
+    file_of(rt, &image(rt, extent, slot, pages))
 }
 
 /// The numbers of the image that is read of a file.
@@ -28,7 +33,7 @@ const TWO_NOPS: [u8; 32] = [
 ];
 
 #[test]
-fn files_are_read_back(rt: HostRuntime) -> Result<(), Fail> {
+fn files_are_read_back(rt: HostRuntime) {
     let (one, small) = (Profile::One, PageSize::SMALL);
     let one_word = Extent::of(WordCount::of(1), 0, one, small);
     let two_words = Extent::of(WordCount::of(2), 1, one, small);
@@ -60,24 +65,22 @@ fn files_are_read_back(rt: HostRuntime) -> Result<(), Fail> {
         ),
     ];
     for (place, (extent, slot, pages, start, len, want)) in rows.iter().enumerate() {
-        let file = file(rt.alloc(), *extent, *slot, *pages)?;
+        let file = file(&rt, *extent, *slot, *pages);
         let is_written = file.len() == *len && file.starts_with(*start);
         assert!(rt;
             is_written && read_back(rt.alloc(), &file) == Ok(*want),
             "row {place}"
         );
     }
-    Ok(())
 }
 
 #[test]
-fn every_slot_and_a_full_page(rt: HostRuntime) -> Result<(), Fail> {
+fn every_slot_and_a_full_page(rt: HostRuntime) {
     let extent = Extent::of(WordCount::of(1024), 1023, Profile::One, PageSize::SMALL);
     for slot in 0..16u16 {
         let number = ModuleNumber::at(slot as usize);
-        let file = file(rt.alloc(), extent, number, &[NOP])?;
+        let file = file(&rt, extent, number, &[NOP]);
         let want = [1024, 1024, 1023, u32::from(slot), NOP, NOP];
         assert!(rt; read_back(rt.alloc(), &file) == Ok(want), "slot {slot}");
     }
-    Ok(())
 }

@@ -5,36 +5,41 @@ use a64_word::Words;
 use lfi_image::JudgedPage;
 use lfi_module::PageSize;
 use page_buf::{OpenPage, Pool, PoolMember, SealedPage};
-use std::alloc::{AllocError, Global};
 use std::marker::Send;
-use std::test::Fail;
+use std::process::Abort;
 use std::thread::{self, Threads};
 
+/// Whether a page is sealed as a full one.
+fn is_full(page: OpenPage, size: PageSize) -> bool {
+    let len = size.bytes() as usize;
+    let is_long = page.len() == len && !page.is_empty();
+    match page.seal() {
+        Ok(page) => {
+            let want = [size.words() as usize, len];
+            [page.len_words(), page.bytes().len()] == want && is_long
+        }
+        Err(_) => false,
+    }
+}
+
 /// Writes so many bytes at a time to a page of this size: whether so many of each are taken, and the page is full then.
-fn is_filled(alloc: Global, size: PageSize, writes: &[(usize, usize)]) -> Result<bool, AllocError> {
+fn is_filled(rt: &(impl Abort + AllocGlobal), size: PageSize, writes: &[(usize, usize)]) -> bool {
     let bytes = [7; 16_000];
-    let mut page = OpenPage::new(alloc, size)?;
+    let mut page = OpenPage::new(rt.alloc(), size).expect(rt, "no page");
     let mut all = page.is_empty();
     for (count, taken) in writes {
         all = page.write(&bytes[..(*count).min(16_000)]) == *taken && all;
     }
-    let len = size.bytes() as usize;
-    all = all && page.len() == len && !page.is_empty();
-    Ok(match page.seal() {
-        Ok(page) => all && page.len_words() == size.words() as usize && page.bytes().len() == len,
-        Err(_) => false,
-    })
+    is_full(page, size) && all
 }
 
 #[test]
-fn a_write_takes_what_fits(rt: HostRuntime) -> Result<(), Fail> {
+fn a_write_takes_what_fits(rt: HostRuntime) {
     let small = [(3, 3), (4000, 4000), (200, 93), (4000, 0)];
-    let is_small_filled = is_filled(rt.alloc(), PageSize::SMALL, &small)?;
+    assert!(rt; is_filled(&rt, PageSize::SMALL, &small));
     // A large page takes four times as much.
     let large = [(16_000, 16_000), (16_000, 384), (16_000, 0)];
-    let is_large_filled = is_filled(rt.alloc(), PageSize::LARGE, &large)?;
-    assert!(rt; is_small_filled && is_large_filled);
-    Ok(())
+    assert!(rt; is_filled(&rt, PageSize::LARGE, &large));
 }
 
 /// Whether pages of no bytes and of six are given back, and one of eight is sealed.
@@ -54,23 +59,21 @@ fn is_sealed_at_eight(page: OpenPage) -> bool {
 }
 
 #[test]
-fn half_a_word_is_not_sealed(rt: HostRuntime) -> Result<(), Fail> {
-    let page = OpenPage::new(rt.alloc(), PageSize::SMALL)?;
+fn half_a_word_is_not_sealed(rt: HostRuntime) {
+    let page = OpenPage::new(rt.alloc(), PageSize::SMALL).expect(&rt, "no page");
     assert!(rt; is_sealed_at_eight(page));
-    Ok(())
 }
 
 // RET is the bytes C0 03 5F D6, and NOP 1F 20 03 D5.
 #[test]
-fn words_are_read_lowest_byte_first(rt: HostRuntime) -> Result<(), Fail> {
+fn words_are_read_lowest_byte_first(rt: HostRuntime) {
     let bytes = [0xC0, 0x03, 0x5F, 0xD6, 0x1F, 0x20, 0x03, 0xD5];
-    let page = SealedPage::of(rt.alloc(), PageSize::SMALL, &bytes)?;
+    let page = SealedPage::of(rt.alloc(), PageSize::SMALL, &bytes).expect(&rt, "no page");
     let words = [SealedPage::word(&page, 0), SealedPage::word(&page, 1)];
     let same = [Words::word(&page, 0), Words::word(&page, 1)];
     let want = [0xD65F_03C0, 0xD503_201F];
-    let counts = (page.count(), page.len_words());
-    assert!(rt; counts == (2, 2) && words == want && same == want);
-    Ok(())
+    let counts = [page.count(), page.len_words()];
+    assert!(rt; counts == [2, 2] && words == want && same == want);
 }
 
 fn needs_send<T: Send>() {}
@@ -83,42 +86,41 @@ fn pages_move_between_threads(_: HostRuntime) {
 }
 
 #[test]
-fn a_new_pool_has_no_page(rt: HostRuntime) -> Result<(), Fail> {
-    let (pool, mut seats) = Pool::new(rt.alloc(), 2)?;
+fn a_new_pool_has_no_page(rt: HostRuntime) {
+    let (pool, mut seats) = Pool::new(rt.alloc(), 2).expect(&rt, "no pool");
     let count = seats.len();
     let mut none = true;
     for seat in &mut seats {
         none = pool.get(seat).is_none() && none;
     }
     assert!(rt; none && count == 2);
-    Ok(())
 }
 
 /// Gives a page of these bytes: nothing where the pool takes it, and otherwise whether it comes back as it was.
 fn given(
+    rt: &(impl Abort + AllocGlobal),
     member: &mut PoolMember,
-    alloc: Global,
     size: PageSize,
     bytes: &[u8],
-) -> Result<Option<bool>, Fail> {
-    let mut page = OpenPage::new(alloc, size)?;
+) -> Option<bool> {
+    let mut page = OpenPage::new(rt.alloc(), size).expect(rt, "no page");
     page.write(bytes);
     let Ok(page) = page.seal() else {
-        return Err(Fail::from("the page was not sealed"));
+        panic!(rt; "the page was not sealed")
     };
-    Ok(match member.give(page) {
+    match member.give(page) {
         Ok(()) => None,
         Err(back) => Some(back.bytes() == bytes),
-    })
+    }
 }
 
 /// Gives small pages of 4,096 bytes, so many: whether the pool takes all.
-fn takes(member: &mut PoolMember, alloc: Global, pages: u32) -> Result<bool, Fail> {
+fn takes(rt: &(impl Abort + AllocGlobal), member: &mut PoolMember, pages: u32) -> bool {
     let mut all = true;
     for _ in 0..pages {
-        all = given(member, alloc, PageSize::SMALL, &[7; 4096])?.is_none() && all;
+        all = given(rt, member, PageSize::SMALL, &[7; 4096]).is_none() && all;
     }
-    Ok(all)
+    all
 }
 
 /// Gets a page from the pool and writes it: whether there is one, it was empty and has then these bytes alone.
@@ -144,21 +146,19 @@ fn are_used_again(mut member: PoolMember, pages: u32) -> bool {
 }
 
 #[test]
-fn sixty_four_pages_lie_in_a_pool(rt: HostRuntime) -> Result<(), Fail> {
-    let mut member = PoolMember::new(rt.alloc())?;
-    let taken = takes(&mut member, rt.alloc(), 64)?;
-    let more = given(&mut member, rt.alloc(), PageSize::SMALL, &[1, 2, 3, 4])?;
-    let other = member.another()?;
+fn sixty_four_pages_lie_in_a_pool(rt: HostRuntime) {
+    let mut member = PoolMember::new(rt.alloc()).expect(&rt, "no pool");
+    let taken = takes(&rt, &mut member, 64);
+    let more = given(&rt, &mut member, PageSize::SMALL, &[1, 2, 3, 4]);
+    let other = member.another().expect(&rt, "no other member");
     assert!(rt; taken && more == Some(true) && are_used_again(other, 64));
-    Ok(())
 }
 
 #[test]
-fn a_large_page_is_not_pooled(rt: HostRuntime) -> Result<(), Fail> {
-    let mut member = PoolMember::new(rt.alloc())?;
-    let large = given(&mut member, rt.alloc(), PageSize::LARGE, &[1, 2, 3, 4])?;
+fn a_large_page_is_not_pooled(rt: HostRuntime) {
+    let mut member = PoolMember::new(rt.alloc()).expect(&rt, "no pool");
+    let large = given(&rt, &mut member, PageSize::LARGE, &[1, 2, 3, 4]);
     assert!(rt; large == Some(true) && member.get().is_none());
-    Ok(())
 }
 
 /// Gets a page, if there is one, and gives it back: whether it is not given back.
@@ -193,10 +193,11 @@ fn both<R: Threads>(rt: &R, first: PoolMember, second: PoolMember) -> u64 {
 }
 
 #[test]
-fn two_threads_share_a_pool(rt: HostRuntime) -> Result<(), Fail> {
-    let mut member = PoolMember::new(rt.alloc())?;
-    let taken = takes(&mut member, rt.alloc(), 3)?;
-    let kept = both(&rt, member.another()?, member.another()?);
+fn two_threads_share_a_pool(rt: HostRuntime) {
+    let mut member = PoolMember::new(rt.alloc()).expect(&rt, "no pool");
+    let taken = takes(&rt, &mut member, 3);
+    let first = member.another().expect(&rt, "no other member");
+    let second = member.another().expect(&rt, "no third member");
+    let kept = both(&rt, first, second);
     assert!(rt; taken && kept.wrapping_add(pooled(&mut member)) == 3);
-    Ok(())
 }

@@ -5,7 +5,7 @@ use lfi_image::{Builder, CompleteImage, ImageFault, JudgedPage, read_image, writ
 use lfi_module::{Extent, ModuleNumber};
 use lfi_rules::Fault;
 use std::alloc::Global;
-use std::test::Fail;
+use std::process::Abort;
 
 /// RET.
 pub const RET: u32 = 0xD65F_03C0;
@@ -17,32 +17,31 @@ pub const ONE_RET: [u8; 28] = [
 ];
 
 /// Judges the page that is due, of NOPs and this word at its end, and appends it. What comes back is the page's fault.
-pub fn append(alloc: Global, builder: &mut Builder, last: u32) -> Result<Option<Fault>, Fail> {
-    let page = page_ending(alloc, builder.size(), builder.due(), last)?;
-    if page.size() != builder.size() || page.len_words() != builder.due() as usize {
-        return Err(Fail::from("the page has not the words due"));
-    }
+pub fn append(rt: &(impl Abort + AllocGlobal), builder: &mut Builder, last: u32) -> Option<Fault> {
+    let (size, due) = (builder.size(), builder.due());
+    let page = page_ending(rt, size, due, last);
+    assert!(rt; page.size() == size && page.len_words() == due as usize);
     let page = JudgedPage::judge(page, builder.placed(), builder.words(), builder.profile());
     match builder.append(page) {
-        Ok(()) => Ok(None),
-        Err((fault, _)) => Ok(Some(fault)),
+        Ok(()) => None,
+        Err((fault, _)) => Some(fault),
     }
 }
 
 /// The image of pages that end with these words.
 pub fn image(
-    alloc: Global,
+    rt: &(impl Abort + AllocGlobal),
     extent: Extent,
     slot: ModuleNumber,
     pages: &[u32],
-) -> Result<CompleteImage, Fail> {
-    let mut builder = Builder::new(alloc, extent, slot)?;
+) -> CompleteImage {
+    let mut builder = Builder::new(rt.alloc(), extent, slot).expect(rt, "no builder");
     for last in pages {
-        append(alloc, &mut builder, *last)?;
+        append(rt, &mut builder, *last);
     }
     match builder.finish() {
-        Ok(image) => Ok(image),
-        Err(_) => Err(Fail::from("words are missing")),
+        Ok(image) => image,
+        Err(_) => panic!(rt; "words are missing"),
     }
 }
 
@@ -64,12 +63,10 @@ pub fn numbers(image: &CompleteImage) -> Numbers {
 }
 
 /// The file of an image.
-pub fn file_of(alloc: Global, image: &CompleteImage) -> Result<Vec<u8>, Fail> {
-    let mut file = Vec::new(alloc);
-    match write_image(image, &mut file) {
-        Ok(()) => Ok(file),
-        Err(_) => Err(Fail::from("the image was not written")),
-    }
+pub fn file_of(rt: &(impl Abort + AllocGlobal), image: &CompleteImage) -> Vec<u8> {
+    let mut file = Vec::new(rt.alloc());
+    assert!(rt; write_image(image, &mut file).is_ok());
+    file
 }
 
 /// The fault of a file; none where it is read.

@@ -1,13 +1,15 @@
 use Rattle.std.proofs.Common.{rules, arith, subst, sym}
 use Rattle.lfi_place.specs.Handed.{AreLanes}
 use Rattle.lfi_place.proofs.Rows.{new_row_of_lanes}
-use Rattle.lfi_place_tests.proofs.Given.{row_given, take_given}
+use Rattle.lfi_place_tests.proofs.Given.{brought, row_given, take_given}
 use Rattle.lfi_place_tests.proofs.verifiers.Row.new.Goals as goal
 
 pub invariant_of-result : goal.invariant_of-result
-invariant_of-result c =
-    let made = c.in_ok-lanes.field-0 in
-    let are = c.in_ok-lanes.ensures in
+invariant_of-result g c =
+    let puts = brought _ c.new.result c.expect-intake.result c.expect-intake.ensures c.new.ensures.puts in
+    let takes = brought _ c.new.result c.expect-intake.result c.expect-intake.ensures c.new.ensures.takes in
+    let made = c.expect-lanes.result in
+    let are = brought _ c.new-2.result made c.expect-lanes.ensures c.new-2.ensures in
     let row = c.swap_remove-2.result in
     let take = c.swap_remove-4.result in
     let long = are.lanes in
