@@ -153,13 +153,28 @@ fn rest_of(intake: &Intake<u64>, put: PutPass<u64>, take: TakePass<u64>, first: 
     rest_from(intake, &mut puts, &mut takes, first)
 }
 
+/// Two threads put and take, and what is left is taken: how many numbers were put, and how far they came, in order.
+fn put_and_come<R: Threads>(
+    rt: &R,
+    intake: &Intake<u64>,
+    put: PutPass<u64>,
+    take: TakePass<u64>,
+) -> [u64; 2]
+    requires counts { (intake.now.putters ≡ 1) × (intake.now.takers ≡ 1) }
+    requires put { IsPass intake.now 1 0 put }
+    requires take { IsPass intake.now 1 0 take }
+{
+    let ((done, put), (taken, take)) = put_and_take(rt, intake, put, take);
+    [done, rest_of(intake, put, take, taken)]
+}
+
 #[test]
 fn two_threads_that_may_not_wait(rt: HostRuntime) {
     let (intake, mut puts, mut takes) = Intake::<u64>::new(rt.alloc(), 1, 1).expect(
         &rt,
         "no intake",
     );
-    let (put, take) = (puts.swap_remove(0), takes.swap_remove(0));
-    let ((done, put), (taken, take)) = put_and_take(&rt, &intake, put, take);
-    assert!(rt; done == 1000 && rest_of(&intake, put, take, taken) == 1000);
+    let put = puts.swap_remove(0);
+    let take = takes.swap_remove(0);
+    assert!(rt; put_and_come(&rt, &intake, put, take) == [1000, 1000]);
 }
