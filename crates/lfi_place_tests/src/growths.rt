@@ -6,7 +6,7 @@ use lfi_model::{Item, Judged};
 use lfi_module::{Extent, ModuleNumber, PageSize, Profile, WordCount};
 use lfi_queues::{Intake, Lane};
 use page_buf::{OpenPage, Pool, PoolMember};
-use std::alloc::Global;
+use std::alloc::{AllocError, Global};
 
 /// What takes memory to be made.
 #[derive(Clone, Copy)]
@@ -33,18 +33,23 @@ const ALL: [Made; 8] = [
     Made::Builder,
 ];
 
+/// Whether it was made. It is dropped here.
+fn is_there<T: Drop>(made: Result<T, AllocError>) -> bool {
+    made.is_ok()
+}
+
 /// Whether there is memory for it.
 fn is_made(alloc: Global, made: Made) -> bool {
     match made {
-        Made::Board => Board::new(alloc, 2, 1).is_ok(),
-        Made::Intake => Intake::<Item>::new(alloc, 2, 2).is_ok(),
-        Made::Lane => Lane::<Judged>::new(alloc, 2, 1).is_ok(),
-        Made::Pool => Pool::new(alloc, 2).is_ok(),
-        Made::Member => PoolMember::new(alloc).is_ok(),
-        Made::Page(size) => OpenPage::new(alloc, size).is_ok(),
+        Made::Board => is_there(Board::new(alloc, 2, 1)),
+        Made::Intake => is_there(Intake::<Item>::new(alloc, 2, 2)),
+        Made::Lane => is_there(Lane::<Judged>::new(alloc, 2, 1)),
+        Made::Pool => is_there(Pool::new(alloc, 2)),
+        Made::Member => is_there(PoolMember::new(alloc)),
+        Made::Page(size) => is_there(OpenPage::new(alloc, size)),
         Made::Builder => {
             let extent = Extent::of(WordCount::MOST, 0, Profile::One, PageSize::SMALL);
-            Builder::new(alloc, extent, ModuleNumber::at(0)).is_ok()
+            is_there(Builder::new(alloc, extent, ModuleNumber::at(0)))
         }
     }
 }
