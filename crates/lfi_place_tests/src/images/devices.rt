@@ -89,13 +89,13 @@ fn read_by(
 /// call, and the fault.
 type Reading = (usize, usize, usize, Option<ImageFault>);
 
-/// The first of these rows that comes to another fault, if one does.
-fn first_other(alloc: Global, file: &[u8], rows: &[Reading]) -> Option<Reading> {
-    for row in rows {
+/// The place of the first of these rows that comes to another fault, if one does.
+fn first_other(alloc: Global, file: &[u8], rows: &[Reading]) -> Option<usize> {
+    for (place, row) in rows.iter().enumerate() {
         let (len, left, step, want) = *row;
         let (fault, _, _) = read_by(alloc, &file[..len.min(file.len())], left, step);
         if fault != want {
-            return Some(*row);
+            return Some(place);
         }
     }
     None
@@ -190,7 +190,7 @@ const LONG: [Reading; 14] = [
 fn long_files_are_read(rt: HostRuntime) {
     let file = file_of(&rt, &long_image(&rt));
     let other = first_other(rt.alloc(), &file, &LONG);
-    assert!(rt; other.is_none(), "{other:?}");
+    assert!(rt; other.is_none(), "row {other:?}");
     // A page a call: the header, eighteen pages and the end.
     assert!(rt; read_by(rt.alloc(), &file, ALL, ALL) == (None, 20, 0));
 }
@@ -227,7 +227,7 @@ const FAILING: [Reading; 9] = [
 fn a_fault_comes_before_a_failed_read_and_an_early_end(rt: HostRuntime) {
     let file = faulty_file(&rt);
     let other = first_other(rt.alloc(), &file, &FAILING);
-    assert!(rt; other.is_none(), "{other:?}");
+    assert!(rt; other.is_none(), "row {other:?}");
 }
 
 #[test]
