@@ -12,8 +12,8 @@ fn needs_send<T: Send>() {}
 
 fn needs_sync<T: Sync>() {}
 
-#[test]
-fn boards_are_shared_and_seats_move(_: HostRuntime) {
+/// That threads can share a board and be given seats: where they can't, this doesn't compile.
+fn boards_are_shared_and_seats_move() {
     needs_sync::<Board>();
     needs_send::<Board>();
     needs_send::<ReceiverSeat>();
@@ -38,6 +38,7 @@ fn both(
 
 #[test]
 fn a_module_has_one_claim_and_one_end(rt: HostRuntime) {
+    boards_are_shared_and_seats_move();
     let (board, seats) = Board::new(rt.alloc(), 2, 1).expect(&rt, "no board");
     let (mut first, mut second) = both(&rt, &board, seats.receivers);
     let mut sequencers = seats.sequencers;
