@@ -169,14 +169,14 @@ const HOLDS: [(Condition, u16); 16] = [
     (Condition::Nv, 0xFFFF),
 ];
 
-/// The first condition and flags at which it is otherwise, or which have another number.
-fn first_other() -> Option<(Condition, u8)> {
-    for (condition, at) in &HOLDS {
+/// The place of the first condition, and the number of the first flags at which it is otherwise, or which have another number.
+fn first_other() -> Option<(usize, u8)> {
+    for (place, (condition, at)) in HOLDS.iter().enumerate() {
         for number in 0..16u8 {
             let flags = Flags::of_number(number);
             let holds = (*at >> number) & 1 == 1;
             if flags.holds(*condition) != holds || flags.number() != number {
-                return Some((*condition, number));
+                return Some((place, number));
             }
         }
     }
