@@ -3,13 +3,13 @@ use Rattle.std.proofs.Common.{ℕ, List, Bool, Option, refl}
 use Rattle.lfi_module.specs.declared.profile.Profile.{Profile}
 use Rattle.lfi_command_line.specs.declared.line.Explain.{Explain}
 use Rattle.lfi_command_line.specs.declared.line.Explain.TheVariants.{Nothing, First, All}
-use Rattle.lfi_commands.specs.declared.ending.Ending.{Ending}
-use Rattle.lfi_commands.specs.Left.{left}
-use Rattle.lfi_commands.specs.Listing.{FindsListing, HasListed}
-use Rattle.lfi_commands.specs.Packing.{FindsPacked, HasPacked}
-use Rattle.lfi_commands.specs.Running.{HasRun}
+use Rattle.lfi_file_commands.specs.declared.ending.Ending.{Ending}
+use Rattle.lfi_file_commands.specs.Explaining.{FindsVerdict}
+use Rattle.lfi_file_commands.specs.Left.{left}
+use Rattle.lfi_file_commands.specs.Listing.{FindsListing, HasListed}
+use Rattle.lfi_file_commands.specs.Packing.{FindsPacked, HasPacked}
+use Rattle.lfi_file_commands.specs.Running.{FindsRun, HasRun}
 use Rattle.lfi_commands.specs.Runs.{ChecksFile}
-use Rattle.lfi_commands.specs.inner.Found.{FindsRun, FindsVerdict}
 
 module _ (out new : Option (List ℕ)) (put : Option (List (List ℕ × List ℕ))) (lost : Bool) (errors : Option (List ℕ)) (ending : Ending) where
   pub checks_file : (profile : Profile) (explain : Explain) (bytes : Option (List ℕ)) → FindsVerdict profile explain bytes out new ending

@@ -4,7 +4,6 @@ use Rattle.lfi_command_line.specs.declared.line.Line.{Line}
 use Rattle.lfi_command_line.specs.declared.line.Line.TheVariants.{Check, Load, Serve, Run, Disassemble, Pack}
 use Rattle.lfi_command_line.specs.declared.line.Explain.TheVariants.{Nothing, First, All}
 use Rattle.lfi_command_line.specs.CommandLine.{AreWrong, IsLine}
-use Rattle.lfi_module.specs.declared.profile.Profile.{Profile}
 use Rattle.lfi_image.specs.declared.fault.ImageFault.{ImageFault}
 use Rattle.lfi_image.specs.declared.fault.ImageFault.TheVariants as image_fault
 use Rattle.lfi_confinement.specs.declared.cause.Cause.TheVariants as causes
@@ -15,19 +14,18 @@ use Rattle.lfi_run.specs.declared.image_run.ImageRun.TheVariants as image_run
 use Rattle.lfi_stage.specs.declared.settle.Report.{Report}
 use Rattle.lfi_code.specs.declared.verdict.Verdict.{Verdict}
 use Rattle.lfi_code.specs.declared.verdict.Verdict.TheVariants.{Lawful, Refused, BadLength}
-use Rattle.lfi_commands.specs.declared.ending.Ending.{Ending}
-use Rattle.lfi_commands.specs.declared.ending.Ending.TheVariants.{Well, NotWell, WrongWords, Failed}
-use Rattle.lfi_commands.specs.Checking.{ending_of}
-use Rattle.lfi_commands.specs.Endings.{ending_of_halt, ending_of_run, EndsLoad}
-use Rattle.lfi_commands.specs.Left.{Left, left}
-use Rattle.lfi_commands.specs.Packing.{FindsPacked, TellsNoModule}
-use Rattle.lfi_commands.specs.Running.{EndsRun}
-use Rattle.lfi_commands.specs.Failures.{failure_line, is_of_output, Told}
-use Rattle.lfi_commands.specs.declared.failure.Failure.{Failure}
+use Rattle.lfi_file_commands.specs.declared.ending.Ending.{Ending}
+use Rattle.lfi_file_commands.specs.declared.ending.Ending.TheVariants.{Well, NotWell, WrongWords, Failed}
+use Rattle.lfi_file_commands.specs.Checking.{ending_of}
+use Rattle.lfi_file_commands.specs.Endings.{ending_of_halt, ending_of_run, EndsUnlessLost}
+use Rattle.lfi_commands.specs.Endings.{EndsLoad}
+use Rattle.lfi_file_commands.specs.Left.{Left, left}
+use Rattle.lfi_file_commands.specs.Running.{EndsRun}
+use Rattle.lfi_file_commands.specs.Failures.{failure_line, is_of_output, Told}
+use Rattle.lfi_file_commands.specs.declared.failure.Failure.{Failure}
 use Rattle.lfi_commands.proofs.Failing.{fails_by}
 use Rattle.lfi_commands.specs.Runs.{CarriesOut, FailsAs, Runs, TellsFailure, TellsNoPages, TellsTooMany, TellsTooManyModules}
-use Rattle.lfi_commands.specs.inner.Found.{EndsUnlessLost}
-use Rattle.lfi_commands.specs.declared.failure.Failure.TheVariants.{NoMemory}
+use Rattle.lfi_file_commands.specs.declared.failure.Failure.TheVariants.{NoMemory}
 
 by_verdict : (verdict : Verdict) → WrongWords ≡ ending_of verdict → ⊥
 by_verdict (Lawful words) ends = cc
@@ -75,11 +73,6 @@ runs_line words file_at old new line NotWell is carried = (line, is, carried)
 runs_line words file_at old new line WrongWords is carried = absurd (by_line line file_at old new carried)
 runs_line words file_at old new line Failed is carried = inr (line, is, carried)
 
--- the ending of a run of an image, which is told
-pub ends_run : (is_lost : Bool) (run : ImageRun) (ending : Ending) → EndsUnlessLost is_lost (ending_of_run run) ending → EndsRun is_lost run ending
-ends_run true run ending ends = ends
-ends_run false run ending ends = ends
-
 -- wrong words, of which is told
 module _ (words : List (List ℕ)) (file_at : List ℕ → Option (List ℕ)) (out : Option (List ℕ)) (put : Option (List (List ℕ × List ℕ))) (was : Bool) (errors told : Option (List ℕ)) where
   abbrev AreWrongOf : Bool → Type 0
@@ -91,15 +84,6 @@ module _ (words : List (List ℕ)) (file_at : List ℕ → Option (List ℕ)) (o
   pub ends_wrong : (lost : Bool) (ending : Ending) → EndsUnlessLost lost WrongWords ending → AreWrongOf lost → Runs words file_at (left out put was errors) (left out put lost told) ending
   ends_wrong true ending ends wrong = subst (Runs words file_at (left out put was errors) (left out put true told)) (sym ends) (inl (NoMemory, tt, tt, refl, λ other. refl))
   ends_wrong false ending ends wrong = subst (Runs words file_at (left out put was errors) (left out put false told)) (sym ends) (wrong, refl, refl)
-
--- code files of which one is no module, which is told
-pub packs_none : (profile : Profile) (pages first entry : ℕ) (paths : List (List ℕ)) (file_at : List ℕ → Option (List ℕ)) (out_old out_new : Option (List ℕ)) (is_lost : Bool) (errors_old errors_new : Option (List ℕ)) (ending : Ending)
-    → TellsNoModule entry paths file_at out_old out_new is_lost errors_old errors_new → EndsUnlessLost is_lost NotWell ending
-    → FindsPacked profile pages first entry paths file_at out_old out_new is_lost errors_old errors_new ending
-packs_none profile pages first entry paths file_at out_old out_new true errors_old errors_new ending tells ends =
-    subst (FindsPacked profile pages first entry paths file_at out_old out_new true errors_old errors_new) (sym ends) (tells, refl)
-packs_none profile pages first entry paths file_at out_old out_new false errors_old errors_new ending tells ends =
-    subst (FindsPacked profile pages first entry paths file_at out_old out_new false errors_old errors_new) (sym ends) (tells, refl)
 
 pub runs_failed : (words : List (List ℕ)) (file_at : List ℕ → Option (List ℕ)) (old new : Left) (ending : Ending) → ending ≡ Failed → TellsFailure words old new → Runs words file_at old new ending
 runs_failed words file_at old new ending is tells = subst (Runs words file_at old new) (sym is) (inl tells)

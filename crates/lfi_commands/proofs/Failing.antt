@@ -1,11 +1,11 @@
 -- Failures of what a line asks for.
-use Rattle.std.proofs.Common.{◌≡◌, ℕ, List, true, false, inr, sym, ◌∙◌, true≢false}
+use Rattle.std.proofs.Common.{◌≡◌, ℕ, List, true, inr, sym, true≢false}
 use Rattle.lfi_command_line.specs.declared.line.Line.{Line}
 use Rattle.lfi_command_line.specs.CommandLine.{IsLine}
-use Rattle.lfi_commands.specs.declared.failure.Target.TheVariants.{StandardOutput, File}
-use Rattle.lfi_commands.specs.declared.failure.Failure.{Failure}
-use Rattle.lfi_commands.specs.declared.failure.Failure.TheVariants.{CannotRead, CannotWrite, CannotListen, NoMemory}
-use Rattle.lfi_commands.specs.Failures.{is_of_output, FailsOn, FailsServing}
+use Rattle.lfi_file_commands.specs.declared.failure.Target.TheVariants.{StandardOutput, File}
+use Rattle.lfi_file_commands.specs.declared.failure.Failure.{Failure}
+use Rattle.lfi_file_commands.specs.declared.failure.Failure.TheVariants.{CannotRead, CannotWrite, CannotListen, NoMemory}
+use Rattle.lfi_file_commands.specs.Failures.{is_of_output, FailsServing}
 use Rattle.lfi_commands.specs.Runs.{FailsAs, FailsBy}
 
 -- a failure of what a line asks for is one of the words that ask for the line
@@ -16,21 +16,9 @@ fails_by words line (CannotWrite (File path) cause) is fails = (line, is, fails)
 fails_by words line (CannotListen cause) is fails = (line, is, fails)
 fails_by words line NoMemory is fails = tt
 
--- a failure of the output is one of each command that writes there
-pub fails_on_output : (paths : List (List ℕ)) (failure : Failure) → is_of_output failure ≡ true → FailsOn paths failure
-fails_on_output paths (CannotRead told cause) is = absurd (true≢false (sym is))
-fails_on_output paths (CannotWrite StandardOutput cause) is = tt
-fails_on_output paths (CannotWrite (File path) cause) is = absurd (true≢false (sym is))
-fails_on_output paths (CannotListen cause) is = absurd (true≢false (sym is))
-fails_on_output paths NoMemory is = tt
-
 pub fails_serving_output : (failure : Failure) → is_of_output failure ≡ true → FailsServing failure
 fails_serving_output (CannotRead told cause) is = absurd (true≢false (sym is))
 fails_serving_output (CannotWrite StandardOutput cause) is = tt
 fails_serving_output (CannotWrite (File path) cause) is = absurd (true≢false (sym is))
 fails_serving_output (CannotListen cause) is = tt
 fails_serving_output NoMemory is = tt
-
--- and no other
-pub is_no_other : {P : Type 0} (failure : Failure) → is_of_output failure ≡ true → is_of_output failure ≡ false → P
-is_no_other failure is other = absurd (true≢false (sym is ∙ other))

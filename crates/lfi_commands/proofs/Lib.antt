@@ -1,10 +1,4 @@
 mod Carried
 mod Ended
-mod Explained
 mod Failing
-mod Fates
 mod Inputs
-mod Joined
-mod Paths
-mod Streams
-mod Telling

@@ -1,16 +1,6 @@
-pub mod Left
-pub mod Causes
-pub mod Checking
-pub mod Explaining
-pub mod Listing
-pub mod Failures
-pub mod Errors
+pub mod LoadFaults
 pub mod Endings
-pub mod Images
-pub mod Refused
 pub mod Loading
 pub mod Serving
-pub mod Running
-pub mod Packing
 pub mod Runs
 pub mod inner

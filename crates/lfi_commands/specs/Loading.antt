@@ -1,26 +1,15 @@
 -- What `lfiload load` finds, writes, puts and tells. Source: this project's profile, docs/COMMANDS.md.
-use Rattle.std.specs.Prelude.{◌≡◌, ℕ, Bool, true, List, [], ◌++◌, Option, Some, None, length, slice_get}
+use Rattle.std.specs.Prelude.{◌≡◌, ℕ, Bool, true, List, ◌++◌, Option, Some, length, slice_get}
 use Rattle.std.specs.Io.KnownBytes.{Appends}
-use Rattle.lfi_image.specs.Image.{Image}
 use Rattle.lfi_model.specs.Texts.{summary_text}
-use Rattle.lfi_place.specs.declared.report.ModuleReport.{ModuleReport}
 use Rattle.lfi_stage.specs.declared.settle.Report.{Report}
 use Rattle.lfi_stage.specs.Stages.{IsLoaded}
 use Rattle.lfi_stage.specs.Summaries.{summary_of}
-use Rattle.lfi_commands.specs.declared.ending.Ending.{Ending}
+use Rattle.lfi_file_commands.specs.declared.ending.Ending.{Ending}
 use Rattle.lfi_commands.specs.Endings.{EndsLoad}
-use Rattle.lfi_commands.specs.Images.{images_in, WritesImages}
-use Rattle.lfi_commands.specs.Left.{Left}
-use Rattle.lfi_commands.specs.Refused.{TellAsked}
-
--- the images that are asked for: all whole ones where a folder is named
-abbrev pub asked_images : Option (List ℕ) → List ModuleReport → List Image
-asked_images None modules = []
-asked_images (Some folder) modules = images_in modules
-
-abbrev pub folder_or_none : Option (List ℕ) → List ℕ
-folder_or_none None = []
-folder_or_none (Some folder) = folder
+use Rattle.lfi_file_commands.specs.Images.{asked_images, folder_or_none, WritesImages}
+use Rattle.lfi_file_commands.specs.Left.{Left}
+use Rattle.lfi_file_commands.specs.Refused.{TellAsked}
 
 -- these are the bytes of the streams, all of which are known
 abbrev pub AreKnown : List (Option (List ℕ)) → (ℕ → List ℕ) → Type 0

@@ -6,19 +6,19 @@ use Rattle.lfi_command_line.specs.declared.line.Line.TheVariants.{Check, Load, S
 use Rattle.lfi_command_line.specs.declared.line.Explain.{Explain}
 use Rattle.lfi_command_line.specs.declared.line.Explain.TheVariants.{Nothing}
 use Rattle.lfi_command_line.specs.CommandLine.{IsLine, AsksHelp, AreWrong, NameTooMany, NameTooManyModules, NameNoPages}
-use Rattle.lfi_commands.specs.declared.ending.Ending.{Ending}
-use Rattle.lfi_commands.specs.declared.ending.Ending.TheVariants.{Well, NotWell, WrongWords, Failed}
-use Rattle.lfi_commands.specs.declared.failure.Target.TheVariants.{StandardOutput}
-use Rattle.lfi_commands.specs.declared.failure.Failure.{Failure}
-use Rattle.lfi_commands.specs.declared.failure.Failure.TheVariants.{CannotWrite, NoMemory}
-use Rattle.lfi_commands.specs.Checking.{HasChecked}
-use Rattle.lfi_commands.specs.Explaining.{HasExplained}
-use Rattle.lfi_commands.specs.Failures.{failure_line, is_of_output, FailsOn, FailsServing, IsOfReading, Told}
-use Rattle.lfi_commands.specs.Left.{Left}
-use Rattle.lfi_commands.specs.Listing.{HasListed}
+use Rattle.lfi_file_commands.specs.declared.ending.Ending.{Ending}
+use Rattle.lfi_file_commands.specs.declared.ending.Ending.TheVariants.{Well, NotWell, WrongWords, Failed}
+use Rattle.lfi_file_commands.specs.declared.failure.Target.TheVariants.{StandardOutput}
+use Rattle.lfi_file_commands.specs.declared.failure.Failure.{Failure}
+use Rattle.lfi_file_commands.specs.declared.failure.Failure.TheVariants.{CannotWrite, NoMemory}
+use Rattle.lfi_file_commands.specs.Checking.{HasChecked}
+use Rattle.lfi_file_commands.specs.Explaining.{HasExplained}
+use Rattle.lfi_file_commands.specs.Failures.{failure_line, is_of_output, FailsOn, FailsServing, IsOfReading, Told}
+use Rattle.lfi_file_commands.specs.Left.{Left}
+use Rattle.lfi_file_commands.specs.Listing.{HasListed}
 use Rattle.lfi_commands.specs.Loading.{HasLoaded}
-use Rattle.lfi_commands.specs.Packing.{HasPacked}
-use Rattle.lfi_commands.specs.Running.{HasRun}
+use Rattle.lfi_file_commands.specs.Packing.{HasPacked}
+use Rattle.lfi_file_commands.specs.Running.{HasRun}
 use Rattle.lfi_commands.specs.Serving.{HasServedAll}
 
 -- What `check` did, by what is to be explained.

@@ -7,12 +7,11 @@ use Rattle.lfi_model.specs.Texts.{summary_text}
 use Rattle.lfi_stage.specs.Summaries.{summary_of}
 use Rattle.lfi_threads.specs.declared.serve.Served.{Served}
 use Rattle.lfi_threads.specs.Served.{HasServed}
-use Rattle.lfi_commands.specs.declared.ending.Ending.{Ending}
+use Rattle.lfi_file_commands.specs.declared.ending.Ending.{Ending}
 use Rattle.lfi_commands.specs.Endings.{EndsLoad}
-use Rattle.lfi_commands.specs.Images.{WritesImages}
-use Rattle.lfi_commands.specs.Left.{Left}
-use Rattle.lfi_commands.specs.Loading.{asked_images, folder_or_none}
-use Rattle.lfi_commands.specs.Refused.{TellAsked}
+use Rattle.lfi_file_commands.specs.Images.{asked_images, folder_or_none, WritesImages}
+use Rattle.lfi_file_commands.specs.Left.{Left}
+use Rattle.lfi_file_commands.specs.Refused.{TellAsked}
 
 -- the limit of time of so many seconds; none where they aren't said
 abbrev pub IsLimit : (seconds : Option ℕ) → Option Duration → Type 0

@@ -1,5 +1,3 @@
 -- What private functions answer. No claim of this crate rests on these definitions.
 pub mod Found
-pub mod Opening
-pub mod Pieces
-pub mod Whole
+pub mod Ranges

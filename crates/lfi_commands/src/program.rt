@@ -1,38 +1,23 @@
 //! The program, from its words to its ending.
 
-ghost use Rattle.std.specs.Prelude.{◌≡◌, ◌≤◌, ℕ, List, [], ◌∷◌, Option, IfOk, IfErr, IfSome, OnErr, ◌+◌, false, true, length, map, option_map, string_bytes};
+ghost use Rattle.std.specs.Prelude.{◌≡◌, ◌≤◌, ℕ, List, Option, IfOk, IfErr, OnErr, false, true, length, map, option_map, string_bytes};
 ghost use Rattle.lfi_command_line.specs.CommandLine.{IsLineFault};
-ghost use Rattle.lfi_commands.specs.Errors.{is_lost_of, writer_of};
-ghost use Rattle.lfi_code.specs.Checking.{Checks};
-ghost use Rattle.lfi_commands.specs.Explaining.{WritesVerdict};
-ghost use Rattle.lfi_commands.specs.Failures.{failure_line, is_of_a_write, is_of_output, FailsOn, FailsServing, IsOfReading, Told};
-ghost use Rattle.lfi_commands.specs.Images.{WritesImages};
-ghost use Rattle.lfi_commands.specs.Left.{left};
-ghost use Rattle.lfi_commands.specs.Listing.{FindsListing};
-ghost use Rattle.lfi_commands.specs.Loading.{asked_images, folder_or_none, HasLoaded};
-ghost use Rattle.lfi_commands.specs.Packing.{AreModules, FindsPacked, WritesStream};
-ghost use Rattle.lfi_module.specs.Pages.{HasPages};
+ghost use Rattle.lfi_file_commands.specs.Errors.{is_lost_of, writer_of};
+ghost use Rattle.lfi_file_commands.specs.Failures.{is_of_output, FailsOn, FailsServing};
+ghost use Rattle.lfi_file_commands.specs.Left.{left};
+ghost use Rattle.lfi_commands.specs.Loading.{HasLoaded};
 ghost use Rattle.lfi_commands.specs.Serving.{HasServedAll, IsLimit};
 ghost use Rattle.lfi_commands.specs.Runs.{FailsAs, CarriesOut, Runs};
-ghost use Rattle.lfi_commands.specs.inner.Found.{FindsRun, FindsVerdict, HasEnded};
-ghost use Rattle.lfi_commands.specs.inner.Opening.{IsInRange};
+ghost use Rattle.lfi_commands.specs.inner.Found.{HasEnded};
+ghost use Rattle.lfi_commands.specs.inner.Ranges.{IsInRange};
 
-use crate::commands::{CommandFault, check_file, load, serve};
-use crate::device_cause::DeviceCause;
-use crate::disk::Disk;
-use crate::ending::Ending;
-use crate::errors::Errors;
-use crate::explaining::{check_explained, disassemble};
-use crate::failure::Failure;
-use crate::images::write_images;
-use crate::opening::{open, open_all};
-use crate::packing::{Stop, read_modules, write_stream};
-use crate::refused::write_asked_refused;
-use lfi_code::Verdict;
-use lfi_command_line::{Explain, Line, LineFault, read_line};
-use lfi_module::{PageSize, Profile};
-use lfi_place::ModuleReport;
-use lfi_run::run_image;
+use crate::ending::ending_of_load;
+use crate::loading::{load, serve};
+use lfi_command_line::{Line, LineFault, read_line};
+use lfi_file_commands::{
+    DeviceCause, Disk, Ending, Errors, Failure, ended, open_all, run_check, run_disassemble,
+    run_pack, run_run, tell_failure, write_asked_images, write_asked_refused,
+};
 use lfi_stage::settle::Report;
 use lfi_threads::Notices;
 use std::alloc::Global;
@@ -44,141 +29,6 @@ use std::rt::Clock;
 use std::sync::Wait;
 use std::thread::Threads;
 use std::time::Duration;
-
-/// Judges the code that the reader of a file has left, and writes what is found of it. Where nothing is to be explained,
-/// the code isn't kept.
-fn judge_file<D: Disk, O: Write>(
-    alloc: Global,
-    disk: &D,
-    reader: D::Reader,
-    profile: Profile,
-    how: Explain,
-    out: &mut O,
-) -> Result<Verdict, CommandFault>
-    ensures verdict { IfOk result (λ verdict. IfSome (D.Reader.remaining reader) (λ bytes. Checks profile bytes verdict)) }
-    ensures written { IfOk result (λ verdict. WritesVerdict profile how (D.Reader.remaining reader) verdict (O.contents out.old) (O.contents out.new)) }
-    ensures unwritten { IfErr result (λ fault. is_of_a_write fault ≡ false → out.new ≡ out.old) }
-{
-    match how {
-        Explain::Nothing => {
-            let length = disk.length(&reader);
-            check_file(alloc, reader, length, profile, out)
-        }
-        _ => check_explained(alloc, reader, profile, how, out),
-    }
-}
-
-/// Judges the code in a file, and writes what is found of it.
-fn run_check<'a, D: Disk, O: Write>(
-    alloc: Global,
-    disk: &D,
-    path: &'a str,
-    profile: Profile,
-    how: Explain,
-    out: &mut O,
-) -> Result<Ending, Failure<'a>>
-    ensures found { IfOk result (FindsVerdict profile how (D.file_at disk.now path.now) (O.contents out.old) (O.contents out.new)) }
-    ensures failure { IfErr result (FailsOn (path.now ∷ [])) }
-    ensures output { IfErr result (λ failure. is_of_output failure ≡ false → out.new ≡ out.old) }
-{
-    let reader = open(disk, path)?;
-    match judge_file(alloc, disk, reader, profile, how, out) {
-        Ok(verdict) => Ok(Ending::of_verdict(&verdict)),
-        Err(fault) => Err(Failure::of(fault, path)),
-    }
-}
-
-/// Lists the words of the code in a file.
-fn run_disassemble<'a, D: Disk, O: Write>(
-    alloc: Global,
-    disk: &D,
-    path: &'a str,
-    profile: Profile,
-    out: &mut O,
-) -> Result<Ending, Failure<'a>>
-    ensures found { IfOk result (FindsListing profile (D.file_at disk.now path.now) (O.contents out.old) (O.contents out.new)) }
-    ensures failure { IfErr result (FailsOn (path.now ∷ [])) }
-    ensures output { IfErr result (λ failure. is_of_output failure ≡ false → out.new ≡ out.old) }
-{
-    let reader = open(disk, path)?;
-    match disassemble(alloc, reader, profile, out) {
-        Ok(ending) => Ok(ending),
-        Err(fault) => Err(Failure::of(fault, path)),
-    }
-}
-
-/// Writes a stream of this code, a module each, numbered from the first number on, entered at this word, and cut into pages of
-/// this size.
-fn write_packed<'a, O: Write>(
-    first: usize,
-    entry: u32,
-    profile: Profile,
-    pages: PageSize,
-    files: &[Vec<u8>],
-    out: &mut O,
-) -> Result<Ending, Failure<'a>>
-    requires numbers { first + length files.now ≤ 16 }
-    requires modules { AreModules entry (map (λ file. file.items) files.now) }
-    requires pages { HasPages profile pages }
-    ensures written { IfOk result (λ ending. (ending ≡ Ending.Well)
-        × WritesStream profile pages first entry (map (λ file. file.items) files.now) (O.contents out.old) (O.contents out.new)) }
-    ensures failure { IfErr result (λ failure. is_of_output failure ≡ true) }
-{
-    match write_stream(first, entry, profile, pages, files, out) {
-        Ok(()) => Ok(Ending::Well),
-        Err(cause) => Err(Failure::of_output(cause)),
-    }
-}
-
-/// Writes a stream of the code in these files, a module each, numbered from the first number on, entered at this word, and
-/// cut into pages of this size.
-/// All files are read before anything is written.
-fn run_pack<'a, D: Disk, O: Write, E: Write>(
-    alloc: Global,
-    disk: &D,
-    first: usize,
-    entry: u32,
-    profile: Profile,
-    pages: PageSize,
-    paths: &[&'a str],
-    out: &mut O,
-    errors: &mut Errors<E>,
-) -> Result<Ending, Failure<'a>>
-    requires numbers { first + length paths.now ≤ 16 }
-    requires pages { HasPages profile pages }
-    ensures found { IfOk result (FindsPacked profile pages first entry (map (λ path. path.now) paths.now) (D.file_at disk.now)
-        (O.contents out.old) (O.contents out.new) (is_lost_of errors.new) (E.contents (writer_of errors.old)) (E.contents (writer_of errors.new))) }
-    ensures failure { IfErr result (FailsOn (map (λ path. path.now) paths.now)) }
-    ensures output { IfErr result (λ failure. is_of_output failure ≡ false → out.new ≡ out.old) }
-    ensures errors { OnErr result (errors.new ≡ errors.old) }
-{
-    match read_modules(alloc, disk, paths, entry) {
-        Ok(files) => write_packed(first, entry, profile, pages, &files, out),
-        Err(Stop::Failed(failure)) => Err(failure),
-        Err(Stop::NoModule(no_module)) => {
-            errors.tell_no_module(no_module);
-            Ok(errors.unless_lost(Ending::NotWell))
-        }
-    }
-}
-
-/// Writes the whole images of modules to a folder, where one is named. It answers whether all that was to be written was.
-fn write_asked_images<D: Disk, E: Write>(
-    alloc: Global,
-    disk: &mut D,
-    folder: Option<&str>,
-    modules: &[ModuleReport],
-    errors: &mut Errors<E>,
-) -> bool
-    ensures { let asked = option_map (λ s. s.now) folder.entry in
-        WritesImages (folder_or_none asked) (asked_images asked modules.now) (D.put_files disk.old) (D.put_files disk.new)
-        (is_lost_of errors.new) (E.contents (writer_of errors.old)) (E.contents (writer_of errors.new)) result }
-{
-    match folder {
-        Some(folder) => write_images(alloc, disk, folder, modules, errors),
-        None => true,
-    }
-}
 
 /// Writes what is asked for beside the text of a report: what is told of refused modules and of faults, and the whole images to
 /// a folder where one is named. It gives how the load ends, of which all connections were taken or not.
@@ -202,7 +52,7 @@ fn end_load<'a, D: Disk, O: Write, E: Write>(
     match write_asked_refused(explain, &report.modules, &report.faults, out) {
         Ok(()) => {
             let all = write_asked_images(alloc, disk, folder, &report.modules, errors);
-            Ok(Ending::of_load(report, all_taken, all))
+            Ok(ending_of_load(report, all_taken, all))
         }
         Err(error) => Err(Failure::of_output(DeviceCause::of(&error))),
     }
@@ -322,27 +172,6 @@ fn run_serve<
     }
 }
 
-/// Runs the image in a file for at most so many steps, and tells what comes of it.
-fn run_run<'a, D: Disk, O: Write, E: Write>(
-    alloc: Global,
-    disk: &D,
-    path: &'a str,
-    steps: u64,
-    out: &mut O,
-    errors: &mut Errors<E>,
-) -> Result<Ending, Failure<'a>>
-    ensures found { IfOk result (FindsRun (D.file_at disk.now path.now) steps (O.contents out.old) (O.contents out.new)
-        (is_lost_of errors.new) (E.contents (writer_of errors.old)) (E.contents (writer_of errors.new))) }
-    ensures failure { IfErr result (IsOfReading path.now) }
-    ensures output { OnErr result (out.new ≡ out.old) }
-    ensures errors { OnErr result (errors.new ≡ errors.old) }
-{
-    let mut reader = open(disk, path)?;
-    let run = run_image(alloc, &mut reader, steps, out)?;
-    errors.write_line(run);
-    Ok(errors.unless_lost(Ending::of_run(&run)))
-}
-
 /// Carries out what the program is asked for.
 fn run<
     'a,
@@ -415,27 +244,6 @@ fn run<
         } => run_pack(
             alloc, disk, module, entry, profile, pages, codes, out, errors,
         ),
-    }
-}
-
-/// Tells of a failure. The run has failed then.
-fn tell_failure<E: Write>(failure: Failure<'_>, errors: &mut Errors<E>) -> Ending
-    ensures told { Told (is_lost_of errors.new) (E.contents (writer_of errors.old)) (E.contents (writer_of errors.new)) (failure_line failure.entry) }
-    ensures failed { result ≡ Ending.Failed }
-{
-    errors.tell(&failure);
-    Ending::Failed
-}
-
-/// How a run ends, by what came of its line. A failure is told.
-fn ended<E: Write>(came: Result<Ending, Failure<'_>>, errors: &mut Errors<E>) -> Ending
-    ensures well { IfOk came.entry (λ ending. (result ≡ ending) × (errors.new ≡ errors.old)) }
-    ensures failed { IfErr came.entry (λ failure. (result ≡ Ending.Failed)
-        × Told (is_lost_of errors.new) (E.contents (writer_of errors.old)) (E.contents (writer_of errors.new)) (failure_line failure)) }
-{
-    match came {
-        Ok(ending) => ending,
-        Err(failure) => tell_failure(failure, errors),
     }
 }
 

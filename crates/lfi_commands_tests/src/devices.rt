@@ -4,8 +4,9 @@ ghost use Rattle.std.specs.Prelude.{◌≡◌, IfOk, length};
 
 use crate::runs::{FAILED, ONE_RET, ONE_RET_REPORT, RET, begin, run_over, tells};
 use lfi_code::Verdict;
-use lfi_commands::{
-    CommandFault, DeviceCause, Ending, Errors, Failure, Target, check, check_file, load,
+use lfi_commands::{ending_of_load, load};
+use lfi_file_commands::{
+    CommandFault, DeviceCause, Ending, Errors, Failure, Target, check, check_file,
 };
 use lfi_model::Outcome;
 use lfi_module::Profile;
@@ -184,7 +185,7 @@ fn ends_so<S: Threads + Wait + Sync + AllocGlobal>(
     match load(rt, rt.alloc(), inputs, 1, &NoNotices, out) {
         Ok(report) => {
             let complete = report.modules[0].outcome == Outcome::Complete { words: 1 };
-            complete == is_complete && Ending::of_report(&report) == ending
+            complete == is_complete && ending_of_load(&report, true, true) == ending
         }
         Err(_) => false,
     }

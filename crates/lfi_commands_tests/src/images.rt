@@ -2,7 +2,7 @@
 
 use crate::devices::{FullWriter, loses};
 use crate::runs::{WELL, begin, run_over, tells};
-use lfi_commands::Errors;
+use lfi_file_commands::Errors;
 use std::cell::Cell;
 use std::fs::{self, File, Files};
 use std::io::{self, Write};

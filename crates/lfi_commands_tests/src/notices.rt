@@ -1,7 +1,8 @@
 //! The notice of a refused module.
 
 use crate::runs::{NOT_WELL, begin, connect, has_file, tells_over};
-use lfi_commands::{Disk, WrittenNotices};
+use lfi_commands::WrittenNotices;
+use lfi_file_commands::Disk;
 use lfi_image::CompleteImage;
 use std::fs::{self, File, Files};
 use std::io::{self, Read, Write};

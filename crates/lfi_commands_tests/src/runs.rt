@@ -1,6 +1,7 @@
 //! Runs of the program over the system's files, and what they must answer.
 
-use lfi_commands::{Disk, Errors, SystemDisk, run_words};
+use lfi_commands::run_words;
+use lfi_file_commands::{Disk, Errors, SystemDisk};
 use lfi_threads::{NoNotices, Notices};
 use std::alloc::{AllocError, Global};
 use std::fs::{self, File, Files};

@@ -1,7 +1,8 @@
 //! `lfiload`: checks the code of modules, and loads modules from streams.
 #![tactic(auto)]
 
-use lfi_commands::{Ending, Errors, Failure, SystemDisk, WrittenNotices, run_words};
+use lfi_commands::{WrittenNotices, run_words};
+use lfi_file_commands::{Ending, Errors, Failure, SystemDisk};
 use std::process::ExitCode;
 use std::{env, io};
 

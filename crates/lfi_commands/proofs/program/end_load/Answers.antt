@@ -9,5 +9,5 @@ returns-in-Ok-clause-ended g c =
       written = told.2;
       all = c.write_asked_images-all.result;
       images = c.write_asked_images-all.ensures;
-      ends = c.of_load.ensures;
+      ends = c.ending_of_load.ensures;
     }

@@ -1,11 +1,11 @@
 use Rattle.std.proofs.Common.{Bor, List, ℕ, map, refl, subst, sym}
 use Rattle.std.specs.Prelude.{option_map, IfErr}
 use Rattle.std.proofs.lemmas.Result.{IfErr-weaker, IfOk-weaker}
-use Rattle.lfi_commands.specs.Errors.{is_lost_of, writer_of}
-use Rattle.lfi_commands.specs.Failures.{FailsOn}
-use Rattle.lfi_commands.specs.Left.{left}
+use Rattle.lfi_file_commands.specs.Errors.{is_lost_of, writer_of}
+use Rattle.lfi_file_commands.specs.Failures.{FailsOn}
+use Rattle.lfi_file_commands.specs.Left.{left}
 use Rattle.lfi_commands.specs.Loading.{HasLoaded}
-use Rattle.lfi_commands.specs.Packing.{HasPacked}
+use Rattle.lfi_file_commands.specs.Packing.{HasPacked}
 use Rattle.lfi_commands.specs.Runs.{CarriesOut, FailsAs}
 use Rattle.lfi_commands.proofs.Carried.{checks_file, lists_file, packs_files, runs_file}
 use Rattle.lfi_commands.proofs.program.run.Goals as goal

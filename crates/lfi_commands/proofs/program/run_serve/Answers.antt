@@ -4,7 +4,8 @@ use Rattle.std.proofs.lemmas.Result.{IfErr-weaker, IfOk-weaker}
 use Rattle.lfi_model.specs.Texts.{summary_text}
 use Rattle.lfi_stage.specs.Summaries.{summary_of}
 use Rattle.lfi_commands.specs.Serving.{IsLimit}
-use Rattle.lfi_commands.proofs.Failing.{fails_serving_output, is_no_other}
+use Rattle.lfi_file_commands.proofs.Failing.{is_no_other}
+use Rattle.lfi_commands.proofs.Failing.{fails_serving_output}
 use Rattle.lfi_commands.proofs.program.run_serve.Goals as goal
 
 pub returns-in-Ok-served : goal.returns-in-Ok-served

@@ -1,7 +1,7 @@
 use Rattle.std.proofs.Common.{ap, map, string_bytes}
 use Rattle.std.proofs.lemmas.Result.{IfErr-weaker, IfOk-weaker, on_err_weaker}
-use Rattle.lfi_commands.specs.Errors.{is_lost_of, writer_of}
-use Rattle.lfi_commands.specs.Left.{left}
+use Rattle.lfi_file_commands.specs.Errors.{is_lost_of, writer_of}
+use Rattle.lfi_file_commands.specs.Left.{left}
 use Rattle.lfi_commands.proofs.Ended.{runs_ended}
 use Rattle.lfi_commands.proofs.program.run_words.Goals as goal
 

@@ -1,6 +1,6 @@
 use Rattle.std.proofs.Common.{inl, inr, refl, subst}
 use Rattle.lfi_command_line.specs.CommandLine.{IsLineFault}
-use Rattle.lfi_commands.specs.declared.failure.Failure.TheVariants.{NoMemory}
+use Rattle.lfi_file_commands.specs.declared.failure.Failure.TheVariants.{NoMemory}
 use Rattle.lfi_commands.proofs.Ended.{ends_wrong, runs_failed}
 use Rattle.lfi_commands.proofs.program.tell_fault.Goals as goal
 

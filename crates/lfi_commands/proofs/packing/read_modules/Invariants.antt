@@ -1,6 +1,0 @@
-use Rattle.std.proofs.Common.{map, take}
-use Rattle.lfi_commands.specs.Packing.{AreModulesOf}
-use Rattle.lfi_commands.proofs.packing.read_modules.Given as goal
-
-abbrev pub invariant-loop-number : goal.invariant-loop-number
-invariant-loop-number g l = AreModulesOf l.entry (map (λ path. g.D.Disk.file_at l.fn.disk path.now) (take l.number l.fn.paths)) (map (λ file. file.items) l.files.items)

@@ -1,0 +1,14 @@
+-- The numbers in a line of the command line. Only private clauses and proofs use it.
+use Rattle.std.specs.Prelude.{⊤, ◌+◌, ◌≤◌, length}
+use Rattle.lfi_module.specs.Pages.{HasPages}
+use Rattle.lfi_command_line.specs.declared.line.Line.{Line}
+use Rattle.lfi_command_line.specs.declared.line.Line.TheVariants.{Check, Load, Serve, Run, Disassemble, Pack}
+
+-- a line for 1 to 8 streams and verifiers, where it is one for streams; and for modules up to the last one, with pages that their profile has, where it packs
+abbrev pub IsInRange : Line → Type 0
+IsInRange (Check file explain profile) = ⊤
+IsInRange (Load verifiers out explain streams) = ((1 ≤ verifiers) × (verifiers ≤ 8)) × ((1 ≤ length streams.items) × (length streams.items ≤ 8))
+IsInRange (Serve socket connections verifiers seconds out explain) = ((1 ≤ verifiers) × (verifiers ≤ 8)) × ((1 ≤ connections) × (connections ≤ 8))
+IsInRange (Run image steps) = ⊤
+IsInRange (Disassemble file profile) = ⊤
+IsInRange (Pack first entry profile pages files) = (first + length files.items ≤ 16) × HasPages profile pages

@@ -1,0 +1,99 @@
+-- What comes of several images, one after another.
+use Rattle.std.proofs.Common.{◌≡◌, ◌∙◌, ◌&&◌, Bool, true, false, ℕ, ◌+◌, ◌<◌, ◌≤◌, List, [], ◌∷◌, ◌++◌, length, take, get_or, Option, Some, None, refl, sym, ap, ap₂, subst, true≢false}
+use Rattle.std.proofs.KnownBytes.{Appends-nil, Appends-trans}
+use Rattle.std.specs.List.{AllByRecursion}
+use Rattle.std.proofs.lemmas.List.{map-append, take_more}
+use Rattle.std.proofs.lemmas.List.Elements.{filter_map-append}
+use Rattle.std.proofs.lemmas.Grind.{flat_map-append}
+use Rattle.lfi_image.specs.Image.{Image}
+use Rattle.lfi_place.specs.declared.report.ModuleReport.{ModuleReport}
+use Rattle.lfi_file_commands.specs.declared.failure.Failure.{Failure}
+use Rattle.lfi_file_commands.specs.Failures.{failure_line, failure_lines, Told, IsOfWriting}
+use Rattle.lfi_file_commands.specs.Images.{Fate, Puts, NamesPath, WritesImages, failures_in, file_written, files_written, image_file, image_in, image_path_of, images_in, is_none_of}
+use Rattle.lfi_file_commands.proofs.Joined.{all_taken, joined, no_more}
+
+abbrev Files : Type 0
+Files = List (List ℕ × List ℕ)
+
+puts_nil : (a : Option Files) → Puts a a []
+puts_nil None = tt
+puts_nil (Some files) = sym (no_more files)
+
+puts_trans : (a b c : Option Files) (fs gs : Files) → Puts a b fs → Puts b c gs → Puts a c (fs ++ gs)
+puts_trans None b c fs gs p q = tt
+puts_trans (Some x) None c fs gs p q = absurd p
+puts_trans (Some x) (Some y) None fs gs p q = absurd q
+puts_trans (Some x) (Some y) (Some z) fs gs p q = q ∙ ap (λ l. l ++ gs) p ∙ sym (joined x fs gs)
+
+pub told_nil : (lost : Bool) (e : Option (List ℕ)) → Told lost e e []
+told_nil true e = tt
+told_nil false e = Appends-nil e
+
+told_trans : (l m : Bool) (a b c : Option (List ℕ)) (s t : List ℕ) → (l ≡ true → m ≡ true) → Told l a b s → Told m b c t → Told m a c (s ++ t)
+told_trans l true a b c s t grows p q = tt
+told_trans false false a b c s t grows p q = Appends-trans a b c s t p q
+told_trans true false a b c s t grows p q = absurd (true≢false (sym (grows refl)))
+
+abbrev written_by : List ℕ → Fate → Files
+written_by folder fate = file_written folder fate.image fate.failure
+
+abbrev Named : List ℕ → Fate → Type 0
+Named folder fate = NamesPath folder fate.image fate.failure
+
+names-append : (folder : List ℕ) (xs ys : List Fate) → AllByRecursion (Named folder) xs → AllByRecursion (Named folder) ys → AllByRecursion (Named folder) (xs ++ ys)
+names-append folder [] ys first second = second
+names-append folder (x ∷ xs) ys first second = (first.0, names-append folder xs ys first.1 second)
+
+none-append : (xs ys : List Failure) → is_none_of (xs ++ ys) ≡ (is_none_of xs && is_none_of ys)
+none-append [] ys = refl
+none-append (x ∷ xs) ys = refl
+
+-- no image at all
+pub writes_none : (folder : List ℕ) (a : Option Files) (lost : Bool) (e : Option (List ℕ)) → WritesImages folder [] a a lost e e true
+writes_none folder a lost e = record { fates = []; each = refl; puts = puts_nil a; names = tt; told = told_nil lost e; all_put = refl }
+
+-- one that was put
+pub writes_one : (folder : List ℕ) (image : Image) (a b : Option Files) (lost : Bool) (e : Option (List ℕ)) → Puts a b (image_file folder image ∷ []) → WritesImages folder (image ∷ []) a b lost e e true
+writes_one folder image a b lost e put =
+    record { fates = record { image = image; failure = None } ∷ []; each = refl; puts = put; names = (tt, tt); told = told_nil lost e; all_put = refl }
+
+-- one of which a failure was told
+pub fails_one : (folder : List ℕ) (image : Image) (failure : Failure) (a b : Option Files) (lost : Bool) (e f : Option (List ℕ)) → b ≡ a → IsOfWriting (image_path_of folder image.slot) failure
+    → Told lost e f (failure_line failure) → WritesImages folder (image ∷ []) a b lost e f false
+fails_one folder image failure a b lost e f same names told =
+    record {
+      fates = record { image = image; failure = Some failure } ∷ [];
+      each = refl;
+      puts = subst (λ x. Puts a x []) (sym same) (puts_nil a);
+      names = (names, tt);
+      told = subst (λ l. Told lost e f l) (sym (no_more (failure_line failure))) told;
+      all_put = refl;
+    }
+
+-- some, and then others
+pub writes_more : (folder : List ℕ) (is js : List Image) (a b c : Option Files) (l m : Bool) (e f g : Option (List ℕ)) (p q : Bool) → (l ≡ true → m ≡ true)
+    → WritesImages folder is a b l e f p → WritesImages folder js b c m f g q → WritesImages folder (is ++ js) a c m e g (p && q)
+writes_more folder is js a b c l m e f g p q grows first second =
+    record {
+      fates = first.fates ++ second.fates;
+      each = map-append (λ fate. fate.image) first.fates second.fates ∙ ap₂ (λ x y. x ++ y) first.each second.each;
+      puts = subst (λ x. Puts a c x) (sym (flat_map-append (written_by folder) first.fates second.fates)) (puts_trans a b c (files_written folder first.fates) (files_written folder second.fates) first.puts second.puts);
+      names = names-append folder first.fates second.fates first.names second.names;
+      told = subst (λ x. Told m e g x) (sym (ap failure_lines (filter_map-append (λ (fate : Fate). fate.failure) first.fates second.fates) ∙ flat_map-append failure_line (failures_in first.fates) (failures_in second.fates)))
+          (told_trans l m e f g (failure_lines (failures_in first.fates)) (failure_lines (failures_in second.fates)) grows first.told second.told);
+      all_put = ap₂ (λ x y. x && y) first.all_put second.all_put ∙ sym (none-append (failures_in first.fates) (failures_in second.fates)) ∙ ap is_none_of (sym (filter_map-append (λ (fate : Fate). fate.failure) first.fates second.fates));
+    }
+
+abbrev of_module : ModuleReport → List Image
+of_module told = image_in told.image
+
+images-push : (xs : List ModuleReport) (x : ModuleReport) → images_in (xs ++ x ∷ []) ≡ images_in xs ++ image_in x.image
+images-push xs x = flat_map-append of_module xs (x ∷ []) ∙ ap (λ l. images_in xs ++ l) (no_more (image_in x.image))
+
+pub images_more : (xs : List ModuleReport) (k : ℕ) (d : ModuleReport) → k < length xs → d ≡ get_or xs k d → images_in (take (k + 1) xs) ≡ images_in (take k xs) ++ image_in d.image
+images_more xs k d within is =
+    ap images_in (take_more xs k d within) ∙ images-push (take k xs) (get_or xs k d)
+    ∙ ap (λ told. images_in (take k xs) ++ image_in told.image) {x = get_or xs k d} {y = d} (sym is)
+
+pub images_whole : (xs : List ModuleReport) (k : ℕ) → length xs ≤ k → images_in (take k xs) ≡ images_in xs
+images_whole xs k enough = ap images_in (all_taken xs k enough)

@@ -1,0 +1,9 @@
+mod RunEndings
+mod Explained
+pub mod Failing
+mod Fates
+mod Inputs
+mod Joined
+mod Paths
+mod Streams
+mod Telling

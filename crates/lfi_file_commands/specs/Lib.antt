@@ -1,0 +1,14 @@
+pub mod Left
+pub mod Causes
+pub mod Checking
+pub mod Explaining
+pub mod Listing
+pub mod Failures
+pub mod Errors
+pub mod Endings
+pub mod Opening
+pub mod Images
+pub mod Refused
+pub mod Running
+pub mod Packing
+pub mod inner

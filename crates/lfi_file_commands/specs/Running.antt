@@ -1,0 +1,32 @@
+-- What `lfiload run` finds, writes and tells. Source: this project's profile, docs/COMMANDS.md.
+use Rattle.std.specs.Prelude.{◌≡◌, ℕ, Bool, true, false, List, ◌++◌, Option, codes}
+use Rattle.lfi_run.specs.declared.image_run.ImageRun.{ImageRun}
+use Rattle.lfi_run.specs.Runs.{CameOf}
+use Rattle.lfi_run.specs.Texts.{run_text}
+use Rattle.lfi_file_commands.specs.declared.ending.Ending.{Ending}
+use Rattle.lfi_file_commands.specs.declared.ending.Ending.TheVariants.{Failed}
+use Rattle.lfi_file_commands.specs.Endings.{ending_of_run}
+use Rattle.lfi_file_commands.specs.Failures.{Told}
+use Rattle.lfi_file_commands.specs.Left.{Left}
+
+-- the ending of a run of an image: by what came of it, where that was told
+abbrev pub EndsRun : (is_lost : Bool) → ImageRun → Ending → Type 0
+EndsRun true run ending = ending ≡ Failed
+EndsRun false run ending = ending ≡ ending_of_run run
+
+-- what came of an image's file; its line was told, and it gives the ending
+pub record FindsRun (bytes : Option (List ℕ)) (steps : ℕ) (old new : Option (List ℕ)) (is_lost : Bool) (errors_old errors_new : Option (List ℕ)) (ending : Ending) : Type 0 where
+  pub run : ImageRun
+  pub came : CameOf bytes steps old new run
+  pub told : Told is_lost errors_old errors_new (run_text run ++ codes "\n")
+  pub ends : EndsRun is_lost run ending
+
+-- What `lfiload run` did with a file that has these bytes, as far as they are known: it ran it as an image for at most so many steps,
+-- told the line of what came of it, put no file, and ended by it.
+pub record HasRun (bytes : Option (List ℕ)) (steps : ℕ) (old new : Left) (ending : Ending) : Type 0 where
+  pub run : ImageRun
+  -- with what its code printed
+  pub came : CameOf bytes steps old.out new.out run
+  pub put : new.put ≡ old.put
+  pub told : Told new.is_lost old.errors new.errors (run_text run ++ codes "\n")
+  pub ends : EndsRun new.is_lost run ending

@@ -1,0 +1,3 @@
+-- What private functions answer. No claim of this crate rests on these definitions.
+pub mod Pieces
+pub mod Whole

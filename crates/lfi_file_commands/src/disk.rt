@@ -1,0 +1,100 @@
+//! The files that the commands read and write.
+
+ghost use Rattle.std.specs.Prelude.{◌≡◌, ℕ, List, [], ◌∷◌, Option, Some, None, IfSome, IfOk, OnOk, OnErr};
+ghost use Rattle.lfi_image.specs.Image.{file_of};
+ghost use Rattle.lfi_file_commands.specs.Images.{Puts};
+
+use lfi_image::{CompleteImage, write_image};
+use std::fs::{File, Files, OpenFile};
+use std::io::{self, Read, Write};
+
+/// Where the commands find their input, and put the images.
+pub trait Disk {
+    /// What reads a file.
+    type Reader: Read + Send + Drop;
+
+    /// The bytes of the file at a path, where they are known.
+    ghost file_at: { Self → List ℕ → Option (List ℕ) } = { λ _ _. None };
+
+    /// The paths and bytes of the files that were put there, the oldest first, where they are known.
+    ghost put_files: { Self → Option (List (List ℕ × List ℕ)) } = { λ _. None };
+
+    /// Opens the file at this path.
+    ///
+    /// # Errors
+    ///
+    /// Where there is none that can be read, or no memory.
+    fn open(&self, path: &str) -> io::Result<Self::Reader>
+        ensures { IfOk result (λ reader. IfSome (file_at self.now path.now) (λ bytes. Self.Reader.remaining reader ≡ Some bytes)) };
+
+    /// How many bytes an opened file has, where that is known before they are read. Nothing rests on it but how much memory
+    /// its reading takes, and that a file which gives fewer or more can't be read.
+    fn length(&self, _reader: &Self::Reader) -> Option<u64> {
+        None
+    }
+
+    /// Puts the file of an image at this path, in place of one that is there.
+    ///
+    /// # Errors
+    ///
+    /// Where it can't be written whole; a beginning of it may then be there.
+    fn put_image(&mut self, path: &str, image: &CompleteImage) -> io::Result<()>
+        ensures ok { OnOk result (Puts (put_files self.old) (put_files self.new) ((path.now, file_of image.now) ∷ [])) }
+        ensures err { OnErr result (put_files self.new ≡ put_files self.old) };
+}
+
+/// The system's files. It tells contracts nothing of their bytes.
+#[derive(Drop)]
+pub struct SystemDisk<'a, R> {
+    /// The runtime that reaches them.
+    pub rt: &'a R,
+}
+
+/// A writer to a file, which keeps the error of the last write that failed.
+#[derive(Drop)]
+struct Telling<'a> {
+    file: &'a mut File,
+    error: Option<io::Error>,
+}
+
+impl Write for Telling<'_> {
+    fn write(&mut self, buf: &[u8]) -> io::Result<usize> {
+        let written = self.file.write(buf);
+        if let Err(error) = &written {
+            self.error = Some(*error);
+        }
+        written
+    }
+
+    fn flush(&mut self) -> io::Result<()> {
+        self.file.flush()
+    }
+}
+
+impl<R: Files<File = File>> Disk for SystemDisk<'_, R> {
+    type Reader = File;
+
+    fn open(&self, path: &str) -> io::Result<File> {
+        File::open(self.rt, path)
+    }
+
+    fn length(&self, reader: &File) -> Option<u64> {
+        match reader.metadata() {
+            Ok(metadata) if metadata.is_file() => Some(metadata.len()),
+            _ => None,
+        }
+    }
+
+    fn put_image(&mut self, path: &str, image: &CompleteImage) -> io::Result<()> {
+        let mut file = File::create(self.rt, path)?;
+        let mut telling = Telling {
+            file: &mut file,
+            error: None,
+        };
+        match (write_image(image, &mut telling), telling.error) {
+            (Ok(()), _) => Ok(()),
+            (Err(_), Some(error)) => Err(error),
+            (Err(_), None) => Err(io::Error::from(io::ErrorKind::Other)),
+        }
+    }
+}

@@ -1,0 +1,64 @@
+//! The files that the commands read, opened.
+
+ghost use Rattle.std.specs.Prelude.{◌≡◌, ◌<◌, Some, IfOk, IfErr, IfSome, length, map, slice_get};
+ghost use Rattle.lfi_file_commands.specs.Failures.{IsOfReading, IsOfReadingOne};
+ghost use Rattle.lfi_file_commands.specs.Opening.{IsInputOf, AreInputsOf};
+
+use crate::disk::Disk;
+use crate::failure::Failure;
+use lfi_receive::Input;
+use std::alloc::Global;
+
+/// Opens the file at this path.
+pub(crate) fn open<'a, D: Disk>(disk: &D, path: &'a str) -> Result<D::Reader, Failure<'a>>
+    ensures reader { IfOk result (λ reader. IfSome (D.file_at disk.now path.now) (λ bytes. D.Reader.remaining reader ≡ Some bytes)) }
+    ensures failure { IfErr result (IsOfReading path.now) }
+{
+    match disk.open(path) {
+        Ok(reader) => Ok(reader),
+        Err(error) => Err(Failure::reading(path, &error)),
+    }
+}
+
+/// The input of the file at this path.
+fn open_input<'a, D: Disk>(
+    alloc: Global,
+    disk: &D,
+    path: &'a str,
+) -> Result<Input<D::Reader>, Failure<'a>>
+    ensures input { IfOk result (IsInputOf D.Reader.remaining (D.file_at disk.now path.now)) }
+    ensures failure { IfErr result (IsOfReading path.now) }
+{
+    let reader = open(disk, path)?;
+    Ok(Input::new(alloc, reader)?)
+}
+
+/// The path at this place.
+pub(crate) fn path_at<'a>(paths: &[&'a str], place: usize) -> &'a str
+    requires { place < length paths.now }
+    ensures { slice_get paths.now place ≡ Some result }
+{
+    paths[place]
+}
+
+/// Opens the files at these paths, in their order, up to the first that can't be opened.
+pub fn open_all<'a, D: Disk>(
+    alloc: Global,
+    disk: &D,
+    paths: &[&'a str],
+) -> Result<Vec<Input<D::Reader>>, Failure<'a>>
+    ensures inputs { IfOk result (λ inputs. AreInputsOf D.Reader.remaining (map (λ path. D.file_at disk.now path.now) paths.now) inputs.items) }
+    ensures failure { IfErr result (IsOfReadingOne (map (λ path. path.now) paths.now)) }
+{
+    let mut inputs = Vec::new(alloc);
+    for number in 0..paths.len() {
+        let input = match open_input(alloc, disk, path_at(paths, number)) {
+            Ok(input) => input,
+            Err(failure) => return Err(failure),
+        };
+        if inputs.push(input).is_err() {
+            return Err(Failure::NoMemory);
+        }
+    }
+    Ok(inputs)
+}

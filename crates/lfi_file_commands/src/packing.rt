@@ -1,0 +1,163 @@
+//! Code files that are packed as a stream, a module each.
+
+ghost use Rattle.std.specs.Prelude.{◌≡◌, ◌<◌, ◌≤◌, ◌+◌, Some, true, map, length, slice_get, IfOk, IfErr, IfSome, OnOk};
+ghost use Rattle.lfi_module.specs.Pages.{HasPages};
+ghost use Rattle.a64_word.specs.Words.{words_of};
+ghost use Rattle.lfi_code.specs.Checking.{IsCode};
+ghost use Rattle.lfi_file_commands.specs.Packing as spec;
+ghost use Rattle.lfi_file_commands.specs.inner.Whole.{StopsAt, StopsAtOne, WritesModule};
+
+use crate::device_cause::DeviceCause;
+use crate::disk::Disk;
+use crate::failure::Failure;
+use crate::opening::{open, path_at};
+use crate::whole::read_code;
+use lfi_code::Code;
+use lfi_module::{Extent, ModuleNumber, PageSize, Profile, WordCount};
+use lfi_pack::{PackFault, pack_module};
+use std::alloc::Global;
+use std::fmt;
+use std::io::Write;
+
+/// Why the code in a file is no module that can be packed.
+#[derive(Clone, Copy, PartialEq, Eq)]
+pub enum NoModule<'a> {
+    /// The file at this path isn't 1 to 4,194,304 whole words.
+    BadLength { path: &'a str },
+    /// The code in the file at this path has no word with this number, at which it is to be entered.
+    NoEntry { path: &'a str, entry: u32 },
+}
+
+impl fmt::Display for NoModule<'_> {
+    ghost output = { λ told. Some (spec.no_module_text told) };
+
+    fn fmt<W: fmt::Write>(&self, f: &mut fmt::Formatter<W>) -> fmt::Result {
+        match self {
+            NoModule::BadLength { path } => write!(f, "bad length {path}"),
+            NoModule::NoEntry { path, entry } => write!(f, "no word {entry} in {path}"),
+        }
+    }
+}
+
+/// Why code files aren't read as modules.
+#[derive(Drop)]
+pub(crate) enum Stop<'a> {
+    /// One of them is none.
+    NoModule(NoModule<'a>),
+    /// One of them can't be read, or there was no memory.
+    Failed(Failure<'a>),
+}
+
+/// The code in the file at this path, as a module that is entered at this word.
+fn read_module<'a, D: Disk>(
+    alloc: Global,
+    disk: &D,
+    path: &'a str,
+    entry: u32,
+) -> Result<Vec<u8>, Stop<'a>>
+    ensures code { IfOk result (λ code. IfSome (D.file_at disk.now path.now) (λ bytes. bytes ≡ code.items) × IsCode code.items) }
+    ensures entry { IfOk result (λ code. entry < length (words_of code.items)) }
+    ensures stop { IfErr result (StopsAt entry path.now (D.file_at disk.now)) }
+{
+    let reader = match open(disk, path) {
+        Ok(reader) => reader,
+        Err(failure) => return Err(Stop::Failed(failure)),
+    };
+    let code = match read_code(alloc, reader) {
+        Ok(Some(code)) => code,
+        Ok(None) => return Err(Stop::NoModule(NoModule::BadLength { path })),
+        Err(fault) => return Err(Stop::Failed(Failure::of(fault, path))),
+    };
+    if entry as usize >= Code::of(&code).len_words() {
+        return Err(Stop::NoModule(NoModule::NoEntry { path, entry }));
+    }
+    Ok(code)
+}
+
+/// The code in the files at these paths, in their order, up to the first that is no module.
+pub(crate) fn read_modules<'a, D: Disk>(
+    alloc: Global,
+    disk: &D,
+    paths: &[&'a str],
+    entry: u32,
+) -> Result<Vec<Vec<u8>>, Stop<'a>>
+    ensures modules { IfOk result (λ files. spec.AreModulesOf entry (map (λ path. D.file_at disk.now path.now) paths.now) (map (λ file. file.items) files.items)) }
+    ensures stop { IfErr result (StopsAtOne entry (map (λ path. path.now) paths.now) (D.file_at disk.now)) }
+{
+    let mut files = Vec::new(alloc);
+    for number in 0..paths.len() {
+        let file = match read_module(alloc, disk, path_at(paths, number), entry) {
+            Ok(file) => file,
+            Err(stop) => return Err(stop),
+        };
+        if files.push(file).is_err() {
+            return Err(Stop::Failed(Failure::NoMemory));
+        }
+    }
+    Ok(files)
+}
+
+/// The code at this place.
+fn code_at(files: &[Vec<u8>], place: usize) -> &[u8]
+    requires { place < length files.now }
+    ensures { slice_get (map (λ file. file.items) files.now) place ≡ Some result.now }
+{
+    files[place].as_slice()
+}
+
+/// Writes this code as the module with this number, which is entered at this word and has pages of this size.
+fn write_module<W: Write>(
+    number: usize,
+    entry: u32,
+    profile: Profile,
+    pages: PageSize,
+    code: &[u8],
+    writer: &mut W,
+) -> Result<(), DeviceCause>
+    requires number { number < 16 }
+    requires code { IsCode code.now }
+    requires entry { entry < length (words_of code.now) }
+    requires pages { HasPages profile pages }
+    ensures { OnOk result (WritesModule profile pages number entry code.now (W.contents writer.old) (W.contents writer.new)) }
+{
+    let words = Code::of(code).len_words() as u32;
+    let extent = Extent::of(WordCount::of(words), entry, profile, pages);
+    let mut reader = code;
+    match pack_module(ModuleNumber::at(number), extent, &mut reader, writer) {
+        Ok(()) => Ok(()),
+        Err(PackFault::WriteFailed(kind)) => Err(DeviceCause::of_kind(kind)),
+        Err(_) => Err(DeviceCause::Other),
+    }
+}
+
+/// Writes a stream of this code, a module each, numbered from this number on, entered at this word, and cut into pages of
+/// this size.
+///
+/// # Errors
+///
+/// Where a write fails, for this cause.
+pub(crate) fn write_stream<W: Write>(
+    first: usize,
+    entry: u32,
+    profile: Profile,
+    pages: PageSize,
+    files: &[Vec<u8>],
+    writer: &mut W,
+) -> Result<(), DeviceCause>
+    requires numbers { first + length files.now ≤ 16 }
+    requires modules { spec.AreModules entry (map (λ file. file.items) files.now) }
+    requires pages { HasPages profile pages }
+    ensures { OnOk result (spec.WritesStream profile pages first entry (map (λ file. file.items) files.now) (W.contents writer.old) (W.contents writer.new)) }
+{
+    for place in 0..files.len() {
+        write_module(
+            first + place,
+            entry,
+            profile,
+            pages,
+            code_at(files, place),
+            writer,
+        )?;
+    }
+    Ok(())
+}

@@ -1,0 +1,100 @@
+//! What is told of refused modules, and of connections with a fault.
+
+ghost use Rattle.std.specs.Prelude.{◌≡◌, ◌++◌, ℕ, List, IfOk, OnOk};
+ghost use Rattle.std.specs.Io.KnownBytes.{Appends};
+ghost use Rattle.lfi_file_commands.specs.Refused.{IsRefusal, refusal_lines, fault_line, fault_lines, TellRefused, TellAsked};
+
+use lfi_explain::{Explanation, explain_word};
+use lfi_frame::FrameFault;
+use lfi_model::Outcome;
+use lfi_place::{ImageState, ModuleReport};
+use std::io::{self, Write};
+
+/// What is told of a module's fault, where it was refused.
+fn refusal_of(report: &ModuleReport) -> Option<Explanation>
+    ensures { IsRefusal report.now.outcome report.now.image result }
+{
+    let Outcome::Refused(fault) = report.outcome else {
+        return None;
+    };
+    let ImageState::Refused(builder, refused) = &report.image else {
+        return None;
+    };
+    Some(explain_word(
+        builder.slot(),
+        builder.words(),
+        fault,
+        refused.word,
+        refused.before,
+        builder.profile(),
+    ))
+}
+
+/// Writes what is told of a module, if anything is.
+fn write_refusal<W: Write>(told: Option<Explanation>, out: &mut W) -> io::Result<()>
+    ensures { OnOk result (Appends (W.contents out.old) (W.contents out.new) (refusal_lines told)) }
+{
+    match told {
+        Some(explanation) => {
+            let module = explanation.slot.number();
+            writeln!(out, "module {module}: {explanation}")
+        }
+        None => Ok(()),
+    }
+}
+
+/// Writes what is told of each of these modules that was refused, in order: `module 1: `, and then the explanation of its
+/// fault, in the module's own slot.
+///
+/// # Errors
+///
+/// Where a write fails.
+pub fn write_refused<W: Write>(modules: &[ModuleReport], out: &mut W) -> io::Result<()>
+    ensures { IfOk result (λ _. (text : List ℕ) × TellRefused modules.now text × Appends (W.contents out.old) (W.contents out.new) text) }
+{
+    for report in modules {
+        write_refusal(refusal_of(report), out)?;
+    }
+    Ok(())
+}
+
+/// Writes the line of a connection, where it came to a fault.
+fn write_fault<W: Write>(number: usize, fault: Option<FrameFault>, out: &mut W) -> io::Result<()>
+    ensures { OnOk result (Appends (W.contents out.old) (W.contents out.new) (fault_line number fault)) }
+{
+    match fault {
+        Some(fault) => writeln!(out, "connection {number}: {fault}"),
+        None => Ok(()),
+    }
+}
+
+/// Writes a line for each of these connections that came to a fault, by their numbers: `connection 1: `, and then the fault
+/// in words.
+fn write_faults<W: Write>(faults: &[Option<FrameFault>], out: &mut W) -> io::Result<()>
+    ensures { OnOk result (Appends (W.contents out.old) (W.contents out.new) (fault_lines faults.now)) }
+{
+    for (number, fault) in faults.iter().enumerate() {
+        write_fault(number, *fault, out)?;
+    }
+    Ok(())
+}
+
+/// Writes so of these modules, and then of these connections, where that is asked for, and else nothing.
+///
+/// # Errors
+///
+/// Where a write fails.
+pub fn write_asked_refused<W: Write>(
+    explain: bool,
+    modules: &[ModuleReport],
+    faults: &[Option<FrameFault>],
+    out: &mut W,
+) -> io::Result<()>
+    ensures { IfOk result (λ _. (text : List ℕ) × TellAsked explain modules.now faults.now text × Appends (W.contents out.old) (W.contents out.new) text) }
+{
+    if !explain {
+        return Ok(());
+    }
+    write_refused(modules, out)?;
+    write_faults(faults, out)
+}

@@ -1,0 +1,42 @@
+//! Code files that are read whole.
+
+ghost use Rattle.std.specs.Prelude.{◌≡◌, IsTrue, false, IfOk, IfErr};
+ghost use Rattle.lfi_code.specs.Checking.{IsCode};
+ghost use Rattle.lfi_file_commands.specs.Failures.{is_of_a_write};
+ghost use Rattle.lfi_file_commands.specs.inner.Whole.{IsReadAs};
+
+use crate::checking::{CommandFault, read_all};
+use lfi_code::{Code, MOST_BYTES};
+use std::alloc::Global;
+use std::io::Read;
+
+/// Whether these bytes are code: 1 to 4,194,304 whole words.
+fn is_code(bytes: &[u8]) -> bool
+    ensures code { IsTrue result → IsCode bytes.now }
+    ensures other { result ≡ false → ¬ (IsCode bytes.now) }
+{
+    match Code::new(bytes) {
+        Some(_) => true,
+        None => false,
+    }
+}
+
+/// The code that a reader has left, up to its end; `None` where that isn't code. No more is read than tells that it is too long.
+///
+/// # Errors
+///
+/// Where a read fails, or there is no memory for it.
+pub(crate) fn read_code<R: Read + Drop>(
+    alloc: Global,
+    reader: R,
+) -> Result<Option<Vec<u8>>, CommandFault>
+    ensures code { IfOk result (IsReadAs (R.remaining reader)) }
+    ensures fault { IfErr result (λ fault. is_of_a_write fault ≡ false) }
+{
+    let bytes = read_all(alloc, reader.take(MOST_BYTES as u64 + 1))?;
+    if is_code(&bytes) {
+        Ok(Some(bytes))
+    } else {
+        Ok(None)
+    }
+}
