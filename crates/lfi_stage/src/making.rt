@@ -1,18 +1,20 @@
 //! The parts of a new stage, by their numbers.
 
-ghost use Rattle.std.specs.Prelude.{◌≡◌, ℕ, ◌≤◌, [], length, Some, IfOk, slice_get};
+ghost use Rattle.std.specs.Prelude.{◌≡◌, ℕ, ◌≤◌, length, Some, IfOk, slice_get};
 ghost use Rattle.lfi_module.specs.Numbers.{module_count};
 ghost use Rattle.lfi_board.specs.Known.{module_of};
 ghost use Rattle.lfi_board.specs.declared.seats.SequencerSeat.{SequencerSeat};
 ghost use Rattle.lfi_model.specs.Item.{ItemView};
-ghost use Rattle.lfi_queues.specs.Passes.{PassView};
+ghost use Rattle.lfi_queues.specs.Passes.{PassView, new_passes};
+ghost use Rattle.lfi_place.specs.declared.lanes.Lanes.{Lanes};
+ghost use Rattle.lfi_place.specs.Lanes.{AreNewLanes};
 ghost use Rattle.lfi_stage.specs.inner.Made.{AreUnused, AreUnusedSeats, AreRowsOf, AreFreshOf, AreVerifiersOf, AreSequencersOf};
 
 use lfi_board::{ReceiverSeat, SequencerSeat};
 use lfi_model::{CONNECTIONS, Item, Judged};
 use lfi_module::ModuleNumber;
-use lfi_place::{Sequencer, Verifier};
-use lfi_queues::{LanePut, LaneTake, PutPass, TakePass};
+use lfi_place::{Lanes, Sequencer, Verifier};
+use lfi_queues::{Intake, Lane, LanePut, LaneTake, PutPass, TakePass};
 use lfi_receive::Receiver;
 use page_buf::PoolMember;
 use std::alloc::{AllocError, Global};
@@ -75,4 +77,40 @@ pub(crate) fn make_sequencers(
         sequencers.push(Sequencer::new(alloc, module, pass, seat, pool.another()?)?)?;
     }
     Ok(sequencers)
+}
+
+/// An intake, the passes that take from it, and a receiver for each of those that put to it.
+pub(crate) fn make_hearing(
+    alloc: Global,
+    count: usize,
+    takers: usize,
+    seats: [Option<ReceiverSeat>; CONNECTIONS],
+    pool: &PoolMember,
+) -> Result<(Intake<Item>, Vec<TakePass<Item>>, Vec<Receiver>), AllocError>
+    requires few { count ≤ 8 }
+    requires seats { AreUnusedSeats count seats }
+    ensures counts { IfOk result (λ r. (r.0.putters ≡ count) × (r.0.takers ≡ takers)) }
+    ensures takes { IfOk result (λ r. r.1.items ≡ new_passes r.0 takers) }
+    ensures receivers { IfOk result (λ r. AreFreshOf (new_passes r.0 count) seats r.2.items) }
+{
+    let (intake, puts, takes) = Intake::new(alloc, count, takers)?;
+    let receivers = make_receivers(alloc, puts, seats, pool)?;
+    Ok((intake, takes, receivers))
+}
+
+/// Lanes, with a verifier for each of these passes, and a sequencer for each module.
+pub(crate) fn make_placing(
+    alloc: Global,
+    takes: Vec<TakePass<Item>>,
+    seats: Vec<SequencerSeat>,
+    pool: &PoolMember,
+) -> Result<(Vec<Lane<Judged>>, Vec<Verifier>, Vec<Sequencer>), AllocError>
+    requires seats { length seats.items ≡ module_count }
+    requires seated { (m : ℕ) (s : SequencerSeat) → slice_get seats.items m ≡ Some s → module_of s ≡ m }
+    ensures { IfOk result (λ r. (made : Lanes) × (made.lanes ≡ r.0) × AreNewLanes (length takes.items) made × AreVerifiersOf takes.items made.puts.items r.1.items × AreSequencersOf made.takes.items seats.items r.2.items) }
+{
+    let made = Lanes::new(alloc, takes.len())?;
+    let verifiers = make_verifiers(alloc, takes, made.puts)?;
+    let sequencers = make_sequencers(alloc, made.takes, seats, pool)?;
+    Ok((made.lanes, verifiers, sequencers))
 }

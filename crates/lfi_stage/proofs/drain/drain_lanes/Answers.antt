@@ -39,6 +39,16 @@ drain_one-sequence-requires-clause-take g c =
     let here : slice_get c.args.lanes.now n ≡ Some lane = slice_get-get_or c.args.lanes.now n lane within ∙ ap Some (ap (λ z. get_or c.args.lanes.now z lane) (sym (c.len-module.ensures ∙ c.pop.new.self.ok.0)) ∙ sym c.index-lanes-module.is) in
     c.requires.takes n c.in-Some.sequencer lane (last_is c.args.sequencers.items c.loop-sequencer.sequencers.items c.pop.new.self.items c.in-Some.sequencer i.same c.in-Some.ensures.items) here
 
+pub drain_one-sequence-requires-clause-takers : goal.drain_one-sequence-requires-clause-takers
+drain_one-sequence-requires-clause-takers g c =
+    let i = c.loop-sequencer.invariant in
+    let n : ℕ = length c.pop.new.self.items in
+    let less = one_less c.args.sequencers.items c.loop-sequencer.sequencers.items c.pop.new.self.items c.in-Some.sequencer i.same c.in-Some.ensures.items in
+    let within : n < length c.args.lanes.now = (let w = i.within in let all = c.requires.lanes in omega arith) in
+    let lane : QueueId = c.index-lanes-module.result in
+    let here : slice_get c.args.lanes.now n ≡ Some lane = slice_get-get_or c.args.lanes.now n lane within ∙ ap Some (ap (λ z. get_or c.args.lanes.now z lane) (sym (c.len-module.ensures ∙ c.pop.new.self.ok.0)) ∙ sym c.index-lanes-module.is) in
+    c.requires.takers n lane here
+
 pub loop-sequencer-preserved : goal.loop-sequencer-preserved
 loop-sequencer-preserved g c =
     let i = c.loop-sequencer.invariant in
