@@ -16,6 +16,11 @@ use std::{fs, io, thread};
 /// How long nobody looks for a client, where the time for it is limited, in milliseconds.
 const PAUSE: u64 = 5;
 
+/// Whether a listener that doesn't wait told by this that nobody has come.
+fn is_early(error: io::Error) -> bool {
+    error.kind() == io::ErrorKind::WouldBlock
+}
+
 /// The listener at a path, and until when clients are waited for and heard. The path is removed when
 /// this is dropped, and so once, whatever comes before; that this fails isn't told.
 pub(crate) struct Door<'a, S: Files> {
@@ -82,8 +87,11 @@ impl<'a, S: Files> Door<'a, S> {
             let left = span.left(self.rt);
             match self.listener.accept() {
                 Ok((stream, _)) => return Some(stream),
-                Err(error) if error.kind() == io::ErrorKind::WouldBlock => {}
-                Err(_) => return None,
+                Err(error) => {
+                    if !is_early(error) {
+                        return None;
+                    }
+                }
             }
             if left.is_zero() {
                 return None;

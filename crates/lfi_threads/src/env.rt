@@ -1,13 +1,12 @@
 //! What the threads of a stage share.
 
-ghost use Rattle.std.specs.Prelude.{◌≡◌, ⊤};
-
 use crate::ends::Ends;
 use lfi_stage::Shared;
-use std::alloc::{AllocError, Global};
+use std::alloc::Global;
 
-/// What the threads of a stage share, and what starts them. A thread's closure takes what it needs
-/// of it one by one: of a closure that owns a struct with references no clause is known.
+/// What the threads of a stage share, and what starts them. It is made once a load, and lent. A
+/// thread's closure takes what it needs of it one by one.
+#[derive(Drop)]
 pub(crate) struct Env<'e, S, G, N> {
     pub(crate) rt: &'e S,
     pub(crate) alloc: Global,
@@ -19,16 +18,4 @@ pub(crate) struct Env<'e, S, G, N> {
     pub(crate) gate: &'e G,
     /// What is told of refused modules.
     pub(crate) notices: &'e N,
-}
-
-impl<'e, S, G, N> Copy for Env<'e, S, G, N> {}
-
-impl<'e, S, G, N> Clone for Env<'e, S, G, N> {
-    ghost is_clone = { λ env copy. copy ≡ env };
-
-    ghost is_infallible = { λ _. ⊤ };
-
-    fn clone(&self) -> Result<Self, AllocError> {
-        Ok(*self)
-    }
 }

@@ -194,9 +194,13 @@ pub(crate) fn hear<S: Wait, R: Read + Drop, N: Notices>(
 {
     let going = ends.wait_for_go(rt);
     let leaving = hear_on(rt, place, going, notices, &mut receiver, &mut input);
+    drop(input);
     ends.tell_heard();
     match leaving {
         Leaving::Finished => Heard::Finished(receiver),
-        Leaving::Stopped(stopped) => Heard::GaveUp(stopped),
+        Leaving::Stopped(stopped) => {
+            drop(receiver);
+            Heard::GaveUp(stopped)
+        }
     }
 }
