@@ -1,6 +1,7 @@
 //! What the words of the command line ask for.
 
-ghost use Rattle.std.specs.Prelude.{IfOk, IfErr, map, string_bytes};
+ghost use Rattle.std.specs.Prelude.{List, IfOk, IfErr, map, string_bytes};
+ghost use Rattle.clap.specs.Words.{Text};
 ghost use Rattle.lfi_command_line.specs.CommandLine.{IsLine, IsLineFault};
 ghost use Rattle.lfi_command_line.specs.inner.Given.{AreTakenBy};
 
@@ -81,20 +82,12 @@ fn parse<'a>(alloc: Global, words: &'a [String]) -> Result<ArgMatches<'a>, LineF
     Ok(command(alloc)?.try_get_matches_from(words)?)
 }
 
-/// Parses the words of the command line, of which the first is the program's name.
-///
-/// Which words make which line, and which kind of fault, is what the parser's own definitions say
-/// of this program's command; its texts are in no contract.
-///
-/// # Errors
-///
-/// Why there is no command to carry out: help was asked for, the words are wrong, they name too much, or there was no
-/// memory to read them.
-pub fn read_line<'a>(alloc: Global, words: &'a [String]) -> Result<Line<'a>, LineFault>
-    ensures line { IfOk result (IsLine (map string_bytes words.now)) }
-    ensures fault { IfErr result (IsLineFault (map string_bytes words.now)) }
+/// What words ask for of which the parser has made this.
+fn line_of<'a>(alloc: Global, matches: &ArgMatches<'a>) -> Result<Line<'a>, LineFault>
+    requires taken { (words : List Text) × AreTakenBy words matches.now }
+    ensures line { (words : List Text) → AreTakenBy words matches.entry.now → IfOk result (IsLine words) }
+    ensures fault { (words : List Text) → AreTakenBy words matches.entry.now → IfErr result (IsLineFault words) }
 {
-    let matches = parse(alloc, words)?;
     if let Some(check) = matches.subcommand_matches("check") {
         return Ok(check_line(check));
     }
@@ -111,4 +104,21 @@ pub fn read_line<'a>(alloc: Global, words: &'a [String]) -> Result<Line<'a>, Lin
         return pack_line(alloc, pack);
     }
     Ok(run_line(matches.subcommand_matches("run").unwrap()))
+}
+
+/// Parses the words of the command line, of which the first is the program's name.
+///
+/// Which words make which line, and which kind of fault, is what the parser's own definitions say
+/// of this program's command; its texts are in no contract.
+///
+/// # Errors
+///
+/// Why there is no command to carry out: help was asked for, the words are wrong, they name too much, or there was no
+/// memory to read them.
+pub fn read_line<'a>(alloc: Global, words: &'a [String]) -> Result<Line<'a>, LineFault>
+    ensures line { IfOk result (IsLine (map string_bytes words.now)) }
+    ensures fault { IfErr result (IsLineFault (map string_bytes words.now)) }
+{
+    let matches = parse(alloc, words)?;
+    line_of(alloc, &matches)
 }
