@@ -6,3 +6,4 @@ pub mod Small
 pub mod Whole
 pub mod Written
 pub mod OneImage
+pub mod HeaderFaults

@@ -1,13 +1,13 @@
 -- The file of a lawful image has no fault.
-use Rattle.std.proofs.Common.{◌≡◌, ℕ, suc, ◌*◌, ◌/◌, ◌<◌, ◌≤◌, Bool, true, false, if◌then◌else◌, List, [], ◌∷◌, ◌++◌, length, take, drop, get_or, Option, Some, None, refl, sym, ◌∙◌, ap, subst, arith, inl, inr, ◌⊎◌}
-use Rattle.std.specs.Prelude.{nat_le, nat_lt, ◌==◌, ◌||◌, not}
-use Rattle.std.proofs.lemmas.Bool.{and_from, eq-eqb, lt-ltb, le-ltb, lt-leb, ne_eqb, le-leb}
-use borrow.Author.Tests.{clash}
+use Rattle.std.proofs.Common.{◌≡◌, ℕ, suc, ◌*◌, ◌/◌, ◌<◌, ◌≤◌, true, if◌then◌else◌, List, [], ◌∷◌, ◌++◌, length, take, drop, get_or, Option, Some, None, refl, sym, ◌∙◌, ap, subst, arith, inl, inr, ◌⊎◌}
+use Rattle.std.specs.Prelude.{nat_lt, ◌==◌}
+use Rattle.std.proofs.lemmas.Bool.{and_from, eq-eqb, lt-ltb, le-leb}
 use Rattle.std.proofs.lemmas.Nat.{from_le_bytes-to_le_bytes_4}
-use Rattle.byteorder.specs.Endian.{little_bytes, little_number}
+use Rattle.byteorder.specs.Endian.{little_bytes}
 use Rattle.byteorder.specs.Numbers.{little_number-reads_back}
 use Rattle.a64_word.specs.Words.{words_of}
-use Rattle.lfi_image.proofs.Headers.{or_false, profile_fits}
+use Rattle.lfi_image.proofs.Headers.{profile_fits}
+use Rattle.lfi_image.proofs.HeaderFaults.{none_wrong, profile_named}
 use Rattle.lfi_image.proofs.Small.{AreWords, lawful_small}
 use Rattle.lfi_rules.specs.Faults.{FirstFault}
 use Rattle.lfi_image.specs.declared.fault.ImageFault.{ImageFault}
@@ -16,7 +16,7 @@ use Rattle.lfi_module.specs.declared.profile.Profile.{Profile}
 use Rattle.lfi_module.specs.declared.profile.Profile.TheVariants.{One, Two}
 use Rattle.lfi_module.specs.Profiles.{profile_number}
 use Rattle.lfi_module.specs.Numbers.{base_of}
-use Rattle.lfi_image.specs.Image.{Image, IsImage, magic, header_of, code_of, file_of}
+use Rattle.lfi_image.specs.Image.{Image, IsImage, header_of, code_of, file_of}
 use Rattle.lfi_image.specs.Reading.{count_in, entry_in, profile_in, is_profile, named_profile, base_in, is_base, slot_at, header_fault, whole_pages, IsCodeFault, IsFault, device, short, of_header, of_code}
 
 code_length : (words : List ℕ) → length (code_of words) ≡ 4 * length words
@@ -37,29 +37,6 @@ same_front (x ∷ xs) (y ∷ ys) vs ws long e =
     let rest = same_front xs ys vs ws (omega (arith, long)) (ap (drop 1) e) in
     ((λ i. get_or (e i) 0 0 ∷ rest.0 i), rest.1)
 
--- a header without a fault
-none_wrong : (h : List ℕ) → little_number 4 h ≡ little_number 4 magic → is_profile (profile_in h) ≡ true → 1 ≤ count_in h → count_in h ≤ 4194304 → entry_in h < count_in h
-    → is_base (base_in h) ≡ true → header_fault h ≡ None
-unfolding header_fault
-none_wrong h is_magic named some most entry base =
-    let a : (little_number 4 h == little_number 4 magic) ≡ true = eq-eqb (little_number 4 h) (little_number 4 magic) is_magic in
-    let not_none : (count_in h == 0) ≡ false = ne_eqb (count_in h) 0 (λ e. omega (arith, e, some)) in
-    let not_many : nat_lt 4194304 (count_in h) ≡ false = le-ltb 4194304 (count_in h) most in
-    let inside : nat_le (count_in h) (entry_in h) ≡ false = lt-leb (count_in h) (entry_in h) entry in
-    let c : ((count_in h == 0 || nat_lt 4194304 (count_in h)) || nat_le (count_in h) (entry_in h)) ≡ false =
-    or_false (count_in h == 0 || nat_lt 4194304 (count_in h)) (nat_le (count_in h) (entry_in h)) (or_false (count_in h == 0) (nat_lt 4194304 (count_in h)) not_none not_many) inside in
-    let found : (x y z w : Bool) → x ≡ true → y ≡ true → z ≡ false → w ≡ true
-    → (if not x then Some Magic else if not y then Some OtherProfile else if z then Some Counts else if not w then Some Base else None) ≡ None = by_tests in
-    found _ _ _ _ a named c base
-  where
-    by_tests : (x y z w : Bool) → x ≡ true → y ≡ true → z ≡ false → w ≡ true
-        → (if not x then Some Magic else if not y then Some OtherProfile else if z then Some Counts else if not w then Some Base else None) ≡ None
-    by_tests true true false true p q r s = refl
-    by_tests false y z w p q r s = absurd (clash p)
-    by_tests true false z w p q r s = absurd (clash q)
-    by_tests true true true w p q r s = absurd (clash (sym r))
-    by_tests true true false false p q r s = absurd (clash s)
-
 base_fits : (slot : ℕ) → slot < 16 → is_base (base_of slot) ≡ true
 base_fits slot small =
     let at : slot_at (base_of slot) ≡ slot = omega arith in
@@ -70,10 +47,6 @@ few_profiles : (profile : Profile) → profile_number profile ≤ 2
 few_profiles One = omega arith
 few_profiles Two = omega arith
 
-profile_named : (profile : Profile) → (if profile_number profile == 2 then Two else One) ≡ profile
-profile_named One = refl
-profile_named Two = refl
-
 pub header_good : (count entry : ℕ) (profile : Profile) (slot : ℕ) → 1 ≤ count → count ≤ 4194304 → entry < count → slot < 16
     → (header_fault (header_of count entry profile slot) ≡ None) × (count_in (header_of count entry profile slot) ≡ count) × (named_profile (header_of count entry profile slot) ≡ profile)
 header_good count entry profile slot some most inside small =
@@ -83,7 +56,7 @@ header_good count entry profile slot some most inside small =
     let at_most : profile_number profile ≤ 2 = few_profiles profile in
     let named : profile_in h ≡ profile_number profile = little_number-reads_back 4 (profile_number profile) (little_bytes 8 (base_of slot)) (omega (arith, at_most)) in
     let b : base_in h ≡ base_of slot = little_number-reads_back 8 (base_of slot) [] (omega (arith, small)) in
-    (none_wrong h refl (ap is_profile named ∙ profile_fits profile) (omega (arith, c, some)) (omega (arith, c, most)) (omega (arith, c, e, inside)) (ap is_base b ∙ base_fits slot small), c, ap (λ number. if number == 2 then Two else One) named ∙ profile_named profile)
+    (none_wrong h refl (ap is_profile named ∙ profile_fits profile) (omega (arith, c, most)) (omega (arith, c, e, inside)) (ap is_base b ∙ base_fits slot small), c, ap (λ number. if number == 2 then Two else One) named ∙ profile_named profile)
 
 -- The code of lawful words has no fault.
 code_good : (p : Profile) (words : List ℕ) (fault : ImageFault) → AreWords words → FirstFault p words (length words) None → IsCodeFault p (length words) (code_of words) fault → (fault ≡ NoMemory) ⊎ (fault ≡ Device)
