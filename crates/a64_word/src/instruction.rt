@@ -43,8 +43,8 @@ pub enum Instruction {
     Ordered(Ordered),
 }
 
-ghost use Rattle.a64_word.specs.Encoding.{Spells, Encodes};
-ghost use Rattle.a64_word.specs.Profiles.{is_of, SpellsIn, EncodesIn};
+ghost use Rattle.a64_word.specs.Encoding.{Spells};
+ghost use Rattle.a64_word.specs.Profiles.{is_of, SpellsIn};
 ghost use Rattle.a64_word.specs.inner.Groups.{IsDataImmediate, IsDataRegister, IsBranch, IsLoadStore, DecodesGroup};
 
 /// The instruction of "Data Processing -- Immediate" that a word spells, by bits 23 to 25.
@@ -161,49 +161,5 @@ pub fn decode(word: u32, profile: Profile) -> Option<Instruction>
         Some(found)
     } else {
         None
-    }
-}
-
-/// The word of an instruction of a profile, where each of its fields is in its range.
-pub fn encode(instruction: &Instruction, profile: Profile) -> Option<u32>
-    ensures { EncodesIn profile instruction.now result }
-{
-    if !is_of(profile, instruction) {
-        return None;
-    }
-    word_in_any(instruction)
-}
-
-/// The word of an instruction, where each of its fields is in its range.
-fn word_in_any(instruction: &Instruction) -> Option<u32>
-    ensures { Encodes instruction.now result }
-{
-    match instruction {
-        Instruction::AddSubImmediate(i) => i.encode(),
-        Instruction::LogicalImmediate(i) => i.encode(),
-        Instruction::MoveWide(i) => i.encode(),
-        Instruction::PcRelative(i) => i.encode(),
-        Instruction::Bitfield(i) => i.encode(),
-        Instruction::LogicalShifted(i) => i.encode(),
-        Instruction::AddSubShifted(i) => i.encode(),
-        Instruction::AddSubExtended(i) => i.encode(),
-        Instruction::ConditionalCompare(i) => i.encode(),
-        Instruction::ConditionalSelect(i) => i.encode(),
-        Instruction::TwoSource(i) => i.encode(),
-        Instruction::CountLeadingZeros(i) => i.encode(),
-        Instruction::MultiplyAdd(i) => i.encode(),
-        Instruction::MultiplyHigh(i) => i.encode(),
-        Instruction::Branch(i) => i.encode(),
-        Instruction::ConditionalBranch(i) => i.encode(),
-        Instruction::CompareBranch(i) => i.encode(),
-        Instruction::TestBranch(i) => i.encode(),
-        Instruction::BranchRegister(i) => i.encode(),
-        Instruction::Breakpoint(i) => i.encode(),
-        Instruction::UnsignedOffset(i) => i.encode(),
-        Instruction::SignedOffset(i) => i.encode(),
-        Instruction::RegisterOffset(i) => i.encode(),
-        Instruction::Pair(i) => i.encode(),
-        Instruction::Ordered(i) => i.encode(),
-        Instruction::Nop => Some(0xD503201F),
     }
 }

@@ -1,7 +1,8 @@
 //! The ordered loads and stores, which the second profile alone has: C6.2 "LDAR", "STLR" and those like them. The fields
 //! Rs and Rt2 and bit 15 are ones; LDLAR, LDAXR and CASAL differ from them by one bit.
 use crate::instructions::spelling::{first_not_spelled, first_spelled};
-use a64_word::{Instruction, Ordered, Register, Size, encode};
+use a64_encode::encode;
+use a64_word::{Instruction, Ordered, Register, Size};
 use lfi_module::Profile;
 
 /// Words that are instructions of the second profile: each size, both ways, registers at their ends.

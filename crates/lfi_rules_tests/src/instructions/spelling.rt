@@ -1,5 +1,6 @@
 //! Whether words spell instructions that spell them.
-use a64_word::{decode, encode};
+use a64_encode::encode;
+use a64_word::decode;
 use lfi_module::Profile;
 
 /// Whether a word spells an instruction of a profile, whose word it is.

@@ -1,7 +1,7 @@
 use crate::instructions::spelling::{first_not_spelled, first_spelled, is_spelled_back};
+use a64_encode::encode;
 use a64_word::{
-    AddSubImmediate, Branch, Instruction, Register, Width, Words, decode, encode, word_at,
-    word_count,
+    AddSubImmediate, Branch, Instruction, Register, Width, Words, decode, word_at, word_count,
 };
 use lfi_module::Profile;
 use std::alloc::Global;
