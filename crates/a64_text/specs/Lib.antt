@@ -1,3 +1,4 @@
 pub mod Names
+pub mod Digits
 pub mod Texts
 pub mod inner

@@ -1,11 +1,11 @@
 -- A word with the instruction that it spells, what the profile says of it, and its line at its address.
-use Rattle.std.specs.Prelude.{◌≡◌, ℕ, ℤ, ◌+◌, ◌-◌, ◌*◌, if◌then◌else◌, Bool, true, false, List, ◌++◌, length, replicate, codes, Option, Some, None, IfSome}
-use Rattle.std.specs.Fmt.{digits}
+use Rattle.std.specs.Prelude.{◌≡◌, ℕ, ℤ, ◌+◌, ◌*◌, if◌then◌else◌, Bool, true, false, List, ◌++◌, codes, Option, Some, None, IfSome}
 use Rattle.a64_word.specs.declared.instruction.Instruction.{Instruction}
 use Rattle.a64_word.specs.declared.instruction.Instruction.TheVariants.{BranchRegister}
 use Rattle.lfi_module.specs.declared.profile.Profile.{Profile}
 use Rattle.lfi_module.specs.declared.profile.Profile.TheVariants.{Two}
 use Rattle.a64_word.specs.Profiles.{SpellsIn}
+use Rattle.a64_text.specs.Digits.{hexadecimal}
 use Rattle.a64_text.specs.Texts.{text}
 use Rattle.a64_effects.specs.declared.access.Address.{Address}
 use Rattle.a64_effects.specs.Effects.{address_of, target_of}
@@ -89,10 +89,6 @@ written_address_by spelling = of spelling.instruction
     of : Option Instruction → Option ℕ
     of (Some i) = first_written i
     of None = None
-
--- a number in so many hexadecimal digits
-abbrev pub hexadecimal : (count n : ℕ) → List ℕ
-hexadecimal count n = replicate (count - length (digits 16 false n)) 48 ++ digits 16 false n
 
 abbrev pub instruction_text : (word : ℕ) → Option Instruction → List ℕ
 instruction_text word (Some i) = text i

@@ -1,7 +1,7 @@
 //! Numbers in columns.
 
 ghost use Rattle.std.specs.Prelude.{Some};
-ghost use Rattle.lfi_explain.specs.Spellings.{hexadecimal};
+ghost use Rattle.a64_text.specs.Digits.{hexadecimal};
 ghost use Rattle.lfi_explain.specs.Listings.{column};
 
 use std::fmt;

@@ -1,6 +1,6 @@
 -- What is told of an image file that was run. Source: this project's profile, docs/COMMANDS.md.
 use Rattle.std.specs.Prelude.{ℕ, List, ◌++◌, codes, decimal}
-use Rattle.lfi_explain.specs.Spellings.{hexadecimal}
+use Rattle.a64_text.specs.Digits.{hexadecimal}
 use Rattle.lfi_rules.specs.Texts.{fault_text}
 use Rattle.lfi_image.specs.Faults.{number_of}
 use Rattle.lfi_image.specs.Faults as images
