@@ -6,7 +6,8 @@ ghost use Rattle.a64_word.specs.Words.{words_of};
 
 use crate::faults::Fault;
 use crate::times::{micros, nanos_since};
-use lfi_image::{Builder, CompleteImage, ImageFault, JudgedPage, read_image, write_image};
+use lfi_image::{Builder, CompleteImage, JudgedPage};
+use lfi_image_file::{ImageFault, read_image, write_image};
 use lfi_module::{Extent, ModuleNumber, PageSize, Profile, WordCount};
 use lfi_rules::judge;
 use page_buf::{OpenPage, SealedPage};

@@ -4,8 +4,8 @@ use Rattle.lfi_command_line.specs.declared.line.Line.{Line}
 use Rattle.lfi_command_line.specs.declared.line.Line.TheVariants.{Check, Load, Serve, Run, Disassemble, Pack}
 use Rattle.lfi_command_line.specs.declared.line.Explain.TheVariants.{Nothing, First, All}
 use Rattle.lfi_command_line.specs.CommandLine.{AreWrong, IsLine}
-use Rattle.lfi_image.specs.declared.fault.ImageFault.{ImageFault}
-use Rattle.lfi_image.specs.declared.fault.ImageFault.TheVariants as image_fault
+use Rattle.lfi_image_file.specs.declared.fault.ImageFault.{ImageFault}
+use Rattle.lfi_image_file.specs.declared.fault.ImageFault.TheVariants as image_fault
 use Rattle.lfi_confinement.specs.declared.cause.Cause.TheVariants as causes
 use Rattle.lfi_machine.specs.declared.halt.Halt.{Halt}
 use Rattle.lfi_machine.specs.declared.halt.Halt.TheVariants as halts

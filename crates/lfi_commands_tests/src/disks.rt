@@ -4,7 +4,8 @@ ghost use Rattle.std.specs.Prelude.{◌≡◌, Some, map, string_bytes};
 
 use crate::runs::{FAILED, ONE_RET, ONE_RET_IMAGE, ONE_RET_REPORT, WELL, tells_over};
 use lfi_file_commands::Disk;
-use lfi_image::{CompleteImage, write_image};
+use lfi_image::CompleteImage;
+use lfi_image_file::write_image;
 use lfi_threads::NoNotices;
 use std::fs::{File, Files};
 use std::io;

@@ -1,7 +1,7 @@
 -- What is said of bytes that are known, carried to what is left of a file.
 use Rattle.std.proofs.Common.{◌≡◌, ℕ, ◌*◌, ◌<◌, ◌≤◌, List, Option, Some, None, IfSome, ap, arith, length, length-take, option_map, refl, subst, sym, take}
-use Rattle.lfi_image.specs.Image.{FileOf}
-use Rattle.lfi_image.specs.Reading.{IsFault}
+use Rattle.lfi_image_file.specs.Files.{FileOf}
+use Rattle.lfi_image_file.specs.Reading.{IsFault}
 use Rattle.lfi_module.specs.Numbers.{most_words}
 use Rattle.lfi_module.specs.declared.profile.Profile.{Profile}
 use Rattle.lfi_rules.specs.declared.fault.Fault.{Fault}

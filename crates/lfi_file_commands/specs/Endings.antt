@@ -1,6 +1,6 @@
 -- How a run ends, by what it found. Source: this project's profile, docs/COMMANDS.md.
 use Rattle.std.specs.Prelude.{◌≡◌, ℕ, Bool, true, false}
-use Rattle.lfi_image.specs.declared.fault.ImageFault.TheVariants as image_fault
+use Rattle.lfi_image_file.specs.declared.fault.ImageFault.TheVariants as image_fault
 use Rattle.lfi_confinement.specs.declared.cause.Cause.{Cause}
 use Rattle.lfi_confinement.specs.declared.cause.Cause.TheVariants as causes
 use Rattle.lfi_machine.specs.declared.halt.Halt.{Halt}

@@ -2,7 +2,8 @@
 -- docs/COMMANDS.md.
 use Rattle.std.specs.Prelude.{◌≡◌, ℕ, Bool, true, false, List, [], ◌∷◌, ◌++◌, map, Option, Some, None, ⊤, codes, decimal, if◌then◌else◌, nat_lt}
 use Rattle.std.specs.List.{AllByRecursion, filter_map, flat_map}
-use Rattle.lfi_image.specs.Image.{Image, file_of}
+use Rattle.lfi_image.specs.Image.{Image}
+use Rattle.lfi_image_file.specs.Files.{file_of}
 use Rattle.lfi_place.specs.declared.report.ImageState.{ImageState}
 use Rattle.lfi_place.specs.declared.report.ImageState.TheVariants.{Absent, Part, Refused, Whole}
 use Rattle.lfi_place.specs.declared.report.ModuleReport.{ModuleReport}

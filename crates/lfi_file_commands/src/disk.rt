@@ -1,10 +1,11 @@
 //! The files that the commands read and write.
 
 ghost use Rattle.std.specs.Prelude.{◌≡◌, ℕ, List, [], ◌∷◌, Option, Some, None, IfSome, IfOk, OnOk, OnErr};
-ghost use Rattle.lfi_image.specs.Image.{file_of};
+ghost use Rattle.lfi_image_file.specs.Files.{file_of};
 ghost use Rattle.lfi_file_commands.specs.Images.{Puts};
 
-use lfi_image::{CompleteImage, write_image};
+use lfi_image::CompleteImage;
+use lfi_image_file::write_image;
 use std::fs::{File, Files, OpenFile};
 use std::io::{self, Read, Write};
 

@@ -5,7 +5,7 @@ ghost use Rattle.lfi_file_commands.specs.Checking.{ending_of};
 ghost use Rattle.lfi_file_commands.specs.Endings.{number_of, ending_of_cause, ending_of_run};
 
 use lfi_code::Verdict;
-use lfi_image::ImageFault;
+use lfi_image_file::ImageFault;
 use lfi_run::{Cause, Halt, ImageRun};
 
 /// How a run of the program ends.

@@ -1,7 +1,7 @@
 //! The files of whole images.
 
 ghost use Rattle.std.specs.Prelude.{◌≡◌, ◌∷◌, [], true, IfOk, IfErr, OnOk, OnErr, option_map, string_bytes};
-ghost use Rattle.lfi_image.specs.Image.{file_of};
+ghost use Rattle.lfi_image_file.specs.Files.{file_of};
 ghost use Rattle.lfi_file_commands.specs.declared.device_cause.DeviceCause.{DeviceCause};
 ghost use Rattle.lfi_file_commands.specs.Images.{asked_images, folder_or_none, image_file, image_in, images_in, image_path_of, Puts, WritesImages};
 ghost use Rattle.lfi_file_commands.specs.Errors.{is_lost_of, writer_of};

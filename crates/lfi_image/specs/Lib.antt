@@ -1,6 +1,4 @@
 pub mod Judged
 pub mod Image
-pub mod Reading
 pub mod Built
-pub mod Faults
 pub mod inner

@@ -1,3 +1,1 @@
 pub mod Builders
-pub mod Steps
-pub mod Writing

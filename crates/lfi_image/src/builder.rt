@@ -199,7 +199,7 @@ impl Model for CompleteImage {
 
 impl CompleteImage {
     /// The pages of the code, one after another.
-    pub(crate) fn pages(&self) -> &[SealedPage]
+    pub fn pages(&self) -> &[SealedPage]
         ensures { words_in result.now ≡ self.now.words }
     {
         &self.builder.pages

@@ -2,8 +2,9 @@
 use Rattle.std.specs.Prelude.{◌≡◌, ◌↔◌, ◌≤◌, ◌⊎◌, ℕ, List, Option, IfSome}
 use Rattle.std.specs.Io.KnownBytes.{Keeps}
 use Rattle.sparse_memory.specs.Kept.{byte_at}
-use Rattle.lfi_image.specs.Image.{Image, IsImage, FileOf}
-use Rattle.lfi_image.specs.Reading.{IsFault}
+use Rattle.lfi_image.specs.Image.{Image, IsImage}
+use Rattle.lfi_image_file.specs.Files.{FileOf}
+use Rattle.lfi_image_file.specs.Reading.{IsFault}
 use Rattle.lfi_machine.specs.declared.halt.Halt.{Halt}
 use Rattle.lfi_machine.specs.declared.halt.Halt.TheVariants.{Stopped, StepsUsed}
 use Rattle.lfi_confinement.specs.declared.cause.Cause.TheVariants.{Ended as EndedWith}

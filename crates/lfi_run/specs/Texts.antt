@@ -2,10 +2,10 @@
 use Rattle.std.specs.Prelude.{ℕ, List, ◌++◌, codes, decimal}
 use Rattle.a64_text.specs.Digits.{hexadecimal}
 use Rattle.lfi_rules.specs.Texts.{fault_text}
-use Rattle.lfi_image.specs.Faults.{number_of}
-use Rattle.lfi_image.specs.Faults as images
-use Rattle.lfi_image.specs.declared.fault.ImageFault.{ImageFault}
-use Rattle.lfi_image.specs.declared.fault.ImageFault.TheVariants.{Unlawful}
+use Rattle.lfi_image_file.specs.Faults.{number_of}
+use Rattle.lfi_image_file.specs.Faults as images
+use Rattle.lfi_image_file.specs.declared.fault.ImageFault.{ImageFault}
+use Rattle.lfi_image_file.specs.declared.fault.ImageFault.TheVariants.{Unlawful}
 use Rattle.lfi_confinement.specs.declared.cause.Cause.{Cause}
 use Rattle.lfi_confinement.specs.declared.cause.Cause.TheVariants as causes
 use Rattle.lfi_machine.specs.declared.halt.Halt.{Halt}

@@ -3,7 +3,7 @@
 ghost use Rattle.std.specs.Prelude.{Some};
 ghost use Rattle.lfi_run.specs.Texts.{halt_text, refusal_text, run_text, stop_text};
 
-use lfi_image::ImageFault;
+use lfi_image_file::ImageFault;
 use lfi_machine::{Cause, Halt};
 use std::fmt;
 

@@ -9,7 +9,8 @@ ghost use Rattle.lfi_run.specs.inner.Consoles.{output_of};
 
 use crate::console::{Console, NOT_WRITTEN, NotWritten};
 use crate::image_run::ImageRun;
-use lfi_image::{CompleteImage, read_image};
+use lfi_image::CompleteImage;
+use lfi_image_file::read_image;
 use lfi_machine::{Cause, Halt, Machine, start_registers};
 use std::alloc::{AllocError, Global};
 use std::io::{Read, Write};

@@ -2,7 +2,8 @@
 
 use crate::images::rows::{ONE_RET, RET, file_of, image};
 use crate::items::{NOP, UNKNOWN};
-use lfi_image::{CompleteImage, ImageFault, read_image, write_image};
+use lfi_image::CompleteImage;
+use lfi_image_file::{ImageFault, read_image, write_image};
 use lfi_module::{Extent, ModuleNumber, PageSize, Profile, WordCount};
 use lfi_rules::{Fault, Rule};
 use std::alloc::Global;

@@ -2,7 +2,7 @@
 
 use crate::images::rows::{ONE_RET, RET, fault_of};
 use crate::items::UNKNOWN;
-use lfi_image::ImageFault;
+use lfi_image_file::ImageFault;
 use lfi_module::{PageSize, Profile};
 use lfi_rules::{Fault, Rule, check_all};
 use page_buf::SealedPage;

@@ -2,7 +2,7 @@
 
 use crate::images::rows::{Numbers, ONE_RET, RET, file_of, image, numbers};
 use crate::items::NOP;
-use lfi_image::{ImageFault, read_image};
+use lfi_image_file::{ImageFault, read_image};
 use lfi_module::{Extent, ModuleNumber, PageSize, Profile, WordCount};
 use std::alloc::Global;
 use std::process::Abort;

@@ -1,7 +1,8 @@
 //! What the tests share: the image file of one RET, and images of NOPs with other words at the ends of their pages.
 
 use crate::items::page_ending;
-use lfi_image::{Builder, CompleteImage, ImageFault, JudgedPage, read_image, write_image};
+use lfi_image::{Builder, CompleteImage, JudgedPage};
+use lfi_image_file::{ImageFault, read_image, write_image};
 use lfi_module::{Extent, ModuleNumber};
 use lfi_rules::Fault;
 use std::alloc::Global;

@@ -1,7 +1,7 @@
 use Rattle.std.proofs.Common.{◌∷◌, [], subst, sym}
 use Rattle.std.specs.Prelude.{OnOk}
 use Rattle.std.proofs.lemmas.Result.{IfErr-weaker}
-use Rattle.lfi_image.specs.Image.{file_of}
+use Rattle.lfi_image_file.specs.Files.{file_of}
 use Rattle.lfi_file_commands.specs.Failures.{IsOfWriting}
 use Rattle.lfi_file_commands.specs.Images.{image_path_of, Puts}
 use Rattle.lfi_file_commands.proofs.images.put.Goals as goal

@@ -1,5 +1,5 @@
 use Rattle.std.proofs.Common.{◌∷◌, [], subst}
-use Rattle.lfi_image.specs.Image.{file_of}
+use Rattle.lfi_image_file.specs.Files.{file_of}
 use Rattle.lfi_file_commands.specs.Images.{Puts}
 use Rattle.lfi_file_commands.proofs.images.put_at.Goals as goal
 

@@ -1,6 +1,6 @@
 use Rattle.std.proofs.Common.{◌≡◌, ◌∙◌, ap, ap₂, ℕ, List, [], ◌∷◌, ◌++◌, map, string_bytes}
 use Rattle.std.proofs.lemmas.List.{map-append}
-use Rattle.lfi_image.specs.Image.{file_of}
+use Rattle.lfi_image_file.specs.Files.{file_of}
 use Rattle.lfi_commands_tests.specs.declared.disks.PutFile.{PutFile}
 use Rattle.lfi_commands_tests.proofs.disks.MemoryDiskDisk.put_image.Goals as goal
 

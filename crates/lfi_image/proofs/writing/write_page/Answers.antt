@@ -1,8 +1,0 @@
-use Rattle.std.proofs.Common.{ℕ, List, arith, sym, subst}
-use Rattle.lfi_image.specs.inner.Writing.{Writes}
-use Rattle.lfi_image.proofs.Pieces.{code_of_words}
-use Rattle.lfi_image.proofs.writing.write_page.Goals as goal
-
-pub returns : goal.returns
-returns g c = subst (λ (l : List ℕ). Writes (g.W.Write.contents c.args.writer.now) (g.W.Write.contents c.write_bytes.new.writer) l c.write_bytes.result)
-    (sym (code_of_words c.args.bytes.now c.requires.1 (λ i. omega (arith, c.type_inv.bytes i)))) c.write_bytes.ensures

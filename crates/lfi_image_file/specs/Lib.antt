@@ -1,0 +1,4 @@
+pub mod Files
+pub mod Reading
+pub mod Faults
+pub mod inner
