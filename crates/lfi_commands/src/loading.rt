@@ -4,7 +4,7 @@ ghost use Rattle.std.specs.Prelude.{◌≡◌, ℕ, List, Some, true, false, ◌
 ghost use Rattle.std.specs.Io.KnownBytes.{Appends};
 ghost use Rattle.lfi_receive.specs.Inputs.{left_of};
 ghost use Rattle.lfi_receive.specs.declared.input.Input.{Input};
-ghost use Rattle.lfi_stage.specs.Stages.{IsLoaded};
+ghost use Rattle.lfi_threads.specs.Loaded.{IsLoaded};
 ghost use Rattle.lfi_threads.specs.Served.{HasServed};
 ghost use Rattle.lfi_commands.specs.LoadFaults.{is_of_the_report};
 ghost use Rattle.lfi_model.specs.Texts.{summary_text};

@@ -15,7 +15,8 @@ use Rattle.lfi_place.specs.declared.sequence.Sequence.{Sequence}
 use Rattle.lfi_place.specs.declared.sequencer.Sequencer.{Sequencer}
 use Rattle.lfi_place.specs.Handed.{take_pass_of, lane_puts_of, hand_of, SameLanes}
 use Rattle.lfi_place.specs.Lanes.{new_row}
-use Rattle.lfi_stage.specs.Workers.{AreWorkers, IsVerifier}
+use Rattle.lfi_parts.specs.Workers.{AreWorkers, IsVerifier}
+use Rattle.lfi_parts.proofs.Kept.{row_pass}
 use Rattle.lfi_stage.specs.Settled.{HasHandled, SettlesBut}
 use Rattle.lfi_stage.specs.inner.Rows.{row_of, lane_items, held_by, only_first, DrainedTo, AreApart, AreRowsOf}
 
@@ -40,11 +41,6 @@ same_long (x ∷ xs) (y ∷ ys) same = ap suc (same_long xs ys (λ m. same (suc 
 row_long : (lanes : List QueueId) (k : ℕ) → length (new_row lanes k) ≡ length lanes
 row_long [] k = refl
 row_long (lane ∷ lanes) k = ap suc (row_long lanes k)
-
-pub row_pass : (lanes : List QueueId) (k m : ℕ) (lane : QueueId) → slice_get lanes m ≡ Some lane → slice_get (new_row lanes k) m ≡ Some (new_pass lane k)
-row_pass [] k m lane at = absurd (none-some lane at)
-row_pass (first ∷ lanes) k zero lane at = ap (λ o. option_map (λ l. new_pass l k) o) at
-row_pass (first ∷ lanes) k (suc m) lane at = row_pass lanes k m lane at
 
 abbrev AtPlace : QueueId → ℕ → ℕ → Option (PassView ItemView) → Type 0
 AtPlace queue count k place = MatchOption place (count ≤ k) (IsPass queue count k)

@@ -12,7 +12,7 @@ use Rattle.lfi_place.specs.declared.report.ModuleReport.{ModuleReport}
 use Rattle.lfi_model.specs.declared.connection.Cause.{Cause}
 use Rattle.lfi_stage.specs.declared.settle.Report.{Report}
 use Rattle.lfi_stage.specs.Reports.{Reports}
-use Rattle.lfi_stage.proofs.Each.{some_same}
+use Rattle.lfi_parts.proofs.Each.{some_same}
 
 -- a connection that claimed the module, or that none did
 abbrev Claimer : ℕ → (ℕ → ℕ → Bool) → ℕ → Type 0

@@ -4,7 +4,7 @@ ghost use Rattle.std.specs.Prelude.{◌≡◌, ℕ, List, []};
 ghost use Rattle.lfi_model.specs.Item.{ItemView};
 ghost use Rattle.lfi_queues.specs.Kept.{Kept};
 ghost use Rattle.lfi_queues.specs.Passes.{AreAllPasses, items_at};
-ghost use Rattle.lfi_stage.specs.Workers.{AreWorkers};
+ghost use Rattle.lfi_parts.specs.Workers.{AreWorkers};
 ghost use Rattle.lfi_stage.specs.Settled.{Settles};
 
 use crate::carry::{carry_hands, drain_intake};

@@ -2,13 +2,13 @@
 
 ghost use Rattle.std.specs.Prelude.{◌≡◌, ℕ, List, Some, false, true, IsTrue, IsSome, length, slice_get};
 ghost use Rattle.lfi_receive.specs.Receivers.{cause_of, cause_after, claimed_by, StandsFor, IsFinished};
-ghost use Rattle.lfi_stage.specs.Parts.{IsReceiver, AreReceivers, AreOthers};
+ghost use Rattle.lfi_parts.specs.Parts.{IsReceiver, AreReceivers, AreOthers};
 ghost use Rattle.lfi_stage.specs.inner.Finished.{HasFinished, HaveFinished};
 
-use crate::shared::Shared;
 use crate::turning::turn_others;
 use lfi_place::{OpenGate, Sequencer, Verifier};
 use lfi_receive::{Receiver, ReceiverTurn};
+use lfi_parts::Shared;
 use std::sync::Wait;
 
 /// One turn of a receiver whose input has ended: whether it has put all its items.

@@ -1,7 +1,7 @@
 -- A stage whose parts are turned one by one.
 use Rattle.std.specs.Prelude.{◌≡◌, length}
 use Rattle.lfi_stage.specs.declared.stage.Stage.{Stage}
-use Rattle.lfi_stage.specs.Parts.{AreAllParts}
+use Rattle.lfi_parts.specs.Parts.{AreAllParts}
 
 -- all parts of a stage, two receivers and two verifiers
 pub record IsPair (stage : Stage) : Type 0 where

@@ -2,7 +2,7 @@ use Rattle.std.proofs.Common.{subst}
 use Rattle.std.proofs.KnownBytes.{Appends-trans}
 use Rattle.std.proofs.lemmas.Result.{IfErr-weaker, IfOk-weaker}
 use Rattle.lfi_model.specs.Texts.{summary_text}
-use Rattle.lfi_stage.specs.Stages.{IsLoaded}
+use Rattle.lfi_threads.specs.Loaded.{IsLoaded}
 use Rattle.lfi_stage.specs.Summaries.{summary_of}
 use Rattle.lfi_file_commands.proofs.Failing.{fails_on_output, is_no_other}
 use Rattle.lfi_commands.proofs.Inputs.{known_left}

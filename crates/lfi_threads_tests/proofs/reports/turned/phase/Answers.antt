@@ -2,7 +2,7 @@ use Rattle.std.proofs.Common.{◌≡◌, ◌∙◌, ◌<◌, ℕ, Some, length, 
 use Rattle.std.proofs.lemmas.List.{length-set}
 use Rattle.std.proofs.lemmas.Option.{slice_get_read}
 use Rattle.lfi_receive.specs.declared.receiver.ReceiverTurn.TheVariants.{More}
-use Rattle.lfi_stage.proofs.Staying.{with_receiver, receiver_turns}
+use Rattle.lfi_parts.proofs.Staying.{with_receiver, receiver_turns}
 use Rattle.lfi_threads_tests.proofs.reports.turned.phase.Goals as goal
 
 pub returns : goal.returns

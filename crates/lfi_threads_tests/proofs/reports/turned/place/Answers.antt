@@ -1,8 +1,8 @@
 use Rattle.std.proofs.Common.{◌≡◌, ◌∙◌, ◌<◌, ℕ, Some, length, slice_get, refl, arith}
 use Rattle.std.proofs.lemmas.Option.{slice_get_read}
-use Rattle.lfi_stage.proofs.Kept.{sequencer_stays}
-use Rattle.lfi_stage.specs.Shares.{lanes_of}
-use Rattle.lfi_stage.proofs.Staying.{with_sequencer}
+use Rattle.lfi_parts.proofs.Kept.{sequencer_stays}
+use Rattle.lfi_parts.specs.Shares.{lanes_of}
+use Rattle.lfi_parts.proofs.Staying.{with_sequencer}
 use Rattle.lfi_threads_tests.proofs.reports.turned.place.Goals as goal
 
 pub turn-requires-clause-lane : goal.turn-requires-clause-lane

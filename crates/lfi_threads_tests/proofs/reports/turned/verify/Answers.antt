@@ -1,9 +1,9 @@
 use Rattle.std.proofs.Common.{◌≡◌, ◌∙◌, ◌<◌, ℕ, Some, length, slice_get, refl, arith}
 use Rattle.std.proofs.lemmas.List.{length-set}
 use Rattle.std.proofs.lemmas.Option.{slice_get_read}
-use Rattle.lfi_stage.proofs.Kept.{verifier_stays}
-use Rattle.lfi_stage.specs.Shares.{intake_of, lanes_of}
-use Rattle.lfi_stage.proofs.Staying.{with_verifier}
+use Rattle.lfi_parts.proofs.Kept.{verifier_stays}
+use Rattle.lfi_parts.specs.Shares.{intake_of, lanes_of}
+use Rattle.lfi_parts.proofs.Staying.{with_verifier}
 use Rattle.lfi_threads_tests.proofs.reports.turned.verify.Goals as goal
 
 pub returns : goal.returns

@@ -1,0 +1,4 @@
+pub mod Workers
+pub mod Shares
+pub mod Parts
+pub mod Fresh

@@ -1,0 +1,13 @@
+-- What is known of what clients send.
+use Rattle.std.specs.Prelude.{ℕ, List, [], Option, Some, None}
+use Rattle.lfi_signals.specs.declared.client.Client.{Client}
+use Rattle.lfi_signals.specs.declared.client.Client.TheVariants.{Present, Absent}
+
+-- nothing, where it wasn't accepted; else what its reader has left
+abbrev pub sent_by : {R : Type 0} → (R → Option (List ℕ)) → Client R → Option (List ℕ)
+sent_by remaining (Present reader) = remaining reader
+sent_by remaining Absent = Some []
+
+-- the same over a socket, of which isn't known what it has left
+abbrev pub sent_over_socket : {R : Type 0} → Client R → Option (List ℕ)
+sent_over_socket client = sent_by (λ reader. None) client

@@ -1,0 +1,112 @@
+//! The clients of a socket, and their streams.
+
+ghost use Rattle.std.specs.Prelude.{◌≡◌, [], Some, None, true, false};
+ghost use Rattle.lfi_signals.specs.Clients.{sent_by, sent_over_socket};
+
+use crate::door::Door;
+use crate::refusal::LoadError;
+use std::fs::Files;
+use std::io::{self, Read};
+use std::net::Shutdown;
+use std::os::unix::net::UnixStream;
+use std::rt::Clock;
+use std::sync::{OnceLock, Wait};
+
+/// How many clients there are at the most: one for each connection.
+pub const CLIENTS: usize = 8;
+
+/// The streams of the clients that were accepted, by their connections' numbers. They lie where
+/// threads read them and others can shut them down.
+#[derive(Drop)]
+pub struct Streams {
+    slots: [OnceLock<UnixStream>; CLIENTS],
+}
+
+impl Streams {
+    /// Those of no clients yet.
+    pub fn new() -> Streams {
+        Streams {
+            slots: [
+                OnceLock::new(),
+                OnceLock::new(),
+                OnceLock::new(),
+                OnceLock::new(),
+                OnceLock::new(),
+                OnceLock::new(),
+                OnceLock::new(),
+                OnceLock::new(),
+            ],
+        }
+    }
+
+    /// Waits for a client, as the connection with this number. Where none is accepted, nobody is
+    /// there.
+    pub fn accept<S: Wait + Clock + Files>(
+        &self,
+        door: &Door<'_, S>,
+        number: usize,
+    ) -> Client<&UnixStream> {
+        let Some(slot) = self.slots.get(number) else {
+            return Client::Absent;
+        };
+        let Some(stream) = door.accept() else {
+            return Client::Absent;
+        };
+        let Ok(_) = slot.try_set(stream) else {
+            return Client::Absent;
+        };
+        match slot.get() {
+            Some(stream) => Client::Present(stream),
+            None => Client::Absent,
+        }
+    }
+
+    /// Ends all connections where not all clients could be taken.
+    pub fn shut_down_unless(&self, taken: Result<bool, LoadError>) {
+        if taken.is_err() {
+            self.shut_down();
+        }
+    }
+
+    /// Ends all connections, so that no read of them waits any longer.
+    pub(crate) fn shut_down(&self) {
+        for slot in &self.slots {
+            if let Some(stream) = slot.get() {
+                let _ = stream.shutdown(Shutdown::Both);
+            }
+        }
+    }
+}
+
+/// The client of a connection.
+#[derive(Drop)]
+pub enum Client<R> {
+    /// What it sends is what this reader has left.
+    Present(R),
+    /// It wasn't accepted, and so sends nothing.
+    Absent,
+}
+
+impl<R> Client<R> {
+    /// Whether it was accepted.
+    pub fn is_present(&self) -> bool
+        ensures present { result ≡ true → sent_over_socket self.now ≡ None }
+        ensures absent { result ≡ false → sent_over_socket self.now ≡ Some [] }
+    {
+        match self {
+            Client::Present(_) => true,
+            Client::Absent => false,
+        }
+    }
+}
+
+impl<R: Read> Read for Client<R> {
+    ghost remaining = { sent_by R.remaining };
+
+    fn read(&mut self, buf: &mut [u8]) -> io::Result<usize> {
+        match self {
+            Client::Present(reader) => reader.read(buf),
+            Client::Absent => Ok(0),
+        }
+    }
+}

@@ -1,0 +1,146 @@
+//! Where clients come in.
+
+ghost use Rattle.std.specs.Prelude.{◌≡◌};
+ghost use Rattle.lfi_signals.specs.Deadlines.{limit_of};
+
+use crate::client::Streams;
+use crate::deadline::{Deadline, Span};
+use crate::ends::{Ends, Waited};
+use std::fs::Files;
+use std::os::unix::net::{UnixListener, UnixStream};
+use std::rt::Clock;
+use std::sync::Wait;
+use std::time::Duration;
+use std::{fs, io, thread};
+
+/// How long nobody looks for a client, where the time for it is limited, in milliseconds.
+const PAUSE: u64 = 5;
+
+/// Whether a listener that doesn't wait told by this that nobody has come.
+fn is_early(error: io::Error) -> bool {
+    error.kind() == io::ErrorKind::WouldBlock
+}
+
+/// The listener at a path, and until when clients are waited for and heard. The path is removed when
+/// this is dropped, and so once, whatever comes before; that this fails isn't told.
+pub struct Door<'a, S: Files> {
+    rt: &'a S,
+    listener: &'a UnixListener,
+    path: &'a str,
+    deadline: Deadline,
+}
+
+impl<'a, S: Files> Drop for Door<'a, S> {
+    fn drop(self) {
+        let Door {
+            rt,
+            listener: _,
+            path,
+            deadline: _,
+        } = self;
+        let _ = fs::remove_file(rt, path);
+    }
+}
+
+impl<'a, S: Files> Door<'a, S> {
+    /// That of a listener at this path. Where its time is limited, it begins now.
+    pub fn new(
+        rt: &'a S,
+        listener: &'a UnixListener,
+        path: &'a str,
+        limit: Option<Duration>,
+    ) -> Door<'a, S>
+    where
+        S: Clock,
+        ensures { limit_of result.deadline ≡ limit }
+    {
+        Door {
+            rt,
+            listener,
+            path,
+            deadline: Deadline::from_now(rt, limit),
+        }
+    }
+
+    /// Waits for a client. There is none where it can't be accepted, or doesn't come in time.
+    pub(crate) fn accept(&self) -> Option<UnixStream>
+    where
+        S: Wait + Clock,
+    {
+        match &self.deadline {
+            Deadline::Never => {
+                let (stream, _) = self.listener.accept().ok()?;
+                Some(stream)
+            }
+            Deadline::After(span) => self.accept_within(span),
+        }
+    }
+
+    /// Takes a client that has come before this time is over. The listener doesn't wait from then on.
+    fn accept_within(&self, span: &Span) -> Option<UnixStream>
+    where
+        S: Wait + Clock,
+    {
+        self.listener.set_nonblocking(true).ok()?;
+        for _ in self.rt.forever() {
+            // Before it looks: who came in time is taken.
+            let left = span.left(self.rt);
+            match self.listener.accept() {
+                Ok((stream, _)) => return Some(stream),
+                Err(error) => {
+                    if !is_early(error) {
+                        return None;
+                    }
+                }
+            }
+            if left.is_zero() {
+                return None;
+            }
+            thread::sleep(self.rt, left.min(Duration::from_millis(PAUSE)));
+        }
+        unreachable!()
+    }
+
+    /// Removes the path. Nobody is accepted any more.
+    pub fn close(self) -> Closed
+        ensures { result.deadline ≡ self.entry.deadline }
+    {
+        let deadline = self.deadline;
+        drop(self);
+        Closed { deadline }
+    }
+}
+
+/// A door that was closed: until when those are heard who came. None but `Door::close` gives it, so
+/// who waits for them has removed the path.
+#[derive(Clone, Copy)]
+pub struct Closed {
+    deadline: Deadline,
+}
+
+impl Closed {
+    /// Waits until so many receivers' threads have nothing more to hear, where the time is limited.
+    /// When it is over all connections are ended.
+    pub fn wait_in_time<S: Wait + Clock>(
+        &self,
+        rt: &S,
+        ends: &Ends,
+        streams: &Streams,
+        count: usize,
+    ) {
+        let Deadline::After(span) = &self.deadline else {
+            return;
+        };
+        match ends.wait_for_heard(rt, count, span) {
+            Waited::AllHeard => {}
+            Waited::OutOfTime => streams.shut_down(),
+        }
+    }
+
+    /// How long the time was that the door began with.
+    pub fn limit(&self) -> Option<Duration>
+        ensures { result ≡ limit_of self.now.deadline }
+    {
+        self.deadline.limit()
+    }
+}

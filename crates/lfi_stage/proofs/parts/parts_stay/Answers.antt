@@ -1,8 +1,0 @@
-use Rattle.lfi_stage.proofs.Kept.{verifier_stays, sequencer_stays}
-use Rattle.lfi_stage.proofs.parts.parts_stay.Goals as goal
-
-pub returns-clause-verifier : goal.returns-clause-verifier
-returns-clause-verifier c = verifier_stays
-
-pub returns-clause-sequencer : goal.returns-clause-sequencer
-returns-clause-sequencer c = sequencer_stays

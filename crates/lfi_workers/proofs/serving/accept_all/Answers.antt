@@ -1,0 +1,91 @@
+use Rattle.std.proofs.Common.{◌≡◌, ◌++◌, ◌∷◌, [], ◌∙◌, ◌&&◌, ℕ, Some, length, slice_get, is_ok, refl, sym, ap, subst, arith}
+use Rattle.std.proofs.lemmas.Result.{IfOk-at_ok, IfOk-from_err}
+use Rattle.std.specs.Vec.Iter.{into_iter_items}
+use Rattle.lfi_parts.specs.Parts.{IsReceiver}
+use Rattle.lfi_parts.proofs.Filling.{push_each, one_more, next_is, still_from}
+use Rattle.lfi_receive.specs.Inputs.{left_of}
+use Rattle.lfi_signals.specs.Clients.{sent_over_socket}
+use Rattle.lfi_workers.proofs.Clients.{none_taken, one_more_taken}
+use Rattle.lfi_signals.proofs.Begun.{all_left, from_first, each_of_none, all_kept}
+use Rattle.lfi_workers.proofs.serving.accept_all.Goals as goal
+
+pub loop-receiver-init : goal.loop-receiver-init
+loop-receiver-init g c =
+    let none = c.requires.none in
+    let hs = c.args.handles.now.items in
+    record {
+      count = all_left hs _ _ c.args.receivers.items none c.into_iter-receiver-iterator.ensures.into_iter_gives.1 c.args.receivers.ok.0;
+      rest = from_first hs _ c.args.receivers.items none c.into_iter-receiver-iterator.ensures.into_iter_gives.0;
+      taken = none_taken (λ h. left_of sent_over_socket h.promise.input.value) hs none;
+      places = each_of_none (λ k h. (h.promise.place.shared.now ≡ c.args.env.now.shared.now) × (h.promise.place.number ≡ k)) hs none;
+    }
+
+pub returns-in_err-verifying-clause-places : goal.returns-in_err-verifying-clause-places
+returns-in_err-verifying-clause-places g c = each_of_none (λ k h. (h.promise.place.shared.now ≡ c.args.env.now.shared.now) × (h.promise.place.number ≡ k)) c.args.handles.now.items c.requires.none
+
+pub returns-in_err-verifying-clause-all : goal.returns-in_err-verifying-clause-all
+returns-in_err-verifying-clause-all g c = IfOk-from_err c.from_residual.result _ c.from_residual.ensures.0
+
+pub returns-in_err-verifying-clause-taken : goal.returns-in_err-verifying-clause-taken
+returns-in_err-verifying-clause-taken g c = IfOk-from_err c.from_residual.result _ c.from_residual.ensures.0
+
+pub returns-in_err-verifying-clause-verifying : goal.returns-in_err-verifying-clause-verifying
+returns-in_err-verifying-clause-verifying g c = IfOk-from_err c.from_residual.result _ c.from_residual.ensures.0
+
+pub returns-in_err-keep-clause-all : goal.returns-in_err-keep-clause-all
+returns-in_err-keep-clause-all g c = IfOk-from_err c.from_residual-in_err-keep.result _ c.from_residual-in_err-keep.ensures.0
+
+pub returns-in_err-keep-clause-taken : goal.returns-in_err-keep-clause-taken
+returns-in_err-keep-clause-taken g c = IfOk-from_err c.from_residual-in_err-keep.result _ c.from_residual-in_err-keep.ensures.0
+
+pub returns-in_err-keep-clause-verifying : goal.returns-in_err-keep-clause-verifying
+returns-in_err-keep-clause-verifying g c = IfOk-from_err c.from_residual-in_err-keep.result _ c.from_residual-in_err-keep.ensures.0
+
+pub returns-clause-places : goal.returns-clause-places
+returns-clause-places g c = c.loop-receiver.invariant.places
+
+pub returns-clause-taken : goal.returns-clause-taken
+returns-clause-taken g c = c.loop-receiver.invariant.taken
+
+pub returns-clause-all : goal.returns-clause-all
+returns-clause-all g c = all_kept _ _ _ c.loop-receiver.invariant.count c.in-None.ensures.steps.0
+
+pub returns-clause-verifying : goal.returns-clause-verifying
+returns-clause-verifying g c = ap is_ok c.in_ok-verifying.was
+
+pub start_client-handle-requires-clause-is : goal.start_client-handle-requires-clause-is
+start_client-handle-requires-clause-is g c = λ κs within.
+    let i = c.loop-receiver.invariant in
+    let step = c.in-Some.ensures.steps in
+    let n : ℕ = length c.loop-receiver.handles.items in
+    let at : n ≡ c.len-number.result = sym (c.len-number.ensures ∙ c.loop-receiver.handles.ok.0) in
+    subst (λ k. IsReceiver c.args.env.now.shared.now k c.in-Some.receiver) at (c.requires.is n c.in-Some.receiver (next_is c.args.receivers.items (into_iter_items c.loop-receiver.receiver-iterator) (into_iter_items c.next.new.self) c.in-Some.receiver n i.rest step.0)).0
+
+pub start_client-handle-requires-clause-fresh : goal.start_client-handle-requires-clause-fresh
+start_client-handle-requires-clause-fresh g c = λ κs within.
+    let i = c.loop-receiver.invariant in
+    let step = c.in-Some.ensures.steps in
+    let n : ℕ = length c.loop-receiver.handles.items in
+    (c.requires.is n c.in-Some.receiver (next_is c.args.receivers.items (into_iter_items c.loop-receiver.receiver-iterator) (into_iter_items c.next.new.self) c.in-Some.receiver n i.rest step.0)).1
+
+pub loop-receiver-preserved : goal.loop-receiver-preserved
+loop-receiver-preserved g c =
+    let i = c.loop-receiver.invariant in
+    let step = c.in-Some.ensures.steps in
+    let n : ℕ = length c.loop-receiver.handles.items in
+    let at : c.len-number.result ≡ n = c.len-number.ensures ∙ c.loop-receiver.handles.ok.0 in
+    let kept = c.in_ok-keep.ensures.kept in
+    let handle = kept.0 in
+    let grown : c.keep.new.handles.items ≡ c.loop-receiver.handles.items ++ handle ∷ [] = kept.2 in
+    let more = one_more c.loop-receiver.handles.items c.keep.new.handles.items handle grown in
+    let started = IfOk-at_ok _ kept.1 c.start_client-handle.ensures in
+    record {
+      count = (let count = i.count in let less = step.1 in omega arith);
+      rest = still_from c.args.receivers.items (into_iter_items c.loop-receiver.receiver-iterator) (into_iter_items c.next.new.self) c.in-Some.receiver n i.rest step.0 (length c.keep.new.handles.items) more;
+      taken = one_more_taken (λ h. left_of sent_over_socket h.promise.input.value) c.loop-receiver.handles.items c.keep.new.handles.items handle c.loop-receiver.all_accepted c.is_present-all_accepted.result (c.loop-receiver.all_accepted && c.is_present-all_accepted.result) grown refl i.taken
+          (λ there. started.2 ∙ c.is_present-all_accepted.ensures.present there) (λ gone. started.2 ∙ c.is_present-all_accepted.ensures.absent gone);
+      places = push_each (λ k h. (h.promise.place.shared.now ≡ c.args.env.now.shared.now) × (h.promise.place.number ≡ k)) c.loop-receiver.handles.items c.keep.new.handles.items handle grown i.places (started.0, started.1 ∙ at);
+    }
+
+pub returns-in_err-keep-clause-places : goal.returns-in_err-keep-clause-places
+returns-in_err-keep-clause-places g c = λ k h at. c.loop-receiver.invariant.places k h (subst (λ l. slice_get l k ≡ Some h) c.in_err-keep.ensures.refused at)

@@ -1,0 +1,74 @@
+use Rattle.std.proofs.Common.{◌≡◌, ◌⊎◌, ◌∙◌, ℕ, List, [], Option, Some, None, slice_get, ap, sym, subst, arith}
+use Rattle.std.proofs.lemmas.Option.{slice_get_within}
+use Rattle.std.proofs.lemmas.Result.{IfOk-from_err}
+use Rattle.lfi_receive.specs.Inputs.{left_of}
+use Rattle.lfi_parts.proofs.Each.{some_at}
+use Rattle.lfi_signals.specs.Clients.{sent_over_socket}
+use Rattle.lfi_signals.specs.Deadlines.{limit_of}
+use Rattle.lfi_workers.proofs.Through.{back_of, sequencers_of, receivers_of, had_of, had_of_is, heard_by, on_ok}
+use Rattle.lfi_workers.proofs.serving.serve_in.Goals as goal
+
+pub start_sequencers-requires-clause-are : goal.start_sequencers-requires-clause-are
+start_sequencers-requires-clause-are g c = λ κs within. sequencers_of c.args.env.now.shared.now c.requires.ready.0 c.args.ready c.requires.ready.1
+
+pub start_verifiers-begun-requires-clause-are : goal.start_verifiers-begun-requires-clause-are
+start_verifiers-begun-requires-clause-are g c = λ κs within. c.requires.ready.1.seated
+
+pub accept_all-accepted-requires-clause-is : goal.accept_all-accepted-requires-clause-is
+accept_all-accepted-requires-clause-is g c = λ κs within. λ k r at. receivers_of c.args.env.now.shared.now c.requires.ready.0 c.args.ready c.requires.ready.1 k r at
+
+pub returns : goal.returns
+returns g c =
+    let on = c.in_ok-parts.ensures in
+    let ready = c.requires.ready.1 in
+    let accepted = c.in_ok-all_accepted.ensures in
+    let count = accepted.all in
+    let verifiers = on_ok c.start_verifiers-begun.result _ accepted.verifying c.start_verifiers-begun.ensures.all in
+    let taken = accepted.taken in
+    let hs = c.accept_all-accepted.new.handles.items in
+    let new = c.in_ok-parts.parts in
+    let sent : ℕ → Option (List ℕ) = λ k. had_of (λ h. left_of sent_over_socket h.promise.input.value) hs k in
+    let is : (k : ℕ) (h : _) → slice_get hs k ≡ Some h → sent k ≡ left_of sent_over_socket h.promise.input.value = (λ k h at. had_of_is (λ h. left_of sent_over_socket h.promise.input.value) hs k h at) in
+    record {
+      sent = sent;
+      parts = record {
+        all = back_of c.args.env.now.shared.now c.requires.ready.0 c.args.ready new ready (on.receiver_count ∙ count) on.receivers (on.verifier_count ∙ verifiers) on.verifiers on.sequencers;
+        counted = on.receiver_count ∙ count;
+        verifiers_counted = on.verifier_count ∙ verifiers;
+        heard = heard_by (λ h. left_of sent_over_socket h.promise.input.value) hs new.receivers.items on.receiver_count on.heard;
+      };
+      known = λ k within.
+          let h = some_at hs k (let count = accepted.all in omega arith) in
+          subst (λ o. (o ≡ None) ⊎ (o ≡ Some [])) (sym (is k h.0 h.1)) (taken.known k h.0 h.1);
+      each = λ there k within.
+          let h = some_at hs k (let count = accepted.all in omega arith) in
+          is k h.0 h.1 ∙ taken.each there k h.0 h.1;
+      absent = λ gone.
+          let one = taken.absent gone in
+          (one.0, (let low = slice_get_within hs one.0 one.1 one.2 in let count = accepted.all in omega arith), is one.0 one.1 one.2 ∙ one.3);
+      limited = c.limit.ensures ∙ ap limit_of c.close-closed.ensures;
+    }
+
+pub accept_all-accepted-requires-clause-none : goal.accept_all-accepted-requires-clause-none
+accept_all-accepted-requires-clause-none g c = λ κs within. c.new-receiving.ensures.items
+
+pub start_verifiers-begun-requires-clause-none : goal.start_verifiers-begun-requires-clause-none
+start_verifiers-begun-requires-clause-none g c = λ κs within. c.new-verifying.ensures.items
+
+pub join_parts-back-requires-clause-receiving : goal.join_parts-back-requires-clause-receiving
+join_parts-back-requires-clause-receiving g c = c.accept_all-accepted.ensures.places
+
+pub join_parts-back-requires-clause-verifying : goal.join_parts-back-requires-clause-verifying
+join_parts-back-requires-clause-verifying g c = c.start_verifiers-begun.ensures.places
+
+pub join_parts-back-requires-clause-placing : goal.join_parts-back-requires-clause-placing
+join_parts-back-requires-clause-placing g c = c.in_ok-placing.ensures.promised
+
+pub returns-in_err-placing : goal.returns-in_err-placing
+returns-in_err-placing g c = IfOk-from_err c.from_residual.result _ c.from_residual.ensures.0
+
+pub returns-in_err-parts : goal.returns-in_err-parts
+returns-in_err-parts g c = IfOk-from_err c.from_residual-in_err-parts.result _ c.from_residual-in_err-parts.ensures.0
+
+pub returns-in_err-all_accepted : goal.returns-in_err-all_accepted
+returns-in_err-all_accepted g c = IfOk-from_err c.from_residual-in_err-all_accepted.result _ c.from_residual-in_err-all_accepted.ensures.0

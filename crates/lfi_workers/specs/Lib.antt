@@ -1,0 +1,4 @@
+pub mod Heard
+pub mod Seated
+pub mod Running
+pub mod inner

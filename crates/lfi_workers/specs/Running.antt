@@ -1,0 +1,46 @@
+-- All parts of a stage, before and after their threads.
+use Rattle.std.specs.Prelude.{◌≡◌, ◌<◌, ◌⊎◌, ℕ, true, false, List, [], Option, length, Some, None, slice_get}
+use Rattle.std.specs.Option.{option_map_or}
+use Rattle.std.specs.declared.time.Duration.{Duration}
+use Rattle.lfi_receive.specs.declared.receiver.Receiver.{Receiver}
+use Rattle.lfi_receive.specs.declared.input.Input.{Input}
+use Rattle.lfi_receive.specs.Inputs.{left_of}
+use Rattle.lfi_parts.specs.declared.shared.Shared.{Shared}
+use Rattle.lfi_parts.specs.Parts.{AreAllParts}
+use Rattle.lfi_parts.specs.Fresh.{IsFresh}
+use Rattle.lfi_workers.specs.declared.running.Parts.{Parts}
+use Rattle.lfi_workers.specs.declared.running.Ready.{Ready}
+use Rattle.lfi_workers.specs.declared.serving.Back.{Back}
+use Rattle.lfi_workers.specs.Heard.{HasHeard}
+use Rattle.lfi_workers.specs.Seated.{AreSeated}
+
+-- These are all parts of the stage.
+abbrev pub ArePartsOf : Shared → Parts → Type 0
+ArePartsOf shared parts = AreAllParts shared parts.receivers.items parts.verifiers.items parts.sequencers.items
+
+-- These are all parts of a stage with so many receivers, of which no byte has come.
+pub record AreReady (shared : Shared) (count : ℕ) (ready : Ready) : Type 0 where
+  pub all : AreAllParts shared ready.receivers.items ready.verifiers.verifiers.items ready.sequencers.items
+  pub seated : AreSeated shared ready.verifiers
+  pub counted : length ready.receivers.items ≡ count
+  pub fresh : (c : ℕ) (r : Receiver) → slice_get ready.receivers.items c ≡ Some r → IsFresh r
+
+-- These are all parts of a stage with so many receivers and verifiers, and each receiver has heard what its input had, as far as that is known.
+pub record AreBack (shared : Shared) (count verifiers : ℕ) (had : ℕ → Option (List ℕ)) (parts : Parts) : Type 0 where
+  pub all : ArePartsOf shared parts
+  pub counted : length parts.receivers.items ≡ count
+  pub verifiers_counted : length parts.verifiers.items ≡ verifiers
+  pub heard : (c : ℕ) (r : Receiver) → slice_get parts.receivers.items c ≡ Some r → HasHeard (had c) r
+
+-- what these inputs have, by their numbers
+abbrev pub had_by : {R : Type 0} → (remaining : R → Option (List ℕ)) → List (Input R) → ℕ → Option (List ℕ)
+had_by remaining inputs c = option_map_or (left_of remaining) (slice_get inputs c) None
+
+-- The parts are back, each receiver from its client. A client that was accepted sent what isn't known, and one that wasn't nothing; all were accepted, or not, as is told. This is the limit of time.
+pub record HaveServed (shared : Shared) (count verifiers : ℕ) (limit : Option Duration) (back : Back) : Type 0 where
+  pub sent : ℕ → Option (List ℕ)
+  pub parts : AreBack shared count verifiers sent back.parts
+  pub known : (c : ℕ) → c < count → (sent c ≡ None) ⊎ (sent c ≡ Some [])
+  pub each : back.all_accepted ≡ true → (c : ℕ) → c < count → sent c ≡ None
+  pub absent : back.all_accepted ≡ false → (c : ℕ) × (c < count) × (sent c ≡ Some [])
+  pub limited : back.limit ≡ limit

@@ -1,0 +1,205 @@
+//! What a receiver's thread does.
+
+ghost use Rattle.std.specs.Prelude.{◌≡◌, ℕ, List, Option, Some, IsSome};
+ghost use Rattle.lfi_receive.specs.Receivers.{cause_of, IsFinished};
+ghost use Rattle.lfi_receive.specs.declared.receiver.ReceiverTurn.TheVariants as turn;
+ghost use Rattle.lfi_receive.specs.Inputs.{left_of};
+ghost use Rattle.lfi_parts.specs.Parts.{IsReceiver};
+ghost use Rattle.lfi_parts.specs.Fresh.{IsFresh};
+ghost use Rattle.lfi_workers.specs.declared.hearing.Leaving.TheVariants as leaving;
+ghost use Rattle.lfi_workers.specs.inner.Hearing.{IsHearing, IsAsBefore, IsHeardBy};
+
+use crate::notices::{Notices, Told};
+use crate::promises::{Heard, Place};
+use lfi_receive::{Input, Receiver, ReceiverTurn};
+use lfi_signals::{Ends, Going, Stopped, Teller};
+use std::io::Read;
+use std::sync::Wait;
+use std::time::Duration;
+
+/// In every so many turns of a receiver its thread looks at the modules' phases.
+const LOOK_TURNS: u32 = 64;
+
+/// One turn of a receiver whose input is over.
+fn put_one(place: Place<'_>, receiver: &mut Receiver) -> ReceiverTurn
+    requires is { IsReceiver place.shared.now place.number receiver.old }
+    requires over { IsSome (cause_of receiver.old) }
+    ensures is { IsReceiver place.entry.shared.now place.entry.number receiver.new }
+    ensures before { IsAsBefore receiver.old receiver.new }
+    ensures finished { result ≡ turn.Finished → IsFinished receiver.new }
+{
+    let shared = place.shared;
+    let (_, did) = receiver.turn(&shared.board, &shared.intake, &[]);
+    did
+}
+
+/// One turn of a receiver over its input, or, once that is over, over what is still to be put.
+fn pull_one<R: Read + Drop>(
+    place: Place<'_>,
+    receiver: &mut Receiver,
+    input: &mut Input<R>,
+) -> ReceiverTurn
+    requires is { IsReceiver place.shared.now place.number receiver.old }
+    ensures is { IsReceiver place.entry.shared.now place.entry.number receiver.new }
+    ensures hearing { (whole : Option (List ℕ)) → IsHearing R.remaining whole receiver.old input.old → IsHearing R.remaining whole receiver.new input.new }
+    ensures finished { result ≡ turn.Finished → IsFinished receiver.new }
+{
+    if receiver.is_over() {
+        return put_one(place, receiver);
+    }
+    let shared = place.shared;
+    receiver.pull(&shared.board, &shared.intake, input)
+}
+
+/// For how many items a receiver calls one more verifier, at the latest, where one waits.
+const EVERY: u32 = 32;
+
+/// After how many microseconds a receiver asks again for memory that was refused.
+const REFUSED_PAUSE: u64 = 200;
+
+/// What a receiver's thread keeps beside its receiver.
+#[derive(Drop)]
+struct Watch<'a> {
+    /// Of items.
+    items: Teller<'a>,
+    told: Told,
+    turns: u32,
+}
+
+impl<'a> Watch<'a> {
+    fn new(ends: &'a Ends) -> Watch<'a> {
+        Watch {
+            items: Teller::new(&ends.bells().items, EVERY),
+            told: Told::new(),
+            turns: 0,
+        }
+    }
+
+    /// What follows a turn that did this: verifiers are called for an item, not for each at once
+    /// where one of them is awake. An item is refused only where memory is, which comes free without a
+    /// call: so its thread asks for it again after a time.
+    fn go_on<S: Wait>(&mut self, rt: &S, ends: &Ends, did: ReceiverTurn) {
+        match did {
+            ReceiverTurn::Put => self.items.brought_to_sleepers(),
+            ReceiverTurn::Blocked => {
+                self.items.tell();
+                ends.sleep(rt, Duration::from_micros(REFUSED_PAUSE));
+            }
+            ReceiverTurn::More | ReceiverTurn::Stray | ReceiverTurn::Finished => {}
+        }
+    }
+
+    /// Whether it is time to look at the modules' phases, after a turn that did this: where there
+    /// was nothing else to do, at the end, and now and then.
+    fn is_due(&mut self, did: ReceiverTurn) -> bool {
+        self.turns = self.turns.wrapping_add(1);
+        did == ReceiverTurn::Blocked
+            || did == ReceiverTurn::Finished
+            || self.turns % LOOK_TURNS == 0
+    }
+
+    /// Looks at the modules' phases, where it is time to.
+    fn look_after<N: Notices>(
+        &mut self,
+        place: Place<'_>,
+        notices: &N,
+        receiver: &mut Receiver,
+        did: ReceiverTurn,
+    )
+        requires is { IsReceiver place.shared.now place.number receiver.old }
+        ensures is { IsReceiver place.entry.shared.now place.entry.number receiver.new }
+        ensures before { IsAsBefore receiver.old receiver.new }
+        ensures finished { IsFinished receiver.old → IsFinished receiver.new }
+    {
+        if !self.is_due(did) {
+            return;
+        }
+        self.told.look(place, receiver, notices);
+    }
+}
+
+/// Why a receiver's thread ends.
+#[derive(Clone, Copy)]
+enum Leaving {
+    /// Its receiver has finished.
+    Finished,
+    /// The threads are to stop.
+    Stopped(Stopped),
+}
+
+/// One turn of a receiver, and what follows it. The answer is why its thread is to end, where it is.
+fn hear_once<S: Wait, R: Read + Drop, N: Notices>(
+    rt: &S,
+    place: Place<'_>,
+    going: Going<'_>,
+    notices: &N,
+    receiver: &mut Receiver,
+    input: &mut Input<R>,
+    watch: &mut Watch<'_>,
+) -> Option<Leaving>
+    requires is { IsReceiver place.shared.now place.number receiver.old }
+    ensures is { IsReceiver place.entry.shared.now place.entry.number receiver.new }
+    ensures hearing { (whole : Option (List ℕ)) → IsHearing R.remaining whole receiver.old input.old → IsHearing R.remaining whole receiver.new input.new }
+    ensures finished { result ≡ Some leaving.Finished → IsFinished receiver.new }
+{
+    if let Some(stopped) = going.ends().stopped() {
+        return Some(Leaving::Stopped(stopped));
+    }
+    let did = pull_one(place, receiver, input);
+    watch.look_after(place, notices, receiver, did);
+    watch.go_on(rt, going.ends(), did);
+    if did == ReceiverTurn::Finished {
+        return Some(Leaving::Finished);
+    }
+    None
+}
+
+/// Turns a receiver until its thread is to end. The answer is why.
+fn hear_on<S: Wait, R: Read + Drop, N: Notices>(
+    rt: &S,
+    place: Place<'_>,
+    going: Going<'_>,
+    notices: &N,
+    receiver: &mut Receiver,
+    input: &mut Input<R>,
+) -> Leaving
+    requires is { IsReceiver place.shared.now place.number receiver.old }
+    ensures is { IsReceiver place.entry.shared.now place.entry.number receiver.new }
+    ensures hearing { (whole : Option (List ℕ)) → IsHearing R.remaining whole receiver.old input.old → IsHearing R.remaining whole receiver.new input.new }
+    ensures finished { result ≡ leaving.Finished → IsFinished receiver.new }
+{
+    let mut watch = Watch::new(going.ends());
+    for _ in rt.forever() {
+        if let Some(leaving) = hear_once(rt, place, going, notices, receiver, input, &mut watch) {
+            return leaving;
+        }
+    }
+    unreachable!()
+}
+
+/// Turns a receiver until it has put all that its input makes and has told the board its end. It
+/// begins once all threads have been started. Where they are to stop it gives up.
+pub(crate) fn hear<S: Wait, R: Read + Drop, N: Notices>(
+    rt: &S,
+    place: Place<'_>,
+    ends: &Ends,
+    notices: &N,
+    mut receiver: Receiver,
+    mut input: Input<R>,
+) -> Heard
+    requires is { IsReceiver place.shared.now place.number receiver }
+    requires fresh { IsFresh receiver }
+    ensures { IsHeardBy place.entry.shared.now place.entry.number (left_of R.remaining input) result }
+{
+    let going = ends.wait_for_go(rt);
+    let leaving = hear_on(rt, place, going, notices, &mut receiver, &mut input);
+    drop(input);
+    ends.tell_heard();
+    match leaving {
+        Leaving::Finished => Heard::Finished(receiver),
+        Leaving::Stopped(stopped) => {
+            drop(receiver);
+            Heard::GaveUp(stopped)
+        }
+    }
+}

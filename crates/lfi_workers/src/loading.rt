@@ -1,0 +1,72 @@
+//! All parts of a stage go through their threads, each receiver with an input.
+
+ghost use Rattle.std.specs.Prelude.{IfOk, length};
+ghost use Rattle.lfi_workers.specs.Running.{AreBack, AreReady, had_by};
+
+use crate::env::Env;
+use crate::notices::Notices;
+use crate::running::{Parts, Ready, join_parts};
+use crate::starting::{start_receivers, start_sequencers, start_verifiers};
+use lfi_place::Gate;
+use lfi_receive::Input;
+use lfi_signals::LoadError;
+use std::io::Read;
+use std::sync::Wait;
+use std::thread;
+use std::thread::{Scope, Threads};
+
+/// Starts the threads of all parts, lets them go, and joins them.
+fn load_in<
+    's,
+    'e: 's,
+    S: Threads + Wait + Sync,
+    R: Read + Send + Drop + 'e,
+    G: Gate + Sync,
+    N: Notices + Sync,
+>(
+    scope: &Scope<'s, &'e ()>,
+    env: &Env<'e, S, G, N>,
+    ready: Ready,
+    inputs: Vec<Input<R>>,
+) -> Result<Parts, LoadError>
+    requires ready { AreReady env.now.shared.now (length inputs.items) ready }
+    ensures { IfOk result (AreBack env.entry.now.shared.now (length inputs.items) (length ready.verifiers.verifiers.items) (had_by R.remaining inputs.items)) }
+{
+    let Ready {
+        receivers,
+        verifiers,
+        sequencers,
+    } = ready;
+    let placing = start_sequencers(scope, env, sequencers)?;
+    let mut verifying = Vec::new(env.alloc);
+    let mut receiving = Vec::new(env.alloc);
+    let begun = start_verifiers(scope, env, verifiers, &mut verifying);
+    let started = start_receivers(scope, env, begun, receivers, inputs, &mut receiving);
+    env.ends.go();
+    let back = join_parts(env, receiving, verifying, placing);
+    started.and(back)
+}
+
+/// All parts go through their threads, each receiver with the input of its number.
+///
+/// # Errors
+///
+/// `NoMemory` where there is no memory for the handles of threads, and `NoThread` where a thread can't
+/// be started. Of both it is the one that came first.
+pub fn load_with<S: Threads + Wait + Sync, R: Read + Send + Drop, G: Gate + Sync, N: Notices + Sync>(
+    env: &Env<'_, S, G, N>,
+    ready: Ready,
+    inputs: Vec<Input<R>>,
+) -> Result<Parts, LoadError>
+    requires ready { AreReady env.now.shared.now (length inputs.items) ready }
+    ensures { IfOk result (AreBack env.entry.now.shared.now (length inputs.items) (length ready.verifiers.verifiers.items) (had_by R.remaining inputs.items)) }
+{
+    thread::scope(
+        thread::scope_env(),
+        env.rt,
+        move |scope| -> Result<Parts, LoadError>
+            requires { AreReady env.now.shared.now (length inputs.items) ready }
+            ensures { IfOk result (AreBack env.entry.now.shared.now (length inputs.items) (length ready.verifiers.verifiers.items) (had_by R.remaining inputs.items)) }
+        { load_in(scope, env, ready, inputs) },
+    )
+}

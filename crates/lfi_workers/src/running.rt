@@ -1,0 +1,117 @@
+//! The parts of a stage before their threads, and how they come back.
+
+ghost use Rattle.std.specs.Prelude.{◌≡◌, ℕ, Ok, Some, IfOk, length, slice_get};
+ghost use Rattle.lfi_receive.specs.declared.receiver.Receiver.{Receiver};
+ghost use Rattle.lfi_place.specs.declared.verifier.Verifier.{Verifier};
+ghost use Rattle.lfi_receive.specs.Inputs.{left_of};
+ghost use Rattle.lfi_parts.specs.Parts.{IsReceiver};
+ghost use Rattle.lfi_workers.specs.Heard.{HasHeard};
+ghost use Rattle.lfi_workers.specs.Seated.{IsVerifierOf};
+ghost use Rattle.lfi_workers.specs.declared.promises.Heard.TheVariants as heard_kind;
+ghost use Rattle.lfi_workers.specs.inner.Places.{AreAt};
+ghost use Rattle.lfi_workers.specs.inner.Workers.{AreSequencersOf};
+
+use crate::env::Env;
+use crate::promises::{Heard, ReceiverThread, SequencersThread, VerifierThread};
+use lfi_board::WatchSeat;
+use lfi_place::{Sequencer, Verifier};
+use lfi_receive::Receiver;
+use lfi_signals::{LoadError, join_all};
+use std::alloc::{AllocError, Global};
+use std::io::Read;
+use std::thread::Threads;
+
+/// All verifiers of a stage, and their seats at its board, by the verifiers' numbers.
+#[derive(Drop)]
+pub struct SeatedVerifiers {
+    pub verifiers: Vec<Verifier>,
+    pub seats: Vec<WatchSeat>,
+}
+
+/// All parts of a stage before their threads.
+#[derive(Drop)]
+pub struct Ready {
+    pub receivers: Vec<Receiver>,
+    pub verifiers: SeatedVerifiers,
+    pub sequencers: Vec<Sequencer>,
+}
+
+/// All parts of a stage after their threads.
+#[derive(Drop)]
+pub struct Parts {
+    pub receivers: Vec<Receiver>,
+    pub verifiers: Vec<Verifier>,
+    pub sequencers: Vec<Sequencer>,
+}
+
+/// The receivers of these threads. Where one of them gave up, it is why it was told to; else only
+/// memory can be refused.
+fn all_finished(alloc: Global, threads: Vec<Heard>) -> Result<Vec<Receiver>, LoadError>
+    ensures count { IfOk result (λ receivers. length receivers.items ≡ length threads.items) }
+    ensures finished { IfOk result (λ receivers. (k : ℕ) (r : Receiver) → slice_get receivers.items k ≡ Some r → slice_get threads.items k ≡ Some (heard_kind.Finished r)) }
+{
+    let mut receivers = Vec::new(alloc);
+    for heard in threads {
+        match heard {
+            Heard::Finished(receiver) => receivers.push(receiver)?,
+            Heard::GaveUp(stopped) => return Err(stopped.why()),
+        }
+    }
+    Ok(receivers)
+}
+
+/// Joins the threads of all receivers. Where one of them gave up, it is why it was told to.
+fn join_receivers<S: Threads, R: Read + Drop, G, N>(
+    env: &Env<'_, S, G, N>,
+    receiving: Vec<ReceiverThread<'_, R>>,
+) -> Result<Vec<Receiver>, LoadError>
+    requires { AreAt env.now.shared.now receiving.items (λ h. h.promise.place) }
+    ensures count { IfOk result (λ receivers. length receivers.items ≡ length receiving.entry.items) }
+    ensures are { IfOk result (λ receivers. (k : ℕ) (r : Receiver) → slice_get receivers.items k ≡ Some r → IsReceiver env.entry.now.shared.now k r) }
+    ensures heard { IfOk result (λ receivers. (k : ℕ) (r : Receiver) (h : _) → slice_get receivers.items k ≡ Some r → slice_get receiving.entry.items k ≡ Some h → HasHeard (left_of R.remaining h.promise.input.value) r) }
+{
+    let heard = join_all(env.rt, receiving)?;
+    Ok(all_finished(env.alloc, heard)?)
+}
+
+/// All parts, where all of them are there.
+fn parts_of(
+    receivers: Result<Vec<Receiver>, LoadError>,
+    verifiers: Result<Vec<Verifier>, AllocError>,
+    sequencers: Vec<Sequencer>,
+) -> Result<Parts, LoadError>
+    ensures receivers { IfOk result (λ parts. receivers ≡ Ok parts.receivers) }
+    ensures verifiers { IfOk result (λ parts. verifiers ≡ Ok parts.verifiers) }
+    ensures sequencers { IfOk result (λ parts. parts.sequencers ≡ sequencers) }
+{
+    Ok(Parts {
+        receivers: receivers?,
+        verifiers: verifiers?,
+        sequencers,
+    })
+}
+
+/// Joins all threads, first the receivers', then the verifiers', and then the sequencers', which is
+/// told when the verifiers' have ended. Where a receiver's thread gave up, it is why it was told to.
+pub(crate) fn join_parts<S: Threads, R: Read + Drop, G, N>(
+    env: &Env<'_, S, G, N>,
+    receiving: Vec<ReceiverThread<'_, R>>,
+    verifying: Vec<VerifierThread<'_>>,
+    placing: SequencersThread<'_>,
+) -> Result<Parts, LoadError>
+    requires receiving { AreAt env.now.shared.now receiving.items (λ h. h.promise.place) }
+    requires verifying { AreAt env.now.shared.now verifying.items (λ h. h.promise.place) }
+    requires placing { placing.promise.shared.now ≡ env.now.shared.now }
+    ensures receiver_count { IfOk result (λ parts. length parts.receivers.items ≡ length receiving.entry.items) }
+    ensures receivers { IfOk result (λ parts. (k : ℕ) (r : Receiver) → slice_get parts.receivers.items k ≡ Some r → IsReceiver env.entry.now.shared.now k r) }
+    ensures heard { IfOk result (λ parts. (k : ℕ) (r : Receiver) (h : _) → slice_get parts.receivers.items k ≡ Some r → slice_get receiving.entry.items k ≡ Some h → HasHeard (left_of R.remaining h.promise.input.value) r) }
+    ensures verifier_count { IfOk result (λ parts. length parts.verifiers.items ≡ length verifying.entry.items) }
+    ensures verifiers { IfOk result (λ parts. (k : ℕ) (v : Verifier) → slice_get parts.verifiers.items k ≡ Some v → IsVerifierOf env.entry.now.shared.now k v) }
+    ensures sequencers { IfOk result (λ parts. AreSequencersOf env.entry.now.shared.now parts.sequencers.items) }
+{
+    let receivers = join_receivers(env, receiving);
+    let verifiers = join_all(env.rt, verifying);
+    env.ends.verified();
+    let sequencers = placing.join(env.rt);
+    Ok(parts_of(receivers, verifiers, sequencers)?)
+}

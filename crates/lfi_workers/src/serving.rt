@@ -1,0 +1,162 @@
+//! All parts of a stage go through their threads, each receiver with a client of a socket.
+
+ghost use Rattle.std.specs.Prelude.{◌≡◌, ℕ, [], Some, IsOk, IfOk, OnOk, length, slice_get};
+ghost use Rattle.lfi_receive.specs.Inputs.{left_of};
+ghost use Rattle.lfi_receive.specs.declared.receiver.Receiver.{Receiver};
+ghost use Rattle.lfi_parts.specs.Parts.{IsReceiver};
+ghost use Rattle.lfi_parts.specs.Fresh.{IsFresh};
+ghost use Rattle.lfi_signals.specs.Clients.{sent_over_socket};
+ghost use Rattle.lfi_signals.specs.Deadlines.{limit_of};
+ghost use Rattle.lfi_workers.specs.Running.{AreReady, HaveServed};
+ghost use Rattle.lfi_workers.specs.inner.Clients.{AreTaken};
+ghost use Rattle.lfi_workers.specs.inner.Places.{AreAt};
+
+use crate::env::Env;
+use crate::notices::Notices;
+use crate::promises::ReceiverThread;
+use crate::running::{Parts, Ready, join_parts};
+use crate::starting::{start_receiver, start_sequencers, start_verifiers};
+use lfi_place::Gate;
+use lfi_receive::{Input, Receiver};
+use lfi_signals::{Client, Door, LoadError, Streams, keep};
+use std::fs::Files;
+use std::os::unix::net::UnixStream;
+use std::rt::Clock;
+use std::sync::Wait;
+use std::thread;
+use std::thread::{Scope, Threads};
+use std::time::Duration;
+
+/// All parts of a stage after their threads, and what is told of their clients.
+#[derive(Drop)]
+pub struct Back {
+    pub parts: Parts,
+    /// Whether each connection was accepted.
+    pub all_accepted: bool,
+    /// How long clients were waited for and heard at the most.
+    pub limit: Option<Duration>,
+}
+
+/// The thread of a client's receiver.
+type ClientThread<'e> = ReceiverThread<'e, Client<&'e UnixStream>>;
+
+/// Starts the thread of one client's receiver. Where it or memory is refused, all are told to stop.
+fn start_client<'s, 'e: 's, S: Wait + Sync, G, N: Notices + Sync>(
+    scope: &Scope<'s, &'e ()>,
+    env: &Env<'e, S, G, N>,
+    number: usize,
+    receiver: Receiver,
+    client: Client<&'e UnixStream>,
+) -> Result<ClientThread<'e>, LoadError>
+    requires is { IsReceiver env.now.shared.now number receiver }
+    requires fresh { IsFresh receiver }
+    ensures { IfOk result (λ handle. (handle.promise.place.shared.now ≡ env.entry.now.shared.now) × (handle.promise.place.number ≡ number) × (left_of sent_over_socket handle.promise.input.value ≡ sent_over_socket client.entry)) }
+{
+    match Input::new(env.alloc, client) {
+        Ok(input) => start_receiver(scope, env, number, receiver, input),
+        Err(_) => {
+            drop(receiver);
+            Err(env.ends.stop(LoadError::NoMemory))
+        }
+    }
+}
+
+/// Takes a client for each receiver, where the verifiers' threads were started, and starts the
+/// receiver's thread at once. The answer is whether all clients were accepted. Where memory or a
+/// thread is refused, all are told to stop.
+fn accept_all<'s, 'e: 's, S: Threads + Wait + Files + Clock + Sync, G, N: Notices + Sync>(
+    scope: &Scope<'s, &'e ()>,
+    env: &Env<'e, S, G, N>,
+    verifying: Result<(), LoadError>,
+    door: &Door<'_, S>,
+    streams: &'e Streams,
+    receivers: Vec<Receiver>,
+    handles: &mut Vec<ClientThread<'e>>,
+) -> Result<bool, LoadError>
+    requires is { (k : ℕ) (r : Receiver) → slice_get receivers.items k ≡ Some r → IsReceiver env.now.shared.now k r × IsFresh r }
+    requires none { handles.old.items ≡ [] }
+    ensures places { AreAt env.entry.now.shared.now handles.new.items (λ h. h.promise.place) }
+    ensures all { IfOk result (λ accepted. length handles.new.items ≡ length receivers.items) }
+    ensures taken { IfOk result (λ accepted. AreTaken accepted handles.new.items (λ h. left_of sent_over_socket h.promise.input.value)) }
+    ensures verifying { OnOk result (IsOk verifying) }
+{
+    verifying?;
+    let mut all_accepted = true;
+    for receiver in receivers {
+        let number = handles.len();
+        let client = streams.accept(door, number);
+        all_accepted = all_accepted & client.is_present();
+        let handle = start_client(scope, env, number, receiver, client);
+        keep(env.rt, env.ends, handles, handle)?;
+    }
+    Ok(all_accepted)
+}
+
+/// Starts the threads of all parts, as the clients come, and joins them. Where it comes to an error, all
+/// connections are ended. Then, or once all clients have come, the door is closed.
+fn serve_in<
+    's,
+    'e: 's,
+    S: Threads + Wait + Files + Clock + Sync,
+    G: Gate + Sync,
+    N: Notices + Sync,
+>(
+    scope: &Scope<'s, &'e ()>,
+    env: &Env<'e, S, G, N>,
+    ready: Ready,
+    door: Door<'_, S>,
+    streams: &'e Streams,
+) -> Result<Back, LoadError>
+    requires ready { (count : ℕ) × AreReady env.now.shared.now count ready }
+    ensures { IfOk result (HaveServed env.entry.now.shared.now (length ready.receivers.items) (length ready.verifiers.verifiers.items) (limit_of door.entry.deadline)) }
+{
+    let Ready {
+        receivers,
+        verifiers,
+        sequencers,
+    } = ready;
+    let placing = start_sequencers(scope, env, sequencers)?;
+    let mut verifying = Vec::new(env.alloc);
+    let mut receiving = Vec::new(env.alloc);
+    let begun = start_verifiers(scope, env, verifiers, &mut verifying);
+    env.ends.go();
+    let accepted = accept_all(scope, env, begun, &door, streams, receivers, &mut receiving);
+    streams.shut_down_unless(accepted);
+    let closed = door.close();
+    closed.wait_in_time(env.rt, env.ends, streams, receiving.len());
+    let back = join_parts(env, receiving, verifying, placing);
+    let all_accepted = accepted?;
+    let parts = back?;
+    Ok(Back {
+        parts,
+        all_accepted,
+        limit: closed.limit(),
+    })
+}
+
+/// All parts go through their threads, each receiver with a client of the door, which is closed once all
+/// have come, or where it comes to an error.
+///
+/// # Errors
+///
+/// `NoMemory` where there is no memory for a connection or the handles of threads, and `NoThread` where
+/// a thread can't be started. Of both it is the one that came first.
+pub fn serve_with<S: Threads + Wait + Files + Clock + Sync, G: Gate + Sync, N: Notices + Sync>(
+    env: &Env<'_, S, G, N>,
+    ready: Ready,
+    door: Door<'_, S>,
+) -> Result<Back, LoadError>
+    requires ready { (count : ℕ) × AreReady env.now.shared.now count ready }
+    ensures { IfOk result (HaveServed env.entry.now.shared.now (length ready.receivers.items) (length ready.verifiers.verifiers.items) (limit_of door.entry.deadline)) }
+{
+    let streams = Streams::new();
+    let streams = &streams;
+    thread::scope(
+        thread::scope_env(),
+        env.rt,
+        move |scope| -> Result<Back, LoadError>
+            requires { (count : ℕ) × AreReady env.now.shared.now count ready }
+            ensures { IfOk result (HaveServed env.entry.now.shared.now (length ready.receivers.items) (length ready.verifiers.verifiers.items) (limit_of door.entry.deadline)) }
+        { serve_in(scope, env, ready, door, streams) },
+    )
+}
