@@ -8,7 +8,7 @@ use Rattle.std.proofs.lemmas.Option.{none-some}
 use Rattle.lfi_module.specs.Numbers.{module_count}
 use Rattle.lfi_model.specs.Item.{ItemView}
 use Rattle.lfi_queues.specs.Kept.{Kept}
-use Rattle.lfi_queues.specs.Passes.{QueueId, PassView, IsPass, IsSamePass, new_pass, pass_at, AreAllPasses, items_at}
+use Rattle.lfi_queues.specs.Passes.{QueueId, PassView, IsPass, IsSamePass, pass_at, AreAllPasses, items_at}
 use Rattle.lfi_place.specs.Hands.{Hands}
 use Rattle.lfi_place.specs.declared.verifier.Verifier.{Verifier}
 use Rattle.lfi_place.specs.declared.sequence.Sequence.{Sequence}

@@ -6,9 +6,9 @@ ghost use Rattle.lfi_parts.specs.Parts.{IsReceiver, AreReceivers, AreOthers};
 ghost use Rattle.lfi_stage.specs.inner.Finished.{HasFinished, HaveFinished};
 
 use crate::turning::turn_others;
+use lfi_parts::Shared;
 use lfi_place::{OpenGate, Sequencer, Verifier};
 use lfi_receive::{Receiver, ReceiverTurn};
-use lfi_parts::Shared;
 use std::sync::Wait;
 
 /// One turn of a receiver whose input has ended: whether it has put all its items.

@@ -1,10 +1,6 @@
 -- Connections that weren't accepted.
 use Rattle.std.proofs.Common.{◌≡◌, ◌∙◌, ◌⊎◌, ◌&&◌, ℕ, zero, suc, Bool, true, false, List, [], ◌∷◌, ◌++◌, Option, Some, None, length, slice_get, refl, sym, subst, inl, inr}
-use Rattle.lfi_model.specs.declared.connection.Cause.{Cause}
-use Rattle.lfi_model.specs.declared.connection.Cause.TheVariants as cause_kind
-use Rattle.lfi_parts.proofs.Each.{some_same}
 use Rattle.lfi_parts.proofs.Filling.{push_each}
-use Rattle.lfi_workers.specs.Heard.{IsHeardOf}
 use Rattle.lfi_workers.specs.inner.Clients.{AreTaken}
 use Rattle.lfi_signals.proofs.Begun.{each_of_none}
 

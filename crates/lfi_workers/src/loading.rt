@@ -53,11 +53,12 @@ fn load_in<
 ///
 /// `NoMemory` where there is no memory for the handles of threads, and `NoThread` where a thread can't
 /// be started. Of both it is the one that came first.
-pub fn load_with<S: Threads + Wait + Sync, R: Read + Send + Drop, G: Gate + Sync, N: Notices + Sync>(
-    env: &Env<'_, S, G, N>,
-    ready: Ready,
-    inputs: Vec<Input<R>>,
-) -> Result<Parts, LoadError>
+pub fn load_with<
+    S: Threads + Wait + Sync,
+    R: Read + Send + Drop,
+    G: Gate + Sync,
+    N: Notices + Sync,
+>(env: &Env<'_, S, G, N>, ready: Ready, inputs: Vec<Input<R>>) -> Result<Parts, LoadError>
     requires ready { AreReady env.now.shared.now (length inputs.items) ready }
     ensures { IfOk result (AreBack env.entry.now.shared.now (length inputs.items) (length ready.verifiers.verifiers.items) (had_by R.remaining inputs.items)) }
 {
