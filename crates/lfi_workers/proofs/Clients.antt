@@ -1,8 +1,11 @@
 -- Connections that weren't accepted.
-use Rattle.std.proofs.Common.{◌≡◌, ◌∙◌, ◌⊎◌, ◌&&◌, ℕ, zero, suc, Bool, true, false, List, [], ◌∷◌, ◌++◌, Option, Some, None, length, slice_get, refl, sym, subst, inl, inr}
+use Rattle.std.proofs.Common.{◌≡◌, ◌∙◌, ◌⊎◌, ◌<◌, ◌&&◌, ℕ, zero, suc, Bool, true, false, List, [], ◌∷◌, ◌++◌, Option, Some, None, length, slice_get, refl, sym, subst, inl, inr, arith}
+use Rattle.std.proofs.lemmas.Option.{slice_get_within}
+use Rattle.lfi_parts.proofs.Each.{some_at}
 use Rattle.lfi_parts.proofs.Filling.{push_each}
 use Rattle.lfi_workers.specs.inner.Clients.{AreTaken}
 use Rattle.lfi_signals.proofs.Begun.{each_of_none}
+use Rattle.lfi_workers.proofs.Through.{had_of, had_of_is}
 
 stays : {A : Type 0} (xs : List A) (x y : A) (k : ℕ) → slice_get xs k ≡ Some y → slice_get (xs ++ x ∷ []) k ≡ Some y
 stays [] x y k at = absurd cc
@@ -46,3 +49,21 @@ one_more_taken sent_of hs gs h before present after grown is old there gone = re
   each = each_present (λ g. sent_of g ≡ None) hs gs h before present after grown is old.each there;
   absent = one_absent (λ g. sent_of g ≡ Some []) hs gs h before present after grown is old.absent gone;
 }
+
+-- what each has sent, once all are taken, by their numbers
+module _ {H : Type 0} {all_accepted : Bool} {count : ℕ} (sent_of : H → Option (List ℕ)) (hs : List H) (long : length hs ≡ count) (taken : AreTaken all_accepted hs sent_of) where
+  pub sent_known : (c : ℕ) → c < count → (had_of sent_of hs c ≡ None) ⊎ (had_of sent_of hs c ≡ Some [])
+  sent_known c within =
+      let h = some_at hs c (omega (arith, long, within)) in
+      subst (λ o. (o ≡ None) ⊎ (o ≡ Some [])) (sym (had_of_is sent_of hs c h.0 h.1)) (taken.known c h.0 h.1)
+
+  pub sent_each : all_accepted ≡ true → (c : ℕ) → c < count → had_of sent_of hs c ≡ None
+  sent_each all c within =
+      let h = some_at hs c (omega (arith, long, within)) in
+      had_of_is sent_of hs c h.0 h.1 ∙ taken.each all c h.0 h.1
+
+  pub sent_absent : all_accepted ≡ false → (c : ℕ) × (c < count) × (had_of sent_of hs c ≡ Some [])
+  sent_absent gone =
+      let one = taken.absent gone in
+      let low = slice_get_within hs one.0 one.1 one.2 in
+      (one.0, omega (arith, long, low), had_of_is sent_of hs one.0 one.1 one.2 ∙ one.3)

@@ -7,15 +7,15 @@ use std::alloc::Global;
 /// What the threads of a stage share, and what starts them. It is made once a load, and lent. A
 /// thread's closure takes what it needs of it one by one.
 #[derive(Drop)]
-pub struct Env<'e, S, G, N> {
-    pub rt: &'e S,
-    pub alloc: Global,
+pub(crate) struct Env<'e, S, G, N> {
+    pub(crate) rt: &'e S,
+    pub(crate) alloc: Global,
     /// The stage.
-    pub shared: &'e Shared,
+    pub(crate) shared: &'e Shared,
     /// How far the threads are to go.
-    pub ends: &'e Ends,
+    pub(crate) ends: &'e Ends,
     /// What is told of each item before and after it is judged.
-    pub gate: &'e G,
+    pub(crate) gate: &'e G,
     /// What is told of refused modules.
-    pub notices: &'e N,
+    pub(crate) notices: &'e N,
 }

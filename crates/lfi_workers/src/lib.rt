@@ -3,10 +3,10 @@
 //!
 //! # How data flows
 //!
-//! `load_with` over readers and `serve_with` over a door are handed what the threads share (`Env`), lent by `&`, and all
-//! parts of a stage (`Ready`). They start the threads in a scope and join them, and give the parts back (`Parts`,
-//! `Back`). What each thread promises of its parts (promises.rt) is what settling the stage asks for. A receiver's
-//! thread tells of refused modules (`Notices`).
+//! `load_with` over readers and `serve_with` over a door are handed what the parts of a stage share, lent by `&`, and all
+//! parts (`Ready`). They start the threads in a scope with what these share, join them, and give the parts back
+//! (`Parts`, `Back`). What each thread promises of its parts (promises.rt) is what settling the stage asks for. A
+//! receiver's thread tells of refused modules (`Notices`).
 //!
 //! What these calls do is told by specs/: Running says what the parts are before and after, Seated which of them have a
 //! seat at the board, Heard what each receiver has heard.
@@ -72,7 +72,6 @@ mod serving;
 mod starting;
 mod verifying;
 
-pub use env::Env;
 pub use loading::load_with;
 pub use notices::{NoNotices, Notices};
 pub use running::{Parts, Ready, SeatedVerifiers};

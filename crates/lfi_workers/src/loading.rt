@@ -7,9 +7,11 @@ use crate::env::Env;
 use crate::notices::Notices;
 use crate::running::{Parts, Ready, join_parts};
 use crate::starting::{start_receivers, start_sequencers, start_verifiers};
+use lfi_parts::Shared;
 use lfi_place::Gate;
 use lfi_receive::Input;
-use lfi_signals::LoadError;
+use lfi_signals::{Ends, LoadError};
+use std::alloc::Global;
 use std::io::Read;
 use std::sync::Wait;
 use std::thread;
@@ -47,24 +49,44 @@ fn load_in<
     started.and(back)
 }
 
-/// All parts go through their threads, each receiver with the input of its number.
+/// All parts of a stage go through their threads, each receiver with the input of its number. The gate
+/// is told of each item before and after it is judged, and the notices of refused modules.
 ///
 /// # Errors
 ///
 /// `NoMemory` where there is no memory for the handles of threads, and `NoThread` where a thread can't
 /// be started. Of both it is the one that came first.
 pub fn load_with<
+    'x,
     S: Threads + Wait + Sync,
     R: Read + Send + Drop,
     G: Gate + Sync,
     N: Notices + Sync,
->(env: &Env<'_, S, G, N>, ready: Ready, inputs: Vec<Input<R>>) -> Result<Parts, LoadError>
-    requires ready { AreReady env.now.shared.now (length inputs.items) ready }
-    ensures { IfOk result (AreBack env.entry.now.shared.now (length inputs.items) (length ready.verifiers.verifiers.items) (had_by R.remaining inputs.items)) }
+>(
+    rt: &'x S,
+    alloc: Global,
+    shared: &'x Shared,
+    ready: Ready,
+    inputs: Vec<Input<R>>,
+    gate: &'x G,
+    notices: &'x N,
+) -> Result<Parts, LoadError>
+    requires ready { AreReady shared.now (length inputs.items) ready }
+    ensures { IfOk result (AreBack shared.now (length inputs.items) (length ready.verifiers.verifiers.items) (had_by R.remaining inputs.items)) }
 {
+    let ends = Ends::new(ready.verifiers.verifiers.len());
+    let env = Env {
+        rt,
+        alloc,
+        shared,
+        ends: &ends,
+        gate,
+        notices,
+    };
+    let env = &env;
     thread::scope(
         thread::scope_env(),
-        env.rt,
+        rt,
         move |scope| -> Result<Parts, LoadError>
             requires { AreReady env.now.shared.now (length inputs.items) ready }
             ensures { IfOk result (AreBack env.entry.now.shared.now (length inputs.items) (length ready.verifiers.verifiers.items) (had_by R.remaining inputs.items)) }

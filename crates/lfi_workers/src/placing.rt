@@ -1,6 +1,5 @@
 //! What the sequencers' thread does.
 
-ghost use Rattle.std.specs.Prelude.{◌≡◌, ℕ, Some, slice_get};
 ghost use Rattle.lfi_workers.specs.inner.Workers.{AreSequencersOf, HavePlaced};
 
 use lfi_parts::Shared;

@@ -16,9 +16,11 @@ use crate::notices::Notices;
 use crate::promises::ReceiverThread;
 use crate::running::{Parts, Ready, join_parts};
 use crate::starting::{start_receiver, start_sequencers, start_verifiers};
+use lfi_parts::Shared;
 use lfi_place::Gate;
 use lfi_receive::{Input, Receiver};
-use lfi_signals::{Client, Door, LoadError, Streams, keep};
+use lfi_signals::{Client, Door, Ends, LoadError, Streams, keep};
+use std::alloc::Global;
 use std::fs::Files;
 use std::os::unix::net::UnixStream;
 use std::rt::Clock;
@@ -134,26 +136,41 @@ fn serve_in<
     })
 }
 
-/// All parts go through their threads, each receiver with a client of the door, which is closed once all
-/// have come, or where it comes to an error.
+/// All parts of a stage go through their threads, each receiver with a client of the door, which is
+/// closed once all have come, or where it comes to an error. The gate is told of each item before and
+/// after it is judged, and the notices of refused modules.
 ///
 /// # Errors
 ///
 /// `NoMemory` where there is no memory for a connection or the handles of threads, and `NoThread` where
 /// a thread can't be started. Of both it is the one that came first.
-pub fn serve_with<S: Threads + Wait + Files + Clock + Sync, G: Gate + Sync, N: Notices + Sync>(
-    env: &Env<'_, S, G, N>,
+pub fn serve_with<'x, S: Threads + Wait + Files + Clock + Sync, G: Gate + Sync, N: Notices + Sync>(
+    rt: &'x S,
+    alloc: Global,
+    shared: &'x Shared,
     ready: Ready,
     door: Door<'_, S>,
+    gate: &'x G,
+    notices: &'x N,
 ) -> Result<Back, LoadError>
-    requires ready { (count : ℕ) × AreReady env.now.shared.now count ready }
-    ensures { IfOk result (HaveServed env.entry.now.shared.now (length ready.receivers.items) (length ready.verifiers.verifiers.items) (limit_of door.entry.deadline)) }
+    requires ready { (count : ℕ) × AreReady shared.now count ready }
+    ensures { IfOk result (HaveServed shared.now (length ready.receivers.items) (length ready.verifiers.verifiers.items) (limit_of door.entry.deadline)) }
 {
+    let ends = Ends::new(ready.verifiers.verifiers.len());
     let streams = Streams::new();
     let streams = &streams;
+    let env = Env {
+        rt,
+        alloc,
+        shared,
+        ends: &ends,
+        gate,
+        notices,
+    };
+    let env = &env;
     thread::scope(
         thread::scope_env(),
-        env.rt,
+        rt,
         move |scope| -> Result<Back, LoadError>
             requires { (count : ℕ) × AreReady env.now.shared.now count ready }
             ensures { IfOk result (HaveServed env.entry.now.shared.now (length ready.receivers.items) (length ready.verifiers.verifiers.items) (limit_of door.entry.deadline)) }

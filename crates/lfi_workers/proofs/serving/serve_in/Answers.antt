@@ -1,11 +1,10 @@
-use Rattle.std.proofs.Common.{◌≡◌, ◌⊎◌, ◌∙◌, ℕ, List, [], Option, Some, None, slice_get, ap, sym, subst, arith}
-use Rattle.std.proofs.lemmas.Option.{slice_get_within}
+use Rattle.std.proofs.Common.{◌∙◌, ap}
 use Rattle.std.proofs.lemmas.Result.{IfOk-from_err}
 use Rattle.lfi_receive.specs.Inputs.{left_of}
-use Rattle.lfi_parts.proofs.Each.{some_at}
 use Rattle.lfi_signals.specs.Clients.{sent_over_socket}
 use Rattle.lfi_signals.specs.Deadlines.{limit_of}
-use Rattle.lfi_workers.proofs.Through.{back_of, sequencers_of, receivers_of, had_of, had_of_is, heard_by, on_ok}
+use Rattle.lfi_workers.proofs.Clients.{sent_known, sent_each, sent_absent}
+use Rattle.lfi_workers.proofs.Through.{back_of, sequencers_of, receivers_of, had_of, heard_by, on_ok}
 use Rattle.lfi_workers.proofs.serving.serve_in.Goals as goal
 
 pub start_sequencers-requires-clause-are : goal.start_sequencers-requires-clause-are
@@ -27,25 +26,17 @@ returns g c =
     let taken = accepted.taken in
     let hs = c.accept_all-accepted.new.handles.items in
     let new = c.in_ok-parts.parts in
-    let sent : ℕ → Option (List ℕ) = λ k. had_of (λ h. left_of sent_over_socket h.promise.input.value) hs k in
-    let is : (k : ℕ) (h : _) → slice_get hs k ≡ Some h → sent k ≡ left_of sent_over_socket h.promise.input.value = (λ k h at. had_of_is (λ h. left_of sent_over_socket h.promise.input.value) hs k h at) in
     record {
-      sent = sent;
+      sent = λ k. had_of (λ h. left_of sent_over_socket h.promise.input.value) hs k;
       parts = record {
         all = back_of c.args.env.now.shared.now c.requires.ready.0 c.args.ready new ready (on.receiver_count ∙ count) on.receivers (on.verifier_count ∙ verifiers) on.verifiers on.sequencers;
         counted = on.receiver_count ∙ count;
         verifiers_counted = on.verifier_count ∙ verifiers;
         heard = heard_by (λ h. left_of sent_over_socket h.promise.input.value) hs new.receivers.items on.receiver_count on.heard;
       };
-      known = λ k within.
-          let h = some_at hs k (let count = accepted.all in omega arith) in
-          subst (λ o. (o ≡ None) ⊎ (o ≡ Some [])) (sym (is k h.0 h.1)) (taken.known k h.0 h.1);
-      each = λ there k within.
-          let h = some_at hs k (let count = accepted.all in omega arith) in
-          is k h.0 h.1 ∙ taken.each there k h.0 h.1;
-      absent = λ gone.
-          let one = taken.absent gone in
-          (one.0, (let low = slice_get_within hs one.0 one.1 one.2 in let count = accepted.all in omega arith), is one.0 one.1 one.2 ∙ one.3);
+      known = sent_known (λ h. left_of sent_over_socket h.promise.input.value) hs count taken;
+      each = sent_each (λ h. left_of sent_over_socket h.promise.input.value) hs count taken;
+      absent = sent_absent (λ h. left_of sent_over_socket h.promise.input.value) hs count taken;
       limited = c.limit.ensures ∙ ap limit_of c.close-closed.ensures;
     }
 
