@@ -38,7 +38,7 @@ pub(crate) fn twos_complement(number: i32, width: u32) -> u32
     ensures below { result < 2 ^ width }
 {
     if number < 0 {
-        (1 << width) - (-number) as u32
+        (1 << width) - 1 - (-(number + 1)) as u32
     } else {
         number as u32
     }
