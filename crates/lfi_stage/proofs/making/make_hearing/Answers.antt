@@ -1,4 +1,4 @@
-use Rattle.std.proofs.Common.{sym, subst, length, arith}
+use Rattle.std.proofs.Common.{sym, subst, arith}
 use Rattle.lfi_stage.specs.inner.Made.{AreUnusedSeats, AreFreshOf}
 use Rattle.lfi_stage.proofs.Fresh.{count_of_new, unused_passes}
 use Rattle.lfi_stage.proofs.making.make_hearing.Goals as goal

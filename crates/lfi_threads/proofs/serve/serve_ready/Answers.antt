@@ -1,9 +1,8 @@
-use Rattle.std.proofs.Common.{◌≡◌, ◌∙◌, ◌<◌, [], ℕ, List, Option, Some, length, slice_get, sym, subst}
+use Rattle.std.proofs.Common.{◌≡◌, ◌∙◌, ◌<◌, [], ℕ, List, Option, Some, sym, subst}
 use Rattle.lfi_receive.specs.declared.receiver.Receiver.{Receiver}
 use Rattle.lfi_receive.specs.Receivers.{StandsFor, IsFinished, cause_of, claimed_by}
 use Rattle.lfi_stage.specs.Reports.{Reports, cause_at, claimed_at}
 use Rattle.lfi_parts.proofs.Each.{some_at}
-use Rattle.lfi_threads.specs.Served.{IsServed}
 use Rattle.lfi_threads.proofs.Told.{told_by, none_heard}
 use Rattle.lfi_threads.proofs.serve.serve_ready.Goals as goal
 
