@@ -46,6 +46,8 @@
 //!   wait, are as a time that is over. Without a limit nothing is asked again and again, and no clock is read.
 //! - **A signal leaves the path**: the toolchain catches none. To remove a socket that lies there before it listens would
 //!   take the path from another `serve` that still listens.
+//! - **What a call here answers is in no clause, but where something rests on it** (`stop`, `why` and `of` of `Stopped`,
+//!   `is_present`, the limits, `keep` and `join_all`): what other threads did meanwhile is nothing that a contract knows.
 //! - **The most clients are a number of its own** (`CLIENTS`), which names no crate below: it stands on nothing of the
 //!   repository, and so is proved beside all that the stage stands on.
 #![tactic(auto)]
