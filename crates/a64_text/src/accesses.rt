@@ -6,6 +6,7 @@ ghost use Rattle.a64_text.specs.Texts as spec;
 ghost use Rattle.a64_text.specs.inner.Addresses.{based};
 
 use crate::assembly::Assembly;
+use crate::line::{Beside, Line, Then};
 use crate::names::Access;
 use crate::operands::{Based, ExtendedIndex, GeneralRegister, RegisterOrStack};
 use a64_word::{
@@ -26,7 +27,7 @@ impl fmt::Display for Assembly<UnsignedOffset> {
         };
         let rt = GeneralRegister(name.width(), self.0.rt);
         let bytes = i64::from(self.0.imm12) << self.0.size.code();
-        write!(f, "{name} {rt}, {}", Based::Offset(self.0.rn, bytes))
+        f.write(Line(name, Then(rt, Based::Offset(self.0.rn, bytes))))
     }
 }
 
@@ -42,12 +43,8 @@ impl fmt::Display for Assembly<Ordered> {
         };
         let name = if self.0.load { "ldar" } else { "stlr" };
         let rt = GeneralRegister(access.width(), self.0.rt);
-        write!(
-            f,
-            "{name}{} {rt}, {}",
-            access.end(),
-            Based::Offset(self.0.rn, 0)
-        )
+        let address = Based::Offset(self.0.rn, 0);
+        f.write(Line(Beside(name, access.end()), Then(rt, address)))
     }
 }
 
@@ -70,7 +67,7 @@ impl fmt::Display for Assembly<SignedOffset> {
         };
         let rt = GeneralRegister(name.width(), self.0.rt);
         let address = Based::by_index_mode(self.0.mode, self.0.rn, i64::from(self.0.imm9));
-        write!(f, "{name} {rt}, {address}")
+        f.write(Line(name, Then(rt, address)))
     }
 }
 
@@ -117,7 +114,7 @@ impl fmt::Display for Assembly<RegisterOffset> {
             size: self.0.size,
         };
         let rt = GeneralRegister(name.width(), self.0.rt);
-        write!(f, "{name} {rt}, {}", Indexed(self.0))
+        f.write(Line(name, Then(rt, Indexed(self.0))))
     }
 }
 
@@ -146,6 +143,6 @@ impl fmt::Display for Assembly<Pair> {
         let name = if self.0.load { "ldp" } else { "stp" };
         let rt = GeneralRegister(self.0.width, self.0.rt);
         let rt2 = GeneralRegister(self.0.width, self.0.rt2);
-        write!(f, "{name} {rt}, {rt2}, {}", pair_address(&self.0))
+        f.write(Line(name, Then(rt, Then(rt2, pair_address(&self.0)))))
     }
 }

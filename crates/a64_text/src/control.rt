@@ -6,7 +6,8 @@ ghost use Rattle.a64_word.specs.declared.instruction.Instruction.{Instruction};
 ghost use Rattle.a64_text.specs.Texts as spec;
 
 use crate::assembly::Assembly;
-use crate::operands::{FromHere, GeneralRegister};
+use crate::line::{Beside, Line, Then};
+use crate::operands::{FromHere, GeneralRegister, Number};
 use a64_word::{
     Branch, BranchRegister, Breakpoint, CompareBranch, ConditionalBranch, TestBranch, Width,
 };
@@ -18,7 +19,7 @@ impl fmt::Display for Assembly<Branch> {
     /// Writes the instruction, as `bl .+8`.
     fn fmt<W: fmt::Write>(&self, f: &mut fmt::Formatter<W>) -> fmt::Result {
         let name = if self.0.link { "bl" } else { "b" };
-        write!(f, "{name} {}", FromHere::words(self.0.offset))
+        f.write(Line(name, FromHere::words(self.0.offset)))
     }
 }
 
@@ -27,12 +28,8 @@ impl fmt::Display for Assembly<ConditionalBranch> {
 
     /// Writes the instruction, as `b.eq .-4`.
     fn fmt<W: fmt::Write>(&self, f: &mut fmt::Formatter<W>) -> fmt::Result {
-        write!(
-            f,
-            "b.{} {}",
-            Assembly(self.0.condition),
-            FromHere::words(self.0.offset)
-        )
+        let name = Beside("b.", Assembly(self.0.condition));
+        f.write(Line(name, FromHere::words(self.0.offset)))
     }
 }
 
@@ -43,7 +40,7 @@ impl fmt::Display for Assembly<CompareBranch> {
     fn fmt<W: fmt::Write>(&self, f: &mut fmt::Formatter<W>) -> fmt::Result {
         let name = if self.0.nonzero { "cbnz" } else { "cbz" };
         let rt = GeneralRegister(self.0.width, self.0.rt);
-        write!(f, "{name} {rt}, {}", FromHere::words(self.0.offset))
+        f.write(Line(name, Then(rt, FromHere::words(self.0.offset))))
     }
 }
 
@@ -61,12 +58,8 @@ impl fmt::Display for Assembly<TestBranch> {
     fn fmt<W: fmt::Write>(&self, f: &mut fmt::Formatter<W>) -> fmt::Result {
         let name = if self.0.nonzero { "tbnz" } else { "tbz" };
         let rt = GeneralRegister(tested_width(self.0.bit), self.0.rt);
-        write!(
-            f,
-            "{name} {rt}, #{}, {}",
-            self.0.bit,
-            FromHere::words(self.0.offset)
-        )
+        let bit = Number(self.0.bit);
+        f.write(Line(name, Then(rt, Then(bit, FromHere::words(self.0.offset)))))
     }
 }
 
@@ -75,12 +68,7 @@ impl fmt::Display for Assembly<BranchRegister> {
 
     /// Writes the instruction, as `ret x30`.
     fn fmt<W: fmt::Write>(&self, f: &mut fmt::Formatter<W>) -> fmt::Result {
-        write!(
-            f,
-            "{} {}",
-            Assembly(self.0.kind),
-            GeneralRegister(Width::X, self.0.rn)
-        )
+        f.write(Line(Assembly(self.0.kind), GeneralRegister(Width::X, self.0.rn)))
     }
 }
 
@@ -89,6 +77,6 @@ impl fmt::Display for Assembly<Breakpoint> {
 
     /// Writes the instruction, as `brk #1`.
     fn fmt<W: fmt::Write>(&self, f: &mut fmt::Formatter<W>) -> fmt::Result {
-        write!(f, "brk #{}", self.0.imm16)
+        f.write(Line("brk", Number(self.0.imm16)))
     }
 }

@@ -1,13 +1,14 @@
 //! Instructions that compute.
 
-ghost use Rattle.std.specs.Prelude.{◌≡◌, Some};
+ghost use Rattle.std.specs.Prelude.{◌≡◌, ◌*ℤ◌, pos, if◌then◌else◌, Some};
 ghost use Rattle.a64_word.specs.declared.instruction.Instruction.{Instruction};
 ghost use Rattle.a64_text.specs.Texts as spec;
 
 use crate::assembly::Assembly;
+use crate::line::{Beside, Line, Then};
 use crate::names::{Bitwise, Selection, Sum};
 use crate::operands::{
-    Compared, Destination, Extended, FromHere, GeneralRegister, RegisterOrStack, ShiftedBy,
+    Compared, Destination, Extended, FromHere, GeneralRegister, Number, RegisterOrStack, ShiftedBy,
     ShiftedLeft,
 };
 use a64_word::{
@@ -33,7 +34,10 @@ impl fmt::Display for Assembly<AddSubImmediate> {
         };
         let rn = RegisterOrStack(self.0.width, self.0.rn);
         let shift = ShiftedLeft(if self.0.shifted { 12 } else { 0 });
-        write!(f, "{name} {rd}, {rn}, #{}{shift}", self.0.imm12)
+        f.write(Line(
+            name,
+            Then(rd, Then(rn, Beside(Number(self.0.imm12), shift))),
+        ))
     }
 }
 
@@ -68,7 +72,7 @@ impl fmt::Display for Assembly<LogicalImmediate> {
             register: self.0.rd,
         };
         let rn = GeneralRegister(self.0.width, self.0.rn);
-        write!(f, "{name} {rd}, {rn}, {}", Mask(self.0.mask_if_legal()))
+        f.write(Line(name, Then(rd, Then(rn, Mask(self.0.mask_if_legal())))))
     }
 }
 
@@ -79,13 +83,19 @@ impl fmt::Display for Assembly<MoveWide> {
     fn fmt<W: fmt::Write>(&self, f: &mut fmt::Formatter<W>) -> fmt::Result {
         let rd = GeneralRegister(self.0.width, self.0.rd);
         let shift = ShiftedLeft(16 * u16::from(self.0.hw));
-        write!(
-            f,
-            "{} {rd}, #{}{shift}",
+        f.write(Line(
             Assembly(self.0.kind),
-            self.0.imm16
-        )
+            Then(rd, Beside(Number(self.0.imm16), shift)),
+        ))
     }
+}
+
+/// The place that ADR or ADRP names.
+fn named_place(i: &PcRelative) -> FromHere
+    ensures { result.0 ≡ i.now.offset *ℤ (if i.now.page then pos 4096 else pos 1) }
+{
+    let unit = if i.page { 4096 } else { 1 };
+    FromHere(i64::from(i.offset) * unit)
 }
 
 impl fmt::Display for Assembly<PcRelative> {
@@ -94,13 +104,8 @@ impl fmt::Display for Assembly<PcRelative> {
     /// Writes the instruction, as `adr x0, .+12`.
     fn fmt<W: fmt::Write>(&self, f: &mut fmt::Formatter<W>) -> fmt::Result {
         let name = if self.0.page { "adrp" } else { "adr" };
-        let unit = if self.0.page { 4096 } else { 1 };
         let rd = GeneralRegister(Width::X, self.0.rd);
-        write!(
-            f,
-            "{name} {rd}, {}",
-            FromHere(i64::from(self.0.offset) * unit)
-        )
+        f.write(Line(name, Then(rd, named_place(&self.0))))
     }
 }
 
@@ -111,13 +116,9 @@ impl fmt::Display for Assembly<Bitfield> {
     fn fmt<W: fmt::Write>(&self, f: &mut fmt::Formatter<W>) -> fmt::Result {
         let rd = GeneralRegister(self.0.width, self.0.rd);
         let rn = GeneralRegister(self.0.width, self.0.rn);
-        write!(
-            f,
-            "{} {rd}, {rn}, #{}, #{}",
-            Assembly(self.0.kind),
-            self.0.immr,
-            self.0.imms
-        )
+        let immr = Number(self.0.immr);
+        let imms = Number(self.0.imms);
+        f.write(Line(Assembly(self.0.kind), Then(rd, Then(rn, Then(immr, imms)))))
     }
 }
 
@@ -133,11 +134,8 @@ impl fmt::Display for Assembly<LogicalShifted> {
         let rd = GeneralRegister(self.0.width, self.0.rd);
         let rn = GeneralRegister(self.0.width, self.0.rn);
         let rm = GeneralRegister(self.0.width, self.0.rm);
-        write!(
-            f,
-            "{name} {rd}, {rn}, {rm}{}",
-            ShiftedBy(self.0.shift, self.0.amount)
-        )
+        let shift = ShiftedBy(self.0.shift, self.0.amount);
+        f.write(Line(name, Then(rd, Then(rn, Beside(rm, shift)))))
     }
 }
 
@@ -153,11 +151,8 @@ impl fmt::Display for Assembly<AddSubShifted> {
         let rd = GeneralRegister(self.0.width, self.0.rd);
         let rn = GeneralRegister(self.0.width, self.0.rn);
         let rm = GeneralRegister(self.0.width, self.0.rm);
-        write!(
-            f,
-            "{name} {rd}, {rn}, {rm}{}",
-            ShiftedBy(self.0.shift, self.0.amount)
-        )
+        let shift = ShiftedBy(self.0.shift, self.0.amount);
+        f.write(Line(name, Then(rd, Then(rn, Beside(rm, shift)))))
     }
 }
 
@@ -187,11 +182,8 @@ impl fmt::Display for Assembly<AddSubExtended> {
         };
         let rn = RegisterOrStack(self.0.width, self.0.rn);
         let rm = GeneralRegister(extended_width(self.0.width, self.0.extend), self.0.rm);
-        write!(
-            f,
-            "{name} {rd}, {rn}, {rm}, {}",
-            Extended(self.0.extend, self.0.amount)
-        )
+        let extended = Extended(self.0.extend, self.0.amount);
+        f.write(Line(name, Then(rd, Then(rn, Then(rm, extended)))))
     }
 }
 
@@ -207,12 +199,9 @@ impl fmt::Display for Assembly<ConditionalCompare> {
             width: self.0.width,
             register: self.0.rm,
         };
-        write!(
-            f,
-            "{name} {rn}, {second}, #{}, {}",
-            self.0.nzcv,
-            Assembly(self.0.condition)
-        )
+        let nzcv = Number(self.0.nzcv);
+        let condition = Assembly(self.0.condition);
+        f.write(Line(name, Then(rn, Then(second, Then(nzcv, condition)))))
     }
 }
 
@@ -228,7 +217,8 @@ impl fmt::Display for Assembly<ConditionalSelect> {
         let rd = GeneralRegister(self.0.width, self.0.rd);
         let rn = GeneralRegister(self.0.width, self.0.rn);
         let rm = GeneralRegister(self.0.width, self.0.rm);
-        write!(f, "{name} {rd}, {rn}, {rm}, {}", Assembly(self.0.condition))
+        let condition = Assembly(self.0.condition);
+        f.write(Line(name, Then(rd, Then(rn, Then(rm, condition)))))
     }
 }
 
@@ -240,7 +230,7 @@ impl fmt::Display for Assembly<TwoSource> {
         let rd = GeneralRegister(self.0.width, self.0.rd);
         let rn = GeneralRegister(self.0.width, self.0.rn);
         let rm = GeneralRegister(self.0.width, self.0.rm);
-        write!(f, "{} {rd}, {rn}, {rm}", Assembly(self.0.kind))
+        f.write(Line(Assembly(self.0.kind), Then(rd, Then(rn, rm))))
     }
 }
 
@@ -249,12 +239,9 @@ impl fmt::Display for Assembly<CountLeadingZeros> {
 
     /// Writes the instruction, as `clz x0, x1`.
     fn fmt<W: fmt::Write>(&self, f: &mut fmt::Formatter<W>) -> fmt::Result {
-        write!(
-            f,
-            "clz {}, {}",
-            GeneralRegister(self.0.width, self.0.rd),
-            GeneralRegister(self.0.width, self.0.rn)
-        )
+        let rd = GeneralRegister(self.0.width, self.0.rd);
+        let rn = GeneralRegister(self.0.width, self.0.rn);
+        f.write(Line("clz", Then(rd, rn)))
     }
 }
 
@@ -267,11 +254,8 @@ impl fmt::Display for Assembly<MultiplyAdd> {
         let rd = GeneralRegister(self.0.width, self.0.rd);
         let rn = GeneralRegister(self.0.width, self.0.rn);
         let rm = GeneralRegister(self.0.width, self.0.rm);
-        write!(
-            f,
-            "{name} {rd}, {rn}, {rm}, {}",
-            GeneralRegister(self.0.width, self.0.ra)
-        )
+        let ra = GeneralRegister(self.0.width, self.0.ra);
+        f.write(Line(name, Then(rd, Then(rn, Then(rm, ra)))))
     }
 }
 
@@ -283,10 +267,7 @@ impl fmt::Display for Assembly<MultiplyHigh> {
         let name = if self.0.unsigned { "umulh" } else { "smulh" };
         let rd = GeneralRegister(Width::X, self.0.rd);
         let rn = GeneralRegister(Width::X, self.0.rn);
-        write!(
-            f,
-            "{name} {rd}, {rn}, {}",
-            GeneralRegister(Width::X, self.0.rm)
-        )
+        let rm = GeneralRegister(Width::X, self.0.rm);
+        f.write(Line(name, Then(rd, Then(rn, rm))))
     }
 }
