@@ -1,6 +1,7 @@
 //! Loads and stores.
 
-ghost use Rattle.std.specs.Prelude.{◌≡◌, ◌*ℤ◌, Some};
+ghost use Rattle.std.specs.Prelude.{◌≡◌, ◌*◌, ◌^◌, ◌*ℤ◌, pos, Some};
+ghost use Rattle.a64_word.specs.Operands.{size_code};
 ghost use Rattle.a64_word.specs.declared.instruction.Instruction.{Instruction};
 ghost use Rattle.a64_text.specs.Texts as spec;
 ghost use Rattle.a64_text.specs.inner.Addresses.{based};
@@ -15,6 +16,13 @@ use a64_word::{
 };
 use std::fmt;
 
+/// How far a store or load at an unsigned offset is from its base, in bytes.
+fn unsigned_offset(i: &UnsignedOffset) -> i64
+    ensures { result ≡ pos (i.now.imm12 * 2 ^ size_code i.now.size) }
+{
+    i64::from(i.imm12) << i.size.code()
+}
+
 impl fmt::Display for Assembly<UnsignedOffset> {
     ghost output = { λ i. Some (spec.text (Instruction.UnsignedOffset i.0)) };
 
@@ -26,8 +34,8 @@ impl fmt::Display for Assembly<UnsignedOffset> {
             size: self.0.size,
         };
         let rt = GeneralRegister(name.width(), self.0.rt);
-        let bytes = i64::from(self.0.imm12) << self.0.size.code();
-        f.write(Line(name, Then(rt, Based::Offset(self.0.rn, bytes))))
+        let address = Based::Offset(self.0.rn, unsigned_offset(&self.0));
+        f.write(Line(name, Then(rt, address)))
     }
 }
 
@@ -55,6 +63,13 @@ fn is_unscaled(mode: IndexMode) -> bool
     mode == IndexMode::Unscaled
 }
 
+/// The address of a store or load at a signed offset.
+fn signed_address(i: &SignedOffset) -> Based
+    ensures { based result ≡ spec.by_index_mode i.now.mode i.now.rn i.now.imm9 }
+{
+    Based::by_index_mode(i.mode, i.rn, i64::from(i.imm9))
+}
+
 impl fmt::Display for Assembly<SignedOffset> {
     ghost output = { λ i. Some (spec.text (Instruction.SignedOffset i.0)) };
 
@@ -66,8 +81,7 @@ impl fmt::Display for Assembly<SignedOffset> {
             size: self.0.size,
         };
         let rt = GeneralRegister(name.width(), self.0.rt);
-        let address = Based::by_index_mode(self.0.mode, self.0.rn, i64::from(self.0.imm9));
-        f.write(Line(name, Then(rt, address)))
+        f.write(Line(name, Then(rt, signed_address(&self.0))))
     }
 }
 
@@ -86,8 +100,6 @@ fn index_width(extend: IndexExtend) -> Width
 struct Indexed(RegisterOffset);
 
 impl fmt::Display for Indexed {
-    ghost use Rattle.a64_word.specs.Operands.{size_code};
-
     ghost output = { λ i. Some (spec.indexed i.0.rn i.0.rm i.0.extend i.0.scaled (size_code i.0.size)) };
 
     fn fmt<W: fmt::Write>(&self, f: &mut fmt::Formatter<W>) -> fmt::Result {
