@@ -3,6 +3,7 @@
 ghost use Rattle.std.specs.Prelude.{◌≡◌, Some};
 ghost use Rattle.lfi_explain.specs.Mendings as spec;
 
+use crate::beside::Beside;
 use crate::explanation::Explanation;
 use a64_effects::{Address, Form};
 use a64_text::{GeneralRegister, RegisterOrStack};
@@ -37,7 +38,7 @@ impl fmt::Display for Shift {
         if !self.scaled {
             return Ok(());
         }
-        write!(f, ", lsl #{}", shift_of(self.bytes))
+        f.write(Beside(", lsl #", shift_of(self.bytes)))
     }
 }
 
@@ -94,7 +95,7 @@ impl fmt::Display for Summands {
     fn fmt<W: fmt::Write>(&self, f: &mut fmt::Formatter<W>) -> fmt::Result {
         let base = RegisterOrStack(Width::W, self.base);
         let index = GeneralRegister(Width::W, self.index);
-        write!(f, "{base}, {index}{}", self.shift)
+        Beside(base, Beside(", ", Beside(index, self.shift))).fmt(f)
     }
 }
 
@@ -124,8 +125,8 @@ impl fmt::Display for At {
     fn fmt<W: fmt::Write>(&self, f: &mut fmt::Formatter<W>) -> fmt::Result {
         let address = &self.0;
         match address.form {
-            Form::Offset => write!(f, "{}, and let it go through xD", Guard(address.base)),
-            Form::PreIndex | Form::PostIndex => Indexed(address.base).fmt(f),
+            Form::Offset => f.write(Beside(Guard(address.base), ", and let it go through xD")),
+            Form::PreIndex | Form::PostIndex => f.write(Indexed(address.base)),
             Form::Index {
                 register,
                 extend: _,
@@ -140,7 +141,7 @@ impl fmt::Display for At {
                     index: register,
                     shift,
                 };
-                BySum(sum).fmt(f)
+                f.write(BySum(sum))
             }
         }
     }
@@ -155,7 +156,7 @@ impl fmt::Display for Access {
 
     fn fmt<W: fmt::Write>(&self, f: &mut fmt::Formatter<W>) -> fmt::Result {
         match self.0 {
-            Some(address) => At(address).fmt(f),
+            Some(address) => f.write(At(address)),
             None => f.write_str("let it go through x18, x21, x23, x24 or sp"),
         }
     }
@@ -192,7 +193,7 @@ impl fmt::Display for WritesAddress {
                 f,
                 "let it write a free register xM; then add x{number}, x21, wM, uxtw writes x{number}"
             ),
-            None => Guarded("xD").fmt(f),
+            None => f.write(Guarded("xD")),
         }
     }
 }
@@ -259,19 +260,19 @@ impl fmt::Display for Mending {
             Rule::Spelled => f.write_str(
                 "put instructions of the profile in its place: docs/PROFILE.md lists them, and what stands in for others",
             ),
-            Rule::AccessConfined => Access(told.at.address()).fmt(f),
+            Rule::AccessConfined => f.write(Access(told.at.address())),
             Rule::BaseKept => f.write_str("let it write a free register in place of x21"),
-            Rule::AddressGuarded => WritesAddress(told.at.written_address()).fmt(f),
-            Rule::LinkGuarded => Guarded("x30").fmt(f),
+            Rule::AddressGuarded => f.write(WritesAddress(told.at.written_address())),
+            Rule::LinkGuarded => f.write(Guarded("x30")),
             Rule::OffsetNarrow => f.write_str(
                 "let it write w22; or a free register xM, and then mov w22, wM writes w22",
             ),
-            Rule::StackBounded => Guarded("sp").fmt(f),
+            Rule::StackBounded => f.write(Guarded("sp")),
             Rule::TargetInside => f.write_str(
                 "let it go to a word of the module; code outside is called by ldr x30, [x21, #8j], j being 0 to 511, with blr x30 right after it",
             ),
-            Rule::BranchBounded => Bounded(told.at.branch_register()).fmt(f),
-            Rule::NeedMet => Met(asked_in(told)).fmt(f),
+            Rule::BranchBounded => f.write(Bounded(told.at.branch_register())),
+            Rule::NeedMet => f.write(Met(asked_in(told))),
         }
     }
 }

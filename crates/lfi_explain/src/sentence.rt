@@ -3,6 +3,7 @@
 ghost use Rattle.std.specs.Prelude.{◌≡◌, ◌-◌, ◌&&◌, nat_lt, Some};
 ghost use Rattle.lfi_explain.specs.Sentences as spec;
 
+use crate::beside::Beside;
 use crate::explanation::Explanation;
 use a64_effects::{Address, Form};
 use a64_text::{Assembly, GeneralRegister, RegisterOrStack};
@@ -65,12 +66,9 @@ impl fmt::Display for ByForm {
                     _ => Width::X,
                 };
                 let shifted = if scaled { ", shifted" } else { "" };
-                write!(
-                    f,
-                    " by {}, {}{shifted}",
-                    GeneralRegister(width, register),
-                    Assembly(extend)
-                )
+                let register = GeneralRegister(width, register);
+                let extended = Beside(Assembly(extend), shifted);
+                write!(f, " by {}", Beside(register, Beside(", ", extended)))
             }
         }
     }
@@ -87,7 +85,8 @@ impl fmt::Display for Through {
         match self.0 {
             Some(address) => {
                 let base = RegisterOrStack(Width::X, address.base);
-                write!(f, "; this one goes through {base}{}", ByForm(address.form))
+                let through = Beside(base, ByForm(address.form));
+                f.write(Beside("; this one goes through ", through))
             }
             None => Ok(()),
         }
@@ -103,7 +102,7 @@ impl fmt::Display for WritesAddress {
 
     fn fmt<W: fmt::Write>(&self, f: &mut fmt::Formatter<W>) -> fmt::Result {
         match self.0 {
-            Some(number) => write!(f, "; this one writes x{number}"),
+            Some(number) => f.write(Beside("; this one writes x", number)),
             None => Ok(()),
         }
     }
@@ -118,7 +117,7 @@ impl fmt::Display for GoesTo {
 
     fn fmt<W: fmt::Write>(&self, f: &mut fmt::Formatter<W>) -> fmt::Result {
         match self.0 {
-            Some(place) => write!(f, ", and this one goes to word {place}"),
+            Some(place) => f.write(Beside(", and this one goes to word ", place)),
             None => Ok(()),
         }
     }
@@ -134,11 +133,8 @@ impl fmt::Display for BranchesThrough {
     fn fmt<W: fmt::Write>(&self, f: &mut fmt::Formatter<W>) -> fmt::Result {
         match self.0 {
             Some(register) => {
-                write!(
-                    f,
-                    "; this one goes through {}",
-                    GeneralRegister(Width::X, register)
-                )
+                let register = GeneralRegister(Width::X, register);
+                f.write(Beside("; this one goes through ", register))
             }
             None => Ok(()),
         }
@@ -170,7 +166,7 @@ impl fmt::Display for Left {
     ghost output = { λ left. Some (spec.left_text left.left left.count) };
 
     fn fmt<W: fmt::Write>(&self, f: &mut fmt::Formatter<W>) -> fmt::Result {
-        write!(f, "{} of the {} left", self.left, self.count)
+        f.write(Beside(self.left, Beside(" of the ", Beside(self.count, " left"))))
     }
 }
 
@@ -192,7 +188,7 @@ impl fmt::Display for Missed {
                 left: left_behind(self.left, 1),
                 count,
             };
-            write!(f, "the module ends with {left}")
+            f.write(Beside("the module ends with ", left))
         } else {
             let left = Left {
                 left: self.left,
@@ -221,10 +217,8 @@ impl fmt::Display for Late {
             left: self.left,
             calm: self.calm,
         };
-        write!(
-            f,
-            " within {count} words, with only calm words before it; {missed}"
-        )
+        let missed = Beside(" words, with only calm words before it; ", missed);
+        write!(f, " within {}", Beside(count, missed))
     }
 }
 
@@ -247,7 +241,7 @@ impl fmt::Display for Within {
                     left: left_behind(count, self.gone),
                     calm: self.calm,
                 };
-                late.fmt(f)
+                f.write(late)
             }
             _ => f.write_str("; this word isn't that"),
         }
@@ -266,11 +260,10 @@ impl fmt::Display for Last {
             Need::Nothing => f.write_str(
                 "a move of sp by an immediate is followed by a load or store at [sp] within 4 words, with only calm words before it; this word isn't that",
             ),
-            opened => write!(
-                f,
-                "the last word asks nothing of a next one; this one asks for {}",
-                Meeting(opened)
-            ),
+            opened => f.write(Beside(
+                "the last word asks nothing of a next one; this one asks for ",
+                Meeting(opened),
+            )),
         }
     }
 }
@@ -289,19 +282,15 @@ impl fmt::Display for Unmet {
 
     fn fmt<W: fmt::Write>(&self, f: &mut fmt::Formatter<W>) -> fmt::Result {
         match self.need {
-            Need::Nothing => Last(self.opened).fmt(f),
+            Need::Nothing => f.write(Last(self.opened)),
             need => {
                 let within = Within {
                     need,
                     gone: self.gone,
                     calm: self.calm,
                 };
-                write!(
-                    f,
-                    "{} is followed by {}{within}",
-                    Opening(need),
-                    Meeting(need)
-                )
+                let followed = Beside(" is followed by ", Beside(Meeting(need), within));
+                f.write(Beside(Opening(need), followed))
             }
         }
     }
@@ -376,18 +365,18 @@ impl fmt::Display for Does {
     fn fmt<W: fmt::Write>(&self, f: &mut fmt::Formatter<W>) -> fmt::Result {
         let told = &self.0;
         match told.fault.rule {
-            Rule::Spelled => Unspelled(told.at.in_second).fmt(f),
-            Rule::AccessConfined => Through(told.at.address()).fmt(f),
+            Rule::Spelled => f.write(Unspelled(told.at.in_second)),
+            Rule::AccessConfined => f.write(Through(told.at.address())),
             Rule::BaseKept => f.write_str("; this one writes it"),
-            Rule::AddressGuarded => WritesAddress(told.at.written_address()).fmt(f),
+            Rule::AddressGuarded => f.write(WritesAddress(told.at.written_address())),
             Rule::LinkGuarded => f.write_str("; this one writes it otherwise"),
             Rule::OffsetNarrow => f.write_str("; this one writes all of it"),
             Rule::StackBounded => f.write_str("; this one writes it otherwise"),
             Rule::TargetInside => {
                 let goes = GoesTo(told.at.target(told.fault.word));
-                write!(f, "; it has {}{goes}", told.words)
+                f.write(Beside("; it has ", Beside(told.words, goes)))
             }
-            Rule::BranchBounded => BranchesThrough(told.at.branch_register()).fmt(f),
+            Rule::BranchBounded => f.write(BranchesThrough(told.at.branch_register())),
             Rule::NeedMet => {
                 let unmet = Unmet {
                     need: told.unmet(),
@@ -395,7 +384,7 @@ impl fmt::Display for Does {
                     gone: told.gone(),
                     calm: told.at.is_calm(),
                 };
-                unmet.fmt(f)
+                f.write(unmet)
             }
         }
     }
@@ -409,6 +398,6 @@ impl fmt::Display for Sentence {
     ghost output = { λ sentence. Some (spec.sentence_text sentence.0) };
 
     fn fmt<W: fmt::Write>(&self, f: &mut fmt::Formatter<W>) -> fmt::Result {
-        write!(f, "{}{}", Asks(self.0.fault.rule), Does(self.0))
+        f.write(Beside(Asks(self.0.fault.rule), Does(self.0)))
     }
 }

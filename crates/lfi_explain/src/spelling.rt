@@ -4,6 +4,7 @@ ghost use Rattle.std.specs.Prelude.{◌≡◌, ◌<◌, Some};
 ghost use Rattle.lfi_rules.specs.Rules.{writes};
 ghost use Rattle.lfi_explain.specs.Spellings as spec;
 
+use crate::beside::Beside;
 use crate::digits::WordDigits;
 use a64_effects::{Address, address_of, target, writes};
 use a64_text::Assembly;
@@ -132,8 +133,8 @@ impl fmt::Display for Spelling {
     /// Writes the assembly text, or `.inst 0x00000000` with the word where no instruction spells it.
     fn fmt<W: fmt::Write>(&self, f: &mut fmt::Formatter<W>) -> fmt::Result {
         match self.instruction {
-            Some(instruction) => Assembly(instruction).fmt(f),
-            None => write!(f, ".inst 0x{}", WordDigits(self.word)),
+            Some(instruction) => f.write(Assembly(instruction)),
+            None => f.write(Beside(".inst 0x", WordDigits(self.word))),
         }
     }
 }
