@@ -93,10 +93,12 @@ pub fn load<S: Threads + Wait + Sync, R: Read + Send + Drop, N: Notices + Sync, 
     ensures written { IfOk result (λ report. Appends (W.contents writer.old) (W.contents writer.new) (summary_text (summary_of report))) }
     ensures unwritten { IfErr result (λ fault. is_of_the_report fault ≡ false → writer.new ≡ writer.old) }
 {
-    let report = load_all(rt, alloc, inputs, verifiers, &OpenGate, notices)?;
-    match write_report(&report, writer) {
-        Ok(()) => Ok(report),
-        Err(fault) => Err(fault),
+    match load_all(rt, alloc, inputs, verifiers, &OpenGate, notices) {
+        Ok(report) => match write_report(&report, writer) {
+            Ok(()) => Ok(report),
+            Err(fault) => Err(fault),
+        },
+        Err(error) => Err(LoadFault::from(error)),
     }
 }
 
@@ -137,9 +139,12 @@ pub fn serve<S: Threads + Wait + Files + Clock + Sync, N: Notices + Sync, W: Wri
         limit,
         &OpenGate,
         notices,
-    )?;
-    match write_report(&served.report, writer) {
-        Ok(()) => Ok(served),
-        Err(fault) => Err(fault),
+    );
+    match served {
+        Ok(served) => match write_report(&served.report, writer) {
+            Ok(()) => Ok(served),
+            Err(fault) => Err(fault),
+        },
+        Err(error) => Err(LoadFault::from(error)),
     }
 }

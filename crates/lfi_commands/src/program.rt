@@ -9,7 +9,7 @@ ghost use Rattle.lfi_commands.specs.Loading.{HasLoaded};
 ghost use Rattle.lfi_commands.specs.Serving.{HasServedAll, IsLimit};
 ghost use Rattle.lfi_commands.specs.Runs.{FailsAs, CarriesOut, Runs};
 ghost use Rattle.lfi_commands.specs.inner.Found.{HasEnded};
-ghost use Rattle.lfi_commands.specs.inner.Ranges.{IsInRange};
+ghost use Rattle.lfi_commands.specs.inner.Ranges.{IsForFiles, IsInRange};
 
 use crate::ending::ending_of_load;
 use crate::loading::{load, serve};
@@ -172,6 +172,43 @@ fn run_serve<
     }
 }
 
+/// Carries out what the program is asked for, where that needs no threads.
+fn run_files<'a, D: Disk, O: Write, E: Write>(
+    alloc: Global,
+    disk: &D,
+    line: &Line<'a>,
+    out: &mut O,
+    errors: &mut Errors<E>,
+) -> Result<Ending, Failure<'a>>
+    requires line { IsForFiles line.now }
+    ensures found { (put : Option (List (List ℕ × List ℕ))) → IfOk result (CarriesOut line.now (D.file_at disk.now)
+        (left (O.contents out.old) put (is_lost_of errors.old) (E.contents (writer_of errors.old)))
+        (left (O.contents out.new) put (is_lost_of errors.new) (E.contents (writer_of errors.new)))) }
+    ensures failure { IfErr result (FailsAs line.now) }
+    ensures output { IfErr result (λ failure. is_of_output failure ≡ false → out.new ≡ out.old) }
+    ensures errors { OnErr result (errors.new ≡ errors.old) }
+{
+    match *line {
+        Line::Check {
+            file,
+            explain,
+            profile,
+        } => run_check(alloc, disk, file, profile, explain, out),
+        Line::Run { image, steps } => run_run(alloc, disk, image, steps, out, errors),
+        Line::Disassemble { file, profile } => run_disassemble(alloc, disk, file, profile, out),
+        Line::Pack {
+            module,
+            entry,
+            profile,
+            pages,
+            ref codes,
+        } => run_pack(
+            alloc, disk, module, entry, profile, pages, codes, out, errors,
+        ),
+        Line::Load { .. } | Line::Serve { .. } => unreachable!(),
+    }
+}
+
 /// Carries out what the program is asked for.
 fn run<
     'a,
@@ -199,11 +236,6 @@ fn run<
     ensures errors { OnErr result (errors.new ≡ errors.old) }
 {
     match *line {
-        Line::Check {
-            file,
-            explain,
-            profile,
-        } => run_check(alloc, disk, file, profile, explain, out),
         Line::Load {
             verifiers,
             out: folder,
@@ -233,17 +265,7 @@ fn run<
             out,
             errors,
         ),
-        Line::Run { image, steps } => run_run(alloc, disk, image, steps, out, errors),
-        Line::Disassemble { file, profile } => run_disassemble(alloc, disk, file, profile, out),
-        Line::Pack {
-            module,
-            entry,
-            profile,
-            pages,
-            ref codes,
-        } => run_pack(
-            alloc, disk, module, entry, profile, pages, codes, out, errors,
-        ),
+        _ => run_files(alloc, disk, line, out, errors),
     }
 }
 

@@ -12,3 +12,9 @@ IsInRange (Serve socket connections verifiers seconds out explain) = ((1 ≤ ver
 IsInRange (Run image steps) = ⊤
 IsInRange (Disassemble file profile) = ⊤
 IsInRange (Pack first entry profile pages files) = (first + length files.items ≤ 16) × HasPages profile pages
+
+-- a line that needs no threads, in its range
+abbrev pub IsForFiles : Line → Type 0
+IsForFiles (Load verifiers out explain streams) = ⊥
+IsForFiles (Serve socket connections verifiers seconds out explain) = ⊥
+IsForFiles line = IsInRange line

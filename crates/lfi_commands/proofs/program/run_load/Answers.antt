@@ -1,12 +1,42 @@
-use Rattle.std.proofs.Common.{subst}
+use Rattle.std.proofs.Common.{◌≡◌, ◌≤◌, ◌∙◌, false, map, refl, subst, sym}
 use Rattle.std.proofs.KnownBytes.{Appends-trans}
+use Rattle.std.proofs.lemmas.List.{length-map}
 use Rattle.std.proofs.lemmas.Result.{IfErr-weaker, IfOk-weaker}
 use Rattle.lfi_model.specs.Texts.{summary_text}
 use Rattle.lfi_threads.specs.Loaded.{IsLoaded}
 use Rattle.lfi_stage.specs.Summaries.{summary_of}
 use Rattle.lfi_file_commands.proofs.Failing.{fails_on_output, is_no_other}
+use Rattle.lfi_file_commands.specs.Failures.{is_of_output, FailsOn}
+use Rattle.lfi_commands.proofs.Failing.{fails_on_load, fails_on_reading, is_not_of_the_report}
 use Rattle.lfi_commands.proofs.Inputs.{known_left}
 use Rattle.lfi_commands.proofs.program.run_load.Goals as goal
+
+pub load-requires-clause-verifiers : goal.load-requires-clause-verifiers
+load-requires-clause-verifiers g c κs within = c.requires.verifiers
+
+pub load-requires-clause-connections : goal.load-requires-clause-connections
+load-requires-clause-connections g c κs within =
+    subst (λ n. (1 ≤ n) × (n ≤ 8)) (sym (c.in-Ok.ensures.inputs.all ∙ length-map c.args.paths.now (λ path. g.D.Disk.file_at c.args.disk.now path.now))) c.requires.connections
+
+pub returns-in-Err : goal.returns-in-Err
+returns-in-Err g c = record {
+  found = tt;
+  failure = fails_on_reading (map (λ path. path.now) c.args.paths.now) c.in-Err.failure c.in-Err.ensures.failure;
+  output = λ other. refl {a = c.args.out.now};
+  disk = refl {a = c.args.disk.now};
+  errors = refl {a = c.args.errors.now};
+}
+
+pub returns-in-Err-load : goal.returns-in-Err-load
+returns-in-Err-load g c =
+    let fault = c.in-Err-load.fault in
+    record {
+      found = tt;
+      failure = subst (FailsOn (map (λ path. path.now) c.args.paths.now)) (sym c.from.ensures) (fails_on_load (map (λ path. path.now) c.args.paths.now) fault);
+      output = λ other. c.in-Err-load.ensures.unwritten (is_not_of_the_report fault (subst (λ failure. is_of_output failure ≡ false) c.from.ensures other));
+      disk = refl {a = c.args.disk.now};
+      errors = refl {a = c.args.errors.now};
+    }
 
 pub returns-in-Ok-load : goal.returns-in-Ok-load
 returns-in-Ok-load g c =

@@ -1,12 +1,33 @@
-use Rattle.std.proofs.Common.{sym, subst}
+use Rattle.std.proofs.Common.{◌≡◌, false, refl, sym, subst}
 use Rattle.std.proofs.KnownBytes.{Appends-trans}
 use Rattle.std.proofs.lemmas.Result.{IfErr-weaker, IfOk-weaker}
 use Rattle.lfi_model.specs.Texts.{summary_text}
 use Rattle.lfi_stage.specs.Summaries.{summary_of}
 use Rattle.lfi_commands.specs.Serving.{IsLimit}
 use Rattle.lfi_file_commands.proofs.Failing.{is_no_other}
-use Rattle.lfi_commands.proofs.Failing.{fails_serving_output}
+use Rattle.lfi_file_commands.specs.Failures.{is_of_output, FailsServing}
+use Rattle.lfi_commands.proofs.Failing.{fails_serving_load, fails_serving_output, is_not_of_the_report}
 use Rattle.lfi_commands.proofs.program.run_serve.Goals as goal
+
+pub serve-served-requires-clause-connections : goal.serve-served-requires-clause-connections
+serve-served-requires-clause-connections g c κs within = c.requires.connections
+
+pub serve-served-requires-clause-verifiers : goal.serve-served-requires-clause-verifiers
+serve-served-requires-clause-verifiers g c κs within = c.requires.verifiers
+
+pub returns-in-Err : goal.returns-in-Err
+returns-in-Err g c = record { found = tt; failure = tt; output = λ other. refl {a = c.args.out.now}; disk = refl {a = c.args.disk.now}; errors = refl {a = c.args.errors.now} }
+
+pub returns-in-Err-served : goal.returns-in-Err-served
+returns-in-Err-served g c =
+    let fault = c.in-Err-served.fault in
+    record {
+      found = tt;
+      failure = subst FailsServing (sym c.from.ensures) (fails_serving_load fault);
+      output = λ other. c.in-Err-served.ensures.unwritten (is_not_of_the_report fault (subst (λ failure. is_of_output failure ≡ false) c.from.ensures other));
+      disk = refl {a = c.args.disk.now};
+      errors = refl {a = c.args.errors.now};
+    }
 
 pub returns-in-Ok-served : goal.returns-in-Ok-served
 returns-in-Ok-served g c =
