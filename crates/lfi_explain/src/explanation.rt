@@ -6,7 +6,6 @@ ghost use Rattle.lfi_explain.specs.Explanations as spec;
 ghost use Rattle.lfi_explain.specs.Openers.{IsNextOpener};
 ghost use Rattle.lfi_explain.specs.Sentences.{unmet_in, gone_before};
 
-use crate::beside::Beside;
 use crate::located::Located;
 use crate::mending::Mending;
 use crate::opener::{Opener, opener_before};
@@ -103,8 +102,13 @@ impl fmt::Display for Told {
             place: told.fault.word,
             spelling: told.at,
         };
-        let lines = Beside("  ", Beside(located, Beside("\n  ", Sentence(*told))));
-        Beside(told.fault, Beside("\n", Beside(OpenerLine(*told), lines))).fmt(f)
+        write!(
+            f,
+            "{}\n{}  {located}\n  {}",
+            told.fault,
+            OpenerLine(*told),
+            Sentence(*told)
+        )
     }
 }
 
@@ -114,7 +118,7 @@ impl fmt::Display for Explanation {
     /// Writes four lines, without the end of the last: the fault, as `word 16 rule 2`; the word at its address, after that of
     /// the word whose need isn't met; what the rule asks; and how the word is mended.
     fn fmt<W: fmt::Write>(&self, f: &mut fmt::Formatter<W>) -> fmt::Result {
-        Beside(Told(*self), Beside("\n  mend: ", Mending(*self))).fmt(f)
+        write!(f, "{}\n  mend: {}", Told(*self), Mending(*self))
     }
 }
 

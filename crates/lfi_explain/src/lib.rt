@@ -36,13 +36,9 @@
 //!   place for the word that writes a guarded register, since a load of a pair can open a need besides; it leaves the
 //!   choice of D and M, since a store may have its data in any of them; and it takes the index of a sum as W, since an
 //!   offset from x21 has 32 bits.
-//! - **`Told` is all but that line**: one text of both has too many parts for the search.
-//! - **A text of several parts is one value that owns them** (`Beside`): a `write!` of many parts borrows each of them, and
-//!   its proof takes longer. Where a literal stands beside a value with an invariant, the borrow checker covers it by
-//!   reference alone, and not handed over to `write`.
+//! - **`Told` is all but that line**: one `write!` of both has too many parts for the search.
 #![tactic(auto)]
 
-mod beside;
 mod digits;
 mod explanation;
 mod kept;

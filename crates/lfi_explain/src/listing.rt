@@ -5,7 +5,6 @@ ghost use Rattle.std.specs.Io.KnownBytes.{Appends};
 ghost use Rattle.lfi_module.specs.Numbers.{most_words};
 ghost use Rattle.lfi_explain.specs.Listings as spec;
 
-use crate::beside::Beside;
 use crate::digits::PlaceColumn;
 use crate::kept::{no_lines, write_kept, write_many};
 use crate::located::Located;
@@ -40,9 +39,9 @@ impl fmt::Display for Arrow {
     fn fmt<W: fmt::Write>(&self, f: &mut fmt::Formatter<W>) -> fmt::Result {
         match self.target {
             Some(place) if 0 <= place && place < i64::from(self.words) => {
-                f.write(Beside("  -> word ", place))
+                write!(f, "  -> word {place}")
             }
-            Some(place) => f.write(Beside("  -> outside, word ", place)),
+            Some(place) => write!(f, "  -> outside, word {place}"),
             None => Ok(()),
         }
     }
@@ -57,7 +56,7 @@ impl fmt::Display for Among {
 
     fn fmt<W: fmt::Write>(&self, f: &mut fmt::Formatter<W>) -> fmt::Result {
         match self.0 {
-            Need::Probe(count) if count > 1 => f.write(Beside("one of the next ", count)),
+            Need::Probe(count) if count > 1 => write!(f, "one of the next {count}"),
             _ => f.write_str("next"),
         }
     }
@@ -73,10 +72,7 @@ impl fmt::Display for Opened {
     fn fmt<W: fmt::Write>(&self, f: &mut fmt::Formatter<W>) -> fmt::Result {
         match self.0 {
             Need::Nothing => Ok(()),
-            need => {
-                let met = Beside(Among(need), Beside(" is ", Meeting(need)));
-                write!(f, "  ; opens: {met}")
-            }
+            need => write!(f, "  ; opens: {} is {}", Among(need), Meeting(need)),
         }
     }
 }
@@ -92,12 +88,13 @@ impl fmt::Display for ListedWord {
             target: spelling.target(place),
             words: self.words,
         };
-        let after = Beside(arrow, Opened(spelling.opens()));
-        Beside(
+        write!(
+            f,
+            "{}  {}{arrow}{}",
             PlaceColumn(place),
-            Beside("  ", Beside(self.located, after)),
+            self.located,
+            Opened(spelling.opens())
         )
-        .fmt(f)
     }
 }
 

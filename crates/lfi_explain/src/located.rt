@@ -3,7 +3,6 @@
 ghost use Rattle.std.specs.Prelude.{◌≡◌, Some};
 ghost use Rattle.lfi_explain.specs.Spellings as spec;
 
-use crate::beside::Beside;
 use crate::digits::{AddressDigits, WordDigits};
 use crate::spelling::Spelling;
 use lfi_module::ModuleNumber;
@@ -45,8 +44,12 @@ impl fmt::Display for Located {
 
     /// Writes the address, the word and its text, as `0x0000000100010040  b9400261  ldr w1, [x19]`.
     fn fmt<W: fmt::Write>(&self, f: &mut fmt::Formatter<W>) -> fmt::Result {
-        let digits = WordDigits(self.spelling.word);
-        let spelled = Beside("  ", Beside(digits, Beside("  ", self.spelling)));
-        write!(f, "0x{}", Beside(AddressDigits(self.address()), spelled))
+        write!(
+            f,
+            "0x{}  {}  {}",
+            AddressDigits(self.address()),
+            WordDigits(self.spelling.word),
+            self.spelling
+        )
     }
 }

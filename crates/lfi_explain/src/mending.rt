@@ -3,7 +3,6 @@
 ghost use Rattle.std.specs.Prelude.{◌≡◌, Some};
 ghost use Rattle.lfi_explain.specs.Mendings as spec;
 
-use crate::beside::Beside;
 use crate::explanation::Explanation;
 use a64_effects::{Address, Form};
 use a64_text::{GeneralRegister, RegisterOrStack};
@@ -38,7 +37,7 @@ impl fmt::Display for Shift {
         if !self.scaled {
             return Ok(());
         }
-        f.write(Beside(", lsl #", shift_of(self.bytes)))
+        write!(f, ", lsl #{}", shift_of(self.bytes))
     }
 }
 
@@ -95,7 +94,7 @@ impl fmt::Display for Summands {
     fn fmt<W: fmt::Write>(&self, f: &mut fmt::Formatter<W>) -> fmt::Result {
         let base = RegisterOrStack(Width::W, self.base);
         let index = GeneralRegister(Width::W, self.index);
-        Beside(base, Beside(", ", Beside(index, self.shift))).fmt(f)
+        write!(f, "{base}, {index}{}", self.shift)
     }
 }
 
@@ -125,7 +124,7 @@ impl fmt::Display for At {
     fn fmt<W: fmt::Write>(&self, f: &mut fmt::Formatter<W>) -> fmt::Result {
         let address = &self.0;
         match address.form {
-            Form::Offset => f.write(Beside(Guard(address.base), ", and let it go through xD")),
+            Form::Offset => write!(f, "{}, and let it go through xD", Guard(address.base)),
             Form::PreIndex | Form::PostIndex => f.write(Indexed(address.base)),
             Form::Index {
                 register,

@@ -3,7 +3,6 @@
 ghost use Rattle.std.specs.Prelude.{◌≡◌, ◌-◌, ◌&&◌, nat_lt, Some};
 ghost use Rattle.lfi_explain.specs.Sentences as spec;
 
-use crate::beside::Beside;
 use crate::explanation::Explanation;
 use a64_effects::{Address, Form};
 use a64_text::{Assembly, GeneralRegister, RegisterOrStack};
@@ -66,9 +65,12 @@ impl fmt::Display for ByForm {
                     _ => Width::X,
                 };
                 let shifted = if scaled { ", shifted" } else { "" };
-                let register = GeneralRegister(width, register);
-                let extended = Beside(Assembly(extend), shifted);
-                write!(f, " by {}", Beside(register, Beside(", ", extended)))
+                write!(
+                    f,
+                    " by {}, {}{shifted}",
+                    GeneralRegister(width, register),
+                    Assembly(extend)
+                )
             }
         }
     }
@@ -85,8 +87,7 @@ impl fmt::Display for Through {
         match self.0 {
             Some(address) => {
                 let base = RegisterOrStack(Width::X, address.base);
-                let through = Beside(base, ByForm(address.form));
-                f.write(Beside("; this one goes through ", through))
+                write!(f, "; this one goes through {base}{}", ByForm(address.form))
             }
             None => Ok(()),
         }
@@ -102,7 +103,7 @@ impl fmt::Display for WritesAddress {
 
     fn fmt<W: fmt::Write>(&self, f: &mut fmt::Formatter<W>) -> fmt::Result {
         match self.0 {
-            Some(number) => f.write(Beside("; this one writes x", number)),
+            Some(number) => write!(f, "; this one writes x{number}"),
             None => Ok(()),
         }
     }
@@ -117,7 +118,7 @@ impl fmt::Display for GoesTo {
 
     fn fmt<W: fmt::Write>(&self, f: &mut fmt::Formatter<W>) -> fmt::Result {
         match self.0 {
-            Some(place) => f.write(Beside(", and this one goes to word ", place)),
+            Some(place) => write!(f, ", and this one goes to word {place}"),
             None => Ok(()),
         }
     }
@@ -133,8 +134,11 @@ impl fmt::Display for BranchesThrough {
     fn fmt<W: fmt::Write>(&self, f: &mut fmt::Formatter<W>) -> fmt::Result {
         match self.0 {
             Some(register) => {
-                let register = GeneralRegister(Width::X, register);
-                f.write(Beside("; this one goes through ", register))
+                write!(
+                    f,
+                    "; this one goes through {}",
+                    GeneralRegister(Width::X, register)
+                )
             }
             None => Ok(()),
         }
@@ -166,7 +170,7 @@ impl fmt::Display for Left {
     ghost output = { λ left. Some (spec.left_text left.left left.count) };
 
     fn fmt<W: fmt::Write>(&self, f: &mut fmt::Formatter<W>) -> fmt::Result {
-        f.write(Beside(self.left, Beside(" of the ", Beside(self.count, " left"))))
+        write!(f, "{} of the {} left", self.left, self.count)
     }
 }
 
@@ -188,7 +192,7 @@ impl fmt::Display for Missed {
                 left: left_behind(self.left, 1),
                 count,
             };
-            f.write(Beside("the module ends with ", left))
+            write!(f, "the module ends with {left}")
         } else {
             let left = Left {
                 left: self.left,
@@ -217,8 +221,10 @@ impl fmt::Display for Late {
             left: self.left,
             calm: self.calm,
         };
-        let missed = Beside(" words, with only calm words before it; ", missed);
-        write!(f, " within {}", Beside(count, missed))
+        write!(
+            f,
+            " within {count} words, with only calm words before it; {missed}"
+        )
     }
 }
 
@@ -260,10 +266,11 @@ impl fmt::Display for Last {
             Need::Nothing => f.write_str(
                 "a move of sp by an immediate is followed by a load or store at [sp] within 4 words, with only calm words before it; this word isn't that",
             ),
-            opened => f.write(Beside(
-                "the last word asks nothing of a next one; this one asks for ",
-                Meeting(opened),
-            )),
+            opened => write!(
+                f,
+                "the last word asks nothing of a next one; this one asks for {}",
+                Meeting(opened)
+            ),
         }
     }
 }
@@ -289,8 +296,12 @@ impl fmt::Display for Unmet {
                     gone: self.gone,
                     calm: self.calm,
                 };
-                let followed = Beside(" is followed by ", Beside(Meeting(need), within));
-                f.write(Beside(Opening(need), followed))
+                write!(
+                    f,
+                    "{} is followed by {}{within}",
+                    Opening(need),
+                    Meeting(need)
+                )
             }
         }
     }
@@ -374,7 +385,7 @@ impl fmt::Display for Does {
             Rule::StackBounded => f.write_str("; this one writes it otherwise"),
             Rule::TargetInside => {
                 let goes = GoesTo(told.at.target(told.fault.word));
-                f.write(Beside("; it has ", Beside(told.words, goes)))
+                write!(f, "; it has {}{goes}", told.words)
             }
             Rule::BranchBounded => f.write(BranchesThrough(told.at.branch_register())),
             Rule::NeedMet => {
@@ -398,6 +409,6 @@ impl fmt::Display for Sentence {
     ghost output = { λ sentence. Some (spec.sentence_text sentence.0) };
 
     fn fmt<W: fmt::Write>(&self, f: &mut fmt::Formatter<W>) -> fmt::Result {
-        f.write(Beside(Asks(self.0.fault.rule), Does(self.0)))
+        write!(f, "{}{}", Asks(self.0.fault.rule), Does(self.0))
     }
 }

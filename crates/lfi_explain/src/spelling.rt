@@ -4,7 +4,6 @@ ghost use Rattle.std.specs.Prelude.{◌≡◌, ◌<◌, Some};
 ghost use Rattle.lfi_rules.specs.Rules.{writes};
 ghost use Rattle.lfi_explain.specs.Spellings as spec;
 
-use crate::beside::Beside;
 use crate::digits::WordDigits;
 use a64_effects::{Address, address_of, target, writes};
 use a64_text::Assembly;
@@ -134,7 +133,7 @@ impl fmt::Display for Spelling {
     fn fmt<W: fmt::Write>(&self, f: &mut fmt::Formatter<W>) -> fmt::Result {
         match self.instruction {
             Some(instruction) => f.write(Assembly(instruction)),
-            None => f.write(Beside(".inst 0x", WordDigits(self.word))),
+            None => write!(f, ".inst 0x{}", WordDigits(self.word)),
         }
     }
 }
