@@ -60,14 +60,7 @@ fn end_load<'a, D: Disk, O: Write, E: Write>(
 
 /// Loads the modules of the streams in these files, with so many verifiers, writes the report, then what is told of refused
 /// modules and of faults where that is asked for, and writes the whole images to a folder where one is named.
-fn run_load<
-    'a,
-    S: Threads + Wait + Files + Net + Sync,
-    D: Disk,
-    N: Notices + Sync,
-    O: Write,
-    E: Write,
->(
+fn run_load<'a, S: Threads + Wait + Sync, D: Disk, N: Notices + Sync, O: Write, E: Write>(
     rt: &S,
     alloc: Global,
     disk: &mut D,

@@ -1,4 +1,4 @@
-use Rattle.std.proofs.Common.{◌≡◌, ◌≤◌, ◌∙◌, false, map, refl, subst, sym}
+use Rattle.std.proofs.Common.{◌≡◌, ◌≤◌, ◌∙◌, false, true, map, option_map, refl, subst, sym}
 use Rattle.std.proofs.KnownBytes.{Appends-trans}
 use Rattle.std.proofs.lemmas.List.{length-map}
 use Rattle.std.proofs.lemmas.Result.{IfErr-weaker, IfOk-weaker}
@@ -8,6 +8,10 @@ use Rattle.lfi_stage.specs.Summaries.{summary_of}
 use Rattle.lfi_file_commands.proofs.Failing.{fails_on_output, is_no_other}
 use Rattle.lfi_file_commands.specs.Failures.{is_of_output, FailsOn}
 use Rattle.lfi_commands.proofs.Failing.{fails_on_load, fails_on_reading, is_not_of_the_report}
+use Rattle.lfi_file_commands.specs.Errors.{is_lost_of, writer_of}
+use Rattle.lfi_file_commands.specs.Left.{left}
+use Rattle.lfi_commands.specs.Loading.{HasLoaded}
+use Rattle.lfi_commands.specs.inner.Found.{HasEnded}
 use Rattle.lfi_commands.proofs.Inputs.{known_left}
 use Rattle.lfi_commands.proofs.program.run_load.Goals as goal
 
@@ -44,8 +48,14 @@ returns-in-Ok-load g c =
     let are = c.in-Ok.ensures.inputs in
     let report = c.in-Ok-load.report in
     let result = c.end_load.result in
+    let before = left (g.O.Write.contents c.args.out.now) (g.D.Disk.put_files c.args.disk.now) (is_lost_of c.args.errors.now) (g.E.Write.contents (writer_of c.args.errors.now)) in
+    let told = left (g.O.Write.contents c.load.new.writer) (g.D.Disk.put_files c.args.disk.now) (is_lost_of c.args.errors.now) (g.E.Write.contents (writer_of c.args.errors.now)) in
+    let after = left (g.O.Write.contents c.end_load.new.out) (g.D.Disk.put_files c.end_load.new.disk) (is_lost_of c.end_load.new.errors) (g.E.Write.contents (writer_of c.end_load.new.errors)) in
+    let folder = option_map (λ s. s.now) c.args.folder in
+    let paths = map (λ path. path.now) c.args.paths.now in
+    let streams = map (λ path. g.D.Disk.file_at c.args.disk.now path.now) c.args.paths.now in
     record {
-      found = IfOk-weaker result _ _ (λ ending ended. record {
+      found = IfOk-weaker result (HasEnded report true folder c.args.explain told after) (HasLoaded c.args.verifiers streams folder c.args.explain before after) (λ ending ended. record {
         report = report;
         loaded = λ bytes known. subst (λ n. IsLoaded n c.args.verifiers bytes report) are.all (c.in-Ok-load.ensures.report bytes (known_left _ inputs bytes are known));
         explained = ended.explained;
@@ -56,8 +66,8 @@ returns-in-Ok-load g c =
         images = ended.images;
         ends = ended.ends;
       }) c.end_load.ensures.ended;
-      failure = IfErr-weaker result _ _ (fails_on_output _) c.end_load.ensures.failure;
-      output = IfErr-weaker result _ _ (λ failure is other. is_no_other failure is other) c.end_load.ensures.failure;
+      failure = IfErr-weaker result (λ failure. is_of_output failure ≡ true) (FailsOn paths) (fails_on_output paths) c.end_load.ensures.failure;
+      output = IfErr-weaker result (λ failure. is_of_output failure ≡ true) (λ failure. is_of_output failure ≡ false → c.end_load.new.out ≡ c.args.out.now) (λ failure is other. is_no_other failure is other) c.end_load.ensures.failure;
       disk = c.end_load.ensures.disk;
       errors = c.end_load.ensures.errors;
     }
