@@ -36,6 +36,9 @@
 //!   there was memory. It has to tell of it, and the tests refuse it.
 //! - **The program is `main` and one function**, over two libraries: as a program each edit loads all modules below,
 //!   and costs twice as much.
+//! - **What needs no threads is carried out by a function of its own** (`run_files`), and a function asks of its runtime no
+//!   more than it uses: the borrow checker's part of a proof grows with a function's steps times its variables, and with
+//!   the types that the traits of its parameters bring.
 //! - **That memory or a thread is refused is tried from outside**, by `checks/refused_growth`: it traces the built
 //!   program, or the one test that runs the machine, and makes the chosen allocation answer null, or the chosen
 //!   `pthread_create` that there is no thread. A test can't refuse memory by itself, and `rt try --fail-alloc N` takes
