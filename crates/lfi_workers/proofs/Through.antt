@@ -64,6 +64,11 @@ both_ok (Ok u) (Ok x) r P is f = subst (λ o. IfOk o P) (sym is) (f x refl refl)
 both_ok (Ok u) (Err e) r P is f = subst (λ o. IfOk o P) (sym is) tt
 both_ok (Err e) second r P is f = subst (λ o. IfOk o P) (sym is) tt
 
+-- what three clauses say together of a value that comes back
+pub of_three : {T E : Type 0} (r : Result T E) (A B C P : T → Type 0) → IfOk r A → IfOk r B → IfOk r C → ((x : T) → A x → B x → C x → P x) → IfOk r P
+of_three (Ok x) A B C P a b c f = f x a b c
+of_three (Err e) A B C P a b c f = tt
+
 -- what is known of the input of each thread, by their numbers
 abbrev pub had_of : {H : Type 0} → (H → Option (List ℕ)) → List H → ℕ → Option (List ℕ)
 had_of had hs k = option_map_or had (slice_get hs k) None

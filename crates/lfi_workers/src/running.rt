@@ -71,7 +71,7 @@ fn join_receivers<S: Threads, R: Read + Drop, G, N>(
     ensures heard { IfOk result (λ receivers. (k : ℕ) (r : Receiver) (h : _) → slice_get receivers.items k ≡ Some r → slice_get receiving.entry.items k ≡ Some h → HasHeard (left_of R.remaining h.promise.input.value) r) }
 {
     let heard = join_all(env.rt, receiving)?;
-    Ok(all_finished(env.alloc, heard)?)
+    all_finished(env.alloc, heard)
 }
 
 /// All parts, where all of them are there.
@@ -113,5 +113,5 @@ pub(crate) fn join_parts<S: Threads, R: Read + Drop, G, N>(
     let verifiers = join_all(env.rt, verifying);
     env.ends.verified();
     let sequencers = placing.join(env.rt);
-    Ok(parts_of(receivers, verifiers, sequencers)?)
+    parts_of(receivers, verifiers, sequencers)
 }

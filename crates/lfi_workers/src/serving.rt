@@ -1,6 +1,6 @@
 //! All parts of a stage go through their threads, each receiver with a client of a socket.
 
-ghost use Rattle.std.specs.Prelude.{◌≡◌, ℕ, [], Some, IsOk, IfOk, OnOk, length, slice_get};
+ghost use Rattle.std.specs.Prelude.{◌≡◌, ℕ, [], Ok, Some, IsOk, IfOk, OnOk, length, slice_get};
 ghost use Rattle.lfi_receive.specs.Inputs.{left_of};
 ghost use Rattle.lfi_receive.specs.declared.receiver.Receiver.{Receiver};
 ghost use Rattle.lfi_parts.specs.Parts.{IsReceiver};
@@ -94,6 +94,23 @@ fn accept_all<'s, 'e: 's, S: Threads + Wait + Files + Clock + Sync, G, N: Notice
     Ok(all_accepted)
 }
 
+/// What comes back, where all clients could be taken and all parts are there.
+fn back_from(
+    accepted: Result<bool, LoadError>,
+    parts: Result<Parts, LoadError>,
+    limit: Option<Duration>,
+) -> Result<Back, LoadError>
+    ensures accepted { IfOk result (λ back. accepted ≡ Ok back.all_accepted) }
+    ensures parts { IfOk result (λ back. parts ≡ Ok back.parts) }
+    ensures limit { IfOk result (λ back. back.limit ≡ limit) }
+{
+    Ok(Back {
+        all_accepted: accepted?,
+        parts: parts?,
+        limit,
+    })
+}
+
 /// Starts the threads of all parts, as the clients come, and joins them. Where it comes to an error, all
 /// connections are ended. Then, or once all clients have come, the door is closed.
 fn serve_in<
@@ -127,13 +144,7 @@ fn serve_in<
     let closed = door.close();
     closed.wait_in_time(env.rt, env.ends, streams, receiving.len());
     let back = join_parts(env, receiving, verifying, placing);
-    let all_accepted = accepted?;
-    let parts = back?;
-    Ok(Back {
-        parts,
-        all_accepted,
-        limit: closed.limit(),
-    })
+    back_from(accepted, back, closed.limit())
 }
 
 /// All parts of a stage go through their threads, each receiver with a client of the door, which is

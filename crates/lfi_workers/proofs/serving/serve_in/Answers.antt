@@ -1,10 +1,10 @@
 use Rattle.std.proofs.Common.{◌∙◌, ap}
-use Rattle.std.proofs.lemmas.Result.{IfOk-from_err}
+use Rattle.std.proofs.lemmas.Result.{IfOk-at_ok, IfOk-from_err}
 use Rattle.lfi_receive.specs.Inputs.{left_of}
 use Rattle.lfi_signals.specs.Clients.{sent_over_socket}
 use Rattle.lfi_signals.specs.Deadlines.{limit_of}
 use Rattle.lfi_workers.proofs.Clients.{sent_known, sent_each, sent_absent}
-use Rattle.lfi_workers.proofs.Through.{back_of, sequencers_of, receivers_of, had_of, heard_by, on_ok}
+use Rattle.lfi_workers.proofs.Through.{back_of, sequencers_of, receivers_of, had_of, heard_by, on_ok, of_three}
 use Rattle.lfi_workers.proofs.serving.serve_in.Goals as goal
 
 pub start_sequencers-requires-clause-are : goal.start_sequencers-requires-clause-are
@@ -17,28 +17,30 @@ pub accept_all-accepted-requires-clause-is : goal.accept_all-accepted-requires-c
 accept_all-accepted-requires-clause-is g c = λ κs within. λ k r at. receivers_of c.args.env.now.shared.now c.requires.ready.0 c.args.ready c.requires.ready.1 k r at
 
 pub returns : goal.returns
-returns g c =
-    let on = c.in_ok-parts.ensures in
+returns g c = of_three c.back_from.result _ _ _ _ c.back_from.ensures.accepted c.back_from.ensures.parts c.back_from.ensures.limit (λ back told are limit.
+    let on = c.join_parts-back.ensures in
     let ready = c.requires.ready.1 in
-    let accepted = c.in_ok-all_accepted.ensures in
-    let count = accepted.all in
-    let verifiers = on_ok c.start_verifiers-begun.result _ accepted.verifying c.start_verifiers-begun.ensures.all in
-    let taken = accepted.taken in
+    let accepted = c.accept_all-accepted.ensures in
+    let count = IfOk-at_ok _ told accepted.all in
+    let verifiers = on_ok c.start_verifiers-begun.result _ (IfOk-at_ok _ told accepted.verifying) c.start_verifiers-begun.ensures.all in
+    let taken = IfOk-at_ok _ told accepted.taken in
     let hs = c.accept_all-accepted.new.handles.items in
-    let new = c.in_ok-parts.parts in
+    let new = back.parts in
+    let receiver_count = IfOk-at_ok _ are on.receiver_count in
+    let verifier_count = IfOk-at_ok _ are on.verifier_count in
     record {
       sent = λ k. had_of (λ h. left_of sent_over_socket h.promise.input.value) hs k;
       parts = record {
-        all = back_of c.args.env.now.shared.now c.requires.ready.0 c.args.ready new ready (on.receiver_count ∙ count) on.receivers (on.verifier_count ∙ verifiers) on.verifiers on.sequencers;
-        counted = on.receiver_count ∙ count;
-        verifiers_counted = on.verifier_count ∙ verifiers;
-        heard = heard_by (λ h. left_of sent_over_socket h.promise.input.value) hs new.receivers.items on.receiver_count on.heard;
+        all = back_of c.args.env.now.shared.now c.requires.ready.0 c.args.ready new ready (receiver_count ∙ count) (IfOk-at_ok _ are on.receivers) (verifier_count ∙ verifiers) (IfOk-at_ok _ are on.verifiers) (IfOk-at_ok _ are on.sequencers);
+        counted = receiver_count ∙ count;
+        verifiers_counted = verifier_count ∙ verifiers;
+        heard = heard_by (λ h. left_of sent_over_socket h.promise.input.value) hs new.receivers.items receiver_count (IfOk-at_ok _ are on.heard);
       };
       known = sent_known (λ h. left_of sent_over_socket h.promise.input.value) hs count taken;
       each = sent_each (λ h. left_of sent_over_socket h.promise.input.value) hs count taken;
       absent = sent_absent (λ h. left_of sent_over_socket h.promise.input.value) hs count taken;
-      limited = c.limit.ensures ∙ ap limit_of c.close-closed.ensures;
-    }
+      limited = limit ∙ c.limit.ensures ∙ ap limit_of c.close-closed.ensures;
+    })
 
 pub accept_all-accepted-requires-clause-none : goal.accept_all-accepted-requires-clause-none
 accept_all-accepted-requires-clause-none g c = λ κs within. c.new-receiving.ensures.items
@@ -57,9 +59,3 @@ join_parts-back-requires-clause-placing g c = c.in_ok-placing.ensures.promised
 
 pub returns-in_err-placing : goal.returns-in_err-placing
 returns-in_err-placing g c = IfOk-from_err c.from_residual.result _ c.from_residual.ensures.0
-
-pub returns-in_err-parts : goal.returns-in_err-parts
-returns-in_err-parts g c = IfOk-from_err c.from_residual-in_err-parts.result _ c.from_residual-in_err-parts.ensures.0
-
-pub returns-in_err-all_accepted : goal.returns-in_err-all_accepted
-returns-in_err-all_accepted g c = IfOk-from_err c.from_residual-in_err-all_accepted.result _ c.from_residual-in_err-all_accepted.ensures.0
