@@ -120,7 +120,10 @@ pub fn check_file<R: Read + Drop, W: Write>(
 {
     match words_in(length) {
         Some(words) => {
-            let verdict = judge_pieces(alloc, reader, words, profile)?;
+            let verdict = match judge_pieces(alloc, reader, words, profile) {
+                Ok(verdict) => verdict,
+                Err(fault) => return Err(fault),
+            };
             write_verdict(verdict, writer)
         }
         None => check(alloc, reader, profile, writer),

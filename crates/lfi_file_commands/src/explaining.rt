@@ -170,8 +170,9 @@ pub fn disassemble<R: Read + Drop, W: Write>(
     ensures listed { IfOk result (FindsListing profile (R.remaining reader) (W.contents writer.old) (W.contents writer.new)) }
     ensures unwritten { IfErr result (λ fault. is_of_a_write fault ≡ false → writer.new ≡ writer.old) }
 {
-    match read_code(alloc, reader)? {
-        Some(bytes) => write_words(alloc, &bytes, profile, writer),
-        None => write_bad_length(writer),
+    match read_code(alloc, reader) {
+        Ok(Some(bytes)) => write_words(alloc, &bytes, profile, writer),
+        Ok(None) => write_bad_length(writer),
+        Err(fault) => Err(fault),
     }
 }

@@ -29,8 +29,14 @@ fn open_input<'a, D: Disk>(
     ensures input { IfOk result (IsInputOf D.Reader.remaining (D.file_at disk.now path.now)) }
     ensures failure { IfErr result (IsOfReading path.now) }
 {
-    let reader = open(disk, path)?;
-    Ok(Input::new(alloc, reader)?)
+    let reader = match open(disk, path) {
+        Ok(reader) => reader,
+        Err(failure) => return Err(failure),
+    };
+    match Input::new(alloc, reader) {
+        Ok(input) => Ok(input),
+        Err(error) => Err(Failure::from(error)),
+    }
 }
 
 /// The path at this place.

@@ -61,7 +61,10 @@ pub fn run_check<'a, D: Disk, O: Write>(
     ensures failure { IfErr result (FailsOn (path.now ∷ [])) }
     ensures output { IfErr result (λ failure. is_of_output failure ≡ false → out.new ≡ out.old) }
 {
-    let reader = open(disk, path)?;
+    let reader = match open(disk, path) {
+        Ok(reader) => reader,
+        Err(failure) => return Err(failure),
+    };
     match judge_file(alloc, disk, reader, profile, how, out) {
         Ok(verdict) => Ok(Ending::of_verdict(&verdict)),
         Err(fault) => Err(Failure::of(fault, path)),
@@ -80,7 +83,10 @@ pub fn run_disassemble<'a, D: Disk, O: Write>(
     ensures failure { IfErr result (FailsOn (path.now ∷ [])) }
     ensures output { IfErr result (λ failure. is_of_output failure ≡ false → out.new ≡ out.old) }
 {
-    let reader = open(disk, path)?;
+    let reader = match open(disk, path) {
+        Ok(reader) => reader,
+        Err(failure) => return Err(failure),
+    };
     match disassemble(alloc, reader, profile, out) {
         Ok(ending) => Ok(ending),
         Err(fault) => Err(Failure::of(fault, path)),
@@ -157,7 +163,10 @@ pub fn run_run<'a, D: Disk, O: Write, E: Write>(
     ensures output { OnErr result (out.new ≡ out.old) }
     ensures errors { OnErr result (errors.new ≡ errors.old) }
 {
-    let mut reader = open(disk, path)?;
+    let mut reader = match open(disk, path) {
+        Ok(reader) => reader,
+        Err(failure) => return Err(failure),
+    };
     let run = run_image(alloc, &mut reader, steps, out)?;
     errors.write_line(run);
     Ok(errors.unless_lost(Ending::of_run(&run)))

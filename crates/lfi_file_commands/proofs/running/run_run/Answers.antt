@@ -13,7 +13,7 @@ returns-clause-found g c =
     let file = g.D.Disk.file_at c.args.disk.now c.args.path.now in
     record {
       run = run;
-      came = came_known (g.D.Reader.Read.remaining c.in_ok-reader.reader) file c.args.steps _ _ run c.in_ok-reader.ensures.reader c.in_ok-run.ensures.run;
+      came = came_known (g.D.Reader.Read.remaining c.in-Ok.reader) file c.args.steps _ _ run c.in-Ok.ensures.reader c.in_ok-run.ensures.run;
       told = c.write_line.ensures.told;
       ends = ends_run lost run ending (subst (λ told. EndsUnlessLost lost told ending) c.of_run.ensures c.unless_lost.ensures);
     }
