@@ -71,7 +71,10 @@ pub fn check<R: Read + Drop, W: Write>(
     ensures written { IfOk result (λ verdict. Appends (W.contents writer.old) (W.contents writer.new) (verdict_text verdict ++ codes "\n")) }
     ensures unwritten { IfErr result (λ fault. is_of_a_write fault ≡ false → writer.new ≡ writer.old) }
 {
-    let bytes = read_all(alloc, reader.take(MOST_BYTES as u64 + 1))?;
+    let bytes = match read_all(alloc, reader.take(MOST_BYTES as u64 + 1)) {
+        Ok(bytes) => bytes,
+        Err(fault) => return Err(fault),
+    };
     write_verdict(judge_code(&bytes, profile), writer)
 }
 

@@ -121,9 +121,10 @@ pub fn check_explained<R: Read + Drop, W: Write>(
     ensures written { IfOk result (λ verdict. WritesVerdict profile how (R.remaining reader) verdict (W.contents writer.old) (W.contents writer.new)) }
     ensures unwritten { IfErr result (λ fault. is_of_a_write fault ≡ false → writer.new ≡ writer.old) }
 {
-    match read_code(alloc, reader)? {
-        Some(bytes) => write_judged(alloc, &bytes, profile, how, writer),
-        None => write_verdict(Verdict::BadLength, writer),
+    match read_code(alloc, reader) {
+        Ok(Some(bytes)) => write_judged(alloc, &bytes, profile, how, writer),
+        Ok(None) => write_verdict(Verdict::BadLength, writer),
+        Err(fault) => Err(fault),
     }
 }
 

@@ -50,7 +50,10 @@ fn put<D: Disk>(
     ensures err { OnErr result (D.put_files disk.new ≡ D.put_files disk.old) }
     ensures failure { IfErr result (IsOfWriting (image_path_of folder.now image.now.slot)) }
 {
-    let path = image_path(alloc, folder, image)?;
+    let path = match image_path(alloc, folder, image) {
+        Ok(path) => path,
+        Err(error) => return Err(Failure::from(error)),
+    };
     put_at(disk, path, image)
 }
 

@@ -104,9 +104,19 @@ pub fn judge_pieces<R: Read + Drop>(
     ensures verdict { IfOk result (λ verdict. IfSome (R.remaining reader) (λ bytes. Checks profile bytes verdict)) }
     ensures fault { IfErr result (λ fault. is_of_a_write fault ≡ false) }
 {
-    let mut buffer = buffer(alloc, PIECE_BYTES)?;
-    let all = judge_words(&mut reader, &mut buffer, words, profile)?;
-    if !is_at_end(alloc, reader)? {
+    let mut buffer = match buffer(alloc, PIECE_BYTES) {
+        Ok(buffer) => buffer,
+        Err(fault) => return Err(fault),
+    };
+    let all = match judge_words(&mut reader, &mut buffer, words, profile) {
+        Ok(all) => all,
+        Err(fault) => return Err(fault),
+    };
+    let is_whole = match is_at_end(alloc, reader) {
+        Ok(is_whole) => is_whole,
+        Err(fault) => return Err(fault),
+    };
+    if !is_whole {
         return Err(CommandFault::NotRead(DeviceCause::Other));
     }
     Ok(all.verdict())

@@ -167,7 +167,10 @@ pub fn run_run<'a, D: Disk, O: Write, E: Write>(
         Ok(reader) => reader,
         Err(failure) => return Err(failure),
     };
-    let run = run_image(alloc, &mut reader, steps, out)?;
+    let run = match run_image(alloc, &mut reader, steps, out) {
+        Ok(run) => run,
+        Err(error) => return Err(Failure::from(error)),
+    };
     errors.write_line(run);
     Ok(errors.unless_lost(Ending::of_run(&run)))
 }

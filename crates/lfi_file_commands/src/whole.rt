@@ -33,7 +33,10 @@ pub(crate) fn read_code<R: Read + Drop>(
     ensures code { IfOk result (IsReadAs (R.remaining reader)) }
     ensures fault { IfErr result (λ fault. is_of_a_write fault ≡ false) }
 {
-    let bytes = read_all(alloc, reader.take(MOST_BYTES as u64 + 1))?;
+    let bytes = match read_all(alloc, reader.take(MOST_BYTES as u64 + 1)) {
+        Ok(bytes) => bytes,
+        Err(fault) => return Err(fault),
+    };
     if is_code(&bytes) {
         Ok(Some(bytes))
     } else {

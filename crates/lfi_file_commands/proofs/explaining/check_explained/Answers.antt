@@ -4,9 +4,9 @@ use Rattle.lfi_file_commands.specs.inner.Whole.{IsReadAs}
 use Rattle.lfi_file_commands.proofs.Explained.{Knows, known_as, verdict_known}
 use Rattle.lfi_file_commands.proofs.explaining.check_explained.Goals as goal
 
-pub returns-in-Some-clause-written : goal.returns-in-Some-clause-written
-returns-in-Some-clause-written g c =
+pub returns-in-Ok-Some-clause-written : goal.returns-in-Ok-Some-clause-written
+returns-in-Ok-Some-clause-written g c =
     let left = g.R.Read.remaining c.args.reader in
-    let read = subst (IsReadAs left) c.in-Some.is c.in_ok-bytes.ensures.code in
-    let known = subst (λ xs. Knows (Some xs) left) (sym c.deref.ensures.value) (known_as left c.in-Some.bytes.items read.0) in
+    let read = subst (IsReadAs left) c.in-Ok-Some.field-0-is c.in-Ok-Some.ensures.code in
+    let known = subst (λ xs. Knows (Some xs) left) (sym c.deref.ensures.value) (known_as left c.in-Ok-Some.bytes.items read.0) in
     IfOk-weaker c.write_judged.result _ _ (λ verdict writes. verdict_known c.args.profile c.args.how (Some c.deref.result.now) left verdict _ _ known writes) c.write_judged.ensures.written

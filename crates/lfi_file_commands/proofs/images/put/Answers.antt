@@ -8,9 +8,9 @@ use Rattle.lfi_file_commands.proofs.images.put.Goals as goal
 
 pub returns-clause-ok : goal.returns-clause-ok
 returns-clause-ok g c =
-    subst (λ p. OnOk c.put_at.result (Puts (g.D.Disk.put_files c.args.disk.now) (g.D.Disk.put_files c.put_at.new.disk) ((p, file_of c.args.image.now) ∷ []))) c.in_ok-path.ensures c.put_at.ensures.ok
+    subst (λ p. OnOk c.put_at.result (Puts (g.D.Disk.put_files c.args.disk.now) (g.D.Disk.put_files c.put_at.new.disk) ((p, file_of c.args.image.now) ∷ []))) c.in-Ok.ensures c.put_at.ensures.ok
 
 pub returns-clause-failure : goal.returns-clause-failure
 returns-clause-failure g c =
     let path = image_path_of c.args.folder.now c.args.image.now.slot in
-    IfErr-weaker c.put_at.result _ _ (λ failure is. subst (IsOfWriting path) (sym is.1) c.in_ok-path.ensures) c.put_at.ensures.failure
+    IfErr-weaker c.put_at.result _ _ (λ failure is. subst (IsOfWriting path) (sym is.1) c.in-Ok.ensures) c.put_at.ensures.failure
