@@ -72,8 +72,7 @@
 //!   not at all for others: the text of an error of the library is in no contract, and it would then be unknown what
 //!   was written to the standard error. The line that says which file it was is what it was before; the cause has a
 //!   line of its own.
-//! - **Where values live that have to be dropped, an early return is a `match` and not a `?`**: its proof costs a third
-//!   less.
+//! - **Where values live that have to be dropped, an early return is a `match` and not a `?`**: its proof costs less.
 #![tactic(auto)]
 
 mod checking;
