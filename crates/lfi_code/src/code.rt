@@ -6,10 +6,8 @@ ghost use Rattle.a64_word.specs.Words.{words_of};
 ghost use Rattle.lfi_code.specs.Checking.{IsCode};
 
 use a64_word::{WORD_BYTES, Words, word_at, word_count};
+use lfi_module::WordCount;
 use std::marker::Model;
-
-/// The most bytes of code that a module has: 4,194,304 words.
-pub const MOST_BYTES: usize = 16_777_216;
 
 /// Code: whole words of 32 bits, 1 to 4,194,304 of them, each with its lowest byte first.
 ///
@@ -37,7 +35,10 @@ impl<'a> Code<'a> {
         ensures some { IfSome result (λ code. IsCode bytes.entry.now × (code ≡ bytes.entry.now)) }
         ensures none { IfNone result (¬ (IsCode bytes.entry.now)) }
     {
-        if bytes.is_empty() || bytes.len() % WORD_BYTES != 0 || bytes.len() > MOST_BYTES {
+        if bytes.is_empty()
+            || bytes.len() % WORD_BYTES != 0
+            || bytes.len() > WordCount::MOST_BYTES
+        {
             return None;
         }
         Some(Code { bytes })

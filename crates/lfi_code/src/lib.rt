@@ -8,6 +8,6 @@ mod cut;
 mod verdict;
 
 pub use beginning::Beginning;
-pub use code::{Code, MOST_BYTES};
+pub use code::Code;
 pub use cut::{CutBeginning, CutWord};
 pub use verdict::{Verdict, judge_code};

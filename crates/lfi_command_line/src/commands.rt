@@ -8,22 +8,23 @@ ghost use Rattle.lfi_command_line.specs.Apps.{Makes, needed, required_rule, seve
 use crate::help;
 use clap::builder::ValueParser;
 use clap::{Arg, ArgAction, Command};
+use lfi_module::{CONNECTIONS, ModuleNumber, VERIFIERS};
 use std::alloc::{AllocError, Global};
 
 /// The most steps that `run` is asked for.
 const MOST_STEPS: u64 = 1_000_000_000;
 
 /// The most connections that `serve` is asked for, and streams that `load` is given.
-pub(crate) const MOST_CONNECTIONS: u64 = 8;
+pub(crate) const MOST_CONNECTIONS: u64 = CONNECTIONS as u64;
 
 /// The most verifiers that are asked for.
-const MOST_VERIFIERS: u64 = 8;
+const MOST_VERIFIERS: u64 = VERIFIERS as u64;
 
 /// The most seconds that `serve` is given: a day.
 const MOST_SECONDS: u64 = 86_400;
 
 /// The last module's number.
-pub(crate) const LAST_MODULE: u64 = 15;
+pub(crate) const LAST_MODULE: u64 = ModuleNumber::COUNT as u64 - 1;
 
 /// The number of the last profile.
 const LAST_PROFILE: u64 = 2;

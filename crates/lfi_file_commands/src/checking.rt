@@ -10,8 +10,8 @@ ghost use Rattle.lfi_file_commands.specs.Failures.{fault_of_read, is_of_a_write}
 use crate::device_cause::DeviceCause;
 use crate::pieces::judge_pieces;
 use a64_word::WORD_BYTES;
-use lfi_code::{MOST_BYTES, Verdict, judge_code};
-use lfi_module::Profile;
+use lfi_code::{Verdict, judge_code};
+use lfi_module::{Profile, WordCount};
 use std::alloc::Global;
 use std::io::{self, Read, Write};
 
@@ -71,7 +71,7 @@ pub fn check<R: Read + Drop, W: Write>(
     ensures written { IfOk result (λ verdict. Appends (W.contents writer.old) (W.contents writer.new) (verdict_text verdict ++ codes "\n")) }
     ensures unwritten { IfErr result (λ fault. is_of_a_write fault ≡ false → writer.new ≡ writer.old) }
 {
-    let bytes = match read_all(alloc, reader.take(MOST_BYTES as u64 + 1)) {
+    let bytes = match read_all(alloc, reader.take(WordCount::MOST_BYTES as u64 + 1)) {
         Ok(bytes) => bytes,
         Err(fault) => return Err(fault),
     };
@@ -98,8 +98,12 @@ fn words_in(length: Option<u64>) -> Option<u32>
     ensures { IfSome result (λ words. (1 ≤ words) × (words ≤ most_words)) }
 {
     match length {
-        Some(bytes) if bytes > 0 && bytes % WORD_BYTES as u64 == 0 && bytes <= MOST_BYTES as u64 =>
-            { Some((bytes / WORD_BYTES as u64) as u32) }
+        Some(bytes)
+            if bytes > 0
+                && bytes % WORD_BYTES as u64 == 0
+                && bytes <= WordCount::MOST_BYTES as u64 => {
+            Some((bytes / WORD_BYTES as u64) as u32)
+        }
         _ => None,
     }
 }

@@ -48,6 +48,10 @@ pub(crate) fn path_at<'a>(paths: &[&'a str], place: usize) -> &'a str
 }
 
 /// Opens the files at these paths, in their order, up to the first that can't be opened.
+///
+/// # Errors
+///
+/// Where one can't be opened: that one's path, and why. Where there is no memory for the readers.
 pub fn open_all<'a, D: Disk>(
     alloc: Global,
     disk: &D,

@@ -49,6 +49,10 @@ fn judge_file<D: Disk, O: Write>(
 }
 
 /// Judges the code in a file, and writes what is found of it.
+///
+/// # Errors
+///
+/// Where the file can't be opened or read, the write fails, or there is no memory for the code.
 pub fn run_check<'a, D: Disk, O: Write>(
     alloc: Global,
     disk: &D,
@@ -72,6 +76,10 @@ pub fn run_check<'a, D: Disk, O: Write>(
 }
 
 /// Lists the words of the code in a file.
+///
+/// # Errors
+///
+/// Where the file can't be opened or read, a write fails, or there is no memory for the code.
 pub fn run_disassemble<'a, D: Disk, O: Write>(
     alloc: Global,
     disk: &D,
@@ -119,6 +127,10 @@ fn write_packed<'a, O: Write>(
 /// Writes a stream of the code in these files, a module each, numbered from the first number on, entered at this word, and
 /// cut into pages of this size.
 /// All files are read before anything is written.
+///
+/// # Errors
+///
+/// Where a file can't be opened or read, a write fails, or there is no memory for the code.
 pub fn run_pack<'a, D: Disk, O: Write, E: Write>(
     alloc: Global,
     disk: &D,
@@ -149,6 +161,10 @@ pub fn run_pack<'a, D: Disk, O: Write, E: Write>(
 }
 
 /// Runs the image in a file for at most so many steps, and tells what comes of it.
+///
+/// # Errors
+///
+/// Where the file can't be opened, or there is no memory. A read that fails is told of the image.
 pub fn run_run<'a, D: Disk, O: Write, E: Write>(
     alloc: Global,
     disk: &D,

@@ -6,7 +6,8 @@ ghost use Rattle.lfi_file_commands.specs.Failures.{is_of_a_write};
 ghost use Rattle.lfi_file_commands.specs.inner.Whole.{IsReadAs};
 
 use crate::checking::{CommandFault, read_all};
-use lfi_code::{Code, MOST_BYTES};
+use lfi_code::Code;
+use lfi_module::WordCount;
 use std::alloc::Global;
 use std::io::Read;
 
@@ -33,7 +34,7 @@ pub(crate) fn read_code<R: Read + Drop>(
     ensures code { IfOk result (IsReadAs (R.remaining reader)) }
     ensures fault { IfErr result (λ fault. is_of_a_write fault ≡ false) }
 {
-    let bytes = match read_all(alloc, reader.take(MOST_BYTES as u64 + 1)) {
+    let bytes = match read_all(alloc, reader.take(WordCount::MOST_BYTES as u64 + 1)) {
         Ok(bytes) => bytes,
         Err(fault) => return Err(fault),
     };

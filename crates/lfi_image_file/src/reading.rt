@@ -19,9 +19,6 @@ use page_buf::SealedPage;
 use std::alloc::Global;
 use std::io::Read;
 
-/// The most bytes of a page as it is read: a small one's.
-const PAGE_BYTES: usize = 4096;
-
 /// Fills the buffer.
 fn read_bytes<R: Read>(reader: &mut R, bytes: &mut [u8]) -> Result<(), ImageFault>
     ensures full { OnOk result (Consumes (R.remaining reader.old) (R.remaining reader.new) bytes.new) }
@@ -70,7 +67,7 @@ fn read_sealed<R: Read>(alloc: Global, reader: &mut R, len: usize) -> Result<Sea
     ensures back { IfOk result (λ page. code_of (words_of page.bytes) ≡ page.bytes) }
     ensures fault { IfErr result (λ fault. IsNoPage (R.remaining reader.old) len fault) }
 {
-    let mut bytes = [0; PAGE_BYTES];
+    let mut bytes = [0; PageSize::SMALL_BYTES];
     let bytes = &mut bytes[..len];
     read_bytes(reader, bytes)?;
     sealed(alloc, bytes)

@@ -37,4 +37,4 @@ pub use connection::{Cause, Progress};
 pub use item::{Item, ItemKind, NumberedItem, PageBody, Reason};
 pub use judged::Judged;
 pub use outcome::Outcome;
-pub use summary::{CONNECTIONS, Summary};
+pub use summary::Summary;

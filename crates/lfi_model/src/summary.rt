@@ -7,11 +7,8 @@ ghost use Rattle.lfi_model.specs.Outcomes.{is_well};
 
 use crate::outcome::Outcome;
 use lfi_frame::FrameFault;
-use lfi_module::ModuleNumber;
+use lfi_module::{CONNECTIONS, ModuleNumber};
 use std::fmt;
-
-/// The most connections of a run.
-pub const CONNECTIONS: usize = 8;
 
 /// What became of each module and each connection of a run, as it is told to users.
 #[derive(Clone, Copy, PartialEq, Eq)]

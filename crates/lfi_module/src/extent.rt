@@ -31,6 +31,9 @@ impl WordCount {
     /// As many words as a module can have: 4,194,304.
     pub const MOST: WordCount = WordCount { words: 4_194_304 };
 
+    /// How many bytes these are: four a word, 16 MiB.
+    pub const MOST_BYTES: usize = 16_777_216;
+
     /// So many words; `None` where they are none, or more than a module has.
     pub fn new(words: u32) -> Option<WordCount>
         ensures some { IfSome result (λ n. n ≡ words) }

@@ -14,9 +14,10 @@
 //! # Decisions
 //!
 //! - **One crate at the bottom owns the profile's numbers** (`lfi_module`): each stands once in its code and once in
-//!   its specs. Its types keep the ranges. Three crates have numbers of their own beside it, which their contracts tie
-//!   to its definitions: the bytes of a page (page_buf), the most bytes of code (lfi_commands), and those of the plain
-//!   program.
+//!   its specs. Its types keep the ranges. The plain program alone has numbers of its own beside it, which its contracts
+//!   tie to these definitions.
+//! - **How many connections and verifiers there may be stands here too** (`CONNECTIONS`, `VERIFIERS`): the command line,
+//!   the stage, its threads and the report name it, and have no other crate of the repository in common.
 //! - **A module's number is its slot's.** There is one type for both, `ModuleNumber`, and no table between them.
 //! - **`Extent` keeps that the entry is one of the words**, and has the profile and the pages' size beside them: what an
 //!   Open says of a module. A header's answer, each item and a new builder have one. It keeps too that large pages are
@@ -32,11 +33,13 @@
 #![tactic(auto)]
 
 mod extent;
+mod limits;
 mod number;
 mod page_size;
 mod profile;
 
 pub use extent::{Extent, WordCount};
+pub use limits::{CONNECTIONS, VERIFIERS};
 pub use number::ModuleNumber;
 pub use page_size::PageSize;
 pub use profile::Profile;

@@ -33,6 +33,12 @@ impl PageSize {
     /// Large pages, of 4,096 words: 16,384 bytes.
     pub const LARGE: PageSize = PageSize { words: 4096 };
 
+    /// How many bytes a full small page has: four a word.
+    pub const SMALL_BYTES: usize = 4096;
+
+    /// How many bytes a full large page has: four a word.
+    pub const LARGE_BYTES: usize = 16_384;
+
     /// How many words a full page has: 1,024 or 4,096.
     pub fn words(self) -> u32
         ensures value { result ≡ self }

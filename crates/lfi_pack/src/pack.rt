@@ -12,9 +12,6 @@ use lfi_frame::messages;
 use lfi_module::{Extent, ModuleNumber, PageSize, WordCount};
 use std::io::{Read, Write};
 
-/// The most bytes of a page: those of a full large one.
-const MOST_BYTES: usize = 16_384;
-
 /// Writes the next page of a module, a small or a large one of so many bytes, which are read.
 fn pack_page<R: Read, W: Write>(
     module: ModuleNumber,
@@ -29,7 +26,7 @@ fn pack_page<R: Read, W: Write>(
     ensures fault { IfErr result (IsPageFault (R.remaining reader.old) len) }
     ensures part { OnErr result (BeginsPage «module» size index len (W.contents writer.old) (W.contents writer.new)) }
 {
-    let mut bytes = [0; MOST_BYTES];
+    let mut bytes = [0; PageSize::LARGE_BYTES];
     let bytes = &mut bytes[..len as usize];
     read_full(reader, bytes)?;
     write_full(writer, &messages::page_bytes(module, size, index, len))?;

@@ -26,6 +26,6 @@
 
 pub mod laws;
 pub mod parts;
-pub mod shared;
+mod shared;
 
 pub use shared::Shared;

@@ -46,15 +46,15 @@
 #![tactic(auto)]
 
 pub mod auxiliary;
-pub mod intake;
-pub mod lane;
+mod intake;
+mod lane;
 pub mod laws;
 mod left;
 mod log;
 mod making;
 mod part;
-pub mod pass;
-pub mod queue;
+mod pass;
+mod queue;
 mod round;
 
 pub use intake::{Intake, PutPass, TakePass, Taken};

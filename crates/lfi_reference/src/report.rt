@@ -11,8 +11,8 @@ use crate::load::{Loaded, load_module};
 use crate::message::PlainExtent;
 use crate::share::PlainItem;
 use lfi_frame::FrameFault;
-use lfi_model::{CONNECTIONS, Cause, Outcome, Summary};
-use lfi_module::{ModuleNumber, Profile};
+use lfi_model::{Cause, Outcome, Summary};
+use lfi_module::{CONNECTIONS, ModuleNumber, Profile};
 use std::alloc::{AllocError, Global};
 
 /// A whole stream: its bytes, what ended it, and which of the 16 modules are claimed for it.

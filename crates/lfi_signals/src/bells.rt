@@ -1,15 +1,13 @@
 //! Bells: how threads wait for what others bring, and how those call them.
 
+use lfi_module::VERIFIERS;
 use std::sync::Wait;
 use std::sync::atomic::{AtomicU64, Ordering};
 use std::thread::Parker;
 
-/// How many threads may wait at one bell: as many as a stage has verifiers.
-const PLACES: usize = 8;
-
 /// The bit of the thread with this number, which is less than 8.
 fn bit_of(number: usize) -> u64 {
-    1 << (number % PLACES)
+    1 << (number % VERIFIERS)
 }
 
 /// Where threads wait for one thing, and where who brings it calls them.
@@ -24,7 +22,7 @@ pub struct Bell {
     /// A bit for each thread that waits and wasn't called yet.
     waiting: AtomicU64,
     /// Where they sleep, by their numbers.
-    sleepers: [Parker; PLACES],
+    sleepers: [Parker; VERIFIERS],
 }
 
 impl Bell {
@@ -49,7 +47,7 @@ impl Bell {
     /// Where the thread with this number sleeps.
     fn sleeper(&self, number: usize) -> &Parker {
         let sleepers = &self.sleepers[..];
-        &sleepers[number % PLACES]
+        &sleepers[number % VERIFIERS]
     }
 
     /// Whether all its threads wait, and none of them was called.
@@ -90,7 +88,7 @@ impl Bell {
         if self.waiting.load(Ordering::SeqCst) == 0 {
             return;
         }
-        for number in 0..PLACES {
+        for number in 0..VERIFIERS {
             self.call(number);
         }
     }

@@ -5,6 +5,7 @@ ghost use Rattle.lfi_signals.specs.Clients.{sent_by, sent_over_socket};
 
 use crate::door::Door;
 use crate::refusal::LoadError;
+use lfi_module::CONNECTIONS;
 use std::fs::Files;
 use std::io::{self, Read};
 use std::net::Shutdown;
@@ -12,14 +13,11 @@ use std::os::unix::net::UnixStream;
 use std::rt::Clock;
 use std::sync::{OnceLock, Wait};
 
-/// How many clients there are at the most: one for each connection.
-pub const CLIENTS: usize = 8;
-
 /// The streams of the clients that were accepted, by their connections' numbers. They lie where
 /// threads read them and others can shut them down.
 #[derive(Drop)]
 pub struct Streams {
-    slots: [OnceLock<UnixStream>; CLIENTS],
+    slots: [OnceLock<UnixStream>; CONNECTIONS],
 }
 
 impl Streams {

@@ -10,6 +10,10 @@ use std::thread::{Promise, PromisedHandle, Threads};
 
 /// Keeps the handle of a thread, where it was started. Where memory is refused, all threads are told
 /// to stop, and this one is joined.
+///
+/// # Errors
+///
+/// Why it wasn't started, or `NoMemory` where memory for its handle is refused.
 pub fn keep<S: Threads, T: Drop, P: Promise<T>>(
     rt: &S,
     ends: &Ends,
@@ -32,6 +36,10 @@ pub fn keep<S: Threads, T: Drop, P: Promise<T>>(
 
 /// Joins all of these threads, and gives what they gave back, in the order of the threads. Where
 /// memory is refused, all have ended too.
+///
+/// # Errors
+///
+/// Where memory is refused for what they gave back.
 pub fn join_all<S: Threads, T: Drop, P: Promise<T>>(
     rt: &S,
     handles: Vec<PromisedHandle<T, P>>,

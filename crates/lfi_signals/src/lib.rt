@@ -48,8 +48,7 @@
 //!   take the path from another `serve` that still listens.
 //! - **What a call here answers is in no clause, but where something rests on it** (`stop`, `why` and `of` of `Stopped`,
 //!   `is_present`, the limits, `keep` and `join_all`): what other threads did meanwhile is nothing that a contract knows.
-//! - **The most clients are a number of its own** (`CLIENTS`), which names no crate below: it stands on nothing of the
-//!   repository, and so is proved beside all that the stage stands on.
+//! - **It stands on the numbers of lfi_module alone**, and so is proved beside all that the stage stands on.
 #![tactic(auto)]
 
 mod bells;
@@ -61,7 +60,7 @@ mod joining;
 mod refusal;
 
 pub use bells::{Bell, Bells, Rest, Teller};
-pub use client::{CLIENTS, Client, Streams};
+pub use client::{Client, Streams};
 pub use door::{Closed, Door};
 pub use ends::{Ends, Going, Stopped};
 pub use joining::{join_all, keep};

@@ -11,8 +11,8 @@ ghost use Rattle.lfi_place.specs.Lanes.{AreNewLanes};
 ghost use Rattle.lfi_stage.specs.inner.Made.{AreUnused, AreUnusedSeats, AreRowsOf, AreFreshOf, AreVerifiersOf, AreSequencersOf};
 
 use lfi_board::{ReceiverSeat, SequencerSeat};
-use lfi_model::{CONNECTIONS, Item, Judged};
-use lfi_module::ModuleNumber;
+use lfi_model::{Item, Judged};
+use lfi_module::{CONNECTIONS, ModuleNumber};
 use lfi_place::{Lanes, Sequencer, Verifier};
 use lfi_queues::{Intake, Lane, LanePut, LaneTake, PutPass, TakePass};
 use lfi_receive::Receiver;

@@ -2,10 +2,11 @@
 
 ghost use Rattle.std.specs.Prelude.{◌≡◌, ℕ, None, get_or, length};
 
+use lfi_module::CONNECTIONS;
 use std::array;
 
-/// The most receivers of a stage, and the most verifiers.
-pub(crate) const PLACES: usize = 8;
+/// The most receivers of a stage, one for each connection. There are no more verifiers.
+pub(crate) const PLACES: usize = CONNECTIONS;
 
 /// A place for each, with nothing there.
 pub(crate) fn empty<T>() -> [Option<T>; PLACES]

@@ -62,7 +62,6 @@
 
 mod env;
 mod hearing;
-pub mod laws;
 mod loading;
 mod notices;
 mod placing;
