@@ -232,9 +232,9 @@ impl Feed {
 }
 
 impl Default for Feed {
-    ghost use Rattle.lfi_frame.specs.Feeds.{FeedStands, fault_at};
+    ghost use Rattle.lfi_frame.specs.Feeds.{FeedStands, feed_fault};
 
-    ghost is_default = { λ feed. FeedStands feed [] [] × (fault_at feed.position ≡ None) };
+    ghost is_default = { λ feed. FeedStands feed [] [] × (feed_fault feed ≡ None) };
 
     /// A feed of which no byte has come, as `Feed::new` makes it.
     fn default() -> Feed {

@@ -34,6 +34,7 @@ pub struct Sequencer {
 }
 
 impl Sequencer {
+    ghost use Rattle.lfi_place.specs.Sequenced.{module_number_of};
     ghost use Rattle.lfi_place.specs.Turns.{lane_pass_of, seat_of, sequence_of, told_of_sequencer, IsSequenced, LaneTaken, TellsBoard};
 
     /// The sequencer of a module, with its pass of the module's lane, its seat of the board, and the
@@ -54,7 +55,7 @@ impl Sequencer {
         requires seat { module_of seat ≡ «module» }
         ensures pass { IfOk result (λ s. lane_pass_of s ≡ pass) }
         ensures seat { IfOk result (λ s. seat_of s ≡ seat) }
-        ensures module { IfOk result (λ s. (sequence_of s).«module» ≡ «module») }
+        ensures module { IfOk result (λ s. module_number_of (sequence_of s) ≡ «module») }
         ensures sequenced { IfOk result IsSequenced }
     {
         let sequence = Sequence::new(alloc, module, pool)?;
@@ -98,7 +99,7 @@ impl Sequencer {
         ensures tie { IsSequenced self.old → IsSequenced self.new }
         ensures tells { TellsBoard (told_of_sequencer self.old) (told_of_sequencer self.new) (seat_of self.old) (seat_of self.new) }
         ensures board { (sequencer_board (seat_of self.new) ≡ sequencer_board (seat_of self.old)) × (module_of (seat_of self.new) ≡ module_of (seat_of self.old)) }
-        ensures module { (sequence_of self.new).«module» ≡ (sequence_of self.old).«module» }
+        ensures module { module_number_of (sequence_of self.new) ≡ module_number_of (sequence_of self.old) }
     {
         match lane.take(rt, &mut self.pass) {
             Some(item) => {

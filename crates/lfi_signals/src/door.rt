@@ -1,7 +1,7 @@
 //! Where clients come in.
 
 ghost use Rattle.std.specs.Prelude.{◌≡◌};
-ghost use Rattle.lfi_signals.specs.Deadlines.{limit_of};
+ghost use Rattle.lfi_signals.specs.Deadlines.{limit_of_door, limit_of_closed};
 
 use crate::client::Streams;
 use crate::deadline::{Deadline, Span};
@@ -52,7 +52,7 @@ impl<'a, S: Files> Door<'a, S> {
     ) -> Door<'a, S>
     where
         S: Clock,
-        ensures { limit_of result.deadline ≡ limit }
+        ensures { limit_of_door result ≡ limit }
     {
         Door {
             rt,
@@ -103,7 +103,7 @@ impl<'a, S: Files> Door<'a, S> {
 
     /// Removes the path. Nobody is accepted any more.
     pub fn close(self) -> Closed
-        ensures { result.deadline ≡ self.entry.deadline }
+        ensures { limit_of_closed result ≡ limit_of_door self.entry }
     {
         let deadline = self.deadline;
         drop(self);
@@ -139,7 +139,7 @@ impl Closed {
 
     /// How long the time was that the door began with.
     pub fn limit(&self) -> Option<Duration>
-        ensures { result ≡ limit_of self.now.deadline }
+        ensures { result ≡ limit_of_closed self.now }
     {
         self.deadline.limit()
     }

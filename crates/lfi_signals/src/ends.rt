@@ -1,6 +1,7 @@
 //! How far the threads of a stage are to go.
 
 ghost use Rattle.std.specs.Prelude.{◌≡◌, ◌≤◌, ◌<◌, None, Some};
+ghost use Rattle.lfi_signals.specs.Stops.{why_of};
 
 use crate::bells::Bells;
 use crate::deadline::Span;
@@ -50,7 +51,7 @@ impl Stopped {
 
     /// Why they are to stop.
     pub fn why(self) -> LoadError
-        ensures { result ≡ self.why }
+        ensures { result ≡ why_of self }
     {
         self.why
     }

@@ -6,14 +6,14 @@ use Rattle.lfi_place.specs.Come.{Come}
 use Rattle.lfi_place.specs.Delivers.{Carries}
 use Rattle.lfi_place.specs.declared.sequence.Sequence.{Sequence}
 use Rattle.lfi_place.specs.declared.report.ModuleReport.{ModuleReport}
-use Rattle.lfi_place.specs.Sequenced.{Sequenced}
+use Rattle.lfi_place.specs.Sequenced.{Sequenced, module_number_of}
 use Rattle.lfi_place.specs.Tells.{Tells, HasEnd}
 
 -- The sequence at place m is that of module m, and it has placed all of these items that have come.
 pub record HasHandled (sequences : List (Option Sequence)) (m : ℕ) (taken : List ItemView) : Type 0 where
   pub sequence : Sequence
   pub at : get_or sequences m None ≡ Some sequence
-  pub numbered : sequence.«module» ≡ m
+  pub numbered : module_number_of sequence ≡ m
   pub sequenced : Sequenced sequence taken
 
 -- each module's sequence has the items of its list

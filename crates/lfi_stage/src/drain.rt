@@ -5,7 +5,7 @@ ghost use Rattle.lfi_module.specs.Numbers.{module_count};
 ghost use Rattle.lfi_model.specs.Item.{ItemView};
 ghost use Rattle.lfi_queues.specs.Kept.{Kept};
 ghost use Rattle.lfi_queues.specs.Passes.{QueueId, PassView, IsPass, AreAllPasses, items_at, pass_at};
-ghost use Rattle.lfi_place.specs.Sequenced.{Sequenced};
+ghost use Rattle.lfi_place.specs.Sequenced.{Sequenced, module_number_of};
 ghost use Rattle.lfi_place.specs.declared.sequence.Sequence.{Sequence};
 ghost use Rattle.lfi_place.specs.declared.sequencer.Sequencer.{Sequencer};
 ghost use Rattle.lfi_place.specs.Turns.{lane_pass_of};
@@ -54,7 +54,7 @@ fn drain_lane<R: Wait>(
     ensures others { (k : ℕ) → 0 < k → pass_at takes.new k ≡ pass_at takes.old k }
     ensures kept { Kept (items_at puts.old) (items_at takes.new) [] }
     ensures tie { Sequenced sequence.old (items_at takes.old 0) → Sequenced sequence.new (items_at takes.new 0) }
-    ensures same { sequence.new.«module» ≡ sequence.old.«module» }
+    ensures same { module_number_of sequence.new ≡ module_number_of sequence.old }
 {
     while let Some(item) = lane.rest(rt, puts, takes) {
         sequence.handle(item);

@@ -4,7 +4,7 @@ ghost use Rattle.std.specs.Prelude.{◌≡◌, List, Some};
 ghost use Rattle.lfi_model.specs.Item.{ItemView};
 ghost use Rattle.lfi_place.specs.Come.{Come};
 ghost use Rattle.lfi_place.specs.Tells.{Tells, HasEnd};
-ghost use Rattle.lfi_place.specs.Sequenced.{Sequenced};
+ghost use Rattle.lfi_place.specs.Sequenced.{Sequenced, module_number_of};
 ghost use Rattle.lfi_place.specs.declared.sequence.Sequence.{Sequence};
 ghost use Rattle.lfi_stage.specs.Settled.{AreReportsOf};
 
@@ -13,7 +13,7 @@ use lfi_place::{ModuleReport, Sequence, report_of};
 
 /// What became of the module of a sequence.
 fn report_in(sequence: Option<Sequence>) -> ModuleReport
-    ensures { (s : Sequence) (taken items : List ItemView) → sequence ≡ Some s → Sequenced s taken → Come taken items → HasEnd items → Tells s.«module» result items }
+    ensures { (s : Sequence) (taken items : List ItemView) → sequence ≡ Some s → Sequenced s taken → Come taken items → HasEnd items → Tells (module_number_of s) result items }
 {
     match sequence {
         Some(sequence) => sequence.into_report(),

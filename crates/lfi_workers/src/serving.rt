@@ -6,7 +6,7 @@ ghost use Rattle.lfi_receive.specs.declared.receiver.Receiver.{Receiver};
 ghost use Rattle.lfi_parts.specs.Parts.{IsReceiver};
 ghost use Rattle.lfi_parts.specs.Fresh.{IsFresh};
 ghost use Rattle.lfi_signals.specs.Clients.{sent_over_socket};
-ghost use Rattle.lfi_signals.specs.Deadlines.{limit_of};
+ghost use Rattle.lfi_signals.specs.Deadlines.{limit_of_door};
 ghost use Rattle.lfi_workers.specs.Running.{AreReady, HaveServed};
 ghost use Rattle.lfi_workers.specs.inner.Clients.{AreTaken};
 ghost use Rattle.lfi_workers.specs.inner.Places.{AreAt};
@@ -127,7 +127,7 @@ fn serve_in<
     streams: &'e Streams,
 ) -> Result<Back, LoadError>
     requires ready { (count : ℕ) × AreReady env.now.shared.now count ready }
-    ensures { IfOk result (HaveServed env.entry.now.shared.now (length ready.receivers.items) (length ready.verifiers.verifiers.items) (limit_of door.entry.deadline)) }
+    ensures { IfOk result (HaveServed env.entry.now.shared.now (length ready.receivers.items) (length ready.verifiers.verifiers.items) (limit_of_door door.entry)) }
 {
     let Ready {
         receivers,
@@ -165,7 +165,7 @@ pub fn serve_with<'x, S: Threads + Wait + Files + Clock + Sync, G: Gate + Sync, 
     notices: &'x N,
 ) -> Result<Back, LoadError>
     requires ready { (count : ℕ) × AreReady shared.now count ready }
-    ensures { IfOk result (HaveServed shared.now (length ready.receivers.items) (length ready.verifiers.verifiers.items) (limit_of door.entry.deadline)) }
+    ensures { IfOk result (HaveServed shared.now (length ready.receivers.items) (length ready.verifiers.verifiers.items) (limit_of_door door.entry)) }
 {
     let ends = Ends::new(ready.verifiers.verifiers.len());
     let streams = Streams::new();
@@ -184,7 +184,7 @@ pub fn serve_with<'x, S: Threads + Wait + Files + Clock + Sync, G: Gate + Sync, 
         rt,
         move |scope| -> Result<Back, LoadError>
             requires { (count : ℕ) × AreReady env.now.shared.now count ready }
-            ensures { IfOk result (HaveServed env.entry.now.shared.now (length ready.receivers.items) (length ready.verifiers.verifiers.items) (limit_of door.entry.deadline)) }
+            ensures { IfOk result (HaveServed env.entry.now.shared.now (length ready.receivers.items) (length ready.verifiers.verifiers.items) (limit_of_door door.entry)) }
         { serve_in(scope, env, ready, door, streams) },
     )
 }

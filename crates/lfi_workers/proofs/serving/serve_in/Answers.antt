@@ -1,8 +1,7 @@
-use Rattle.std.proofs.Common.{◌∙◌, ap}
+use Rattle.std.proofs.Common.{◌∙◌}
 use Rattle.std.proofs.lemmas.Result.{IfOk-at_ok, IfOk-from_err}
 use Rattle.lfi_receive.specs.Inputs.{left_of}
 use Rattle.lfi_signals.specs.Clients.{sent_over_socket}
-use Rattle.lfi_signals.specs.Deadlines.{limit_of}
 use Rattle.lfi_workers.proofs.Clients.{sent_known, sent_each, sent_absent}
 use Rattle.lfi_workers.proofs.Through.{back_of, sequencers_of, receivers_of, had_of, heard_by, on_ok, of_three}
 use Rattle.lfi_workers.proofs.serving.serve_in.Goals as goal
@@ -39,7 +38,7 @@ returns g c = of_three c.back_from.result _ _ _ _ c.back_from.ensures.accepted c
       known = sent_known (λ h. left_of sent_over_socket h.promise.input.value) hs count taken;
       each = sent_each (λ h. left_of sent_over_socket h.promise.input.value) hs count taken;
       absent = sent_absent (λ h. left_of sent_over_socket h.promise.input.value) hs count taken;
-      limited = limit ∙ c.limit.ensures ∙ ap limit_of c.close-closed.ensures;
+      limited = limit ∙ c.limit.ensures ∙ c.close-closed.ensures;
     })
 
 pub accept_all-accepted-requires-clause-none : goal.accept_all-accepted-requires-clause-none
