@@ -1,5 +1,5 @@
 //! Bits, the lowest first, and arithmetic on them.
-ghost use Rattle.std.specs.Prelude.{◌≡◌, ◌<◌, ◌≤◌, ◌+◌};
+ghost use Rattle.std.specs.Prelude.{◌<◌, ◌≤◌, ◌+◌};
 
 use a64_word::{Extend, Shift, Width};
 

@@ -1,6 +1,5 @@
-ghost use Rattle.std.specs.Prelude.{◌≡◌, ◌<◌, ◌≤◌, ◌/◌, ◌%◌, ◌^◌, ◌==◌};
+ghost use Rattle.std.specs.Prelude.{◌≡◌, ◌<◌, ◌/◌, ◌%◌, ◌^◌, ◌==◌};
 ghost use Rattle.a64_word.specs.declared.instruction.Instruction.{Instruction};
-ghost use Rattle.a64_word.specs.Encoding.{IsLegal};
 ghost use Rattle.a64_semantics.specs.Branches.{words_on, branches_if};
 ghost use Rattle.a64_semantics.specs.Writes.{linked};
 ghost use Rattle.a64_semantics.specs.Registers.{put_all};

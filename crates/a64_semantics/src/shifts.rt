@@ -1,4 +1,4 @@
-ghost use Rattle.std.specs.Prelude.{◌≡◌, ◌<◌, ◌≤◌, ◌%◌, ◌^◌};
+ghost use Rattle.std.specs.Prelude.{◌≡◌, ◌<◌, ◌%◌, ◌^◌};
 ghost use Rattle.std.specs.Int.{cast_unsigned, cast_signed, w8, w16, w32, w64};
 ghost use Rattle.a64_word.specs.declared.operands.Width.TheVariants.{W, X};
 ghost use Rattle.a64_word.specs.Operands.{data_size};

@@ -1,6 +1,6 @@
 //! The board: a word for each module's phase, and the count of the receivers that have ended.
 
-ghost use Rattle.std.specs.Prelude.{◌≡◌, ℕ, ◌+◌, ◌<◌, ◌≤◌, false};
+ghost use Rattle.std.specs.Prelude.{◌≡◌, ◌+◌, ◌<◌, ◌≤◌, false};
 ghost use Rattle.lfi_board.specs.Hands.{ends, ended_word, Follows};
 ghost use Rattle.lfi_board.specs.Calls.{Claimed, Changed, Saw, number_of};
 

@@ -1,6 +1,6 @@
 //! Who holds a module, asked with the seats of all receivers.
 
-ghost use Rattle.std.specs.Prelude.{◌≡◌, ◌≢◌, ℕ, ◌+◌, ◌<◌, ◌≤◌, [], ◌∷◌, length, drop};
+ghost use Rattle.std.specs.Prelude.{◌≡◌, ◌+◌, ◌<◌, ◌≤◌, [], length, drop};
 ghost use Rattle.lfi_board.specs.inner.Plays.{Told};
 ghost use Rattle.lfi_board.specs.Known.{board_id};
 ghost use Rattle.lfi_board.specs.Rows.{AllOn, AllReceivers, AreSame, IsHolder, claims_at};

@@ -1,6 +1,6 @@
 //! A new board with all its seats.
 
-ghost use Rattle.std.specs.Prelude.{◌≡◌, ℕ, ◌+◌, ◌<◌, ◌≤◌, [], ◌∷◌, IfOk, All, vec_len, replicate};
+ghost use Rattle.std.specs.Prelude.{◌≡◌, ◌+◌, ◌<◌, ◌≤◌, [], ◌∷◌, IfOk, All, vec_len, replicate};
 ghost use Rattle.lfi_module.specs.Numbers.{module_count};
 ghost use Rattle.lfi_board.specs.Hands.{receiver_hand, hand_of};
 ghost use Rattle.lfi_board.specs.Known.{board_id, board_receivers};

@@ -1,6 +1,6 @@
 //! The code of a module, as a file holds it.
 
-ghost use Rattle.std.specs.Prelude.{◌≡◌, ℕ, ◌<◌, ◌≤◌, List, length, slice_index, IfSome, IfNone};
+ghost use Rattle.std.specs.Prelude.{◌≡◌, ℕ, ◌<◌, ◌≤◌, List, length, IfSome, IfNone};
 ghost use Rattle.lfi_module.specs.Numbers.{most_words};
 ghost use Rattle.a64_word.specs.Words.{words_of};
 ghost use Rattle.lfi_code.specs.Checking.{IsCode};

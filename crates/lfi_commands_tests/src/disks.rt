@@ -1,6 +1,6 @@
 //! Disks in memory, which tell contracts their bytes.
 
-ghost use Rattle.std.specs.Prelude.{◌≡◌, Some, map, string_bytes};
+ghost use Rattle.std.specs.Prelude.{Some, map, string_bytes};
 
 use crate::runs::{FAILED, ONE_RET, ONE_RET_IMAGE, ONE_RET_REPORT, WELL, tells_over};
 use lfi_file_commands::Disk;

@@ -1,9 +1,7 @@
 -- Lawful code is as the law needs it.
-use Rattle.std.proofs.Common.{◌≡◌, ◌≢◌, ℕ, zero, suc, ◌+◌, ◌%◌, ◌^◌, ◌<◌, ◌≤◌, true, ◌⊎◌, inl, inr, length, Some, refl, subst, arith, lit≤}
+use Rattle.std.proofs.Common.{◌≡◌, ◌≢◌, ℕ, zero, suc, ◌+◌, ◌%◌, ◌^◌, ◌<◌, ◌≤◌, true, ◌⊎◌, inl, inr, length, Some, subst, arith, lit≤}
 use Rattle.std.specs.Prelude.{slice_get}
-use Rattle.lfi_module.specs.declared.profile.Profile.{Profile}
 use Rattle.a64_word.specs.declared.instruction.Instruction.{Instruction}
-use Rattle.a64_word.specs.Profiles.{SpellsIn}
 use Rattle.a64_semantics.specs.declared.registers.Registers.{Registers}
 use Rattle.a64_semantics.specs.Branches.{following}
 use Rattle.lfi_rules.specs.declared.rule.Rule.{Rule}

@@ -1,20 +1,17 @@
 -- The word that opens what is open at a place, found from there back.
-use Rattle.std.proofs.Common.{◌≡◌, ◌≢◌, ℕ, ◌+◌, ◌-◌, ◌<◌, ◌≤◌, true, false, List, length, Option, Some, None, refl, sym, subst, ap, ◌∙◌, arith}
-use Rattle.std.specs.Prelude.{slice_get, IfSome, nat_lt, if◌then◌else◌}
+use Rattle.std.proofs.Common.{◌≡◌, ℕ, ◌-◌, ◌<◌, ◌≤◌, true, false, List, length, Option, Some, None, refl, sym, subst, arith}
+use Rattle.std.specs.Prelude.{slice_get, IfSome, if◌then◌else◌}
 use Rattle.std.proofs.lemmas.Bool.{both_ways, le-ltb}
 use Rattle.lfi_module.specs.declared.profile.Profile.{Profile}
 use Rattle.a64_word.specs.declared.instruction.Instruction.{Instruction}
 use Rattle.a64_word.specs.Profiles.{SpellsIn}
-use Rattle.lfi_rules.specs.declared.needs.Need.{Need}
 use Rattle.lfi_rules.specs.declared.needs.Need.TheVariants.{Nothing}
 use Rattle.lfi_rules.specs.Needs.{opens_of, term_of, rest_of}
 use Rattle.lfi_rules.specs.Calm.{is_calm, IsCalm}
-use Rattle.lfi_rules.specs.Faults.{Opens, opens_by, opens_nothing, IsDue, IsOpenAt}
+use Rattle.lfi_rules.specs.Faults.{Opens, opens_by, opens_nothing, IsOpenAt}
 use Rattle.lfi_rules.specs.inner.Passing.{AreCalmBefore}
-use Rattle.lfi_rules.proofs.Broken.{calm_tells}
 use Rattle.lfi_rules.proofs.Before.{at_loud}
 use Rattle.lfi_explain.specs.declared.spelling.Spelling.{Spelling}
-use Rattle.lfi_explain.specs.declared.opener.Opener.{Opener}
 use Rattle.lfi_explain.specs.Spellings.{IsSpelling, opened_by, is_calm_by}
 use Rattle.lfi_explain.specs.Openers.{IsOpener}
 

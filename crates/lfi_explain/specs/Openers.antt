@@ -5,7 +5,6 @@ use Rattle.lfi_rules.specs.declared.needs.Need.{Need}
 use Rattle.lfi_rules.specs.declared.needs.Need.TheVariants.{Nothing}
 use Rattle.lfi_rules.specs.Needs.{term_of}
 use Rattle.lfi_rules.specs.Faults.{IsDue, IsOpenAt}
-use Rattle.lfi_explain.specs.declared.spelling.Spelling.{Spelling}
 use Rattle.lfi_explain.specs.declared.opener.Opener.{Opener}
 use Rattle.lfi_explain.specs.Spellings.{IsSpelling, opened_by}
 

@@ -15,7 +15,6 @@ use Rattle.lfi_rules.specs.declared.needs.Need.{Need}
 use Rattle.lfi_rules.specs.declared.needs.Need.TheVariants.{Nothing, Call, Guard, Probe}
 use Rattle.lfi_rules.specs.declared.rule.Rule.{Rule}
 use Rattle.lfi_rules.specs.declared.rule.Rule.TheVariants as rules
-use Rattle.lfi_explain.specs.declared.spelling.Spelling.{Spelling}
 use Rattle.lfi_explain.specs.declared.explanation.Explanation.{Explanation}
 use Rattle.lfi_explain.specs.declared.opener.Opener.{Opener}
 use Rattle.lfi_explain.specs.Openers.{asked_if}

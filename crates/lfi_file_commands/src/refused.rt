@@ -1,6 +1,6 @@
 //! What is told of refused modules, and of connections with a fault.
 
-ghost use Rattle.std.specs.Prelude.{◌≡◌, ◌++◌, ℕ, List, IfOk, OnOk};
+ghost use Rattle.std.specs.Prelude.{◌≡◌, ℕ, List, IfOk, OnOk};
 ghost use Rattle.std.specs.Io.KnownBytes.{Appends};
 ghost use Rattle.lfi_file_commands.specs.Refused.{IsRefusal, refusal_lines, fault_line, fault_lines, TellRefused, TellAsked};
 

@@ -2,7 +2,7 @@
 //!
 //! Source of the format: docs/PROFILE.md, "Streams".
 
-ghost use Rattle.std.specs.Prelude.{◌≡◌, ◌≢◌, ℕ, ◌<◌, ◌≤◌, ◌⊎◌, List, [], ◌++◌, length, take, Result, Ok, Err, Option, Some, None, IfSome, IfNone, IfOk, All, is_some};
+ghost use Rattle.std.specs.Prelude.{◌≡◌, ◌≢◌, ℕ, ◌<◌, ◌≤◌, ◌⊎◌, List, [], length, Result, Ok, Err, Option, Some, None, IfSome, IfNone, IfOk, All, is_some};
 ghost use Rattle.lfi_frame.specs.inner.Positions.{filled_at, left_at, is_between};
 
 use crate::answer::{Got, Step};

@@ -1,6 +1,6 @@
 //! Laws of streams and feeds.
 
-ghost use Rattle.std.specs.Prelude.{◌≡◌, ◌<◌, ◌^◌, ℕ, List, [], ◌∷◌, ◌++◌, flat_map};
+ghost use Rattle.std.specs.Prelude.{◌≡◌, ◌<◌, ◌^◌, ℕ, List, [], ◌++◌, flat_map};
 ghost use Rattle.lfi_frame.specs.declared.fault.FrameFault.{FrameFault};
 ghost use Rattle.lfi_frame.specs.declared.feed.Feed.{Feed};
 ghost use Rattle.lfi_frame.specs.declared.header.Header.{Header};

@@ -3,7 +3,7 @@ ghost use Rattle.std.specs.Prelude.{◌≡◌, OnOk, OnErr, IfErr};
 ghost use Rattle.std.specs.Io.KnownBytes.{Appends};
 ghost use Rattle.page_buf.specs.Page.{IsWhole};
 ghost use Rattle.a64_word.specs.Words.{words_of};
-ghost use Rattle.lfi_image_file.specs.Files.{file_of, header_of, code_of};
+ghost use Rattle.lfi_image_file.specs.Files.{file_of, code_of};
 ghost use Rattle.lfi_image.specs.Built.{words_in};
 ghost use Rattle.lfi_image_file.specs.declared.fault.ImageFault.TheVariants.{Device};
 ghost use Rattle.in_full.specs.Beginnings.{AppendsBeginning};

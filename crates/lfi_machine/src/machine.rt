@@ -5,7 +5,7 @@ ghost use Rattle.lfi_image.specs.Image.{IsImage};
 ghost use Rattle.sparse_memory.specs.Kept.{byte_at};
 ghost use Rattle.lfi_confinement.specs.Slots.{base};
 ghost use Rattle.lfi_confinement.specs.Lawful.{Held};
-ghost use Rattle.lfi_machine.specs.Starts.{start_of, refusal_of};
+ghost use Rattle.lfi_machine.specs.Starts.{refusal_of};
 ghost use Rattle.lfi_machine.specs.Keeping.{KeepsByStep};
 ghost use Rattle.lfi_machine.specs.Runs.{Steps, IsConfined, RanThenHalts};
 ghost use Rattle.lfi_machine.specs.inner.Rows.{RanRow};

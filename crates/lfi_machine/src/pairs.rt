@@ -1,22 +1,21 @@
 //! Loads and stores of a pair.
 
-ghost use Rattle.std.specs.Prelude.{◌≡◌, ◌≢◌, ℕ, [], ◌++◌, ◌+◌, ◌-◌, ◌*◌, ◌^◌, ◌<◌, ◌≤◌, pos, true, false, Some, None, IfOk, IfErr, if◌then◌else◌, not};
+ghost use Rattle.std.specs.Prelude.{◌≡◌, ◌≢◌, [], ◌++◌, ◌+◌, ◌-◌, ◌*◌, ◌^◌, ◌<◌, ◌≤◌, true, false, Some, None, if◌then◌else◌, not};
 ghost use Rattle.a64_word.specs.declared.instruction.Instruction.{Instruction};
 ghost use Rattle.a64_word.specs.Operands.{size_code};
-ghost use Rattle.a64_effects.specs.Effects.{data_width, is_store, pair_bytes, pair_offset};
-ghost use Rattle.a64_word.specs.Bytes.{number_at, low_bytes};
+ghost use Rattle.a64_effects.specs.Effects.{pair_bytes, pair_offset};
+ghost use Rattle.a64_word.specs.Bytes.{low_bytes};
 ghost use Rattle.sparse_memory.specs.Kept.{KeepsOnly};
-ghost use Rattle.a64_semantics.specs.Registers.{x_at, x_or_sp_at, put_all, to_general};
-ghost use Rattle.a64_semantics.specs.Accesses.{extended_index, extended_load, first_byte, register_bytes, stored, stored_by, touches};
-ghost use Rattle.a64_semantics.specs.Writes.{to_base, to_loaded, with_loaded};
+ghost use Rattle.a64_semantics.specs.Registers.{x_at};
+ghost use Rattle.a64_semantics.specs.Accesses.{first_byte, register_bytes, stored, touches};
+ghost use Rattle.a64_semantics.specs.Writes.{to_base, with_loaded};
 ghost use Rattle.lfi_image.specs.Image.{IsImage};
 ghost use Rattle.lfi_confinement.specs.Moves.{escape};
 ghost use Rattle.lfi_confinement.specs.Slots.{base};
 ghost use Rattle.lfi_machine.specs.Keeping.{KeepsStored};
-ghost use Rattle.lfi_machine.specs.Owned.{memory, state_of, IsLocated};
-ghost use Rattle.lfi_machine.specs.Halting.{CarriesOut};
-ghost use Rattle.lfi_machine.specs.inner.Transfers.{Transfers, denied_in, access_move, Accesses, base_write, Finishes};
-ghost use Rattle.lfi_machine.specs.inner.Addresses.{unsigned_access, signed_access, index_access, pair_access};
+ghost use Rattle.lfi_machine.specs.Owned.{memory};
+ghost use Rattle.lfi_machine.specs.inner.Transfers.{Transfers, access_move, Accesses, base_write, Finishes};
+ghost use Rattle.lfi_machine.specs.inner.Addresses.{pair_access};
 
 use crate::halt::Halt;
 use crate::singles::located;

@@ -1,6 +1,6 @@
 //! What is told of a whole run.
 
-ghost use Rattle.std.specs.Prelude.{◌≡◌, ◌↔◌, Some, None, IsTrue, All};
+ghost use Rattle.std.specs.Prelude.{◌↔◌, Some, None, IsTrue};
 ghost use Rattle.std.specs.Fmt.{WritesOnOk};
 ghost use Rattle.lfi_model.specs.Texts.{module_line, connection_line, lines_from};
 ghost use Rattle.lfi_model.specs.Outcomes.{is_well};

@@ -2,7 +2,7 @@
 
 ghost use Rattle.std.specs.Prelude.{◌≡◌, ◌≤◌, ◌<◌, ◌⊎◌, IfSome, IfNone};
 ghost use Rattle.lfi_module.specs.Numbers.{most_words};
-ghost use Rattle.lfi_module.specs.Pages.{HasPages, IsPageSize, page_count, words_due, bytes_in_page, is_due};
+ghost use Rattle.lfi_module.specs.Pages.{HasPages, page_count, words_due, bytes_in_page, is_due};
 
 use crate::page_size::PageSize;
 use crate::profile::Profile;

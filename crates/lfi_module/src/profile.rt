@@ -1,6 +1,6 @@
 //! Which instructions and rules a module goes by.
 
-ghost use Rattle.std.specs.Prelude.{◌≡◌, ◌↔◌, ℕ, IfSome, Some, IsTrue};
+ghost use Rattle.std.specs.Prelude.{◌≡◌, ◌↔◌, IfSome, Some, IsTrue};
 ghost use Rattle.lfi_module.specs.Profiles.{profile_number};
 ghost use Rattle.lfi_module.specs.Pages.{HasPages};
 

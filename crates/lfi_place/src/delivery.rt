@@ -8,7 +8,7 @@ ghost use Rattle.lfi_module.specs.Numbers.{module_count};
 ghost use Rattle.lfi_model.specs.Item.{ItemView};
 ghost use Rattle.lfi_queues.specs.Kept.{IsShuffle, Kept, with_last};
 ghost use Rattle.lfi_model.specs.Modules.{IsModule, of};
-ghost use Rattle.lfi_place.specs.Come.{Comes, Coming, Come};
+ghost use Rattle.lfi_place.specs.Come.{Come};
 ghost use Rattle.lfi_place.specs.Hands.{Hands, with_item};
 ghost use Rattle.lfi_place.specs.Delivers.{Carries, Delivers, AreApart, Makes, with_last_in, with_held};
 

@@ -1,8 +1,7 @@
 //! A module's sequencer: it takes judged items from the module's lane, places them in order, and
 //! tells the board how the module ends.
 
-ghost use Rattle.std.specs.Prelude.{◌≡◌, ◌+◌, [], ◌∷◌, ◌++◌, IfOk};
-ghost use Rattle.lfi_queues.specs.Passes.{IsSamePass};
+ghost use Rattle.std.specs.Prelude.{◌≡◌, ◌+◌, [], IfOk};
 ghost use Rattle.lfi_board.specs.Known.{board_id, sequencer_board, module_of};
 ghost use Rattle.lfi_place.specs.declared.sequencer.SequencerTurn.TheVariants.{Worked, Idle};
 

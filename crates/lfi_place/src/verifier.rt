@@ -1,10 +1,10 @@
 //! A verifier: it takes items from the intake, judges them, and hands them on to the lanes of their
 //! modules.
 
-ghost use Rattle.std.specs.Prelude.{◌≡◌, ◌<◌, ◌+◌, ℕ, List, [], ◌∷◌, ◌++◌, length, Option, Some, None, slice_get, option_map};
+ghost use Rattle.std.specs.Prelude.{◌≡◌, ◌<◌, ◌+◌, List, length, Option, Some, None};
 ghost use Rattle.lfi_module.specs.Numbers.{module_count};
 ghost use Rattle.lfi_model.specs.Item.{ItemView};
-ghost use Rattle.lfi_queues.specs.Passes.{IsSamePass, PassView, QueueId};
+ghost use Rattle.lfi_queues.specs.Passes.{IsSamePass};
 ghost use Rattle.lfi_place.specs.declared.verifier.VerifierTurn.TheVariants as turn;
 
 use lfi_model::{Item, Judged};

@@ -1,9 +1,8 @@
 //! The intake: the queue from those who make items to those who judge them. Each putter has a part
 //! of its own, and each taker takes from all parts. Putting and taking never wait.
 
-ghost use Rattle.std.specs.Prelude.{◌≡◌, ◌+◌, ◌≤◌, ◌<◌, [], ◌∷◌, ◌++◌, List, length, IfOk, OnOk, IfErr, ⊤};
-ghost use Rattle.lfi_queues.specs.Kept.{Kept};
-ghost use Rattle.lfi_queues.specs.Passes.{new_passes, IsSamePass, SeenEmptyEach, AreAllPasses, items_at, with_first, after_rest, IsFirstOf};
+ghost use Rattle.std.specs.Prelude.{◌≡◌, ◌+◌, ◌≤◌, ◌<◌, [], ◌∷◌, ◌++◌, length, IfOk, OnOk, IfErr, ⊤};
+ghost use Rattle.lfi_queues.specs.Passes.{new_passes, IsSamePass, SeenEmptyEach};
 ghost use Rattle.lfi_queues.specs.Taken.{MatchTaken};
 
 use crate::auxiliary::Auxiliary;

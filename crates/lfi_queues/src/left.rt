@@ -4,7 +4,7 @@ ghost use Rattle.std.specs.Prelude.{◌≡◌, ◌<◌, ◌≤◌, ℕ, false, L
 ghost use Rattle.std.specs.Option.{option_map};
 ghost use Rattle.crossbeam_deque.specs.Handles.{worker_view, worker_index, worker_flavor, SameWorker};
 ghost use Rattle.lfi_queues.specs.Kept.{Kept};
-ghost use Rattle.lfi_queues.specs.Passes.{QueueId, PassView, AreAllPasses, IsPass, items_at, with_first, after_rest, IsFirstOf};
+ghost use Rattle.lfi_queues.specs.Passes.{PassView, AreAllPasses, IsPass, items_at, with_first, after_rest, IsFirstOf};
 ghost use Rattle.lfi_queues.specs.inner.Ports.{EndsInFirst, HasTaken};
 ghost use Rattle.lfi_queues.specs.inner.Owners.{part_of};
 ghost use Rattle.lfi_queues.specs.inner.Parts.{IsWhole, take_pass, TakesFrom};

@@ -1,6 +1,6 @@
 //! The parts of a new intake, and the passes of them.
 
-ghost use Rattle.std.specs.Prelude.{◌≡◌, ◌+◌, ◌<◌, ℕ, [], ◌∷◌, ◌++◌, List, length, slice_get, Some, IfOk, OnOk, IsSome};
+ghost use Rattle.std.specs.Prelude.{◌≡◌, ◌+◌, ◌<◌, [], ◌∷◌, ◌++◌, List, length, slice_get, Some, IfOk, OnOk, IsSome};
 ghost use Rattle.atomic_blocks.specs.Lent.{RowsId};
 ghost use Rattle.crossbeam_deque.specs.Handles.{worker_view, worker_index, worker_flavor, SameWorker};
 ghost use Rattle.lfi_queues.specs.Passes.{new_pass, new_passes};

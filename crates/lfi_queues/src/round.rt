@@ -1,6 +1,6 @@
 //! What a taking pass does: one steal a part.
 
-ghost use Rattle.std.specs.Prelude.{◌≡◌, ◌+◌, ◌≤◌, ◌<◌, [], ◌∷◌, ◌++◌, length, ℕ, Some, IfSome, ⊤};
+ghost use Rattle.std.specs.Prelude.{◌≡◌, ◌+◌, ◌≤◌, ◌<◌, [], ◌∷◌, ◌++◌, length, ℕ, Some, IfSome};
 ghost use Rattle.crossbeam_deque.specs.Steals.{MatchSteal};
 ghost use Rattle.lfi_queues.specs.Taken.{MatchTaken};
 ghost use Rattle.lfi_queues.specs.inner.Parts.{EndView, SeenEmpty, StealsFrom, SeenEmptyFrom, TakesFrom, with_item};

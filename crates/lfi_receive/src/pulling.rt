@@ -6,7 +6,7 @@ ghost use Rattle.lfi_board.specs.Known.{board_id, board_of, known_by};
 ghost use Rattle.lfi_receive.specs.Turns.{PutsAsTold, CountsAsTold, is_finished};
 ghost use Rattle.lfi_receive.specs.Receivers.{pass_of, seat_of, cause_of, hand_of, strays_at, StandsFor, IsFinished, AfterEnd};
 ghost use Rattle.lfi_receive.specs.Inputs.{unread_of, left_of, has_failed};
-ghost use Rattle.lfi_receive.specs.Pulls.{EndsAt, FailsAs, IsPulled};
+ghost use Rattle.lfi_receive.specs.Pulls.{FailsAs, IsPulled};
 ghost use Rattle.lfi_receive.specs.inner.Fetches.{IsFetched};
 ghost use Rattle.lfi_receive.specs.declared.receiver.ReceiverTurn.TheVariants as turn;
 

@@ -1,13 +1,11 @@
 //! The receiver, which turns the bytes of one connection into items.
 
-ghost use Rattle.std.specs.Prelude.{◌≡◌, ◌≢◌, ℕ, ◌+◌, ◌-◌, ◌*◌, ◌<◌, ◌≤◌, ◌==◌, ◌%◌, ◌^◌, ◌⊎◌, min, ◌↔◌, List, [], ◌∷◌, ◌++◌, length, take, drop, true, false, Some, None, is_some, IsSome, IsNone, IsTrue, option_to_list, if◌then◌else◌, flat_map, ◌||◌, ◌&&◌, not, nat_le};
+ghost use Rattle.std.specs.Prelude.{◌≡◌, ◌≢◌, ℕ, ◌+◌, ◌-◌, ◌*◌, ◌<◌, ◌≤◌, ◌==◌, ◌%◌, ◌^◌, ◌⊎◌, min, ◌↔◌, List, [], ◌∷◌, ◌++◌, length, take, drop, true, false, Some, None, is_some, IsSome, IsTrue, if◌then◌else◌, flat_map, ◌||◌, ◌&&◌};
 ghost use Rattle.lfi_board.specs.Known.{board_id, board_of, known_by};
 ghost use Rattle.lfi_board.specs.Calls.{Saw, number_of};
-ghost use Rattle.lfi_receive.specs.Claims.{is_mine};
-ghost use Rattle.lfi_receive.specs.Seats.{KeepsClaims};
 ghost use Rattle.lfi_frame.specs.Feeds.{FeedStands, feed_fault};
 ghost use Rattle.lfi_frame.specs.declared.fault.FrameFault.{FrameFault};
-ghost use Rattle.lfi_frame.specs.Streams.{Message, open_message, page_message, close_message, rest_of, short, unfinished, spelling, IsMessage};
+ghost use Rattle.lfi_frame.specs.Streams.{Message, open_message, page_message, close_message, rest_of, short, unfinished, spelling};
 ghost use Rattle.lfi_model.specs.declared.item.ItemKind.TheVariants.{End};
 ghost use Rattle.lfi_model.specs.declared.connection.Progress.{Progress};
 ghost use Rattle.lfi_model.specs.declared.connection.Progress.TheVariants.{Going, Ended};

@@ -1,6 +1,6 @@
 //! What becomes of a module.
 
-ghost use Rattle.std.specs.Prelude.{◌≡◌, ◌≤◌, ◌⊎◌, [], map, take, length, IfOk, IsSome};
+ghost use Rattle.std.specs.Prelude.{◌≡◌, ◌≤◌, length, IfOk};
 ghost use Rattle.lfi_module.specs.Numbers.{most_words};
 ghost use Rattle.lfi_rules.specs.Verdicts.{all_words};
 ghost use Rattle.lfi_model.specs.Outcomes.{Load, Placed, pages_of, end_of, by_end};

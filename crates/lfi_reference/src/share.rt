@@ -1,6 +1,6 @@
 //! What one module gets of a connection.
 
-ghost use Rattle.std.specs.Prelude.{◌≡◌, ◌+◌, ◌++◌, ◌==◌, ◌&&◌, true, ◌<◌, ◌≤◌, ◌^◌, ℕ, map, IfOk};
+ghost use Rattle.std.specs.Prelude.{◌≡◌, ◌+◌, ◌++◌, ◌==◌, ◌&&◌, true, ◌<◌, ◌≤◌, ◌^◌, map, IfOk};
 ghost use Rattle.lfi_model.specs.Items.{item_of, reason_of, is_going, nothing_yet, with_stray, with_item, after_message, after_rest, share_of, ends_of};
 ghost use Rattle.lfi_module.specs.Numbers.{small_page, large_page};
 ghost use Rattle.lfi_module.specs.Pages.{page_count, is_due};

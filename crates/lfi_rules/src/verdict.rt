@@ -1,6 +1,6 @@
 //! The verdict on a page, and what it and the page before say together.
 
-ghost use Rattle.std.specs.Prelude.{◌≡◌, ◌≢◌, ◌+◌, ◌<◌, ◌≤◌, ℕ, List, [], ◌∷◌, ◌++◌, length, slice_get, Some, None};
+ghost use Rattle.std.specs.Prelude.{◌≡◌, ◌≢◌, ◌+◌, ◌<◌, ◌≤◌, ℕ, List, ◌++◌, length, slice_get, Some, None};
 ghost use Rattle.lfi_module.specs.Numbers.{most_words};
 
 use crate::calm::is_calm_word;

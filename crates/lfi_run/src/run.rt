@@ -1,7 +1,7 @@
 //! Image files, run.
 
 ghost use Rattle.std.specs.Prelude.{◌≡◌, ◌≤◌, ◌↔◌, IfOk, OnErr};
-ghost use Rattle.lfi_machine.specs.Runs.{RanThenHalts, IsConfined};
+ghost use Rattle.lfi_machine.specs.Runs.{RanThenHalts};
 ghost use Rattle.lfi_run.specs.Growth.{Grows};
 ghost use Rattle.lfi_run.specs.Serving.{serves};
 ghost use Rattle.lfi_run.specs.Runs.{CameOf, RunsImage};

@@ -1,6 +1,5 @@
 //! The board by itself, on one thread.
 
-ghost use Rattle.std.specs.Prelude.{◌≡◌};
 ghost use Rattle.lfi_board.specs.Known.{board_id};
 ghost use Rattle.lfi_board.specs.Rows.{NewReceivers, IsNewReceiver};
 

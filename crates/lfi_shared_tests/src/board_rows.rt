@@ -1,6 +1,6 @@
 //! The board on several threads. What is compared is the same in every schedule.
 
-ghost use Rattle.std.specs.Prelude.{◌≡◌, ◌∷◌, ◌≤◌};
+ghost use Rattle.std.specs.Prelude.{◌≡◌, ◌≤◌};
 ghost use Rattle.lfi_board.specs.Known.{board_id, board_of};
 ghost use Rattle.lfi_board.specs.Rows.{AllOn};
 

@@ -1,7 +1,7 @@
 //! Receivers are brought to their end.
 
-ghost use Rattle.std.specs.Prelude.{◌≡◌, ℕ, List, Some, false, true, IsTrue, IsSome, length, slice_get};
-ghost use Rattle.lfi_receive.specs.Receivers.{cause_of, cause_after, claimed_by, StandsFor, IsFinished};
+ghost use Rattle.std.specs.Prelude.{◌≡◌, ℕ, List, Some, IsTrue, IsSome};
+ghost use Rattle.lfi_receive.specs.Receivers.{cause_of, claimed_by, StandsFor, IsFinished};
 ghost use Rattle.lfi_parts.specs.Parts.{IsReceiver, AreReceivers, AreOthers};
 ghost use Rattle.lfi_stage.specs.inner.Finished.{HasFinished, HaveFinished};
 

@@ -4,8 +4,7 @@ ghost use Rattle.std.specs.Prelude.{◌≡◌, ℕ, ◌≤◌, length, Some, IfO
 ghost use Rattle.lfi_module.specs.Numbers.{module_count};
 ghost use Rattle.lfi_board.specs.Known.{module_of};
 ghost use Rattle.lfi_board.specs.declared.seats.SequencerSeat.{SequencerSeat};
-ghost use Rattle.lfi_model.specs.Item.{ItemView};
-ghost use Rattle.lfi_queues.specs.Passes.{PassView, new_passes};
+ghost use Rattle.lfi_queues.specs.Passes.{new_passes};
 ghost use Rattle.lfi_place.specs.declared.lanes.Lanes.{Lanes};
 ghost use Rattle.lfi_place.specs.Lanes.{AreNewLanes};
 ghost use Rattle.lfi_stage.specs.inner.Made.{AreUnused, AreUnusedSeats, AreRowsOf, AreFreshOf, AreVerifiersOf, AreSequencersOf};

@@ -1,13 +1,13 @@
 //! A stream ends.
 
-ghost use Rattle.std.specs.Prelude.{◌≡◌, ◌<◌, ◌==◌, ℕ, List, false, Some, None, IfSome, IfNone, if◌then◌else◌};
+ghost use Rattle.std.specs.Prelude.{◌≡◌, ◌<◌, ◌==◌, ℕ, List, false, Some, None, IfSome, IfNone};
 ghost use Rattle.lfi_module.specs.Numbers.{module_count};
 ghost use Rattle.lfi_frame.specs.declared.fault.FrameFault.{FrameFault};
 ghost use Rattle.lfi_frame.specs.declared.feed.Position.TheVariants.{Faulty};
 ghost use Rattle.lfi_frame.specs.Streams.{Message};
 ghost use Rattle.lfi_model.specs.declared.connection.Progress.TheVariants.{Going};
 ghost use Rattle.lfi_model.specs.Items.{is_going, reason_of};
-ghost use Rattle.lfi_stream.specs.Numbers.{position_at, progress_at, IsPossible};
+ghost use Rattle.lfi_stream.specs.Numbers.{position_at, progress_at};
 ghost use Rattle.lfi_stream.specs.Streams.{IsIn, StandsFor};
 ghost use Rattle.lfi_stream.specs.Endings.{Loses, LosesOne, Ends};
 

@@ -1,6 +1,6 @@
 //! Laws of streams whose numbers a caller keeps.
 
-ghost use Rattle.std.specs.Prelude.{◌≡◌, ◌<◌, ◌*◌, ℕ, List, [], ◌∷◌, length, Option, Some, All, true};
+ghost use Rattle.std.specs.Prelude.{◌≡◌, ◌<◌, ◌*◌, ℕ, List, ◌∷◌, length, Option, Some, All, true};
 ghost use Rattle.lfi_module.specs.Pages.{page_count};
 ghost use Rattle.a64_word.specs.Words.{words_of};
 ghost use Rattle.lfi_module.specs.Extents.{ExtentView};

@@ -1,6 +1,6 @@
 //! The numbers that a caller keeps of a stream between two pieces, and what they stand for.
 
-ghost use Rattle.std.specs.Prelude.{◌≡◌, ◌<◌, ◌≤◌, ◌==◌, ℕ, if◌then◌else◌, Some, IfSome};
+ghost use Rattle.std.specs.Prelude.{◌≡◌, ◌<◌, ◌≤◌, ◌==◌, Some, IfSome};
 ghost use Rattle.lfi_module.specs.Pages.{HasPages, page_count};
 ghost use Rattle.lfi_model.specs.declared.connection.Progress.TheVariants.{Going};
 ghost use Rattle.lfi_frame.specs.inner.Positions.{filled_at};

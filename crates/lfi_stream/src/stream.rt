@@ -1,6 +1,6 @@
 //! A stream goes on.
 
-ghost use Rattle.std.specs.Prelude.{◌≡◌, ◌≢◌, ◌<◌, ◌≤◌, ◌+◌, ◌*◌, ◌==◌, ◌&&◌, ◌++◌, ◌∷◌, ℕ, true, false, List, [], length, take, drop, Some, None, IfSome, IfNone, if◌then◌else◌, ◌⊎◌, All};
+ghost use Rattle.std.specs.Prelude.{◌≡◌, ◌≢◌, ◌<◌, ◌≤◌, ◌+◌, ◌*◌, ◌==◌, ◌&&◌, ◌++◌, ◌∷◌, ℕ, true, false, List, [], length, take, drop, Some, None, IfSome, IfNone, if◌then◌else◌};
 ghost use Rattle.lfi_module.specs.Numbers.{large_page};
 ghost use Rattle.lfi_module.specs.Pages.{is_due};
 ghost use Rattle.lfi_frame.specs.declared.feed.Feed.{Feed};

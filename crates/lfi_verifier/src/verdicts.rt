@@ -1,6 +1,6 @@
 //! The verdicts on a stream's code, as it comes.
 
-ghost use Rattle.std.specs.Prelude.{◌≡◌, ◌≢◌, ◌+◌, ◌*◌, ◌%◌, ◌≤◌, ◌++◌, ◌∷◌, ℕ, List, [], length, true, false, IfSome};
+ghost use Rattle.std.specs.Prelude.{◌≡◌, ◌≢◌, ◌+◌, ◌*◌, ◌≤◌, ◌++◌, ◌∷◌, ℕ, List, [], length, true, false, IfSome};
 ghost use Rattle.lfi_module.specs.Extents.{ExtentView};
 ghost use Rattle.lfi_module.specs.declared.profile.Profile.{Profile};
 ghost use Rattle.lfi_frame.specs.Streams.{Message};

@@ -1,5 +1,5 @@
 //! Pages: open, while bytes are appended, and sealed, once no byte is written any more.
-ghost use Rattle.std.specs.Prelude.{◌≡◌, ℕ, ◌+◌, ◌-◌, ◌*◌, ◌<◌, ◌≤◌, ◌==◌, List, [], ◌∷◌, ◌++◌, length, take, min, slice_index, MatchResult, IfOk};
+ghost use Rattle.std.specs.Prelude.{◌≡◌, ◌+◌, ◌-◌, ◌*◌, ◌<◌, ◌≤◌, ◌==◌, [], ◌++◌, length, take, min, slice_index, MatchResult, IfOk};
 ghost use Rattle.lfi_module.specs.Numbers.{large_page};
 ghost use Rattle.page_buf.specs.Page.{IsWhole, empty_page};
 ghost use Rattle.a64_word.specs.Words.{words_of};

@@ -1,7 +1,7 @@
 //! The pool of pages that are used again: 64 slots, each with a word that says what lies there. No
 //! call waits.
 
-ghost use Rattle.std.specs.Prelude.{◌≡◌, ◌<◌, ◌≤◌, [], IfSome, IfNone, IfOk, IfErr, OnOk, OnErr, All, length};
+ghost use Rattle.std.specs.Prelude.{◌≡◌, ◌<◌, [], IfSome, IfNone, IfOk, IfErr, OnOk, OnErr, All, length};
 ghost use Rattle.lfi_module.specs.Numbers.{small_page};
 
 use crate::hand::{Hand, PutBack, SeeEmpty, SeeFull, Sit, Slots, Try};

@@ -1,6 +1,6 @@
 ghost use Rattle.std.specs.Prelude.{◌≡◌, ℕ, ◌+◌, ◌-◌, ◌/◌, ◌^◌, ◌<◌, ◌≤◌, ◌↔◌, ◌⊎◌, OnOk, IfOk, IsTrue};
-ghost use Rattle.a64_word.specs.Bytes.{number_at, low_bytes, written};
-ghost use Rattle.sparse_memory.specs.Kept.{byte_at, frame_place, IsKept, AreKept, SameBytes, KeepsAll, KeepsOnly, SamePages, WritesByte, WritesNumber};
+ghost use Rattle.a64_word.specs.Bytes.{number_at};
+ghost use Rattle.sparse_memory.specs.Kept.{byte_at, IsKept, AreKept, SameBytes, KeepsAll, KeepsOnly, SamePages, WritesByte, WritesNumber};
 
 use crate::frames::{grow, read_2, read_4, read_8, write_2, write_4, write_8, zero_table};
 use std::alloc::{AllocError, Global};

@@ -1,5 +1,5 @@
 -- The owner takes in what the first taker took of its part, and then what the others took, and gives it back.
-use Rattle.std.proofs.Common.{rules, arith, ◌≡◌, ◌<◌, ℕ, List, [], ◌∷◌, None, Some, length, refl, ap, sym, ◌∙◌, ◌++◌, subst, set, get_or, slice_get}
+use Rattle.std.proofs.Common.{arith, ◌≡◌, [], ◌∷◌, None, Some, refl, ap, sym, ◌∙◌, ◌++◌, subst, set, get_or, slice_get}
 use Rattle.std.specs.Option.{option_map_or}
 use Rattle.crossbeam_deque.specs.Handles.{view as known, worker_view}
 use Rattle.lfi_queues.specs.inner.Ports.{number_of, items_of, EndsInFirst}

@@ -1,6 +1,5 @@
 -- Each taker gets its end of the part.
-use Rattle.std.proofs.Common.{arith, ◌<◌, ◌≤◌, ◌≡◌, ◌++◌, ◌∷◌, [], ◌∙◌, Some, length, ap, sym, subst, refl}
-use Rattle.std.specs.Prelude.{slice_get}
+use Rattle.std.proofs.Common.{arith, ◌<◌, ◌≤◌, ◌++◌, ◌∷◌, [], ◌∙◌, Some, length, ap, sym, subst, refl}
 use Rattle.std.proofs.lemmas.Option.{slice_get_read}
 use Rattle.std.proofs.lemmas.List.{length-set}
 use Rattle.lfi_queues.specs.inner.Delivery.{log, next_taker, one_more_taker}
