@@ -1,6 +1,6 @@
 //! Handles of threads are kept, and joined.
 
-ghost use Rattle.std.specs.Prelude.{◌≡◌, ℕ, Ok, Some, IfOk, OnOk, OnErr, ◌++◌, ◌∷◌, [], length, slice_get};
+ghost use Rattle.std.specs.Prelude.{◌≡◌, ◌⊎◌, ℕ, Ok, Err, Some, IfOk, IfErr, OnOk, OnErr, ◌++◌, ◌∷◌, [], length, slice_get};
 
 use crate::ends::Ends;
 use crate::refusal::LoadError;
@@ -22,6 +22,7 @@ pub fn keep<S: Threads, T: Drop, P: Promise<T>>(
 ) -> Result<(), LoadError>
     ensures kept { OnOk result ((handle : _) × (started ≡ Ok handle) × (handles.new.items ≡ handles.old.items ++ handle ∷ [])) }
     ensures refused { OnErr result (handles.new.items ≡ handles.old.items) }
+    ensures why { IfErr result (λ why. (started ≡ Err why) ⊎ (why ≡ LoadError.NoMemory)) }
 {
     let handle = started?;
     match handles.push(handle) {
