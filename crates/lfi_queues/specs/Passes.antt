@@ -16,12 +16,14 @@ pub record QueueId : Type 0 where
   pub putters : ℕ
   pub takers : ℕ
 
--- a pass: its queue, its number there, how often it was used, and what it put or took
+-- a pass: its queue, its number there, how often it was used, what it put or took, and how often a part of the intake
+-- answered it that a steal is to be tried again
 pub record PassView (X : Type 0) : Type 0 where
   pub queue : QueueId
   pub number : ℕ
   pub calls : ℕ
   pub items : List X
+  pub retries : ℕ
 
 module _ {X : Type 0} where
   -- it is the same pass of the same queue
@@ -37,8 +39,16 @@ module _ {X : Type 0} where
   abbrev pub AddsNone : (old new : PassView X) → Type 0
   AddsNone old new = new ≡ record old { calls = old.calls + 1 }
 
+  -- one take from the intake that added an item, whatever parts had answered before
+  abbrev pub GetsItem : (old new : PassView X) → Type 0
+  GetsItem old new = (item : X) × (new ≡ record old { calls = old.calls + 1; items = old.items ++ item ∷ []; retries = new.retries })
+
+  -- one take from the intake that added none, and in which a part answered that a steal is to be tried again
+  abbrev pub AsksAgain : (old new : PassView X) → Type 0
+  AsksAgain old new = (old.retries < new.retries) × (new ≡ record old { calls = old.calls + 1; retries = new.retries })
+
   abbrev pub new_pass : QueueId → ℕ → PassView X
-  new_pass queue k = record { queue = queue; number = k; calls = 0; items = [] }
+  new_pass queue k = record { queue = queue; number = k; calls = 0; items = []; retries = 0 }
 
   -- the first k passes of a new queue, in the order of their numbers
   abbrev pub new_passes : QueueId → ℕ → List (PassView X)

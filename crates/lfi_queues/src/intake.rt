@@ -47,7 +47,7 @@ impl<T> Model for PutPass<T> {
     ghost use Rattle.lfi_queues.specs.inner.Ports.{items_of};
     ghost use Rattle.lfi_queues.specs.inner.Parts.{intake_id, owning};
 
-    ghost view = { λ p. record { queue = intake_id p.home.value; number = p.number.value; calls = p.calls.value; items = items_of (worker_view p.owner).puts } };
+    ghost view = { λ p. record { queue = intake_id p.home.value; number = p.number.value; calls = p.calls.value; items = items_of (worker_view p.owner).puts; retries = 0 } };
 
     ghost invariant = { λ p. (worker_view p.owner ≡ owning p.home.value.takers (items_of (worker_view p.owner).puts)) × (slice_get p.home.value.parts p.number.value ≡ Some (worker_deque p.owner).0) × (256 ≤ worker_capacity p.owner) × (worker_index p.owner ≤ length (items_of (worker_view p.owner).puts)) × (worker_flavor p.owner ≡ 0) };
 }
@@ -125,6 +125,7 @@ impl<T> Intake<T> {
         ensures ok { OnOk result (pass.new.items ≡ pass.old.items ++ item ∷ []) }
         ensures err { IfErr result (λ back. (back ≡ item) × (pass.new.items ≡ pass.old.items)) }
         ensures room { IfErr result (λ _. 256 ≤ length pass.old.items) }
+        ensures retries { pass.new.retries ≡ pass.old.retries }
     {
         pass.calls = Auxiliary::of::<Auxiliary<u64>, Next>(&pass.calls);
         pass.owner.push_as::<PartPuts>(item)
@@ -138,6 +139,7 @@ impl<T> Intake<T> {
         ensures counted { pass.new.calls ≡ pass.old.calls + 1 }
         ensures taken { MatchTaken result (λ item. pass.new.items ≡ pass.old.items ++ item ∷ []) (pass.new.items ≡ pass.old.items) (pass.new.items ≡ pass.old.items) }
         ensures empty { MatchTaken result (λ _. ⊤) (SeenEmptyEach pass.old) ⊤ }
+        ensures retries { MatchTaken result (λ _. pass.old.retries ≤ pass.new.retries) (pass.new.retries ≡ pass.old.retries) (pass.old.retries < pass.new.retries) }
     {
         pass.ends.take()
     }

@@ -36,7 +36,10 @@
 //!   there are lists of all passes that go with it; such lists can always be made up, so these clauses refuse no wrong
 //!   body. A body that never takes is refused by tests, and, through all passes, by `rest`. The intake's `empty` says it
 //!   of each part, at a moment of its own: parts are looked at one after another.
-//! - **`Again` has no clause**: it is answered where no part gave an item and a steal was to be tried again.
+//! - **`Empty` and `Again` are told apart by a count.** What the work-stealing deque says of a steal that is to be tried
+//!   again holds of an empty part as well, so by itself it would let either answer stand for the other. So a taking pass
+//!   counts, for contracts alone, how often a steal was answered so, read off the answers themselves where the one
+//!   function that steals has them: with `Empty` it is what it was, with `Again` it is more.
 //! - **`rest` counts as no call**, and takes as the first taker. That of the intake has all takers' ends in an array, so
 //!   that what each took of each part is known in one place; so it is for 8 takers at most.
 //! - **A lane's call takes `Wait`**, the toolchain's leave to block, since the ruled array queue asks for it. So does

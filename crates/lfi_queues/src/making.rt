@@ -87,6 +87,7 @@ fn new_taker<T>(alloc: Global, number: usize) -> TakeEnds<T>
         number: Auxiliary::of::<usize, Number>(&number),
         calls: Auxiliary::of::<usize, NoCalls>(&number),
         items: Auxiliary::of::<usize, NoItems>(&number),
+        retries: Auxiliary::of::<usize, NoCalls>(&number),
     }
 }
 

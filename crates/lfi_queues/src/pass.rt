@@ -50,7 +50,7 @@ impl<T> Model for LanePut<T> {
 
     ghost use Rattle.lfi_queues.specs.inner.Ports.{queue_id, number_of, items_of, putting};
 
-    ghost view = { λ p. record { queue = queue_id p.seat.table_id p.counts.value; number = number_of (known p.seat).puts; calls = p.calls.value; items = items_of (known p.seat).puts } };
+    ghost view = { λ p. record { queue = queue_id p.seat.table_id p.counts.value; number = number_of (known p.seat).puts; calls = p.calls.value; items = items_of (known p.seat).puts; retries = 0 } };
 
     ghost invariant = { λ p. (known p.seat ≡ putting (number_of (known p.seat).puts) (items_of (known p.seat).puts)) × (p.seat.me.1 ≡ []) };
 }
@@ -72,7 +72,7 @@ impl<T> Model for LaneTake<T> {
 
     ghost use Rattle.lfi_queues.specs.inner.Ports.{queue_id, number_of, items_of, taking};
 
-    ghost view = { λ p. record { queue = queue_id p.seat.table_id p.counts.value; number = number_of (known p.seat).takes; calls = p.calls.value; items = items_of (known p.seat).takes } };
+    ghost view = { λ p. record { queue = queue_id p.seat.table_id p.counts.value; number = number_of (known p.seat).takes; calls = p.calls.value; items = items_of (known p.seat).takes; retries = 0 } };
 
     ghost invariant = { λ p. (known p.seat ≡ taking p.counts.value (number_of (known p.seat).takes) (items_of (known p.seat).takes)) × (p.seat.me.1 ≡ []) };
 }

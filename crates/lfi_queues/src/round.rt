@@ -2,9 +2,8 @@
 
 ghost use Rattle.std.specs.Prelude.{◌≡◌, ◌+◌, ◌≤◌, ◌<◌, [], ◌∷◌, ◌++◌, length, ℕ, Some, IfSome};
 ghost use Rattle.crossbeam_deque.specs.Steals.{MatchSteal};
-ghost use Rattle.lfi_queues.specs.Taken.{MatchTaken};
-ghost use Rattle.lfi_queues.specs.inner.Parts.{EndView, SeenEmpty, StealsFrom, SeenEmptyFrom, TakesFrom, with_item};
-ghost use Rattle.lfi_queues.specs.inner.Rounds.{MatchRound};
+ghost use Rattle.lfi_queues.specs.inner.Parts.{EndView, SeenEmpty, StealsFrom, SeenEmptyFrom, with_item, retried};
+ghost use Rattle.lfi_queues.specs.inner.Rounds.{MatchRound, Retries, DidTake};
 
 use crate::auxiliary::{Auxiliary, Reading};
 use crate::intake::Taken;
@@ -25,23 +24,30 @@ enum Round<T> {
 }
 
 /// One steal, where there is an end.
-fn steal_at<T>(slot: &mut Option<TakeEnd<T>>) -> Steal<T>
-    ensures { MatchSteal result ((slot.new ≡ slot.old) × IfSome slot.old SeenEmpty) (slot.new ≡ slot.old) (λ item. (end : EndView T) × (slot.old ≡ Some end) × (slot.new ≡ Some (with_item end item))) }
+fn steal_at<T>(slot: &mut Option<TakeEnd<T>>, retries: &mut Auxiliary<u64>) -> Steal<T>
+    ensures taken { MatchSteal result ((slot.new ≡ slot.old) × IfSome slot.old SeenEmpty) (slot.new ≡ slot.old) (λ item. (end : EndView T) × (slot.old ≡ Some end) × (slot.new ≡ Some (with_item end item))) }
+    ensures retries { retries.new.value ≡ retried retries.old.value result }
 {
     match slot {
-        Some(end) => end.steal(),
+        Some(end) => end.steal(retries),
         None => Steal::Empty,
     }
 }
 
 /// One steal from each of these parts, until one gives an item.
-fn try_parts<T>(ends: &mut [Option<TakeEnd<T>>], from: usize, to: usize) -> Round<T>
+fn try_parts<T>(
+    ends: &mut [Option<TakeEnd<T>>],
+    from: usize,
+    to: usize,
+    retries: &mut Auxiliary<u64>,
+) -> Round<T>
     requires { to ≤ length ends.old }
-    ensures { MatchRound result (λ p item. StealsFrom ends.old ends.new p item) ((ends.new ≡ ends.old) × SeenEmptyFrom ends.old from to) (ends.new ≡ ends.old) }
+    ensures taken { MatchRound result (λ p item. StealsFrom ends.old ends.new p item) ((ends.new ≡ ends.old) × SeenEmptyFrom ends.old from to) (ends.new ≡ ends.old) }
+    ensures retries { Retries result retries.old.value retries.new.value }
 {
     let mut again = false;
     for number in from..to {
-        match steal_at(&mut ends[number]) {
+        match steal_at(&mut ends[number], retries) {
             Steal::Success(item) => return Round::Got(number, item),
             Steal::Empty => {}
             Steal::Retry => again = true,
@@ -51,15 +57,20 @@ fn try_parts<T>(ends: &mut [Option<TakeEnd<T>>], from: usize, to: usize) -> Roun
 }
 
 /// One steal a part, from this part on and round to it.
-fn try_round<T>(ends: &mut [Option<TakeEnd<T>>], next: usize) -> Round<T>
+fn try_round<T>(
+    ends: &mut [Option<TakeEnd<T>>],
+    next: usize,
+    retries: &mut Auxiliary<u64>,
+) -> Round<T>
     requires { next ≤ length ends.old }
-    ensures { MatchRound result (λ p item. StealsFrom ends.old ends.new p item) ((ends.new ≡ ends.old) × SeenEmptyFrom ends.old 0 (length ends.old)) (ends.new ≡ ends.old) }
+    ensures taken { MatchRound result (λ p item. StealsFrom ends.old ends.new p item) ((ends.new ≡ ends.old) × SeenEmptyFrom ends.old 0 (length ends.old)) (ends.new ≡ ends.old) }
+    ensures retries { Retries result retries.old.value retries.new.value }
 {
     let count = ends.len();
-    match try_parts(ends, next, count) {
+    match try_parts(ends, next, count, retries) {
         Round::Got(number, item) => Round::Got(number, item),
-        Round::Empty => try_parts(ends, 0, next),
-        Round::Again => match try_parts(ends, 0, next) {
+        Round::Empty => try_parts(ends, 0, next, retries),
+        Round::Again => match try_parts(ends, 0, next, retries) {
             Round::Got(number, item) => Round::Got(number, item),
             Round::Empty | Round::Again => Round::Again,
         },
@@ -85,6 +96,7 @@ pub(crate) struct TakeEnds<T> {
     pub(crate) number: Auxiliary<u64>,
     pub(crate) calls: Auxiliary<u64>,
     pub(crate) items: Auxiliary<LinkedList<T>>,
+    pub(crate) retries: Auxiliary<u64>,
 }
 
 impl<T> Model for TakeEnds<T> {
@@ -92,17 +104,17 @@ impl<T> Model for TakeEnds<T> {
 
     ghost Value = { TakeView T };
 
-    ghost view = { λ t. record { home = t.home.value; number = t.number.value; calls = t.calls.value; items = t.items.value; ends = t.ends.items } };
+    ghost view = { λ t. record { home = t.home.value; number = t.number.value; calls = t.calls.value; items = t.items.value; retries = t.retries.value; ends = t.ends.items } };
 }
 
 impl<T> TakeEnds<T> {
     /// One steal a part, from the part after that of the last item on.
     pub(crate) fn take(&mut self) -> Taken<T>
-        ensures { MatchTaken result (λ item. (p : ℕ) × TakesFrom (record self.old { calls = self.old.calls + 1 }) self.new p item) ((self.new ≡ record self.old { calls = self.old.calls + 1 }) × SeenEmptyFrom self.old.ends 0 (length self.old.ends)) (self.new ≡ record self.old { calls = self.old.calls + 1 }) }
+        ensures { DidTake result self.old self.new }
     {
         self.calls = Auxiliary::of::<Auxiliary<u64>, Next>(&self.calls);
         let from = self.next.min(self.ends.len());
-        let round = try_round(self.ends.as_mut_slice(), from);
+        let round = try_round(self.ends.as_mut_slice(), from, &mut self.retries);
         match round {
             Round::Got(number, item) => {
                 self.next = number + 1;

@@ -3,23 +3,26 @@
 ghost use Rattle.std.specs.Prelude.{◌≡◌, ◌≢◌, ℕ, ◌+◌, ◌-◌, ◌*◌, ◌<◌, ◌≤◌, ◌==◌, ◌%◌, ◌^◌, ◌⊎◌, min, ◌↔◌, List, [], ◌∷◌, ◌++◌, length, take, drop, true, false, Some, None, is_some, IsSome, IsTrue, if◌then◌else◌, flat_map, ◌||◌, ◌&&◌};
 ghost use Rattle.lfi_board.specs.Known.{board_id, board_of, known_by};
 ghost use Rattle.lfi_board.specs.Calls.{Saw, number_of};
-ghost use Rattle.lfi_frame.specs.Feeds.{FeedStands, feed_fault};
-ghost use Rattle.lfi_frame.specs.declared.fault.FrameFault.{FrameFault};
-ghost use Rattle.lfi_frame.specs.Streams.{Message, open_message, page_message, close_message, rest_of, short, unfinished, spelling};
-ghost use Rattle.lfi_model.specs.declared.item.ItemKind.TheVariants.{End};
+ghost use Rattle.lfi_frame.specs.Feeds.{IsTold, feed_fault};
+ghost use Rattle.lfi_frame.specs.Streams.{Message, spelling};
+ghost use Rattle.lfi_frame.specs.declared.answer.Got.TheVariants.{More};
+ghost use Rattle.lfi_model.specs.declared.item.ItemKind.TheVariants.{Open, End};
 ghost use Rattle.lfi_model.specs.declared.connection.Progress.{Progress};
-ghost use Rattle.lfi_model.specs.declared.connection.Progress.TheVariants.{Going, Ended};
-ghost use Rattle.lfi_model.specs.Items.{is_page_due, item_of, reason_of, fault_by_cause, share_of};
-ghost use Rattle.lfi_receive.specs.Places.{progress_at, IsPossible};
+ghost use Rattle.lfi_model.specs.declared.connection.Progress.TheVariants.{Going};
+ghost use Rattle.lfi_model.specs.Items.{item_of};
+ghost use Rattle.lfi_module.specs.Pages.{page_count, bytes_in_page};
+ghost use Rattle.lfi_connection.specs.Places.{IsPossible};
+ghost use Rattle.lfi_connection.specs.Events.{Follows};
 
 use crate::ahead::PageMemory;
-use crate::coming::Coming;
-use crate::modules::{Modules, OpenModule};
+use crate::coming::ComingPage;
+use crate::modules::Modules;
 use crate::seat::OwnSeat;
-use lfi_board::{Board, Claim, Phase, ReceiverSeat};
+use lfi_board::{Board, Phase, ReceiverSeat};
+use lfi_connection::{Coming, Event, bring, end_by, lose};
 use lfi_frame::{Feed, FrameFault, Got, Step};
-use lfi_model::{Cause, Item, ItemKind, Progress, Reason};
-use lfi_module::{Extent, ModuleNumber, PageSize};
+use lfi_model::{Cause, Item, ItemKind, Reason};
+use lfi_module::{Extent, ModuleNumber};
 use lfi_queues::{Intake, PutPass};
 use page_buf::PoolMember;
 use std::alloc::Global;
@@ -39,36 +42,6 @@ pub enum ReceiverTurn {
     Finished,
 }
 
-/// What a page's header brought.
-#[derive(Clone, Copy, PartialEq, Eq)]
-enum Begun {
-    /// It is a stray.
-    Stray,
-    /// Its payload is kept or passed over.
-    Awaited,
-    /// There is no memory for its payload.
-    Starved,
-}
-
-/// The End of a module that is open when its connection ends with a fault.
-fn reason_of(fault: FrameFault) -> Reason
-    ensures { result ≡ reason_of fault }
-{
-    match fault {
-        FrameFault::NoMemory => Reason::NoMemory,
-        fault => Reason::Lost(fault),
-    }
-}
-
-/// Whether page `index` of `len` bytes, of pages of this size, is the one that has to come next of a module of which the
-/// first `come` pages have come.
-fn is_page_due(extent: Extent, come: u32, size: PageSize, index: u32, len: u32) -> bool
-    ensures { result ≡ is_page_due extent come size index len }
-{
-    let pages = extent.pages();
-    size == pages && extent.words().is_due(pages, come, index, len as usize)
-}
-
 /// The receiver of one connection.
 #[derive(Drop)]
 pub struct Receiver {
@@ -77,7 +50,10 @@ pub struct Receiver {
     pass: PutPass<Item>,
     seat: OwnSeat,
     modules: Modules,
+    /// Which page's payload is coming, where it is the one due.
     coming: Option<Coming>,
+    /// That page, with what came of it.
+    page: Option<ComingPage>,
     /// The item that is to be put next.
     hand: Option<Item>,
     cause: Option<Cause>,
@@ -86,11 +62,11 @@ pub struct Receiver {
 }
 
 impl Receiver {
-    ghost use Rattle.lfi_receive.specs.declared.receiver.Begun.TheVariants as begun;
     ghost use Rattle.lfi_receive.specs.declared.receiver.ReceiverTurn.TheVariants as turn;
     ghost use Rattle.lfi_receive.specs.Turns.{PutsAsTold, CountsAsTold, is_finished};
-    ghost use Rattle.lfi_receive.specs.inner.Holding.{made_by, knows, Agrees, Holds, KnowsClaims};
-    ghost use Rattle.lfi_receive.specs.Receivers.{pass_of, seat_of, claimed_by, cause_of, hand_of, fault_of, strays_at, cause_after, StandsFor, IsOver, IsDuePage, IsFinished, due_of, AfterEnd};
+    ghost use Rattle.lfi_receive.specs.inner.Holding.{made_by, knows, Holds, Brought};
+    ghost use Rattle.lfi_receive.specs.inner.Steps.{Begins, Keeps};
+    ghost use Rattle.lfi_receive.specs.Receivers.{pass_of, seat_of, claimed_by, cause_of, hand_of, fault_of, strays_at, cause_after, StandsFor, IsOver, IsFinished, due_of, AfterEnd};
 
     /// A receiver of which no byte has come, with its pass of the intake and its seat at the board,
     /// neither of which was used, and the pool that it asks for pages first.
@@ -113,6 +89,7 @@ impl Receiver {
             seat: OwnSeat { seat, told: false },
             modules: Modules::new(),
             coming: None,
+            page: None,
             hand: None,
             cause: None,
             fault: None,
@@ -150,147 +127,136 @@ impl Receiver {
         self.strays = self.strays.saturating_add(1);
     }
 
-    /// The End of an open module comes into the hand.
-    fn end_module(&mut self, ended: OpenModule, reason: Reason)
+    /// The End of an open module, of which so many pages came, comes into the hand.
+    fn end_module(&mut self, module: ModuleNumber, extent: Extent, pages: u32, reason: Reason)
         requires free { self.old.hand ≡ None }
-        requires possible { IsPossible (Going ended.extent ended.pages) }
-        ensures hand { self.new.hand ≡ Some (item_of ended.number (ended.pages + 1) ended.extent (End reason)) }
-        ensures modules { (m : ℕ) → progress_at self.new.modules m ≡ (if m == ended.number then Ended else progress_at self.old.modules m) }
-        ensures rest { self.new ≡ record self.old { modules = self.new.modules; hand = self.new.hand } }
+        requires possible { IsPossible (Going extent pages) }
+        ensures { self.new ≡ record self.old { hand = Some (item_of «module» (pages + 1) extent (End reason)) } }
     {
-        self.modules.set(ended.number, Progress::Ended);
         self.hand = Some(Item {
-            module: ended.number,
-            ordinal: ended.pages + 1,
-            extent: ended.extent,
+            module,
+            ordinal: pages + 1,
+            extent,
             kind: ItemKind::End(reason),
         });
     }
 
-    /// An Open: it claims its module, where the board has it free; else it is a stray, which the
-    /// answer tells.
-    fn open(&mut self, board: &Board, module: ModuleNumber, extent: Extent) -> bool
+    /// The Open of a module comes into the hand.
+    fn open_module(&mut self, module: ModuleNumber, extent: Extent)
         requires free { self.old.hand ≡ None }
-        requires board { board_of self.old.seat.seat ≡ board_id board.now }
-        ensures holds { (messages : List Message) → Holds self.old messages [] → Holds self.new (messages ++ open_message «module» extent ∷ []) [] }
-        ensures hand { IsTrue result → self.new.hand ≡ None }
-        ensures board { board_of self.new.seat.seat ≡ board_of self.old.seat.seat }
-        ensures ended { (knows self.new).ended ≡ (knows self.old).ended }
-        ensures strays { self.new.strays ≡ (if result then min (self.old.strays + 1) (2 ^ 64 - 1) else self.old.strays) }
-        ensures rest { self.new ≡ record self.old { modules = self.new.modules; seat = self.new.seat; hand = self.new.hand; strays = self.new.strays } }
+        ensures { self.new ≡ record self.old { hand = Some (item_of «module» 0 extent Open) } }
     {
-        match self.seat.claim(board, module) {
-            Claim::Taken => {
-                self.stray();
-                true
-            }
-            Claim::Mine => {
-                self.modules
-                    .set(module, Progress::Going { extent, pages: 0 });
-                self.hand = Some(Item {
-                    module,
-                    ordinal: 0,
-                    extent,
-                    kind: ItemKind::Open,
-                });
-                false
-            }
-        }
-    }
-
-    /// A Close: it ends its module where that is open; else it is a stray, which the answer tells.
-    fn close(&mut self, module: ModuleNumber) -> bool
-        requires { self.old.hand ≡ None }
-        ensures holds { (messages : List Message) → Holds self.old messages [] → Holds self.new (messages ++ close_message «module» ∷ []) [] }
-        ensures hand { IsTrue result → self.new.hand ≡ None }
-        ensures strays { self.new.strays ≡ (if result then min (self.old.strays + 1) (2 ^ 64 - 1) else self.old.strays) }
-        ensures rest { self.new ≡ record self.old { modules = self.new.modules; hand = self.new.hand; strays = self.new.strays } }
-    {
-        match self.modules.at(module) {
-            Progress::Going { extent, pages } => {
-                let open = OpenModule {
-                    number: module,
-                    extent,
-                    pages,
-                };
-                self.end_module(open, Reason::Close);
-                false
-            }
-            _ => {
-                self.stray();
-                true
-            }
-        }
-    }
-
-    /// The header of page `index`, of pages of this size, with `len` payload bytes: it is the one due of an open module
-    /// and its payload is awaited, or it ends its module; or it is a stray.
-    fn page(&mut self, module: ModuleNumber, size: PageSize, index: u32, len: u32) -> Begun
-        requires free { self.old.hand ≡ None }
-        requires in_range { (0 < len) × (len ≤ 4 * size) × (len % 4 ≡ 0) }
-        ensures agrees { (messages : List Message) → Holds self.old messages [] → Agrees self.new.modules (made_by self.new) self.new.strays messages (unfinished «module» size index len) }
-        ensures holds { result ≢ begun.Starved → (messages : List Message) (rest : List ℕ) → Holds self.old messages [] → rest_of rest ≡ unfinished «module» size index len → drop 12 rest ≡ [] → Holds self.new messages rest }
-        ensures claims { (messages : List Message) → Holds self.old messages [] → KnowsClaims (knows self.new) self.new.modules messages }
-        ensures starved { result ≡ begun.Starved → (messages : List Message) → Holds self.old messages [] → IsDuePage (share_of (claimed_by self.new «module») «module» messages short).progress size index len }
-        ensures hand { result ≡ begun.Stray → self.new.hand ≡ None }
-        ensures stray { result ≡ begun.Stray → self.new.strays ≡ min (self.old.strays + 1) (2 ^ 64 - 1) }
-        ensures strays { result ≢ begun.Stray → self.new.strays ≡ self.old.strays }
-        ensures rest { self.new ≡ record self.old { memory = self.new.memory; modules = self.new.modules; coming = self.new.coming; hand = self.new.hand; strays = self.new.strays } }
-    {
-        let Progress::Going { extent, pages } = self.modules.at(module) else {
-            self.stray();
-            return Begun::Stray;
-        };
-        let ended = OpenModule {
-            number: module,
+        self.hand = Some(Item {
+            module,
+            ordinal: 0,
             extent,
-            pages,
-        };
-        if !is_page_due(extent, pages, size, index, len) {
-            self.end_module(ended, Reason::PageFault(index));
-            return Begun::Awaited;
-        }
-        match self.memory.page(size) {
+            kind: ItemKind::Open,
+        });
+    }
+
+    /// The page that is due of a module begins: it has memory now, or where there is none the input is over.
+    fn begin(&mut self, module: ModuleNumber, extent: Extent, pages: u32, len: u32)
+        requires due { (pages < page_count extent.pages extent.words) × (len ≡ bytes_in_page extent.pages extent.words pages) }
+        requires running { self.old.cause ≡ None }
+        ensures page { Begins «module» extent pages self.old self.new }
+    {
+        match self.memory.page(extent.pages()) {
             Ok(page) => {
-                self.coming = Some(Coming {
+                self.page = Some(ComingPage {
                     module,
                     extent,
                     pages,
                     left: len,
                     page,
                 });
-                Begun::Awaited
             }
-            Err(_) => Begun::Starved,
+            Err(_) => {
+                self.feed.stop(FrameFault::NoMemory);
+                self.fault = Some(FrameFault::NoMemory);
+                self.cause = Some(Cause::Starved);
+            }
         }
     }
 
-    /// Payload bytes of the page whose header came last.
+    /// Payload bytes of the page that is coming: they are kept, and where they make it whole it comes into the hand.
     fn payload(&mut self, bytes: &[u8])
         requires free { self.old.hand ≡ None }
-        ensures goes_on { (messages : List Message) (rest : List ℕ) (m size index len : ℕ) → Holds self.old messages rest → rest_of rest ≡ unfinished m size index len → rest_of (rest ++ bytes.now) ≡ unfinished m size index len
-            → Holds self.new messages (rest ++ bytes.now) }
-        ensures ends { (messages : List Message) (rest : List ℕ) (m size index len : ℕ) → Holds self.old messages rest → rest_of rest ≡ unfinished m size index len → length (drop 12 rest ++ bytes.now) ≡ len
-            → Holds self.new (messages ++ page_message m size index (drop 12 rest ++ bytes.now) ∷ []) [] }
-        ensures rest { self.new ≡ record self.old { modules = self.new.modules; coming = self.new.coming; hand = self.new.hand } }
+        ensures { Keeps bytes.now self.old self.new }
     {
-        let Some(coming) = self.coming.take() else {
+        let Some(page) = self.page.take() else {
             return;
         };
-        let module = coming.module;
-        let progress = Progress::Going {
-            extent: coming.extent,
-            pages: coming.pages + 1,
-        };
-        match coming.add(bytes) {
+        match page.add(bytes) {
             Ok(item) => {
-                self.modules.set(module, progress);
                 self.hand = Some(item);
             }
-            Err(coming) => {
-                self.coming = Some(coming);
+            Err(page) => {
+                self.page = Some(page);
             }
         }
+    }
+
+    /// What an event brings comes into the hand, or into the page that is coming. It answers whether it is a stray.
+    fn tell(&mut self, event: Event, bytes: &[u8]) -> bool
+        requires free { self.old.hand ≡ None }
+        requires running { self.old.cause ≡ None }
+        requires follows { (was : ℕ → Progress) × Follows event was }
+        ensures stands { (messages : List Message) (rest : List ℕ) → Brought self.old event messages rest bytes.now → StandsFor self.new (flat_map spelling messages ++ (rest ++ bytes.now)) }
+        ensures over { (messages : List Message) (rest : List ℕ) → Brought self.old event messages rest bytes.now → IsOver (claimed_by self.new) self.new.cause (flat_map spelling messages ++ (rest ++ bytes.now)) }
+        ensures pass { self.new.pass ≡ self.old.pass }
+        ensures stray { IsTrue result → self.new.hand ≡ None }
+        ensures seat { self.new.seat ≡ self.old.seat }
+        ensures strays { self.new.strays ≡ (if result then min (self.old.strays + 1) (2 ^ 64 - 1) else self.old.strays) }
+    {
+        match event {
+            Event::Nothing => {}
+            Event::Open { module, extent } => self.open_module(module, extent),
+            Event::Begin {
+                module,
+                extent,
+                pages,
+                len,
+            } => self.begin(module, extent, pages, len),
+            Event::Code { .. } => self.payload(bytes),
+            Event::Stray { .. } => {
+                self.stray();
+                return true;
+            }
+            Event::End {
+                module,
+                extent,
+                pages,
+                reason,
+            } => self.end_module(module, extent, pages, reason),
+            Event::Fault(_) => {}
+        }
+        false
+    }
+
+    /// What these bytes brought, which the feed has told. At an Open the board is asked. It answers whether it is a stray.
+    fn take(&mut self, board: &Board, got: Got, bytes: &[u8]) -> bool
+        requires free { self.old.hand ≡ None }
+        requires running { self.old.cause ≡ None }
+        requires board { board_of self.old.seat.seat ≡ board_id board.now }
+        ensures stands { (messages : List Message) (rest : List ℕ) → (got ≢ More → bytes.now ≢ []) → Holds self.old messages rest → IsTold got self.old.feed messages rest bytes.now → feed_fault self.old.feed ≡ None →
+            StandsFor self.new (flat_map spelling messages ++ (rest ++ bytes.now)) }
+        ensures over { (messages : List Message) (rest : List ℕ) → (got ≢ More → bytes.now ≢ []) → Holds self.old messages rest → IsTold got self.old.feed messages rest bytes.now → feed_fault self.old.feed ≡ None →
+            IsOver (claimed_by self.new) self.new.cause (flat_map spelling messages ++ (rest ++ bytes.now)) }
+        ensures pass { self.new.pass ≡ self.old.pass }
+        ensures stray { IsTrue result → self.new.hand ≡ None }
+        ensures board { board_of self.new.seat.seat ≡ board_of self.old.seat.seat }
+        ensures ended { (knows self.new).ended ≡ (knows self.old).ended }
+        ensures strays { self.new.strays ≡ (if result then min (self.old.strays + 1) (2 ^ 64 - 1) else self.old.strays) }
+    {
+        let is_free = self.seat.is_free(board, &got);
+        let event = bring(
+            &mut self.modules,
+            &mut self.coming,
+            got,
+            bytes.len(),
+            is_free,
+        );
+        self.tell(event, bytes)
     }
 
     /// Goes on in the bytes, up to the end of a header or a payload: how many it used, and
@@ -310,52 +276,11 @@ impl Receiver {
         ensures strays { self.new.strays ≡ (if result.1 then min (self.old.strays + 1) (2 ^ 64 - 1) else self.old.strays) }
     {
         match self.feed.feed(piece) {
-            Ok(Step { used, got }) => match got {
-                Got::More => (used, false),
-                Got::Open { module, extent } => (used, self.open(board, module, extent)),
-                Got::Page {
-                    module,
-                    size,
-                    index,
-                    len,
-                } => (used, self.begin(module, size, index, len)),
-                Got::Payload { .. } => {
-                    self.payload(&piece[..used]);
-                    (used, false)
-                }
-                Got::Close { module } => (used, self.close(module)),
-            },
+            Ok(Step { used, got }) => (used, self.take(board, got, &piece[..used])),
             Err((used, fault)) => {
                 self.fault = Some(fault);
                 self.cause = Some(Cause::End);
                 (used, false)
-            }
-        }
-    }
-
-    /// The header of a page; where there is no memory for its payload the input is over. The
-    /// answer tells whether it is a stray.
-    fn begin(&mut self, module: ModuleNumber, size: PageSize, index: u32, len: u32) -> bool
-        requires free { self.old.hand ≡ None }
-        requires running { self.old.cause ≡ None }
-        requires in_range { (0 < len) × (len ≤ 4 * size) × (len % 4 ≡ 0) }
-        ensures stands { (messages : List Message) (rest : List ℕ) → Holds self.old messages [] → FeedStands self.old.feed messages rest → feed_fault self.old.feed ≡ None
-            → length rest ≡ 12 → rest_of rest ≡ unfinished «module» size index len → StandsFor self.new (flat_map spelling messages ++ rest) }
-        ensures over { (messages : List Message) (rest : List ℕ) → Holds self.old messages [] → FeedStands self.old.feed messages rest → length rest ≡ 12 → rest_of rest ≡ unfinished «module» size index len
-            → IsOver (claimed_by self.new) self.new.cause (flat_map spelling messages ++ rest) }
-        ensures pass { self.new.pass ≡ self.old.pass }
-        ensures stray { IsTrue result → self.new.hand ≡ None }
-        ensures seat { self.new.seat ≡ self.old.seat }
-        ensures strays { self.new.strays ≡ (if result then min (self.old.strays + 1) (2 ^ 64 - 1) else self.old.strays) }
-    {
-        match self.page(module, size, index, len) {
-            Begun::Stray => true,
-            Begun::Awaited => false,
-            Begun::Starved => {
-                self.feed.stop(FrameFault::NoMemory);
-                self.fault = Some(FrameFault::NoMemory);
-                self.cause = Some(Cause::Starved);
-                false
             }
         }
     }
@@ -376,13 +301,17 @@ impl Receiver {
         let Some(fault) = self.fault else {
             return false;
         };
-        match self.modules.first_going() {
-            Some(open) => {
-                self.end_module(open, reason_of(fault));
-                true
-            }
-            None => false,
-        }
+        let Event::End {
+            module,
+            extent,
+            pages,
+            reason,
+        } = lose(&mut self.modules, fault)
+        else {
+            return false;
+        };
+        self.end_module(module, extent, pages, reason);
+        true
     }
 
     /// Puts the End that is due next; where none is, the receiver is finished, and tells it.
@@ -491,10 +420,7 @@ impl Receiver {
         ensures seat { seat_of self.new ≡ seat_of self.old }
         ensures strays { strays_at self.new ≡ strays_at self.old }
     {
-        let unfinished = self.feed.end().is_err();
-        let going = self.modules.first_going().is_some();
-        let fault = fault_by(cause, unfinished | going);
-        self.fault = fault;
+        self.fault = end_by(&self.modules, &mut self.feed, cause);
         self.cause = Some(cause);
     }
 
@@ -532,18 +458,5 @@ impl Receiver {
         ensures seat { result.1 ≡ seat_of self }
     {
         (self.pass, self.seat.seat)
-    }
-}
-
-/// The connection's fault where its input is over for this cause, and a message or a module may be
-/// left open.
-fn fault_by(cause: Cause, open: bool) -> Option<FrameFault>
-    ensures { result ≡ fault_by_cause cause «open» }
-{
-    match cause {
-        Cause::End if open => Some(FrameFault::Ended),
-        Cause::End => None,
-        Cause::Failed => Some(FrameFault::ReadFailed),
-        Cause::Starved => Some(FrameFault::NoMemory),
     }
 }

@@ -14,7 +14,7 @@ use Rattle.lfi_model.specs.Items.{Share, nothing_yet, after_message, after_heade
 use Rattle.lfi_model.specs.Outcomes.{page_of, pages_of, end_of}
 use Rattle.lfi_model.proofs.Numbered.{end_snoc}
 use Rattle.lfi_stream.specs.Streams.{made_of}
-use Rattle.lfi_stream.proofs.Growth.{next_by}
+use Rattle.lfi_connection.proofs.Growth.{next_by}
 
 abbrev HasNoEnd : List ItemView → ℕ → Type 0
 HasNoEnd items p = (length (pages_of items) ≡ p) × (end_of items ≡ None)

@@ -1,9 +1,5 @@
-pub mod Texts
-mod Growth
 mod ProfileNumbers
-mod Books
 mod Told
-mod InputEnds
 mod OneText
 mod Wholes
 mod Places

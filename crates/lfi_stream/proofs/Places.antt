@@ -14,8 +14,8 @@ use Rattle.lfi_model.specs.declared.connection.Progress.TheVariants.{Unclaimed, 
 use Rattle.lfi_model.specs.Items.{Share, nothing_yet, after_message, after_header, after_rest, is_of, item_of, with_item}
 use Rattle.lfi_stream.specs.Streams.{made_of}
 use Rattle.lfi_stream.specs.Outcomes.{bytes_at, code_of}
-use Rattle.lfi_stream.proofs.Growth.{next_by}
-use Rattle.lfi_stream.proofs.Books.{due_says}
+use Rattle.lfi_connection.proofs.Growth.{next_by}
+use Rattle.lfi_connection.proofs.Books.{due_says}
 
 -- so many bytes by how far a module is
 abbrev Came : Progress → List ItemView → Type 0

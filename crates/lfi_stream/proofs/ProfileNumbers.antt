@@ -7,7 +7,7 @@ use Rattle.lfi_module.specs.declared.profile.Profile.TheVariants.{One, Two}
 use Rattle.lfi_module.specs.Profiles.{profile_number}
 use Rattle.lfi_module.specs.Pages.{HasPages}
 use Rattle.lfi_stream.specs.Numbers.{profile_at, pages_at}
-use Rattle.lfi_stream.proofs.Growth.{by_false}
+use Rattle.lfi_connection.proofs.Growth.{by_false}
 
 -- its number tells it
 pub at_number : (profile : Profile) → profile_at (profile_number profile) ≡ Some profile

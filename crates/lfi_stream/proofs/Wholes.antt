@@ -9,7 +9,7 @@ use Rattle.lfi_rules.specs.Faults.{FirstFault}
 use Rattle.lfi_rules.specs.Verdicts.{all_words}
 use Rattle.lfi_rules.specs.declared.fault.Fault.{Fault}
 use Rattle.lfi_code.proofs.Begun.{words_append}
-use Rattle.lfi_stream.proofs.Growth.{next_by}
+use Rattle.lfi_connection.proofs.Growth.{next_by}
 use Rattle.lfi_frame.specs.Streams.{Message, IsMessage, open_message, page_message, close_message, header_of, Rest, short, faulty, unfinished, whole, rest_of}
 use Rattle.lfi_frame.specs.declared.fault.FrameFault.{FrameFault}
 use Rattle.lfi_frame.proofs.Cuts.{page_paging}

@@ -1,5 +1,5 @@
 -- What the numbers stand for that a caller keeps of a stream. Source: include/lfi_verifier.h, docs/PROFILE.md.
-use Rattle.std.specs.Prelude.{ℕ, ◌≤◌, ◌==◌, ◌||◌, ◌&&◌, nat_lt, nat_le, if◌then◌else◌, List, get_or, Option, Some, None, option_map}
+use Rattle.std.specs.Prelude.{ℕ, ◌==◌, ◌||◌, ◌&&◌, nat_lt, nat_le, if◌then◌else◌, List, get_or, Option, Some, None, option_map}
 use Rattle.lfi_module.specs.Numbers.{module_count, most_words, small_page, large_page}
 use Rattle.lfi_module.specs.declared.profile.Profile.{Profile}
 use Rattle.lfi_module.specs.declared.profile.Profile.TheVariants.{One, Two}
@@ -14,7 +14,7 @@ use Rattle.lfi_model.specs.declared.connection.Progress.{Progress}
 use Rattle.lfi_model.specs.declared.connection.Progress.TheVariants.{Unclaimed, Going, Ended}
 use Rattle.lfi_stream.specs.declared.numbers.LfiStreamModule.{LfiStreamModule}
 use Rattle.lfi_stream.specs.declared.numbers.LfiStreamPage.{LfiStreamPage}
-use Rattle.lfi_stream.specs.declared.numbers.Coming.{Coming}
+use Rattle.lfi_connection.specs.declared.coming.Coming.{Coming}
 
 -- the fault with a number
 abbrev pub fault_at_number : ℕ → Option FrameFault
@@ -61,11 +61,6 @@ abbrev pub progress_of : LfiStreamModule → Progress
 progress_of numbers =
     if numbers.phase == 0 then Unclaimed
     else if numbers.phase == 1 then going_by (extent_at numbers.words numbers.entry numbers.profile numbers.page_words) numbers.pages else Ended
-
--- no more pages of a module have come than it has
-abbrev pub IsPossible : Progress → Type 0
-IsPossible (Going extent pages) = pages ≤ page_count extent.pages extent.words
-IsPossible progress = Unit {0}
 
 -- the numbers of a module that wasn't opened
 abbrev pub untouched : LfiStreamModule

@@ -14,13 +14,12 @@
 
 mod beginning;
 mod ending;
-mod event;
 pub mod laws;
 mod numbers;
 mod stream;
 
 pub use beginning::begin;
 pub use ending::end;
-pub use event::Event;
+pub use lfi_connection::Event;
 pub use numbers::{LfiStreamFeed, LfiStreamModule, LfiStreamPage, LfiStreamText};
 pub use stream::next;

@@ -4,8 +4,10 @@ ghost use Rattle.std.specs.Prelude.{◌≡◌, ◌<◌, ◌≤◌, ◌==◌, Som
 ghost use Rattle.lfi_module.specs.Pages.{HasPages, page_count};
 ghost use Rattle.lfi_model.specs.declared.connection.Progress.TheVariants.{Going};
 ghost use Rattle.lfi_frame.specs.inner.Positions.{filled_at};
-ghost use Rattle.lfi_stream.specs.Numbers.{fault_at_number, position_at, profile_at, pages_at, extent_at, going_by, progress_of, untouched, IsPossible, page_at};
+ghost use Rattle.lfi_stream.specs.Numbers.{fault_at_number, position_at, profile_at, pages_at, extent_at, going_by, progress_of, untouched, page_at};
+ghost use Rattle.lfi_connection.specs.Places.{IsPossible};
 
+use lfi_connection::{Coming, Places};
 use lfi_frame::{FrameFault, HEADER_BYTES, Position};
 use lfi_model::Progress;
 use lfi_module::{Extent, ModuleNumber, PageSize, Profile, WordCount};
@@ -60,21 +62,6 @@ pub struct LfiStreamText {
     pub page: LfiStreamPage,
     /// How far the modules are, by their numbers.
     pub modules: [LfiStreamModule; ModuleNumber::COUNT],
-}
-
-/// The page that is coming, where one is.
-#[derive(Clone, Copy)]
-pub(crate) struct Coming {
-    pub(crate) module: ModuleNumber,
-    pub(crate) come: usize,
-}
-
-/// A module that is open: its number, how large it is, and how many of its pages came.
-#[derive(Clone, Copy)]
-pub(crate) struct OpenModule {
-    pub(crate) number: ModuleNumber,
-    pub(crate) extent: Extent,
-    pub(crate) pages: u32,
 }
 
 /// The fault with this number.
@@ -246,13 +233,16 @@ impl LfiStreamPage {
         }
     }
 
-    /// The numbers of this page.
-    pub(crate) fn of(page: Coming) -> LfiStreamPage
-        ensures { page_at result ≡ Some page }
+    /// The numbers of the page that is coming, where one is.
+    pub(crate) fn of(coming: Option<Coming>) -> LfiStreamPage
+        ensures { page_at result ≡ coming }
     {
-        LfiStreamPage {
-            module: u32::from(page.module.number()),
-            come: page.come,
+        match coming {
+            Some(page) => LfiStreamPage {
+                module: u32::from(page.module.number()),
+                come: page.come,
+            },
+            None => LfiStreamPage::none(),
         }
     }
 
@@ -267,5 +257,22 @@ impl LfiStreamPage {
             module: ModuleNumber::at(self.module as usize),
             come: self.come,
         })
+    }
+}
+
+impl Places for LfiStreamText {
+    ghost use Rattle.std.specs.Prelude.{◌≡◌};
+    ghost use Rattle.lfi_stream.specs.Numbers.{progress_at};
+
+    ghost progress_at = { λ stream. progress_at stream.modules };
+
+    ghost Keeps = { λ old new. new ≡ record old { modules = new.modules } };
+
+    fn at(&self, module: ModuleNumber) -> Progress {
+        self.modules[module.index()].progress()
+    }
+
+    fn set(&mut self, module: ModuleNumber, progress: Progress) {
+        self.modules[module.index()] = LfiStreamModule::of(progress);
     }
 }

@@ -1,5 +1,5 @@
 -- What is told of code, and judged, at each event.
-use Rattle.std.proofs.Common.{◌≡◌, ◌≢◌, ℕ, ◌+◌, ◌*◌, ◌%◌, ◌≤◌, List, [], ◌∷◌, ◌++◌, length, drop, refl, sym, subst, ◌∙◌, append_assoc, Bool, true, false}
+use Rattle.std.proofs.Common.{◌≡◌, ◌≢◌, ℕ, ◌+◌, ◌*◌, ◌%◌, ◌≤◌, List, [], ◌∷◌, ◌++◌, length, drop, refl, inr, sym, subst, ◌∙◌, append_assoc, Bool, true, false}
 use Rattle.lfi_module.specs.Extents.{ExtentView}
 use Rattle.lfi_module.specs.declared.profile.Profile.{Profile}
 use Rattle.lfi_frame.specs.Streams.{Message, rest_of}
@@ -7,11 +7,12 @@ use Rattle.lfi_model.specs.Item.{ItemView}
 use Rattle.lfi_model.specs.Items.{Share, item_of}
 use Rattle.lfi_model.specs.declared.item.ItemKind.TheVariants as item
 use Rattle.lfi_model.specs.declared.item.Reason.{Reason}
-use Rattle.lfi_stream.specs.declared.event.Event.{Event}
-use Rattle.lfi_stream.specs.declared.event.Event.TheVariants.{Nothing, Open, Code, Stray, End, Fault}
+use Rattle.lfi_connection.specs.declared.event.Event.{Event}
+use Rattle.lfi_connection.specs.declared.event.Event.TheVariants.{Nothing, Open, Begin, Code, Stray, End, Fault}
 use Rattle.lfi_stream.specs.declared.numbers.LfiStreamText.{LfiStreamText}
 use Rattle.lfi_model.specs.declared.connection.Progress.TheVariants.{Going}
-use Rattle.lfi_stream.specs.Events.{after_event, Tells, IsTold}
+use Rattle.lfi_connection.specs.Events.{after_event}
+use Rattle.lfi_stream.specs.Events.{Tells, IsTold}
 use Rattle.lfi_stream.specs.Outcomes.{code_of}
 use Rattle.lfi_stream.specs.Streams.{made_of}
 use Rattle.lfi_verifier.specs.declared.cut_state.LfiCutState.{LfiCutState}
@@ -42,11 +43,18 @@ passes v Nothing used no_open no_code no_end text ms rest told h = (
     coming = coming_stays v.coming Nothing text ms rest used told told.code h.coming;
   },
 )
+passes v (Begin k extent pages len) used no_open no_code no_end text ms rest told h = (
+  refl,
+  record {
+    pages = same_shares v.modules (made_of ms (rest_of rest)) (made_of told.now (rest_of told.left)) told.grows h.pages;
+    coming = coming_stays v.coming (Begin k extent pages len) text ms rest used told (inr told.code) h.coming;
+  },
+)
 passes v (Stray k) used no_open no_code no_end text ms rest told h = (
   refl,
   record {
     pages = strayed k v.modules (made_of ms (rest_of rest)) (made_of told.now (rest_of told.left)) told.grows h.pages;
-    coming = coming_stays v.coming (Stray k) text ms rest used told told.code h.coming;
+    coming = coming_stays v.coming (Stray k) text ms rest used told (inr told.code) h.coming;
   },
 )
 passes v (Fault fault) used no_open no_code no_end text ms rest told h =
@@ -63,7 +71,7 @@ opens old new k extent used own others same text ms rest told h = (
   refl,
   record {
     pages = opened k extent old.modules new.modules (made_of ms (rest_of rest)) (made_of told.now (rest_of told.left)) others own told.grows (whole_now text (Open k extent) ms rest used told) h.pages;
-    coming = subst (λ c. JudgesComing c told.now told.left) (sym same) (coming_stays old.coming (Open k extent) text ms rest used told told.code h.coming);
+    coming = subst (λ c. JudgesComing c told.now told.left) (sym same) (coming_stays old.coming (Open k extent) text ms rest used told (inr told.code) h.coming);
   },
 )
 
@@ -72,10 +80,10 @@ pub ends : (v : LfiStreamVerdicts) (k : ℕ) (extent : ExtentView) (pages : ℕ)
     → ((items : List ItemView) → IsJudged (state_at v.modules k) extent pages items → FindsOutcome extent (items ++ item_of k (pages + 1) extent (item.End reason) ∷ []) finding)
     → Followed (End k extent pages reason) finding v v used
 ends v k extent pages reason finding used outcome text ms rest told h = (
-  outcome (made_of ms (rest_of rest) k).items (h.pages k extent pages told.follows),
+  outcome (made_of ms (rest_of rest) k).items (h.pages k extent pages told.follows.0),
   record {
     pages = ended k (pages + 1) extent reason v.modules (made_of ms (rest_of rest)) (made_of told.now (rest_of told.left)) told.grows h.pages;
-    coming = coming_stays v.coming (End k extent pages reason) text ms rest used told told.code h.coming;
+    coming = coming_stays v.coming (End k extent pages reason) text ms rest used told (inr told.code) h.coming;
   },
 )
 
@@ -102,10 +110,10 @@ pub codes : (old new : LfiStreamVerdicts) (k offset : ℕ) (last : Bool) (findin
     → (last ≡ false → new.modules ≡ old.modules) → Followed (Code k offset last) finding old new used
 codes old new k offset last finding used takes others kept text ms rest told h =
     let code = told.code in
-    let go = takes code.extent.profile code.extent.words (code_of (made_of ms (rest_of rest) k).items) (drop 12 rest) (judged_to old k offset ms rest used code h) (belongs old k offset ms rest used code h) (fits old k offset ms rest used code h) in (
-      found k offset ms rest used code finding go.finds,
+    let go = takes code.extent.profile code.extent.words (code_of (made_of ms (rest_of rest) k).items) (drop 12 rest) (judged_to old k offset last ms rest used code h) (belongs old k offset last ms rest used code h) (fits old k offset last ms rest used code h) in (
+      found k offset last ms rest used code finding go.finds,
       record {
         pages = codes_pages old new k offset code.extent code.pages last ms rest used (made_of told.now (rest_of told.left)) code.going others kept go.pages told.grows (whole_now text (Code k offset last) ms rest used told) h.pages;
-        coming = in_message new.coming ms told.now rest used told.left told.inside (goes new.coming k offset ms rest used code go.coming);
+        coming = in_message new.coming ms told.now rest used told.left told.inside (goes new.coming k offset last ms rest used code go.coming);
       },
     )

@@ -1,5 +1,5 @@
 -- What is judged after an event.
-use Rattle.std.proofs.Common.{◌≡◌, ℕ, ◌+◌, ◌*◌, ◌≤◌, ◌⊎◌, List, [], ◌++◌, length, drop, sym, ap, subst, ◌∙◌, inl, inr, arith, min, mul_assoc, append_assoc, length-append}
+use Rattle.std.proofs.Common.{◌≡◌, ℕ, ◌+◌, ◌*◌, ◌≤◌, ◌⊎◌, Bool, List, [], ◌++◌, length, drop, sym, ap, subst, ◌∙◌, inl, inr, arith, min, mul_assoc, append_assoc, length-append}
 use Rattle.std.proofs.lemmas.List.{append-nil, drop_all}
 use Rattle.lfi_module.specs.Extents.{ExtentView}
 use Rattle.lfi_module.specs.Pages.{bytes_in_page}
@@ -7,12 +7,14 @@ use Rattle.lfi_frame.specs.Streams.{Message, rest_of, unfinished}
 use Rattle.lfi_model.specs.declared.connection.Progress.{Progress}
 use Rattle.lfi_model.specs.declared.connection.Progress.TheVariants.{Going}
 use Rattle.lfi_stream.specs.declared.numbers.LfiStreamText.{LfiStreamText}
-use Rattle.lfi_stream.specs.declared.event.Event.{Event}
-use Rattle.lfi_stream.specs.Events.{IsInMessage, IsCodeAt, IsTold}
+use Rattle.lfi_connection.specs.declared.event.Event.{Event}
+use Rattle.lfi_connection.specs.Events.{IsInMessage, IsCodeAt}
+use Rattle.lfi_stream.specs.Events.{IsTold}
 use Rattle.lfi_stream.specs.Outcomes.{code_of}
-use Rattle.lfi_stream.specs.Streams.{made_of, IsOver}
+use Rattle.lfi_connection.specs.Places.{IsOver}
+use Rattle.lfi_stream.specs.Streams.{all, made_of}
 use Rattle.lfi_stream.proofs.Paged.{paged}
-use Rattle.lfi_stream.proofs.Texts.{drop_append_left, unfinished_long}
+use Rattle.lfi_connection.proofs.Texts.{drop_append_left, unfinished_long}
 use Rattle.lfi_verifier.specs.declared.cut_state.LfiCutState.{LfiCutState}
 use Rattle.lfi_verifier.specs.declared.finding.Finding.{Finding}
 use Rattle.lfi_verifier.specs.declared.verdicts.LfiStreamVerdicts.{LfiStreamVerdicts}
@@ -59,9 +61,9 @@ abbrev pub come : (k : ℕ) (messages : List Message) (rest used : List ℕ) →
 come k ms rest used = (code_of (made_of ms (rest_of rest) k).items ++ drop 12 rest) ++ used
 
 -- code was told
-pub goes : (coming : LfiCutState) (k offset : ℕ) (ms : List Message) (rest used : List ℕ) (code : IsCodeAt k offset ms rest used) → StandsForCut coming code.extent.profile code.extent.words (come k ms rest used)
+pub goes : (coming : LfiCutState) (k offset : ℕ) (ended : Bool) (ms : List Message) (rest used : List ℕ) (code : IsCodeAt k offset ended all ms rest used) → StandsForCut coming code.extent.profile code.extent.words (come k ms rest used)
     → 12 ≤ length rest → JudgesComing coming ms (rest ++ used)
-goes coming k offset ms rest used code stands long = λ m size index len extent pages is going some.
+goes coming k offset ended ms rest used code stands long = λ m size index len extent pages is going some.
     let before : rest_of rest ≡ unfinished m size index len = unfinished_before rest used m size index len long is in
     let same : rest_of rest ≡ rest_of (rest ++ used) = before ∙ sym is in
     let told : unfinished k code.extent.pages code.pages (bytes_in_page code.extent.pages code.extent.words code.pages) ≡ unfinished m size index len = sym code.header ∙ before in
@@ -74,7 +76,7 @@ goes coming k offset ms rest used code stands long = λ m size index len extent 
     subst (λ l. StandsForCut coming extent.profile extent.words l) bytes (subst (λ e. StandsForCut coming e.profile e.words (come k ms rest used)) same_extent stands)
 
 -- What a text says of the module of which code is told.
-module _ (v : LfiStreamVerdicts) (k offset : ℕ) (ms : List Message) (rest used : List ℕ) (code : IsCodeAt k offset ms rest used) (h : HasJudged v ms rest) where
+module _ (v : LfiStreamVerdicts) (k offset : ℕ) (ended : Bool) (ms : List Message) (rest used : List ℕ) (code : IsCodeAt k offset ended all ms rest used) (h : HasJudged v ms rest) where
   size : length (code_of (made_of ms (rest_of rest) k).items) ≡ 4 * min (code.extent.pages * code.pages) code.extent.words
   size = (h.pages k code.extent code.pages code.going).whole.size
 
@@ -101,9 +103,9 @@ module _ (v : LfiStreamVerdicts) (k offset : ℕ) (ms : List Message) (rest used
       omega (arith, within, both, more, size)
 
 -- the same, wherever the extent comes from
-pub found : (k offset : ℕ) (ms : List Message) (rest used : List ℕ) (code : IsCodeAt k offset ms rest used) (finding : Finding) → FindsSoFar code.extent.profile code.extent.words (come k ms rest used) finding
+pub found : (k offset : ℕ) (ended : Bool) (ms : List Message) (rest used : List ℕ) (code : IsCodeAt k offset ended all ms rest used) (finding : Finding) → FindsSoFar code.extent.profile code.extent.words (come k ms rest used) finding
     → (extent : ExtentView) (pages : ℕ) → (made_of ms (rest_of rest) k).progress ≡ Going extent pages → FindsSoFar extent.profile extent.words (code_of (made_of ms (rest_of rest) k).items ++ (drop 12 rest ++ used)) finding
-found k offset ms rest used code finding finds extent pages going =
+found k offset ended ms rest used code finding finds extent pages going =
     let both : Going code.extent code.pages ≡ Going extent pages = sym code.going ∙ going in
     let same_extent : code.extent ≡ extent = cc in
     subst (λ l. FindsSoFar extent.profile extent.words l finding) (append_assoc (code_of (made_of ms (rest_of rest) k).items) (drop 12 rest) used)

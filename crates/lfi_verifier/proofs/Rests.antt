@@ -7,7 +7,7 @@ use Rattle.lfi_frame.specs.declared.header.Header.{Header}
 use Rattle.lfi_frame.specs.Streams.{Message, header_at, header_fault, is_page, size_by, Rest, short, faulty, unfinished, whole, rest_of, rest_after}
 use Rattle.lfi_frame.proofs.Cuts.{rest_long, header_stays}
 use Rattle.lfi_stream.specs.Streams.{made_of}
-use Rattle.lfi_stream.proofs.Texts.{drop_append_left, unfinished_long}
+use Rattle.lfi_connection.proofs.Texts.{drop_append_left, unfinished_long}
 
 -- with fewer bytes behind the header the page isn't whole either
 less_by : (o : Option FrameFault) (h : Header) (l k m size index len : ℕ) → l ≤ k → rest_after o h k ≡ unfinished m size index len → rest_after o h l ≡ unfinished m size index len

@@ -10,7 +10,7 @@ use Rattle.lfi_model.specs.Items.{Share, with_item, with_stray, item_of}
 use Rattle.lfi_model.specs.declared.connection.Progress.TheVariants.{Going, Ended}
 use Rattle.lfi_model.specs.declared.item.ItemKind.TheVariants as item
 use Rattle.lfi_model.specs.declared.item.Reason.{Reason}
-use Rattle.lfi_stream.specs.Events.{with_page}
+use Rattle.lfi_connection.specs.Events.{with_page}
 use Rattle.lfi_stream.specs.Outcomes.{bytes_at, code_of, HasWholePages}
 use Rattle.lfi_verifier.specs.declared.state.LfiState.{LfiState}
 use Rattle.lfi_verifier.specs.States.{StandsFor}

@@ -6,11 +6,11 @@ use Rattle.lfi_frame.specs.Faults.{number_of}
 use Rattle.lfi_frame.specs.declared.fault.FrameFault.{FrameFault}
 use Rattle.lfi_model.specs.declared.item.Reason.{Reason}
 use Rattle.lfi_model.specs.declared.item.Reason.TheVariants.{Close, Lost, PageFault, NoMemory}
-use Rattle.lfi_stream.specs.declared.event.Event.{Event}
-use Rattle.lfi_stream.specs.declared.event.Event.TheVariants.{Nothing, Open, Code, Stray, End, Fault}
+use Rattle.lfi_connection.specs.declared.event.Event.{Event}
+use Rattle.lfi_connection.specs.declared.event.Event.TheVariants.{Nothing, Open, Begin, Code, Stray, End, Fault}
 use Rattle.lfi_stream.specs.declared.numbers.LfiStreamText.{LfiStreamText}
 use Rattle.lfi_stream.specs.Events.{Tells}
-use Rattle.lfi_stream.specs.Endings.{Ends, Loses}
+use Rattle.lfi_stream.specs.Endings.{Ends, LosesIn}
 use Rattle.lfi_verifier.specs.declared.finding.Finding.{Finding}
 use Rattle.lfi_verifier.specs.declared.stream.LfiEvent.{LfiEvent}
 use Rattle.lfi_verifier.specs.Faults.{fault_told}
@@ -39,6 +39,7 @@ one_if = elim [ true ↦ 1 | false ↦ 0 ]
 abbrev pub event_numbers : Event → LfiEvent
 event_numbers Nothing = nothing_told
 event_numbers (Open k extent) = record nothing_told { kind = 1; «module» = k; words = extent.words; entry = extent.entry; profile = profile_number extent.profile; page_bytes = 4 * extent.pages }
+event_numbers (Begin k extent pages len) = nothing_told
 event_numbers (Code k offset ended) = record nothing_told { kind = 2; «module» = k; ended = one_if ended; offset = offset }
 event_numbers (Stray k) = record nothing_told { kind = 3; «module» = k }
 event_numbers (End k extent pages reason) = record nothing_told { kind = 4; «module» = k; words = extent.words; pages = pages; reason = (reason_numbers reason).0; number = (reason_numbers reason).1 }
@@ -67,4 +68,4 @@ pub record TellsLost (fault : FrameFault) (told : LfiEvent) (old new : LfiStream
   pub event : Event
   pub finding : Finding
   pub numbers : told ≡ with_finding (event_numbers event) finding
-  pub loses : Loses fault old new event
+  pub loses : LosesIn fault old new event

@@ -14,8 +14,8 @@ use Rattle.lfi_model.specs.declared.connection.Progress.TheVariants.{Going}
 use Rattle.lfi_model.specs.declared.item.ItemKind.TheVariants as item
 use Rattle.lfi_model.specs.declared.outcome.Outcome.{Outcome}
 use Rattle.lfi_model.specs.declared.outcome.Outcome.TheVariants as outcome
-use Rattle.lfi_stream.specs.declared.event.Event.{Event}
-use Rattle.lfi_stream.specs.declared.event.Event.TheVariants as event
+use Rattle.lfi_connection.specs.declared.event.Event.{Event}
+use Rattle.lfi_connection.specs.declared.event.Event.TheVariants as event
 use Rattle.lfi_stream.specs.declared.numbers.LfiStreamText.{LfiStreamText}
 use Rattle.lfi_stream.specs.Events.{Tells}
 use Rattle.lfi_stream.specs.Numbers.{progress_at}

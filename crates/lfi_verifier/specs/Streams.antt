@@ -5,9 +5,9 @@ use Rattle.lfi_frame.specs.declared.fault.FrameFault.{FrameFault}
 use Rattle.lfi_model.specs.Item.{ItemView}
 use Rattle.lfi_model.specs.Items.{item_of}
 use Rattle.lfi_model.specs.declared.item.ItemKind.TheVariants as item
-use Rattle.lfi_stream.specs.declared.event.Event.{Event}
-use Rattle.lfi_stream.specs.declared.event.Event.TheVariants.{End}
-use Rattle.lfi_stream.specs.Endings.{Loses}
+use Rattle.lfi_connection.specs.declared.event.Event.{Event}
+use Rattle.lfi_connection.specs.declared.event.Event.TheVariants.{End}
+use Rattle.lfi_stream.specs.Endings.{LosesIn}
 use Rattle.lfi_stream.specs.Events.{Tells}
 use Rattle.lfi_stream.specs.Numbers.{progress_at}
 use Rattle.lfi_stream.specs.Streams as text
@@ -41,6 +41,6 @@ pub record JudgesLost (fault : FrameFault) (told : LfiEvent) (old new : LfiStrea
   pub event : Event
   pub finding : Finding
   pub numbers : told ≡ with_finding (event_numbers event) finding
-  pub loses : Loses fault old.text new.text event
+  pub loses : LosesIn fault old.text new.text event
   pub finds : FindsLost event finding items
   pub judged : AreJudged new.verdicts.modules (progress_at new.text.modules) items

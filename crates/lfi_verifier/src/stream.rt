@@ -5,7 +5,7 @@ ghost use Rattle.lfi_frame.specs.declared.fault.FrameFault.{FrameFault};
 ghost use Rattle.lfi_frame.specs.declared.feed.Position.TheVariants.{Faulty};
 ghost use Rattle.lfi_frame.specs.Streams.{Message, rest_of};
 ghost use Rattle.lfi_stream.specs.Streams.{IsIn, StandsFor, made_of};
-ghost use Rattle.lfi_stream.specs.declared.event.Event.TheVariants.{Fault};
+ghost use Rattle.lfi_connection.specs.declared.event.Event.TheVariants.{Fault};
 ghost use Rattle.lfi_module.specs.declared.profile.Profile.{Profile};
 ghost use Rattle.lfi_module.specs.Profiles.{profile_number};
 ghost use Rattle.lfi_verifier.specs.Profiles.{IsUnknown};
@@ -13,7 +13,7 @@ ghost use Rattle.lfi_verifier.specs.Statuses.{status_number};
 ghost use Rattle.lfi_model.specs.Item.{ItemView};
 ghost use Rattle.lfi_stream.specs.Numbers.{position_at, progress_at};
 ghost use Rattle.lfi_verifier.specs.StreamEvents.{reason_numbers, event_numbers, with_finding, no_stream, TellsNext, TellsEnd, TellsLost};
-ghost use Rattle.lfi_stream.specs.Endings.{Loses};
+ghost use Rattle.lfi_stream.specs.Endings.{LosesIn};
 ghost use Rattle.lfi_verifier.specs.StreamVerdicts.{AreJudged};
 ghost use Rattle.lfi_verifier.specs.Streams.{StandsForStream, JudgesNext, JudgesLost, FindsLost};
 
@@ -112,6 +112,7 @@ fn numbers_of(event: Event) -> LfiEvent
             page_bytes: extent.pages().bytes(),
             ..NO_EVENT
         },
+        Event::Begin { .. } => NO_EVENT,
         Event::Code {
             module,
             offset,
@@ -219,7 +220,7 @@ pub extern "C" fn lfi_stream_next(
 /// What an event of the input's end tells of code: what becomes of the module that is lost.
 fn lost(verdicts: &LfiStreamVerdicts, event: Event) -> Finding
     ensures { (items : ℕ → List ItemView) (old new : LfiStreamText) (fault : FrameFault) → AreJudged verdicts.now.modules (progress_at old.modules) items →
-        Loses fault old new event → FindsLost event result items }
+        LosesIn fault old new event → FindsLost event result items }
 {
     match event {
         Event::End { module, reason, .. } => end(verdicts, module, reason),

@@ -1,68 +1,13 @@
-use Rattle.std.proofs.Common.{inl, ◌∙◌, ◌∷◌, [], ◌++◌, drop, arith, refl, subst, ap}
-use Rattle.lfi_frame.specs.Streams.{open_message, close_message, page_message}
-use Rattle.lfi_frame.specs.declared.answer.Got.TheVariants.{Payload}
-use Rattle.lfi_frame.specs.Feeds.{IsTold}
-use Rattle.lfi_frame.proofs.Feeding.{nothing_after}
-use Rattle.lfi_stream.proofs.Texts.{unfinished_long, whole_len, last_is, whole_text}
-use Rattle.lfi_stream.proofs.Told.{follows_held, in_payload, more_moves, message_moves, header_moves}
+use Rattle.std.proofs.Common.{sym, subst}
+use Rattle.lfi_connection.specs.Connections.{Holds}
+use Rattle.lfi_connection.specs.Events.{Moves}
+use Rattle.lfi_stream.specs.Numbers.{progress_at}
+use Rattle.lfi_stream.specs.Streams.{all}
+use Rattle.lfi_stream.proofs.Told.{all_free}
 use Rattle.lfi_stream.proofs.stream.brought.Goals as goal
 
-pub returns-in-More : goal.returns-in-More
-returns-in-More c = λ feed ms rest used size some holds was.
-    let told = subst (λ g. IsTold g feed ms rest used) c.in-More.is was in
-    more_moves feed c.args.stream.now ms rest used holds told.0 told.1
-
-pub returns-in-Open : goal.returns-in-Open
-returns-in-Open c = λ feed ms rest used size some holds was.
-    let told = subst (λ g. IsTold g feed ms rest used) c.in-Open.is was in
-    message_moves feed c.args.stream.now c.«open».new.stream ms rest used (open_message c.in-Open.«module» c.in-Open.extent) c.«open».result
-    (some (λ e. absurd (let is = c.in-Open.is in cc))) (omega arith) told.1 told.0 holds c.«open».ensures.plain c.«open».ensures.follows (λ payload h. c.«open».ensures.holds ms payload h)
-
-pub returns-in-Close : goal.returns-in-Close
-returns-in-Close c = λ feed ms rest used size some holds was.
-    let told = subst (λ g. IsTold g feed ms rest used) c.in-Close.is was in
-    message_moves feed c.args.stream.now c.close.new.stream ms rest used (close_message c.in-Close.«module») c.close.result
-    (some (λ e. absurd (let is = c.in-Close.is in cc))) (omega arith) told.1 told.0 holds c.close.ensures.plain c.close.ensures.follows (λ payload h. c.close.ensures.holds ms payload h)
-
-pub returns-in-Page : goal.returns-in-Page
-returns-in-Page c = λ feed ms rest used size some holds was.
-    let told = subst (λ g. IsTold g feed ms rest used) c.in-Page.is was in
-    header_moves feed c.args.stream.now c.page.new.stream ms rest used c.page.result
-    (some (λ e. absurd (let is = c.in-Page.is in cc))) told.1 told.0 holds c.page.ensures.plain c.page.ensures.follows (λ payload h. c.page.ensures.holds ms (rest ++ used) payload h told.2 (nothing_after (rest ++ used) told.1))
-
-pub returns-in-Payload-false : goal.returns-in-Payload-false
-returns-in-Payload-false c = λ feed ms rest used size some holds was.
-    let told = subst (λ g. IsTold g feed ms rest used) (c.in-Payload-false.is ∙ ap (λ b. Payload b) c.in-Payload-false.ended-test) was in
-    let more = c.payload_more.ensures.holds ms rest used told.0 told.1 told.2 told.3 size holds told.4 told.5 in
-    record {
-      now = ms;
-      left = rest ++ used;
-      stands = told.6;
-      holds = more.0;
-      text = refl;
-      grows = more.1;
-      code = more.2;
-      follows = follows_held c.payload_more.result c.args.stream.now ms rest holds c.payload_more.ensures.follows;
-      inside = in_payload ms rest used (unfinished_long rest told.0 told.1 told.2 told.3 told.4).0;
-      sound = c.payload_more.ensures.sound;
-    }
-
-pub returns-in-Payload-true : goal.returns-in-Payload-true
-returns-in-Payload-true c = λ feed ms rest used size some holds was.
-    let told = subst (λ g. IsTold g feed ms rest used) (c.in-Payload-true.is ∙ ap (λ b. Payload b) c.in-Payload-true.ended-test) was in
-    let payload = drop 12 rest ++ used in
-    let message = page_message told.0 told.1 told.2 payload in
-    let long = whole_len rest used payload told.0 told.1 told.2 told.3 told.0 told.4 told.5 (last_is ms message told.6.each) in
-    let ended = c.payload_ended.ensures.holds ms rest used told.0 told.1 told.2 told.3 holds told.4 long in
-    record {
-      now = ms ++ message ∷ [];
-      left = [];
-      stands = told.6;
-      holds = ended.0;
-      text = whole_text ms message rest used told.5;
-      grows = ended.1;
-      code = ended.2;
-      follows = follows_held c.payload_ended.result c.args.stream.now ms rest holds c.payload_ended.ensures.follows;
-      inside = inl refl;
-      sound = c.payload_ended.ensures.sound;
-    }
+pub returns : goal.returns
+returns c = λ feed ms rest used size some holds told.
+    let s = c.args.stream.now in
+    subst (λ o. Moves feed (progress_at c.bring-event.new.places.modules) o all ms rest used c.bring-event.result) (sym c.of-stream.ensures)
+    (c.bring-event.ensures.moves feed all ms rest used size some (all_free c.args.got (progress_at s.modules)) (subst (λ o. Holds (progress_at s.modules) o all ms rest) (sym c.coming-coming.ensures) holds) told)

@@ -1,5 +1,5 @@
 use Rattle.std.proofs.Common.{arith, ◌≡◌, ◌≢◌, ◌++◌, [], take, length, length-append, length-take, List, ℕ}
-use Rattle.lfi_stream.proofs.Texts.{some_used, fault_used}
+use Rattle.lfi_connection.proofs.Texts.{some_used, fault_used}
 use Rattle.lfi_stream.proofs.Told.{told, at_fault}
 use Rattle.lfi_stream.proofs.stream.go_on.Goals as goal
 

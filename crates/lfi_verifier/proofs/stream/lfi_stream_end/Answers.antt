@@ -1,5 +1,5 @@
 use Rattle.std.proofs.Common.{sym, ◌∙◌}
-use Rattle.lfi_stream.specs.Endings.{Loses}
+use Rattle.lfi_stream.specs.Endings.{LosesIn}
 use Rattle.lfi_verifier.proofs.Losing.{left, same_modules}
 use Rattle.lfi_verifier.proofs.stream.lfi_stream_end.Goals as goal
 
@@ -8,7 +8,7 @@ returns-in-Some-clause-judged c = λ items fault judged at.
     let old = c.args.stream.now in
     let new = c.end.new.stream in
     let event = c.in-Some.ending in
-    let loses : Loses fault old.text new event = c.in-Some.ensures.over fault at in
+    let loses : LosesIn fault old.text new event = c.in-Some.ensures.over fault at in
     record {
       event = event;
       finding = c.lost-finding.result;

@@ -1,7 +1,7 @@
 use Rattle.std.proofs.Common.{◌≡◌, ◌∙◌, ℕ, Option, Some, ap, take}
 use Rattle.lfi_frame.specs.declared.fault.FrameFault.{FrameFault}
-use Rattle.lfi_stream.specs.declared.event.Event.{Event}
-use Rattle.lfi_stream.specs.declared.event.Event.TheVariants.{Fault}
+use Rattle.lfi_connection.specs.declared.event.Event.{Event}
+use Rattle.lfi_connection.specs.declared.event.Event.TheVariants.{Fault}
 use Rattle.lfi_stream.specs.Events.{Tells}
 use Rattle.lfi_verifier.specs.StreamEvents.{event_numbers, with_finding}
 use Rattle.lfi_verifier.proofs.stream.lfi_stream_next.Goals as goal

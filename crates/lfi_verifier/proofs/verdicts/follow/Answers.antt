@@ -1,5 +1,5 @@
 use Rattle.std.proofs.Common.{subst, sym}
-use Rattle.lfi_stream.specs.declared.event.Event.TheVariants.{Open}
+use Rattle.lfi_connection.specs.declared.event.Event.TheVariants.{Open}
 use Rattle.lfi_verifier.proofs.Followed.{Followed, passes, opens, ends, codes}
 use Rattle.lfi_verifier.proofs.verdicts.follow.Goals as goal
 

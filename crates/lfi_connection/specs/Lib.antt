@@ -1,0 +1,4 @@
+pub mod Places
+pub mod Connections
+pub mod Events
+pub mod Endings

@@ -1,0 +1,64 @@
+//! A connection ends.
+
+ghost use Rattle.std.specs.Prelude.{◌≡◌, ℕ, Bool, List, None, ◌||◌, ◌⊎◌};
+ghost use Rattle.lfi_frame.specs.Streams.{Message, rest_of};
+ghost use Rattle.lfi_frame.specs.Feeds.{FeedStands, feed_fault};
+ghost use Rattle.lfi_model.specs.Items.{reason_of, fault_by_cause, connection_fault};
+ghost use Rattle.lfi_connection.specs.Connections.{made_of, AreAt};
+ghost use Rattle.lfi_connection.specs.Endings.{Loses};
+ghost use Rattle.lfi_connection.specs.declared.event.Event.TheVariants.{Nothing};
+
+use crate::event::Event;
+use crate::places::{Places, first_going};
+use lfi_frame::{Feed, FrameFault};
+use lfi_model::{Cause, Progress, Reason};
+
+/// The End of a module that is open at the connection's fault.
+fn reason_of(fault: FrameFault) -> Reason
+    ensures { result ≡ reason_of fault }
+{
+    match fault {
+        FrameFault::NoMemory => Reason::NoMemory,
+        fault => Reason::Lost(fault),
+    }
+}
+
+/// The connection's fault where its input is over for this cause, and a message or a module may be left open.
+fn fault_by(cause: Cause, open: bool) -> Option<FrameFault>
+    ensures { result ≡ fault_by_cause cause «open» }
+{
+    match cause {
+        Cause::End if open => Some(FrameFault::Ended),
+        Cause::End => None,
+        Cause::Failed => Some(FrameFault::ReadFailed),
+        Cause::Starved => Some(FrameFault::NoMemory),
+    }
+}
+
+/// The connection's fault, where its input is over for this cause and has no fault yet.
+pub fn end_by<P: Places>(places: &P, feed: &mut Feed, cause: Cause) -> Option<FrameFault>
+    ensures { (claimed : ℕ → Bool) (messages : List Message) (rest : List ℕ) → FeedStands feed.old messages rest → feed_fault feed.old ≡ None →
+        AreAt (P.progress_at places.now) (made_of claimed messages (rest_of rest)) → result ≡ connection_fault messages rest cause claimed }
+{
+    let unfinished = feed.end().is_err();
+    let going = first_going(places).is_some();
+    fault_by(cause, unfinished | going)
+}
+
+/// The open module of the least number is lost by this fault; `Nothing` where none is open.
+pub fn lose<P: Places>(places: &mut P, fault: FrameFault) -> Event
+    ensures loses { Loses fault (P.progress_at places.old) (P.progress_at places.new) result }
+    ensures keeps { (places.new ≡ places.old) ⊎ P.Keeps places.old places.new }
+    ensures none { result ≡ Nothing → places.new ≡ places.old }
+{
+    let Some(open) = first_going(places) else {
+        return Event::Nothing;
+    };
+    places.set(open.number, Progress::Ended);
+    Event::End {
+        module: open.number,
+        extent: open.extent,
+        pages: open.pages,
+        reason: reason_of(fault),
+    }
+}
