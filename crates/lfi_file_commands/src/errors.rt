@@ -1,8 +1,9 @@
 //! Where the program tells what went wrong.
 
-ghost use Rattle.std.specs.Prelude.{◌≡◌, ◌++◌, false, true, IfErr, IfOk, IfSome, OnErr, OnOk, codes};
+ghost use Rattle.std.specs.Prelude.{◌≡◌, ◌≢◌, ◌++◌, false, true, IfErr, IfOk, IfSome, OnErr, OnOk, codes};
 ghost use Rattle.lfi_file_commands.specs.Errors.{is_lost_of, writer_of};
-ghost use Rattle.lfi_file_commands.specs.Failures.{failure_line, Told};
+ghost use Rattle.std.specs.IoError.{error_kind};
+ghost use Rattle.lfi_file_commands.specs.Failures.{failure_line, fault_of_read, IsOfReading, Told, TellsOf};
 ghost use Rattle.lfi_file_commands.specs.Packing.{no_module_line};
 ghost use Rattle.lfi_file_commands.specs.Endings.{EndsUnlessLost};
 
@@ -10,7 +11,7 @@ use crate::ending::Ending;
 use crate::failure::Failure;
 use crate::packing::NoModule;
 use std::fmt::Display;
-use std::io::{self, Write};
+use std::io::{self, ErrorKind, Write};
 
 /// The standard error, or what stands for it. What can't be written there is dropped, and it is kept that something was.
 #[derive(Drop)]
@@ -109,6 +110,21 @@ pub fn tell_failure<E: Write>(failure: Failure<'_>, errors: &mut Errors<E>) -> E
 {
     errors.tell(&failure);
     Ending::Failed
+}
+
+/// Tells why the arguments can't be read. An argument that is no UTF-8 text is a usage error; else the run has failed.
+pub fn tell_unread_arguments<E: Write>(error: &io::Error, errors: &mut Errors<E>) -> Ending
+    ensures told { (failure : Failure) × IsOfReading (codes "the command line") failure × TellsOf (fault_of_read (error_kind error.now)) (codes "the command line") failure
+        × Told (is_lost_of errors.new) (E.contents (writer_of errors.old)) (E.contents (writer_of errors.new)) (failure_line failure) }
+    ensures usage { error_kind error.now ≡ ErrorKind.InvalidData → EndsUnlessLost (is_lost_of errors.new) Ending.WrongWords result }
+    ensures failed { error_kind error.now ≢ ErrorKind.InvalidData → result ≡ Ending.Failed }
+{
+    let failure = Failure::reading("the command line", error);
+    errors.tell(&failure);
+    match error.kind() {
+        ErrorKind::InvalidData => errors.unless_lost(Ending::WrongWords),
+        _ => Ending::Failed,
+    }
 }
 
 /// How a run ends, by what came of its line. A failure is told.

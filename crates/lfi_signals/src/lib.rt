@@ -19,9 +19,10 @@
 //!
 //! - **One word tells how far the threads are to go** (`Ends`): starting, running, all verifiers have ended, stopped
 //!   for want of memory, stopped for want of a thread. It only grows. No clause rests on it.
-//! - **What the word told is a value that nothing else makes**: `Stopped`, with why, and `Going`, once it was waited for
-//!   the start. A receiver's thread asks by its `Going`, and gives up with the `Stopped` that it was told. So one that
-//!   gives up by itself, or doesn't wait, doesn't compile.
+//! - **What the word told is a value that nothing else makes**: `Stopped`, with why; `Verified`, once all verifiers'
+//!   threads have ended or all are to stop; and `Going`, once it was waited for the start. A receiver's thread asks by
+//!   its `Going`. A receiver's or verifier's thread gives up with the `Stopped` that it was told, and the sequencers'
+//!   thread ends with a `Verified`. So one that gives up by itself, or doesn't wait, doesn't compile.
 //! - **A load fails for one of two causes** (`LoadError`): memory was refused, or a thread. Who is refused it tells the
 //!   word at once, so the first cause is the one that is answered. The program has one line for both, which
 //!   `lfi_commands` chooses.
@@ -62,6 +63,6 @@ mod refusal;
 pub use bells::{Bell, Bells, Rest, Teller};
 pub use client::{Client, Streams};
 pub use door::{Closed, Door};
-pub use ends::{Ends, Going, Stopped};
+pub use ends::{Ends, Going, Stopped, Verified};
 pub use joining::{join_all, keep};
 pub use refusal::LoadError;

@@ -2,7 +2,7 @@
 #![tactic(auto)]
 
 use lfi_commands::{WrittenNotices, run_words};
-use lfi_file_commands::{Ending, Errors, Failure, SystemDisk};
+use lfi_file_commands::{Errors, SystemDisk, tell_unread_arguments};
 use std::process::ExitCode;
 use std::{env, io};
 
@@ -26,10 +26,7 @@ fn main(rt: HostRuntime) -> ExitCode {
                 &mut errors,
             )
         }
-        Err(error) => {
-            errors.tell(&Failure::reading("the command line", &error));
-            Ending::Failed
-        }
+        Err(error) => tell_unread_arguments(&error, &mut errors),
     };
     ExitCode::from(ending.status())
 }
