@@ -19,10 +19,9 @@ use crate::starting::{start_receiver, start_sequencers, start_verifiers};
 use lfi_parts::Shared;
 use lfi_place::Gate;
 use lfi_receive::{Input, Receiver};
-use lfi_signals::{Client, Door, Ends, LoadError, Streams, keep};
+use lfi_signals::{Client, Connection, Door, Ends, LoadError, Streams, keep};
 use std::alloc::Global;
 use std::fs::Files;
-use std::os::unix::net::UnixStream;
 use std::rt::Clock;
 use std::sync::Wait;
 use std::thread;
@@ -40,7 +39,7 @@ pub struct Back {
 }
 
 /// The thread of a client's receiver.
-type ClientThread<'e> = ReceiverThread<'e, Client<&'e UnixStream>>;
+type ClientThread<'e> = ReceiverThread<'e, Client<Connection<'e>>>;
 
 /// Starts the thread of one client's receiver. Where it or memory is refused, all are told to stop.
 fn start_client<'s, 'e: 's, S: Wait + Sync, G, N: Notices + Sync>(
@@ -48,7 +47,7 @@ fn start_client<'s, 'e: 's, S: Wait + Sync, G, N: Notices + Sync>(
     env: &Env<'e, S, G, N>,
     number: usize,
     receiver: Receiver,
-    client: Client<&'e UnixStream>,
+    client: Client<Connection<'e>>,
 ) -> Result<ClientThread<'e>, LoadError>
     requires is { IsReceiver env.now.shared.now number receiver }
     requires fresh { IsFresh receiver }
