@@ -9,6 +9,7 @@ use lfi_image_file::write_image;
 use std::fs::{self, File, Files, OpenFile};
 use std::io::{self, Read, Write};
 use std::os::unix::fs::MetadataExt;
+use std::rt::Stdin;
 
 /// Where the commands find their input, and put the images.
 pub trait Disk {
@@ -45,11 +46,32 @@ pub trait Disk {
         ensures err { OnErr result (put_files self.new ≡ put_files self.old) };
 }
 
+/// The path that names the standard input. A file of this name is `./-`.
+const STANDARD_INPUT: &str = "-";
+
 /// The system's files. It tells contracts nothing of their bytes.
 #[derive(Drop)]
 pub struct SystemDisk<'a, R> {
     /// The runtime that reaches them.
     pub rt: &'a R,
+    /// What the path `-` reads.
+    pub input: Stdin,
+}
+
+/// What reads a file of the system, or its standard input.
+#[derive(Drop)]
+pub enum SystemReader {
+    File(File),
+    StandardInput(Stdin),
+}
+
+impl Read for SystemReader {
+    fn read(&mut self, buf: &mut [u8]) -> io::Result<usize> {
+        match self {
+            SystemReader::File(file) => file.read(buf),
+            SystemReader::StandardInput(input) => input.read(buf),
+        }
+    }
 }
 
 /// A writer to a file, which keeps the error of the last write that failed.
@@ -74,16 +96,22 @@ impl Write for Telling<'_> {
 }
 
 impl<R: Files<File = File>> Disk for SystemDisk<'_, R> {
-    type Reader = File;
+    type Reader = SystemReader;
 
-    fn open(&self, path: &str) -> io::Result<File> {
-        File::open(self.rt, path)
+    fn open(&self, path: &str) -> io::Result<SystemReader> {
+        if path == STANDARD_INPUT {
+            return Ok(SystemReader::StandardInput(self.input));
+        }
+        match File::open(self.rt, path) {
+            Ok(file) => Ok(SystemReader::File(file)),
+            Err(error) => Err(error),
+        }
     }
 
-    fn length(&self, reader: &File) -> Option<u64> {
-        match reader.metadata() {
-            Ok(metadata) if metadata.is_file() => Some(metadata.len()),
-            _ => None,
+    fn length(&self, reader: &SystemReader) -> Option<u64> {
+        match reader {
+            SystemReader::File(file) => length_of(file),
+            SystemReader::StandardInput(_) => None,
         }
     }
 
@@ -92,6 +120,14 @@ impl<R: Files<File = File>> Disk for SystemDisk<'_, R> {
         let mut file = create_anew(self.rt, path)?;
         write_to(&mut file, image)?;
         require_at(self.rt, &file, path)
+    }
+}
+
+/// How many bytes a regular file has.
+fn length_of(file: &File) -> Option<u64> {
+    match file.metadata() {
+        Ok(metadata) if metadata.is_file() => Some(metadata.len()),
+        _ => None,
     }
 }
 
