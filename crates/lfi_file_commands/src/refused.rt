@@ -14,12 +14,15 @@ use std::io::{self, Write};
 
 /// What is told of a module's fault, where it was refused.
 fn refusal_of(report: &ModuleReport) -> Option<Explanation>
-    ensures { IsRefusal report.now.outcome report.now.image result }
+    ensures { IsRefusal report.now.outcome report.now.image report.now.refused result }
 {
     let Outcome::Refused(fault) = report.outcome else {
         return None;
     };
-    let ImageState::Refused(builder, refused) = &report.image else {
+    let ImageState::Part(builder) = &report.image else {
+        return None;
+    };
+    let Some(refused) = report.refused else {
         return None;
     };
     Some(explain_word(

@@ -14,7 +14,7 @@ ghost use Rattle.lfi_workers.specs.inner.Places.{AreAt};
 use crate::env::Env;
 use crate::notices::Notices;
 use crate::promises::ReceiverThread;
-use crate::running::{Parts, Ready, join_parts};
+use crate::running::{Parts, join_parts};
 use crate::starting::{start_receiver, start_sequencers, start_verifiers};
 use lfi_parts::Shared;
 use lfi_place::Gate;
@@ -121,14 +121,14 @@ fn serve_in<
 >(
     scope: &Scope<'s, &'e ()>,
     env: &Env<'e, S, G, N>,
-    ready: Ready,
+    ready: Parts,
     door: Door<'_, S>,
     streams: &'e Streams,
 ) -> Result<Back, LoadError>
     requires ready { (count : ℕ) × AreReady env.now.shared.now count ready }
-    ensures { IfOk result (HaveServed env.entry.now.shared.now (length ready.receivers.items) (length ready.verifiers.verifiers.items) (limit_of_door door.entry)) }
+    ensures { IfOk result (HaveServed env.entry.now.shared.now (length ready.receivers.items) (length ready.verifiers.items) (limit_of_door door.entry)) }
 {
-    let Ready {
+    let Parts {
         receivers,
         verifiers,
         sequencers,
@@ -158,15 +158,15 @@ pub fn serve_with<'x, S: Threads + Wait + Files + Clock + Sync, G: Gate + Sync, 
     rt: &'x S,
     alloc: Global,
     shared: &'x Shared,
-    ready: Ready,
+    ready: Parts,
     door: Door<'_, S>,
     gate: &'x G,
     notices: &'x N,
 ) -> Result<Back, LoadError>
     requires ready { (count : ℕ) × AreReady shared.now count ready }
-    ensures { IfOk result (HaveServed shared.now (length ready.receivers.items) (length ready.verifiers.verifiers.items) (limit_of_door door.entry)) }
+    ensures { IfOk result (HaveServed shared.now (length ready.receivers.items) (length ready.verifiers.items) (limit_of_door door.entry)) }
 {
-    let ends = Ends::new(ready.verifiers.verifiers.len());
+    let ends = Ends::new(ready.verifiers.len());
     let streams = Streams::new();
     let streams = &streams;
     let env = Env {
@@ -183,7 +183,7 @@ pub fn serve_with<'x, S: Threads + Wait + Files + Clock + Sync, G: Gate + Sync, 
         rt,
         move |scope| -> Result<Back, LoadError>
             requires { (count : ℕ) × AreReady env.now.shared.now count ready }
-            ensures { IfOk result (HaveServed env.entry.now.shared.now (length ready.receivers.items) (length ready.verifiers.verifiers.items) (limit_of_door door.entry)) }
+            ensures { IfOk result (HaveServed env.entry.now.shared.now (length ready.receivers.items) (length ready.verifiers.items) (limit_of_door door.entry)) }
         { serve_in(scope, env, ready, door, streams) },
     )
 }
