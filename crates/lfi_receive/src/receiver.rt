@@ -66,7 +66,7 @@ impl Receiver {
     ghost use Rattle.lfi_receive.specs.Turns.{PutsAsTold, CountsAsTold, is_finished};
     ghost use Rattle.lfi_receive.specs.inner.Holding.{made_by, knows, Holds, Brought};
     ghost use Rattle.lfi_receive.specs.inner.Steps.{Begins, Keeps};
-    ghost use Rattle.lfi_receive.specs.Receivers.{pass_of, seat_of, claimed_by, cause_of, hand_of, fault_of, strays_at, cause_after, StandsFor, IsOver, IsFinished, due_of, AfterEnd};
+    ghost use Rattle.lfi_receive.specs.Receivers.{pass_of, seat_of, member_of, claimed_by, cause_of, hand_of, fault_of, strays_at, cause_after, StandsFor, IsOver, IsFinished, due_of, AfterEnd};
 
     /// A receiver of which no byte has come, with its pass of the intake and its seat at the board,
     /// neither of which was used, and the pool that it asks for pages first.
@@ -81,6 +81,7 @@ impl Receiver {
         ensures running { cause_of result ≡ None }
         ensures faultless { fault_of result ≡ None }
         ensures strays { strays_at result ≡ 0 }
+        ensures pool { (member_of result).pool ≡ pool.pool }
     {
         Receiver {
             memory: PageMemory::new(alloc, pool),
