@@ -4,16 +4,16 @@ ghost use Rattle.std.specs.Prelude.{◌≡◌, ℕ, ◌<◌, false, IfSome, IfNo
 ghost use Rattle.lfi_module.specs.Numbers.{module_count};
 ghost use Rattle.lfi_model.specs.declared.connection.Progress.TheVariants.{Going};
 ghost use Rattle.lfi_model.specs.Items.{is_going};
-ghost use Rattle.lfi_connection.specs.Places.{IsPossible};
+ghost use Rattle.lfi_connection.specs.Modules.{IsPossible};
 
 use lfi_model::Progress;
 use lfi_module::{Extent, ModuleNumber};
 
 /// Who keeps how far a connection is with each of its modules.
-pub trait Places {
+pub trait ProgressTable {
     ghost use Rattle.std.specs.Prelude.{◌≡◌, ℕ, ◌==◌, if◌then◌else◌};
     ghost use Rattle.lfi_model.specs.declared.connection.Progress.{Progress};
-    ghost use Rattle.lfi_connection.specs.Places.{IsPossible};
+    ghost use Rattle.lfi_connection.specs.Modules.{IsPossible};
 
     /// How far it is with module m.
     ghost progress_at: { Self → ℕ → Progress };
@@ -42,16 +42,16 @@ pub struct OpenModule {
 }
 
 /// The open module of the least number.
-pub(crate) fn first_going<P: Places>(places: &P) -> Option<OpenModule>
+pub(crate) fn first_going<P: ProgressTable>(table: &P) -> Option<OpenModule>
     ensures in_range { IfSome result (λ found. found.number < module_count) }
     ensures possible { IfSome result (λ found. IsPossible (Going found.extent found.pages)) }
-    ensures going { IfSome result (λ found. P.progress_at places.now found.number ≡ Going found.extent found.pages) }
-    ensures least { IfSome result (λ found. (m : ℕ) → m < found.number → is_going (P.progress_at places.now m) ≡ false) }
-    ensures none { IfNone result ((m : ℕ) → m < module_count → is_going (P.progress_at places.now m) ≡ false) }
+    ensures going { IfSome result (λ found. P.progress_at table.now found.number ≡ Going found.extent found.pages) }
+    ensures least { IfSome result (λ found. (m : ℕ) → m < found.number → is_going (P.progress_at table.now m) ≡ false) }
+    ensures none { IfNone result ((m : ℕ) → m < module_count → is_going (P.progress_at table.now m) ≡ false) }
 {
     for number in 0..ModuleNumber::COUNT {
         let module = ModuleNumber::at(number);
-        if let Progress::Going { extent, pages } = places.at(module) {
+        if let Progress::Going { extent, pages } = table.at(module) {
             return Some(OpenModule {
                 number: module,
                 extent,

@@ -1,4 +1,4 @@
-use Rattle.lfi_connection.proofs.ending.lose.Goals as goal
+use Rattle.lfi_connection.proofs.ending.lose_next.Goals as goal
 
 pub returns-clause-loses : goal.returns-clause-loses
 returns-clause-loses g c = (
