@@ -17,20 +17,20 @@ pub record QueueId : Type 0 where
   pub putters : ℕ
   pub takers : ℕ
 
--- the rounds of a pass that takes from the intake: the part at which the next one begins, and what each part has answered it so far, by the parts' numbers
+-- the rounds of a pass that takes from the intake: the part at which the next one begins, and the counts of each part's answers to it, by the parts' numbers
 pub record Rounds : Type 0 where
   pub next : ℕ
   pub tallies : List Tally
 
--- what a part has answered, once it gave one more item
+-- the counts of a part's answers, once it has given one more item
 abbrev pub gave_item : Tally → Tally
 gave_item t = record t { items = t.items + 1 }
 
--- once it was empty when it was asked
+-- the same, once it was empty one more time
 abbrev pub was_empty : Tally → Tally
 was_empty t = record t { empties = t.empties + 1 }
 
--- once it answered that a steal is to be tried again
+-- the same, once it has answered one more time that a steal is to be tried again
 abbrev pub asked_again : Tally → Tally
 asked_again t = record t { retries = t.retries + 1 }
 
@@ -38,15 +38,15 @@ asked_again t = record t { retries = t.retries + 1 }
 abbrev pub GaveNone : (old new : Tally) → Type 0
 GaveNone old new = (new ≡ was_empty old) ⊎ (new ≡ asked_again old)
 
--- In a round that begins at part `first`, goes on to the last part and then from part 0 on, part q is asked before part p.
+-- In a round that begins at part `first`, goes on to the last part and then from part 0 on, part q comes before part p.
 abbrev pub IsAskedBefore : (first q p : ℕ) → Type 0
 IsAskedBefore first q p = ((first ≤ q) × (q < p)) ⊎ ((p < first) × ((first ≤ q) ⊎ (q < p)))
 
--- of a part that wasn't asked yet
+-- those of a part that wasn't asked yet
 abbrev pub no_answers : Tally
 no_answers = record { items = 0; empties = 0; retries = 0 }
 
--- what part p has answered
+-- those of part p
 abbrev pub tally : Rounds → ℕ → Tally
 tally rounds p = get_or rounds.tallies p no_answers
 
