@@ -39,11 +39,11 @@ pub enum Event {
 
 impl Event {
     /// Which page is coming after this event of so many bytes, where this one was before.
-    pub fn coming_after(self, count: usize, coming: Option<DuePage>) -> Option<DuePage>
-        requires { Continues self coming count }
-        ensures { result ≡ coming_after self count coming }
+    pub fn coming_after(&self, count: usize, coming: Option<DuePage>) -> Option<DuePage>
+        requires { Continues self.now coming count }
+        ensures { result ≡ coming_after self.now count coming }
     {
-        match self {
+        match *self {
             Event::Begin(page) => Some(page),
             Event::Code { ended: true, .. } => None,
             Event::Code { page, ended: false } => Some(DuePage {

@@ -151,16 +151,16 @@ fn payload<P: ProgressTable>(
 /// coming alone, and as far as that has bytes to come, whatever the numbers are.
 pub fn advance<P: ProgressTable>(
     table: &mut P,
-    coming: Option<DuePage>,
+    coming: &Option<DuePage>,
     got: Got,
     count: usize,
     is_free: bool,
 ) -> Event
     ensures moves { (feed : Feed) (claimed : ℕ → Bool) (messages : List Message) (rest used : List ℕ) → length used ≡ count → (got ≢ More → used ≢ []) → Answers got is_free claimed (P.progress_at table.old) →
-        Holds (P.progress_at table.old) coming claimed messages rest → IsTold got feed messages rest used →
-        Moves feed (P.progress_at table.new) coming claimed messages rest used result }
+        Holds (P.progress_at table.old) coming.now claimed messages rest → IsTold got feed messages rest used →
+        Moves feed (P.progress_at table.new) coming.now claimed messages rest used result }
     ensures follows { Follows result (P.progress_at table.old) }
-    ensures continues { Continues result coming count }
+    ensures continues { Continues result coming.now count }
 {
     match got {
         Got::More => Event::Nothing,
@@ -171,7 +171,7 @@ pub fn advance<P: ProgressTable>(
             index,
             len,
         } => page(table, module, size, index, len),
-        Got::Payload { ended } => payload(table, coming, count, ended),
+        Got::Payload { ended } => payload(table, *coming, count, ended),
         Got::Close { module } => close(table, module),
     }
 }

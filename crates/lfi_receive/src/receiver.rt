@@ -244,7 +244,7 @@ impl Receiver {
     {
         let is_free = self.seat.is_free(board, &got);
         let coming = self.coming();
-        let event = advance(&mut self.modules, coming, got, bytes.len(), is_free);
+        let event = advance(&mut self.modules, &coming, got, bytes.len(), is_free);
         self.tell(event, bytes)
     }
 
