@@ -3,7 +3,7 @@ use Rattle.lfi_parts.proofs.Staying.{seat_saw}
 use Rattle.lfi_workers.proofs.verifying.have_all_ended.Goals as goal
 
 pub ended-requires : goal.ended-requires
-ended-requires c = c.requires.is.seat.seat
+ended-requires c = record { board = c.requires.is.seat.seat }
 
 pub returns-clause-is : goal.returns-clause-is
 returns-clause-is c =
