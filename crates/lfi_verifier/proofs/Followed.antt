@@ -14,7 +14,6 @@ use Rattle.lfi_connection.specs.DuePages.{offset_of}
 use Rattle.lfi_frame.specs.declared.fault.FrameFault.{FrameFault}
 use Rattle.std.specs.Prelude.{Ok, Err}
 use Rattle.lfi_stream.specs.declared.numbers.LfiStreamText.{LfiStreamText}
-use Rattle.lfi_model.specs.declared.connection.Progress.TheVariants.{Going}
 use Rattle.lfi_connection.specs.Events.{after_event}
 use Rattle.lfi_stream.specs.Events.{Tells, IsTold}
 use Rattle.lfi_stream.specs.Outcomes.{code_of}

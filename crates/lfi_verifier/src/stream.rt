@@ -176,6 +176,7 @@ fn told(event: &Event, finding: Finding) -> LfiEvent
 pub extern "C" fn lfi_stream_init(stream: &mut LfiStream, profile: u32) -> u32
     ensures begun { (by : Profile) → profile_number by ≡ profile → StandsForStream stream.new [] [] × (result ≡ status_number Status.Lawful) }
     ensures unknown { IsUnknown profile → (result ≡ status_number Status.UnknownProfile) × (stream.new ≡ stream.old) }
+    ensures most { result ≤ 7 }
 {
     if profile_of(profile).is_none() {
         return Status::UnknownProfile.number();

@@ -1,11 +1,10 @@
-use Rattle.std.proofs.Common.{◌≡◌, ℕ, Some, refl, sym, subst, ap, ◌∙◌}
+use Rattle.std.proofs.Common.{Some, sym, subst, ap, ◌∙◌}
 use Rattle.std.specs.Prelude.{Ok, Err}
 use Rattle.lfi_stream.specs.Endings.{LosesIn, LosesOne, Ends}
 use Rattle.lfi_verifier.specs.declared.finding.Finding.{Finding}
 use Rattle.lfi_verifier.specs.declared.stream.LfiEvent.{LfiEvent}
 use Rattle.lfi_verifier.specs.States.{IsState}
 use Rattle.lfi_verifier.specs.Statuses.{status_number}
-use Rattle.lfi_verifier.specs.StreamEvents.{numbers_of}
 use Rattle.lfi_verifier.specs.StreamVerdicts.{state_at, nothing_found}
 use Rattle.lfi_verifier.proofs.Losing.{left, same_modules}
 use Rattle.lfi_verifier.proofs.stream.lfi_stream_end.Goals as goal

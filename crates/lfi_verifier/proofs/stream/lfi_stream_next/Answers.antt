@@ -1,9 +1,6 @@
-use Rattle.std.proofs.Common.{◌≡◌, ◌∙◌, ◌≤◌, ◌+◌, ℕ, Some, refl, sym, subst, ap, take, arith}
-use Rattle.std.specs.Prelude.{Result, Ok, Err}
-use Rattle.lfi_frame.specs.declared.fault.FrameFault.{FrameFault}
-use Rattle.lfi_connection.specs.declared.event.Event.{Event}
+use Rattle.std.proofs.Common.{refl, subst, take}
+use Rattle.std.specs.Prelude.{Ok, Err}
 use Rattle.lfi_stream.specs.Events.{Tells, IsWithin}
-use Rattle.lfi_verifier.specs.StreamEvents.{LiesWithin}
 use Rattle.lfi_verifier.specs.StreamVerdicts.{nothing_found}
 use Rattle.lfi_verifier.proofs.Followed.{faults}
 use Rattle.lfi_verifier.proofs.Told.{lies}

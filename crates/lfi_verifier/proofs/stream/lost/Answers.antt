@@ -1,5 +1,4 @@
 use Rattle.std.proofs.Common.{sym, subst}
-use Rattle.lfi_connection.specs.declared.event.Event.TheVariants.{End}
 use Rattle.lfi_stream.specs.Endings.{LosesIn}
 use Rattle.lfi_verifier.specs.Streams.{FindsLost}
 use Rattle.lfi_verifier.proofs.stream.lost.Goals as goal
