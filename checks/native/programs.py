@@ -258,7 +258,12 @@ def starts():
     """What the registers hold at the start, in each slot, entered at the first word and at a later one."""
     for module in range(FUZZ.MODULES):
         yield f"start-{module}", program(END, module=module)
-        yield f"entered-{module}", program([NOP] * 700 + END, 700, module, 2)
+        yield f"entered-{module}", program([BRK] * 700 + END, 700, module, 2)
+
+
+def longest():
+    """A module of as many words as there may be, entered near its end: the start has the farthest to go."""
+    yield "longest", program([BRK] * (FUZZ.MOST_WORDS - len(END)) + END, FUZZ.MOST_WORDS - len(END))
 
 
 def entries():
@@ -318,5 +323,5 @@ def stacks():
 
 
 def edges():
-    for each in (starts, entries, jumps, accesses, own_words, stacks):
+    for each in (starts, longest, entries, jumps, accesses, own_words, stacks):
         yield from each()
