@@ -7,7 +7,7 @@ use Rattle.lfi_file_commands.proofs.refused.write_fault.Goals as goal
 
 pub returns-in-Some : goal.returns-in-Some
 returns-in-Some g c =
-    on_ok_weaker c.writeln.result (λ written.
-    subst (λ (fault : Option FrameFault). Appends (g.W.Write.contents c.args.out.now) (g.W.Write.contents c.writeln.new.self) (fault_line c.args.number fault))
+    on_ok_weaker c.write_line.result (λ written.
+    subst (λ (fault : Option FrameFault). Appends (g.W.Write.contents c.args.out.now) (g.W.Write.contents c.write_line.new.writer) (fault_line c.args.number fault))
     (sym c.in-Some.is) (simp append_assoc written))
-    c.writeln.ensures.bytes
+    c.write_line.ensures
