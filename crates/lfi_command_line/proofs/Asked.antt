@@ -18,7 +18,7 @@ use Rattle.clap.specs.declared.error.Error.{Error}
 use Rattle.clap.specs.declared.error.kind.ErrorKind.{ErrorKind}
 use Rattle.clap.specs.declared.error.kind.ErrorKind.TheVariants as kind
 use Rattle.lfi_command_line.specs.declared.fault.LineFault.{LineFault}
-use Rattle.lfi_command_line.specs.declared.fault.LineFault.TheVariants.{NoMemory, Help, Wrong, TooManyStreams, TooManyModules, NoPages}
+use Rattle.lfi_command_line.specs.declared.fault.LineFault.TheVariants.{NoMemory, Help, Wrong, TooManyStreams, TooManyModules, NoPages, Flawed}
 use Rattle.lfi_command_line.specs.Apps.{lfiload_app}
 use Rattle.lfi_command_line.specs.CommandLine.{AreTakenFor, IsLineFault, IsFlag, IsNumber, IsNumberIfAny, IsNumberOr, fault_by, fault_from, is_help}
 use Rattle.lfi_command_line.specs.inner.Given.{AreTakenBy, IsFaultOfLoad, IsFaultOfPack, IsNumberGiven}
@@ -193,6 +193,7 @@ load_fault words given (Help error) taken is = absurd is
 load_fault words given (Wrong error) taken is = absurd is
 load_fault words given TooManyModules taken is = absurd is
 load_fault words given NoPages taken is = absurd is
+load_fault words given (Flawed flaw) taken is = absurd is
 
 -- what is wrong with what is given to `pack` is wrong with the words
 pub pack_fault : (words : List Text) (given : List Row) (fault : LineFault) → AreTakenFor words (codes "pack") given → IsFaultOfPack given fault → IsLineFault words fault
@@ -202,6 +203,7 @@ pack_fault words given (Help error) taken is = absurd is
 pack_fault words given (Wrong error) taken is = absurd is
 pack_fault words given TooManyStreams taken is = absurd is
 pack_fault words given NoPages taken is = (given, is.0, taken, is.1, is.2)
+pack_fault words given (Flawed flaw) taken is = absurd is
 
 -- a flag is read as it is given
 pub flag_read : (o : Option Text) (given : Bool) → (o ≡ None → given ≡ false) → (o ≡ Some (codes "true") → given ≡ true) → (o ≡ Some (codes "false") → given ≡ false) → IsFlag o given

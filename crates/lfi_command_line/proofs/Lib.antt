@@ -1,3 +1,4 @@
 mod Asked
 mod Needs
 mod Walked
+mod Counts

@@ -15,7 +15,8 @@ use Rattle.lfi_command_line.specs.declared.line.Line.TheVariants.{Check, Load, S
 use Rattle.lfi_command_line.specs.declared.line.Explain.{Explain}
 use Rattle.lfi_command_line.specs.declared.line.Explain.TheVariants.{Nothing, First, All}
 use Rattle.lfi_command_line.specs.declared.fault.LineFault.{LineFault}
-use Rattle.lfi_command_line.specs.declared.fault.LineFault.TheVariants.{NoMemory, Help, Wrong, TooManyStreams, TooManyModules, NoPages}
+use Rattle.lfi_command_line.specs.declared.fault.LineFault.TheVariants.{NoMemory, Help, Wrong, TooManyStreams, TooManyModules, NoPages, Flawed}
+use Rattle.lfi_command_line.specs.Flaws.{flaw_of}
 
 -- the text is a number in this range in decimal digits, perhaps with a plus before them
 abbrev pub IsNumber : (least most : ℕ) → Text → ℕ → Type 0
@@ -78,7 +79,7 @@ IsAskedBy name given (Pack number entry profile pages files) = (name ≡ codes "
 abbrev pub AreTakenFor : List Text → (name : Text) → List Row → Type 0
 AreTakenFor words name given = (fault_of lfiload_app words ≡ []) × (subcommand_of lfiload_app words ≡ Some (name, given))
 
--- the words ask for this line, and nothing is wrong with them
+-- the words ask for this line, and nothing is wrong with them for the parser
 abbrev pub IsLine : List Text → Line → Type 0
 IsLine words line = (name : Text) × (given : List Row) × AreTakenFor words name given × IsAskedBy name given line
 
@@ -107,6 +108,7 @@ IsLineFault words (Wrong error) = IsAmong (kind_of error) (fault_of lfiload_app 
 IsLineFault words TooManyStreams = NameTooMany words
 IsLineFault words TooManyModules = NameTooManyModules words
 IsLineFault words NoPages = NameNoPages words
+IsLineFault words (Flawed flaw) = (line : Line) × IsLine words line × (flaw_of line ≡ Some flaw)
 
 -- the fault that is made of the parser's error, by its kind
 abbrev pub fault_by : ErrorKind → Error → LineFault

@@ -1,3 +1,4 @@
 pub mod Apps
 pub mod CommandLine
+pub mod Flaws
 pub mod inner

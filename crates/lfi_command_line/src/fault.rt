@@ -2,6 +2,7 @@
 
 ghost use Rattle.lfi_command_line.specs.CommandLine.{fault_from};
 
+use crate::flaw::Flaw;
 use clap::Error;
 use clap::error::ErrorKind;
 use std::alloc::{AllocError, AllocFailed};
@@ -28,6 +29,9 @@ pub enum LineFault {
     /// They name pages of a size that is neither small, nor large by the second profile.
     #[error("pages are small, or large with --profile 2")]
     NoPages,
+    /// They ask for a line that can't be carried out.
+    #[error("{0}")]
+    Flawed(Flaw),
 }
 
 impl From<AllocError> for LineFault {

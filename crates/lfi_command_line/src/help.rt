@@ -118,7 +118,7 @@ and then one for each connection C that has a fault:
   connection C: TEXT        The fault in words.
 
 With --out DIR, the image of each complete module M is written to DIR/module-MM.img, M in two
-digits.
+digits, in place of what stands there.
 
 On the standard error:
   module M refused            A connection's thread has seen that module M is refused; the report
@@ -157,16 +157,16 @@ Example: lfiload serve --socket /tmp/lfi.sock --connections 2 --seconds 60 --out
 pub const RUN: &str =
     "The code starts at its entry with the base of its slot in x18, x21, x23, x24 and x30, the end of
 its slot in sp, and 0 in all other registers. Calls of the runtime: entry 0 ends the run with the
-low byte of x0 as its status; entry 1 writes the low byte of x0 to the standard output; every other
-sets all bits of x0.
+low byte of x0 as its status; entry 1 writes the low byte of x0 to the standard output, at once;
+every other sets all bits of x0.
 
 Prints one line on the standard error, and a second one where it says so:
   halt 1 after N steps             All steps were used (status 0).
   halt 2 at ADDRESS after N steps  The byte at ADDRESS may not be accessed so (status 1).
   halt 3 at ADDRESS after N steps  No word of the code begins at pc, which is ADDRESS (status 1).
   halt 4 at ADDRESS after N steps  BRK, at ADDRESS (status 0).
-  halt 5 status S after N steps    The code ended the run with S; 255 where its output can't be
-                                   written (status 0).
+  halt 5 status S after N steps    The code ended the run with S; 255 where a byte that it prints
+                                   can't be written (status 0).
   halt 6 after N steps             The runtime answered registers that aren't lawful (status 1).
   halt 7 after N steps             There was no memory for a byte that is written (status 3).
   image refused, fault F           There is no image: 1 it doesn't begin with LFI1, 2 its profile,

@@ -3,9 +3,11 @@
 
 mod commands;
 mod fault;
+mod flaw;
 mod given;
 mod help;
 mod line;
 
 pub use fault::LineFault;
+pub use flaw::Flaw;
 pub use line::{Explain, Line, read_line};

@@ -1,12 +1,14 @@
 //! What the words of the command line ask for.
 
-ghost use Rattle.std.specs.Prelude.{List, IfOk, IfErr, map, string_bytes};
+ghost use Rattle.std.specs.Prelude.{◌≡◌, List, None, IfOk, IfErr, map, string_bytes};
 ghost use Rattle.clap.specs.Words.{Text};
 ghost use Rattle.lfi_command_line.specs.CommandLine.{IsLine, IsLineFault};
+ghost use Rattle.lfi_command_line.specs.Flaws.{flaw_of};
 ghost use Rattle.lfi_command_line.specs.inner.Given.{AreTakenBy};
 
 use crate::commands::command;
 use crate::fault::LineFault;
+use crate::flaw::flaw_of;
 use crate::given::{check_line, disassemble_line, load_line, pack_line, run_line, serve_line};
 use clap::ArgMatches;
 use lfi_module::{PageSize, Profile};
@@ -113,12 +115,17 @@ fn line_of<'a>(alloc: Global, matches: &ArgMatches<'a>) -> Result<Line<'a>, Line
 ///
 /// # Errors
 ///
-/// Why there is no command to carry out: help was asked for, the words are wrong, they name too much, or there was no
-/// memory to read them.
+/// Why there is no command to carry out: help was asked for, the words are wrong, they name too much, or nothing, or there
+/// was no memory to read them.
 pub fn read_line<'a>(alloc: Global, words: &'a [String]) -> Result<Line<'a>, LineFault>
     ensures line { IfOk result (IsLine (map string_bytes words.now)) }
+    ensures sound { IfOk result (λ line. flaw_of line ≡ None) }
     ensures fault { IfErr result (IsLineFault (map string_bytes words.now)) }
 {
     let matches = parse(alloc, words)?;
-    line_of(alloc, &matches)
+    let line = line_of(alloc, &matches)?;
+    match flaw_of(&line) {
+        Some(flaw) => Err(LineFault::Flawed(flaw)),
+        None => Ok(line),
+    }
 }

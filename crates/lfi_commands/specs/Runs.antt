@@ -1,8 +1,10 @@
 -- What a run of the program does, by its words and its ending. Source: this project's profile, docs/COMMANDS.md.
-use Rattle.std.specs.Prelude.{◌≡◌, ◌⊎◌, ⊤, ℕ, false, List, [], ◌∷◌, Option, codes, map, option_map}
+use Rattle.std.specs.Prelude.{◌≡◌, ◌⊎◌, ⊤, ℕ, false, List, [], ◌∷◌, ◌++◌, Option, Some, codes, map, option_map}
 use Rattle.lfi_module.specs.declared.profile.Profile.{Profile}
 use Rattle.lfi_command_line.specs.declared.line.Line.{Line}
 use Rattle.lfi_command_line.specs.declared.line.Line.TheVariants.{Check, Load, Serve, Run, Disassemble, Pack}
+use Rattle.lfi_command_line.specs.declared.flaw.Flaw.{Flaw}
+use Rattle.lfi_command_line.specs.Flaws.{flaw_of, flaw_text}
 use Rattle.lfi_command_line.specs.declared.line.Explain.{Explain}
 use Rattle.lfi_command_line.specs.declared.line.Explain.TheVariants.{Nothing}
 use Rattle.lfi_command_line.specs.CommandLine.{IsLine, AsksHelp, AreWrong, NameTooMany, NameTooManyModules, NameNoPages}
@@ -76,9 +78,14 @@ TellsTooManyModules words old new = NameTooManyModules words × Told new.is_lost
 abbrev pub TellsNoPages : List (List ℕ) → (old new : Left) → Type 0
 TellsNoPages words old new = NameNoPages words × Told new.is_lost old.errors new.errors (codes "lfiload: pages are small, or large with --profile 2\n")
 
+-- They ask for a line that can't be carried out, and why was told, unless it is lost.
+abbrev pub TellsFlaw : List (List ℕ) → (old new : Left) → Type 0
+TellsFlaw words old new =
+    (line : Line) × (flaw : Flaw) × IsLine words line × (flaw_of line ≡ Some flaw) × Told new.is_lost old.errors new.errors (codes "lfiload: " ++ flaw_text flaw ++ codes "\n")
+
 -- What a run of the program on these words did, by its ending.
 abbrev pub Runs : List (List ℕ) → (List ℕ → Option (List ℕ)) → (old new : Left) → Ending → Type 0
 Runs words file_at old new Well = (AsksHelp words × (new.put ≡ old.put) × (new.errors ≡ old.errors)) ⊎ CarriesOutWords words file_at old new Well
 Runs words file_at old new NotWell = CarriesOutWords words file_at old new NotWell
-Runs words file_at old new WrongWords = (AreWrong words ⊎ (TellsTooMany words old new ⊎ (TellsTooManyModules words old new ⊎ TellsNoPages words old new))) × (new.out ≡ old.out) × (new.put ≡ old.put)
+Runs words file_at old new WrongWords = (AreWrong words ⊎ (TellsTooMany words old new ⊎ (TellsTooManyModules words old new ⊎ (TellsNoPages words old new ⊎ TellsFlaw words old new)))) × (new.out ≡ old.out) × (new.put ≡ old.put)
 Runs words file_at old new Failed = TellsFailure words old new ⊎ CarriesOutWords words file_at old new Failed

@@ -10,7 +10,7 @@ ghost use Rattle.lfi_commands.specs.LoadFaults.{is_of_the_report};
 ghost use Rattle.lfi_model.specs.Texts.{summary_text};
 ghost use Rattle.lfi_stage.specs.Summaries.{summary_of};
 
-use lfi_file_commands::{DeviceCause, Failure};
+use lfi_file_commands::{DeviceCause, Failure, write_text};
 use lfi_place::OpenGate;
 use lfi_receive::Input;
 use lfi_stage::settle::Report;
@@ -60,12 +60,16 @@ impl<'a> From<LoadFault> for Failure<'a> {
 }
 
 /// Writes the text of a report.
-fn write_report<W: Write>(report: &Report, writer: &mut W) -> Result<(), LoadFault>
+fn write_report<W: Write>(
+    alloc: Global,
+    report: &Report,
+    writer: &mut W,
+) -> Result<(), LoadFault>
     ensures written { OnOk result (Appends (W.contents writer.old) (W.contents writer.new) (summary_text (summary_of report.now))) }
     ensures fault { IfErr result (λ fault. is_of_the_report fault ≡ true) }
 {
     let summary = report.summary();
-    match write!(writer, "{summary}") {
+    match write_text(alloc, writer, summary) {
         Ok(()) => Ok(()),
         Err(error) => Err(LoadFault::NotWritten(DeviceCause::of(&error))),
     }
@@ -94,7 +98,7 @@ pub fn load<S: Threads + Wait + Sync, R: Read + Send + Drop, N: Notices + Sync, 
     ensures unwritten { IfErr result (λ fault. is_of_the_report fault ≡ false → writer.new ≡ writer.old) }
 {
     match load_all(rt, alloc, inputs, verifiers, &OpenGate, notices) {
-        Ok(report) => match write_report(&report, writer) {
+        Ok(report) => match write_report(alloc, &report, writer) {
             Ok(()) => Ok(report),
             Err(fault) => Err(fault),
         },
@@ -141,7 +145,7 @@ pub fn serve<S: Threads + Wait + Files + Clock + Sync, N: Notices + Sync, W: Wri
         notices,
     );
     match served {
-        Ok(served) => match write_report(&served.report, writer) {
+        Ok(served) => match write_report(alloc, &served.report, writer) {
             Ok(()) => Ok(served),
             Err(fault) => Err(fault),
         },

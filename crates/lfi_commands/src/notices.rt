@@ -30,7 +30,7 @@ impl<W> WrittenNotices<W> {
 
 impl<W: Write + Copy> Notices for WrittenNotices<W> {
     fn refused(&self, module: ModuleNumber) {
-        if self.told[module.index()].swap(true, Ordering::Relaxed) {
+        if self.told[module.index()].swap(true, Ordering::SeqCst) {
             return;
         }
         let number = module.number();

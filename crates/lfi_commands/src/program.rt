@@ -49,7 +49,7 @@ fn end_load<'a, D: Disk, O: Write, E: Write>(
     ensures disk { OnErr result (disk.new ≡ disk.old) }
     ensures errors { OnErr result (errors.new ≡ errors.old) }
 {
-    match write_asked_refused(explain, &report.modules, &report.faults, out) {
+    match write_asked_refused(alloc, explain, &report.modules, &report.faults, out) {
         Ok(()) => {
             let all = write_asked_images(alloc, disk, folder, &report.modules, errors);
             Ok(ending_of_load(report, all_taken, all))
@@ -289,6 +289,10 @@ fn tell_fault<O: Write, E: Write>(fault: &LineFault, out: &mut O, errors: &mut E
         }
         LineFault::NoPages => {
             errors.write_line("lfiload: pages are small, or large with --profile 2");
+            errors.unless_lost(Ending::WrongWords)
+        }
+        LineFault::Flawed(flaw) => {
+            errors.write_line(format_args!("lfiload: {flaw}"));
             errors.unless_lost(Ending::WrongWords)
         }
     }

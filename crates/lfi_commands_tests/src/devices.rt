@@ -336,7 +336,7 @@ fn output_that_fails(rt: HostRuntime) -> io::Result<()> {
 
 /// Whether a failure is told by this text.
 fn is_told(alloc: Global, failure: Failure<'_>, text: &str) -> bool {
-    let mut errors = Errors::new(Vec::new(alloc));
+    let mut errors = Errors::new(alloc, Vec::new(alloc));
     errors.tell(&failure);
     !errors.is_lost() && errors.writer().as_slice() == text.as_bytes()
 }
@@ -380,7 +380,7 @@ pub fn loses<S: Threads + Wait + Files<File = File> + Net + Clock + Sync + Alloc
     out: &mut O,
     left: usize,
 ) -> bool {
-    let mut errors = Errors::new(FullWriter { left });
+    let mut errors = Errors::new(alloc, FullWriter { left });
     let status = run_over(rt, line, out, &mut errors);
     status == FAILED && errors.is_lost()
 }

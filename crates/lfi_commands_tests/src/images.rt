@@ -222,7 +222,7 @@ fn is_told_later<S: Threads + Wait + Files<File = File> + Net + Clock + Sync + A
     let mut out = NotedWriter {
         is_flushed: &is_flushed,
     };
-    let mut errors = Errors::new(LaterWriter {
+    let mut errors = Errors::new(alloc, LaterWriter {
         is_flushed: &is_flushed,
         told: 0,
         is_early: false,

@@ -101,7 +101,7 @@ pub fn tells_over<
     N: Notices + Sync,
     O: Write,
 >(rt: &S, disk: &mut D, notices: &N, line: &str, out: &mut O, status: u8, told: &str) -> bool {
-    let mut errors = Errors::new(Vec::new(rt.alloc()));
+    let mut errors = Errors::new(rt.alloc(), Vec::new(rt.alloc()));
     let ended = run_noticed(rt, rt.alloc(), disk, notices, line, out, &mut errors);
     ended == status && errors.writer().as_slice() == told.as_bytes()
 }

@@ -12,7 +12,7 @@ use Rattle.lfi_model.specs.Items.{Share, after_message, after_header, item_of, w
 use Rattle.lfi_module.specs.Extents.{ExtentView}
 use Rattle.lfi_module.specs.Pages.{is_due}
 use Rattle.lfi_model.proofs.Growing.{share_snoc}
-use Rattle.lfi_connection.specs.Places.{IsOver}
+use Rattle.lfi_connection.specs.Modules.{IsOver}
 use Rattle.lfi_connection.specs.Connections.{made_of}
 
 -- the page of this size, index and length is the one due of a module of which the first p pages came
@@ -98,9 +98,6 @@ pub open_taken : (b : Bool) (k : ℕ) (extent : ExtentView) (s : Share) (q : Pro
 open_taken b k extent s Unclaimed h = by_false b _ _ h
 open_taken b k extent s (Going other p) h = refl
 open_taken b k extent s Ended h = refl
-
-pub open_free : (b : Bool) → b ≡ false → b ≡ false
-open_free b e = e
 
 pub close_stray : (b : Bool) (k : ℕ) (s : Share) (q : Progress) → IsOver q → after_message b k s q (close_message k) ≡ with_stray s
 close_stray b k s Unclaimed h = refl

@@ -16,7 +16,7 @@ use Rattle.lfi_model.specs.declared.connection.Progress.{Progress}
 use Rattle.lfi_model.specs.declared.connection.Progress.TheVariants.{Going}
 use Rattle.lfi_model.specs.Modules.{Member}
 use Rattle.lfi_model.specs.Items.{is_going, modules, connection_fault, fault_by_cause, fault_of, is_inside}
-use Rattle.lfi_connection.specs.declared.places.OpenModule.{OpenModule}
+use Rattle.lfi_connection.specs.declared.progress_table.OpenModule.{OpenModule}
 use Rattle.lfi_connection.specs.Connections.{made_of, AreAt}
 
 pub numbered : (k : ℕ) → k < 16 → Member modules k

@@ -8,7 +8,7 @@ use Rattle.lfi_model.specs.declared.connection.Progress.TheVariants.{Going, Ende
 use Rattle.lfi_model.specs.Items.{is_going, reason_of}
 use Rattle.lfi_connection.specs.declared.event.Event.{Event}
 use Rattle.lfi_connection.specs.declared.event.Event.TheVariants.{Nothing, End}
-use Rattle.lfi_connection.specs.Places.{IsPossible}
+use Rattle.lfi_connection.specs.Modules.{IsPossible}
 
 -- Module k was open, so large, when so many pages had come, and none of a lesser number was; it has ended, and no other is otherwise than it was.
 pub record IsLost (old new : ℕ → Progress) (k : ℕ) (extent : ExtentView) (pages : ℕ) : Type 0 where

@@ -1,4 +1,5 @@
-pub mod Places
+pub mod Modules
+pub mod DuePages
 pub mod Connections
 pub mod Events
 pub mod Endings

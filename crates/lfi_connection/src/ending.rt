@@ -9,7 +9,7 @@ ghost use Rattle.lfi_connection.specs.Endings.{Loses};
 ghost use Rattle.lfi_connection.specs.declared.event.Event.TheVariants.{Nothing};
 
 use crate::event::Event;
-use crate::places::{Places, first_going};
+use crate::progress_table::{ProgressTable, first_going};
 use lfi_frame::{Feed, FrameFault};
 use lfi_model::{Cause, Progress, Reason};
 
@@ -36,25 +36,29 @@ fn fault_by(cause: Cause, open: bool) -> Option<FrameFault>
 }
 
 /// The connection's fault, where its input is over for this cause and has no fault yet.
-pub fn end_by<P: Places>(places: &P, feed: &mut Feed, cause: Cause) -> Option<FrameFault>
+pub fn fault_at_end<P: ProgressTable>(
+    table: &P,
+    feed: &mut Feed,
+    cause: Cause,
+) -> Option<FrameFault>
     ensures { (claimed : ℕ → Bool) (messages : List Message) (rest : List ℕ) → FeedStands feed.old messages rest → feed_fault feed.old ≡ None →
-        AreAt (P.progress_at places.now) (made_of claimed messages (rest_of rest)) → result ≡ connection_fault messages rest cause claimed }
+        AreAt (P.progress_at table.now) (made_of claimed messages (rest_of rest)) → result ≡ connection_fault messages rest cause claimed }
 {
     let unfinished = feed.end().is_err();
-    let going = first_going(places).is_some();
+    let going = first_going(table).is_some();
     fault_by(cause, unfinished | going)
 }
 
 /// The open module of the least number is lost by this fault; `Nothing` where none is open.
-pub fn lose<P: Places>(places: &mut P, fault: FrameFault) -> Event
-    ensures loses { Loses fault (P.progress_at places.old) (P.progress_at places.new) result }
-    ensures keeps { (places.new ≡ places.old) ⊎ P.Keeps places.old places.new }
-    ensures none { result ≡ Nothing → places.new ≡ places.old }
+pub fn lose_next<P: ProgressTable>(table: &mut P, fault: FrameFault) -> Event
+    ensures loses { Loses fault (P.progress_at table.old) (P.progress_at table.new) result }
+    ensures keeps { (table.new ≡ table.old) ⊎ P.Keeps table.old table.new }
+    ensures none { result ≡ Nothing → table.new ≡ table.old }
 {
-    let Some(open) = first_going(places) else {
+    let Some(open) = first_going(table) else {
         return Event::Nothing;
     };
-    places.set(open.number, Progress::Ended);
+    table.set(open.number, Progress::Ended);
     Event::End {
         module: open.number,
         extent: open.extent,

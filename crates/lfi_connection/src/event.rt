@@ -1,11 +1,14 @@
 //! What the bytes of a connection bring.
 
-use lfi_frame::FrameFault;
+ghost use Rattle.std.specs.Prelude.{◌≡◌};
+ghost use Rattle.lfi_connection.specs.Events.{Continues, coming_after};
+
+use crate::due_page::DuePage;
 use lfi_model::Reason;
 use lfi_module::{Extent, ModuleNumber};
 
-/// What the bytes that a call used have brought.
-#[derive(Clone, Copy, PartialEq, Eq)]
+/// What the bytes that a step used have brought.
+#[derive(Clone, Copy)]
 pub enum Event {
     /// Nothing that a host has to do.
     Nothing,
@@ -14,19 +17,11 @@ pub enum Event {
         module: ModuleNumber,
         extent: Extent,
     },
-    /// The header of the page that is due of this module, which is so large, after so many of its pages: a payload of
-    /// `len` bytes follows.
-    Begin {
-        module: ModuleNumber,
-        extent: Extent,
-        pages: u32,
-        len: u32,
-    },
-    /// The used bytes are code of this module, from this byte of it on. Where the page ended, the last of them is its
-    /// page's last byte.
+    /// The header of this page, which is due: its payload follows.
+    Begin(DuePage),
+    /// The bytes used are code: they follow those that came of this page before. Where it ended, they are its last.
     Code {
-        module: ModuleNumber,
-        offset: usize,
+        page: DuePage,
         ended: bool,
     },
     /// A message of this module that is passed over.
@@ -40,6 +35,22 @@ pub enum Event {
         pages: u32,
         reason: Reason,
     },
-    /// The stream's fault: nothing after it is read.
-    Fault(FrameFault),
+}
+
+impl Event {
+    /// Which page is coming after this event of so many bytes, where this one was before.
+    pub fn coming_after(&self, count: usize, coming: Option<DuePage>) -> Option<DuePage>
+        requires { Continues self.now coming count }
+        ensures { result ≡ coming_after self.now count coming }
+    {
+        match *self {
+            Event::Begin(page) => Some(page),
+            Event::Code { ended: true, .. } => None,
+            Event::Code { page, ended: false } => Some(DuePage {
+                come: page.come + count as u32,
+                ..page
+            }),
+            _ => coming,
+        }
+    }
 }

@@ -4,7 +4,7 @@
 //! # How data flows
 //!
 //! The caller has a `Feed`, and what it tells of the bytes of a piece it hands to [`bring`], with whether a module that
-//! opens is this connection's, where it does. [`bring`] tells an [`Event`], and says in [`Places`] how far the modules
+//! opens is this connection's, where it does. [`bring`] tells an [`Event`], and says in [`ProgressTable`] how far the modules
 //! now are, and in [`Coming`] of which page payload comes. [`end_by`] is the fault that the end of the input brings, and
 //! [`lose`] ends the modules that are open at it, one a call.
 //!
@@ -21,14 +21,14 @@
 //!   made of the other at each call.
 #![tactic(auto)]
 
-mod coming;
+mod due_page;
 mod ending;
 mod event;
-mod places;
+mod progress_table;
 mod step;
 
-pub use coming::Coming;
-pub use ending::{end_by, lose};
+pub use due_page::DuePage;
+pub use ending::{fault_at_end, lose_next};
 pub use event::Event;
-pub use places::{OpenModule, Places};
-pub use step::bring;
+pub use progress_table::{OpenModule, ProgressTable};
+pub use step::advance;

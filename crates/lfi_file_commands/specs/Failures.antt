@@ -1,10 +1,11 @@
 -- What `lfiload` tells of a failure. Source: this project's profile, docs/COMMANDS.md.
-use Rattle.std.specs.Prelude.{◌≡◌, ⊤, ℕ, Bool, true, false, List, ◌++◌, Option, Some, codes, slice_get, string_bytes}
+use Rattle.std.specs.Prelude.{◌≡◌, ⊤, ℕ, Bool, true, false, List, [], ◌++◌, Option, Some, codes, slice_get, string_bytes}
 use Rattle.std.specs.List.{flat_map}
 use Rattle.std.specs.Io.KnownBytes.{Appends}
 use Rattle.std.specs.declared.io.ErrorKind.{ErrorKind}
 use Rattle.std.specs.declared.io.ErrorKind.TheVariants.{OutOfMemory}
 use Rattle.lfi_file_commands.specs.declared.device_cause.DeviceCause.{DeviceCause}
+use Rattle.lfi_file_commands.specs.declared.device_cause.DeviceCause.TheVariants.{BrokenPipe}
 use Rattle.lfi_file_commands.specs.declared.checking.CommandFault.{CommandFault}
 use Rattle.lfi_file_commands.specs.declared.checking.CommandFault.TheVariants as fault
 use Rattle.lfi_file_commands.specs.declared.failure.Target.{Target}
@@ -25,8 +26,9 @@ failure_text (CannotWrite target cause) = codes "cannot write " ++ target_text t
 failure_text (CannotListen cause) = codes "cannot listen" ++ cause_line cause
 failure_text NoMemory = codes "no memory"
 
--- its line
+-- its line; of an output that nobody reads any longer nothing is told
 abbrev pub failure_line : Failure → List ℕ
+failure_line (CannotWrite StandardOutput BrokenPipe) = []
 failure_line failure = codes "lfiload: " ++ failure_text failure ++ codes "\n"
 
 -- the lines of several

@@ -5,7 +5,7 @@ use Rattle.std.specs.List.{AllByRecursion, filter_map, flat_map}
 use Rattle.lfi_image.specs.Image.{Image}
 use Rattle.lfi_image_file.specs.Files.{file_of}
 use Rattle.lfi_place.specs.declared.report.ImageState.{ImageState}
-use Rattle.lfi_place.specs.declared.report.ImageState.TheVariants.{Absent, Part, Refused, Whole}
+use Rattle.lfi_place.specs.declared.report.ImageState.TheVariants.{Absent, Part, Whole}
 use Rattle.lfi_place.specs.declared.report.ModuleReport.{ModuleReport}
 use Rattle.lfi_file_commands.specs.declared.failure.Failure.{Failure}
 use Rattle.lfi_file_commands.specs.Failures.{failure_lines, IsOfWriting, Told}
@@ -32,7 +32,6 @@ Puts (Some there) (Some all) files = all ≡ there ++ files
 abbrev pub image_in : ImageState → List Image
 image_in Absent = []
 image_in (Part builder) = []
-image_in (Refused builder word) = []
 image_in (Whole image) = image ∷ []
 
 abbrev pub images_in : List ModuleReport → List Image

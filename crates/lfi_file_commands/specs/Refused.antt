@@ -9,14 +9,15 @@ use Rattle.lfi_model.specs.Texts.{lines_from}
 use Rattle.lfi_place.specs.declared.report.ImageState.{ImageState}
 use Rattle.lfi_place.specs.declared.report.ImageState.TheVariants as image_kind
 use Rattle.lfi_place.specs.declared.report.ModuleReport.{ModuleReport}
+use Rattle.lfi_place.specs.declared.refused.RefusedWord.{RefusedWord}
 use Rattle.lfi_explain.specs.declared.explanation.Explanation.{Explanation}
 use Rattle.lfi_explain.specs.Explanations.{ExplainsWord, explanation_line}
 
 -- A refused module's fault is explained by the refused word, in the module's own slot; of any other module nothing is told.
-abbrev pub IsRefusal : Outcome → ImageState → Option Explanation → Type 0
-IsRefusal (outcome_kind.Refused fault) (image_kind.Refused b refused) told =
+abbrev pub IsRefusal : Outcome → ImageState → Option RefusedWord → Option Explanation → Type 0
+IsRefusal (outcome_kind.Refused fault) (image_kind.Part b) (Some refused) told =
     (e : Explanation) × (told ≡ Some e) × ExplainsWord b.profile b.slot b.words fault refused.word refused.before e
-IsRefusal outcome state told = told ≡ None
+IsRefusal outcome state refused told = told ≡ None
 
 -- the lines of a refused module
 abbrev pub refusal_lines : Option Explanation → List ℕ
@@ -24,7 +25,7 @@ refusal_lines (Some e) = codes "module " ++ decimal e.slot ++ codes ": " ++ expl
 refusal_lines None = []
 
 abbrev pub TellsOfRefused : ModuleReport → List ℕ → Type 0
-TellsOfRefused report text = (told : Option Explanation) × IsRefusal report.outcome report.image told × (text ≡ refusal_lines told)
+TellsOfRefused report text = (told : Option Explanation) × IsRefusal report.outcome report.image report.refused told × (text ≡ refusal_lines told)
 
 -- the lines of the refused modules, in order
 abbrev pub TellRefused : List ModuleReport → List ℕ → Type 0

@@ -75,11 +75,12 @@ pub fn check<R: Read + Drop, W: Write>(
         Ok(bytes) => bytes,
         Err(fault) => return Err(fault),
     };
-    write_verdict(judge_code(&bytes, profile), writer)
+    write_verdict(alloc, judge_code(&bytes, profile), writer)
 }
 
 /// Writes the line of a verdict.
 pub(crate) fn write_verdict<W: Write>(
+    alloc: Global,
     verdict: Verdict,
     writer: &mut W,
 ) -> Result<Verdict, CommandFault>
@@ -87,7 +88,7 @@ pub(crate) fn write_verdict<W: Write>(
     ensures written { IfOk result (λ written. Appends (W.contents writer.old) (W.contents writer.new) (verdict_text verdict ++ codes "\n")) }
     ensures fault { IfErr result (λ fault. is_of_a_write fault ≡ true) }
 {
-    match writeln!(writer, "{verdict}") {
+    match write_line(alloc, writer, verdict) {
         Ok(()) => Ok(verdict),
         Err(error) => Err(CommandFault::NotWritten(DeviceCause::of(&error))),
     }
@@ -131,7 +132,7 @@ pub fn check_file<R: Read + Drop, W: Write>(
                 Ok(verdict) => verdict,
                 Err(fault) => return Err(fault),
             };
-            write_verdict(verdict, writer)
+            write_verdict(alloc, verdict, writer)
         }
         None => check(alloc, reader, profile, writer),
     }

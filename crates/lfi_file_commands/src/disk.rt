@@ -6,8 +6,10 @@ ghost use Rattle.lfi_file_commands.specs.Images.{Puts};
 
 use lfi_image::CompleteImage;
 use lfi_image_file::write_image;
-use std::fs::{File, Files, OpenFile};
+use std::fs::{self, File, Files, OpenFile};
 use std::io::{self, Read, Write};
+use std::os::unix::fs::MetadataExt;
+use std::rt::Stdin;
 
 /// Where the commands find their input, and put the images.
 pub trait Disk {
@@ -44,11 +46,32 @@ pub trait Disk {
         ensures err { OnErr result (put_files self.new ≡ put_files self.old) };
 }
 
+/// The path that names the standard input. A file of this name is `./-`.
+const STANDARD_INPUT: &str = "-";
+
 /// The system's files. It tells contracts nothing of their bytes.
 #[derive(Drop)]
 pub struct SystemDisk<'a, R> {
     /// The runtime that reaches them.
     pub rt: &'a R,
+    /// What the path `-` reads.
+    pub input: Stdin,
+}
+
+/// What reads a file of the system, or its standard input.
+#[derive(Drop)]
+pub enum SystemReader {
+    File(File),
+    StandardInput(Stdin),
+}
+
+impl Read for SystemReader {
+    fn read(&mut self, buf: &mut [u8]) -> io::Result<usize> {
+        match self {
+            SystemReader::File(file) => file.read(buf),
+            SystemReader::StandardInput(input) => input.read(buf),
+        }
+    }
 }
 
 /// A writer to a file, which keeps the error of the last write that failed.
@@ -73,29 +96,77 @@ impl Write for Telling<'_> {
 }
 
 impl<R: Files<File = File>> Disk for SystemDisk<'_, R> {
-    type Reader = File;
+    type Reader = SystemReader;
 
-    fn open(&self, path: &str) -> io::Result<File> {
-        File::open(self.rt, path)
-    }
-
-    fn length(&self, reader: &File) -> Option<u64> {
-        match reader.metadata() {
-            Ok(metadata) if metadata.is_file() => Some(metadata.len()),
-            _ => None,
+    fn open(&self, path: &str) -> io::Result<SystemReader> {
+        if path == STANDARD_INPUT {
+            return Ok(SystemReader::StandardInput(self.input));
+        }
+        match File::open(self.rt, path) {
+            Ok(file) => Ok(SystemReader::File(file)),
+            Err(error) => Err(error),
         }
     }
 
+    fn length(&self, reader: &SystemReader) -> Option<u64> {
+        match reader {
+            SystemReader::File(file) => length_of(file),
+            SystemReader::StandardInput(_) => None,
+        }
+    }
+
+    /// The file is one that this call makes: what stands at its name is removed first, and never written to.
     fn put_image(&mut self, path: &str, image: &CompleteImage) -> io::Result<()> {
-        let mut file = File::create(self.rt, path)?;
-        let mut telling = Telling {
-            file: &mut file,
-            error: None,
-        };
-        match (write_image(image, &mut telling), telling.error) {
-            (Ok(()), _) => Ok(()),
-            (Err(_), Some(error)) => Err(error),
-            (Err(_), None) => Err(io::Error::from(io::ErrorKind::Other)),
-        }
+        let mut file = create_anew(self.rt, path)?;
+        write_to(&mut file, image)?;
+        require_at(self.rt, &file, path)
+    }
+}
+
+/// How many bytes a regular file has.
+fn length_of(file: &File) -> Option<u64> {
+    match file.metadata() {
+        Ok(metadata) if metadata.is_file() => Some(metadata.len()),
+        _ => None,
+    }
+}
+
+/// Creates a file at this path, where none is then. What stands there is removed first: the name, and never what a link
+/// there names.
+///
+/// # Errors
+///
+/// Where the name can't be removed, or the file can't be created, also where another process has just made one there.
+fn create_anew<R: Files<File = File>>(rt: &R, path: &str) -> io::Result<File> {
+    match fs::remove_file(rt, path) {
+        Ok(()) => {}
+        Err(error) if error.kind() == io::ErrorKind::NotFound => {}
+        Err(error) => return Err(error),
+    }
+    File::create_new(rt, path)
+}
+
+/// Writes the file of an image.
+fn write_to(file: &mut File, image: &CompleteImage) -> io::Result<()> {
+    let mut telling = Telling { file, error: None };
+    match (write_image(image, &mut telling), telling.error) {
+        (Ok(()), _) => Ok(()),
+        (Err(_), Some(error)) => Err(error),
+        (Err(_), None) => Err(io::Error::from(io::ErrorKind::Other)),
+    }
+}
+
+/// Asks that it is this file that stands at the path: the same device and inode.
+///
+/// # Errors
+///
+/// `AlreadyExists` where another file stands there, and that of the system where none does.
+fn require_at<R: Files<File = File>>(rt: &R, file: &File, path: &str) -> io::Result<()> {
+    let made = file.metadata()?;
+    let there = fs::symlink_metadata(rt, path)?;
+    if there.dev() == made.dev() && there.ino() == made.ino() {
+        Ok(())
+    } else {
+        Err(io::Error::from(io::ErrorKind::AlreadyExists))
     }
 }

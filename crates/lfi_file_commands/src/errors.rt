@@ -1,31 +1,36 @@
 //! Where the program tells what went wrong.
 
-ghost use Rattle.std.specs.Prelude.{◌≡◌, ◌++◌, false, true, IfErr, IfOk, IfSome, OnErr, OnOk, codes};
+ghost use Rattle.std.specs.Prelude.{◌≡◌, ◌≢◌, ◌++◌, false, true, IfErr, IfOk, IfSome, OnErr, OnOk, codes};
 ghost use Rattle.lfi_file_commands.specs.Errors.{is_lost_of, writer_of};
-ghost use Rattle.lfi_file_commands.specs.Failures.{failure_line, Told};
+ghost use Rattle.std.specs.IoError.{error_kind};
+ghost use Rattle.lfi_file_commands.specs.Failures.{failure_line, fault_of_read, IsOfReading, Told, TellsOf};
 ghost use Rattle.lfi_file_commands.specs.Packing.{no_module_line};
 ghost use Rattle.lfi_file_commands.specs.Endings.{EndsUnlessLost};
 
 use crate::ending::Ending;
 use crate::failure::Failure;
 use crate::packing::NoModule;
+use crate::texts::{self, write_line};
+use std::alloc::Global;
 use std::fmt::Display;
-use std::io::{self, Write};
+use std::io::{self, ErrorKind, Write};
 
 /// The standard error, or what stands for it. What can't be written there is dropped, and it is kept that something was.
 #[derive(Drop)]
 pub struct Errors<W> {
+    alloc: Global,
     writer: W,
     is_lost: bool,
 }
 
 impl<W> Errors<W> {
     /// Over this writer, to which nothing was told yet.
-    pub fn new(writer: W) -> Errors<W>
+    pub fn new(alloc: Global, writer: W) -> Errors<W>
         ensures writer { writer_of result ≡ writer }
         ensures lost { is_lost_of result ≡ false }
     {
         Errors {
+            alloc,
             writer,
             is_lost: false,
         }
@@ -65,12 +70,15 @@ impl<W> Errors<W> {
 }
 
 impl<W: Write> Errors<W> {
-    /// Tells of a failure by a line.
+    /// Tells of a failure by a line, where there is one for it.
     pub fn tell(&mut self, failure: &Failure<'_>)
         ensures told { Told (is_lost_of self.new) (W.contents (writer_of self.old)) (W.contents (writer_of self.new)) (failure_line failure.now) }
         ensures lost { is_lost_of self.old ≡ true → is_lost_of self.new ≡ true }
     {
-        let written = writeln!(self.writer, "lfiload: {failure}");
+        if failure.is_of_closed_output() {
+            return;
+        }
+        let written = write_line(self.alloc, &mut self.writer, format_args!("lfiload: {failure}"));
         self.keep(written);
     }
 
@@ -79,7 +87,7 @@ impl<W: Write> Errors<W> {
         ensures told { Told (is_lost_of self.new) (W.contents (writer_of self.old)) (W.contents (writer_of self.new)) (no_module_line no_module.entry) }
         ensures lost { is_lost_of self.old ≡ true → is_lost_of self.new ≡ true }
     {
-        let written = writeln!(self.writer, "lfiload: {no_module}");
+        let written = write_line(self.alloc, &mut self.writer, format_args!("lfiload: {no_module}"));
         self.keep(written);
     }
 
@@ -88,7 +96,7 @@ impl<W: Write> Errors<W> {
         ensures told { IfSome (T.output text) (Told (is_lost_of self.new) (W.contents (writer_of self.old)) (W.contents (writer_of self.new))) }
         ensures lost { is_lost_of self.old ≡ true → is_lost_of self.new ≡ true }
     {
-        let written = write!(self.writer, "{text}");
+        let written = texts::write_text(self.alloc, &mut self.writer, text);
         self.keep(written);
     }
 
@@ -97,7 +105,7 @@ impl<W: Write> Errors<W> {
         ensures told { IfSome (T.output text) (λ bytes. Told (is_lost_of self.new) (W.contents (writer_of self.old)) (W.contents (writer_of self.new)) (bytes ++ codes "\n")) }
         ensures lost { is_lost_of self.old ≡ true → is_lost_of self.new ≡ true }
     {
-        let written = writeln!(self.writer, "{text}");
+        let written = write_line(self.alloc, &mut self.writer, text);
         self.keep(written);
     }
 }
@@ -109,6 +117,21 @@ pub fn tell_failure<E: Write>(failure: Failure<'_>, errors: &mut Errors<E>) -> E
 {
     errors.tell(&failure);
     Ending::Failed
+}
+
+/// Tells why the arguments can't be read. An argument that is no UTF-8 text is a usage error; else the run has failed.
+pub fn tell_unread_arguments<E: Write>(error: &io::Error, errors: &mut Errors<E>) -> Ending
+    ensures told { (failure : Failure) × IsOfReading (codes "the command line") failure × TellsOf (fault_of_read (error_kind error.now)) (codes "the command line") failure
+        × Told (is_lost_of errors.new) (E.contents (writer_of errors.old)) (E.contents (writer_of errors.new)) (failure_line failure) }
+    ensures usage { error_kind error.now ≡ ErrorKind.InvalidData → EndsUnlessLost (is_lost_of errors.new) Ending.WrongWords result }
+    ensures failed { error_kind error.now ≢ ErrorKind.InvalidData → result ≡ Ending.Failed }
+{
+    let failure = Failure::reading("the command line", error);
+    errors.tell(&failure);
+    match error.kind() {
+        ErrorKind::InvalidData => errors.unless_lost(Ending::WrongWords),
+        _ => Ending::Failed,
+    }
 }
 
 /// How a run ends, by what came of its line. A failure is told.

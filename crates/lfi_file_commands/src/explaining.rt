@@ -15,6 +15,7 @@ ghost use Rattle.lfi_file_commands.specs.Listing.{FindsListing};
 use crate::checking::{CommandFault, write_verdict};
 use crate::device_cause::DeviceCause;
 use crate::ending::Ending;
+use crate::texts::write_line;
 use crate::whole::read_code;
 use lfi_code::{Code, Verdict, judge_code};
 use lfi_command_line::Explain;
@@ -33,6 +34,7 @@ fn slot() -> ModuleNumber
 
 /// Writes the explanation of the first fault of this code.
 fn write_explanation<W: Write>(
+    alloc: Global,
     code: &Code<'_>,
     fault: Fault,
     profile: Profile,
@@ -44,7 +46,7 @@ fn write_explanation<W: Write>(
         × Appends (W.contents writer.old) (W.contents writer.new) (explanation_line e)) }
 {
     let explanation = explain(code, slot(), fault, profile);
-    writeln!(writer, "{explanation}")
+    write_line(alloc, writer, explanation)
 }
 
 /// Writes what is told of each word of this code that breaks a rule, and how many these are.
@@ -75,8 +77,8 @@ fn write_fault<W: Write>(
     ensures { OnOk result (WritesFault profile how code.now fault (W.contents writer.old) (W.contents writer.new)) }
 {
     match how {
-        Explain::Nothing => writeln!(writer, "{fault}"),
-        Explain::First => write_explanation(code, fault, profile, writer),
+        Explain::Nothing => write_line(alloc, writer, fault),
+        Explain::First => write_explanation(alloc, code, fault, profile, writer),
         Explain::All => write_each_refusal(alloc, code, profile, writer),
     }
 }
@@ -96,7 +98,7 @@ fn write_judged<W: Write>(
 {
     let verdict = judge_code(bytes, profile);
     let Verdict::Refused(fault) = verdict else {
-        return write_verdict(verdict, writer);
+        return write_verdict(alloc, verdict, writer);
     };
     match write_fault(alloc, &Code::of(bytes), fault, profile, how, writer) {
         Ok(()) => Ok(verdict),
@@ -123,7 +125,7 @@ pub fn check_explained<R: Read + Drop, W: Write>(
 {
     match read_code(alloc, reader) {
         Ok(Some(bytes)) => write_judged(alloc, &bytes, profile, how, writer),
-        Ok(None) => write_verdict(Verdict::BadLength, writer),
+        Ok(None) => write_verdict(alloc, Verdict::BadLength, writer),
         Err(fault) => Err(fault),
     }
 }
@@ -150,7 +152,7 @@ fn write_bad_length<W: Write>(writer: &mut W) -> Result<Ending, CommandFault>
     ensures listed { IfOk result (λ ending. (ending ≡ Ending.NotWell) × Appends (W.contents writer.old) (W.contents writer.new) (codes "bad length\n")) }
     ensures fault { IfErr result (λ fault. is_of_a_write fault ≡ true) }
 {
-    match write_verdict(Verdict::BadLength, writer) {
+    match write_verdict(alloc, Verdict::BadLength, writer) {
         Ok(_) => Ok(Ending::NotWell),
         Err(fault) => Err(fault),
     }

@@ -1,9 +1,9 @@
 //! Why the program fails.
 
-ghost use Rattle.std.specs.Prelude.{◌≡◌, [], ◌∷◌, Some, false};
+ghost use Rattle.std.specs.Prelude.{◌≡◌, [], ◌∷◌, ◌++◌, Some, false, IsTrue, codes};
 ghost use Rattle.std.specs.IoError.{error_kind};
 ghost use Rattle.lfi_file_commands.specs.Causes.{cause_of};
-ghost use Rattle.lfi_file_commands.specs.Failures.{failure_text, fault_of_read, is_of_a_write, is_of_output, target_text, FailsOn, IsOfReading, TellsOf};
+ghost use Rattle.lfi_file_commands.specs.Failures.{failure_line, failure_text, fault_of_read, is_of_a_write, is_of_output, target_text, FailsOn, IsOfReading, TellsOf};
 
 use crate::checking::CommandFault;
 use crate::device_cause::DeviceCause;
@@ -68,6 +68,18 @@ impl<'a> From<AllocError> for Failure<'a> {
 }
 
 impl<'a> Failure<'a> {
+    /// Whether it is that of an output that nobody reads any longer, as that of `lfiload disassemble FILE | head`. Nothing is
+    /// told of it.
+    pub fn is_of_closed_output(&self) -> bool
+        ensures closed { IsTrue result → failure_line self.now ≡ [] }
+        ensures other { result ≡ false → failure_line self.now ≡ codes "lfiload: " ++ failure_text self.now ++ codes "\n" }
+    {
+        match self {
+            Failure::CannotWrite(Target::StandardOutput, DeviceCause::BrokenPipe) => true,
+            _ => false,
+        }
+    }
+
     /// What a failed read of the file at this path says.
     pub fn reading(path: &'a str, error: &io::Error) -> Failure<'a>
         ensures told { TellsOf (fault_of_read (error_kind error.now)) path.now result }

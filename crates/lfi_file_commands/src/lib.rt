@@ -39,17 +39,14 @@
 //!   `Errors` can make it so.
 //! - **`run` is a crate of its own, `lfi_run`**, beneath the commands: it alone of the program's crates knows the
 //!   machine, and the commands open the file, tell the line and choose the exit status.
-//! - **The output of a run is kept by `Console`, and not by a `BufWriter`.** The console borrows the output, and the
-//!   caller has to know after the run that it is still that output which was lent. Its `answers` say so of each call
-//!   (the loan's ghost name stays), and by induction over the run it holds at the end. Of a `BufWriter`'s inner writer
-//!   no such thing is said.
+//! - **Each byte that code prints is written at its call** by `Console`, which keeps none. So what a loop prints is seen
+//!   at once, and a write that fails ends the run at that call. The console borrows the output, and the caller has to
+//!   know after the run that it is still that output which was lent: its `answers` say so of each call (the loan's ghost
+//!   name stays), and by induction over the run it holds at the end.
 //! - **What the program's runtime holds is, in the definitions, the bytes of its output** (`serves`), and not a
 //!   console: the run with consoles is proved to be one with these (proofs/Served.antt).
-//! - **A failed write of the output ends a run with the status 255**, at the call that finds it. Where it is found only
-//!   at the end, when what is kept is written out, the line tells an end with 255 in place of the halt, with the steps
-//!   that were carried out: no line tells another halt where output is lost. What couldn't be written stays kept, and
-//!   is tried once more at the end, so that what reached the output is always a beginning of what was printed. The exit
-//!   status is then 0, as for every end by the code.
+//! - **A failed write of the output ends a run with the status 255**, at the call that prints. The exit status is then 0,
+//!   as for every end by the code.
 //! - **A line of a halt that can't be told makes the run Failed** (status 3), as other texts do that can't be written.
 //! - **Explanations and listings tell addresses of module 0**, since a code file says no module. `load` knows the
 //!   module.
@@ -57,7 +54,7 @@
 //!   `check` without flags still keeps no code.
 //! - **Lines of explanations and listings are kept until they are 8,192 bytes** (`write_many` in lfi_explain), since
 //!   each piece of a line would else be a write of its own: a listing of 16 MiB took 25.8 s so. They are kept in the
-//!   loop itself, and not by a writer around the output, for the reason told below of `Console`.
+//!   loop itself, and not by a writer around the output, of which no contract says that it is still the one that was lent.
 //! - **`pack` reads all its files before it writes**, so that a file which can't be read, or is no code, leaves nothing
 //!   on the output; the last one otherwise would be found after whole modules had been written. Its memory is that of
 //!   the files, at most 16 of 16 MiB.
@@ -88,17 +85,19 @@ mod packing;
 mod pieces;
 mod refused;
 mod running;
+mod texts;
 mod whole;
 
 pub use checking::{CommandFault, check, check_file};
 pub use device_cause::DeviceCause;
 pub use disk::{Disk, SystemDisk};
 pub use ending::Ending;
-pub use errors::{Errors, ended, tell_failure};
+pub use errors::{Errors, ended, tell_failure, tell_unread_arguments};
 pub use explaining::{check_explained, disassemble};
 pub use failure::{Failure, Target};
 pub use images::{write_asked_images, write_images};
 pub use opening::open_all;
 pub use packing::NoModule;
 pub use refused::{write_asked_refused, write_refused};
+pub use texts::write_text;
 pub use running::{run_check, run_disassemble, run_pack, run_run};

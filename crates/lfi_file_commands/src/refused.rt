@@ -4,20 +4,25 @@ ghost use Rattle.std.specs.Prelude.{◌≡◌, ℕ, List, IfOk, OnOk};
 ghost use Rattle.std.specs.Io.KnownBytes.{Appends};
 ghost use Rattle.lfi_file_commands.specs.Refused.{IsRefusal, refusal_lines, fault_line, fault_lines, TellRefused, TellAsked};
 
+use crate::texts::write_line;
 use lfi_explain::{Explanation, explain_word};
 use lfi_frame::FrameFault;
 use lfi_model::Outcome;
 use lfi_place::{ImageState, ModuleReport};
+use std::alloc::Global;
 use std::io::{self, Write};
 
 /// What is told of a module's fault, where it was refused.
 fn refusal_of(report: &ModuleReport) -> Option<Explanation>
-    ensures { IsRefusal report.now.outcome report.now.image result }
+    ensures { IsRefusal report.now.outcome report.now.image report.now.refused result }
 {
     let Outcome::Refused(fault) = report.outcome else {
         return None;
     };
-    let ImageState::Refused(builder, refused) = &report.image else {
+    let ImageState::Part(builder) = &report.image else {
+        return None;
+    };
+    let Some(refused) = report.refused else {
         return None;
     };
     Some(explain_word(
@@ -31,13 +36,17 @@ fn refusal_of(report: &ModuleReport) -> Option<Explanation>
 }
 
 /// Writes what is told of a module, if anything is.
-fn write_refusal<W: Write>(told: Option<Explanation>, out: &mut W) -> io::Result<()>
+fn write_refusal<W: Write>(
+    alloc: Global,
+    told: Option<Explanation>,
+    out: &mut W,
+) -> io::Result<()>
     ensures { OnOk result (Appends (W.contents out.old) (W.contents out.new) (refusal_lines told)) }
 {
     match told {
         Some(explanation) => {
             let module = explanation.slot.number();
-            writeln!(out, "module {module}: {explanation}")
+            write_line(alloc, out, format_args!("module {module}: {explanation}"))
         }
         None => Ok(()),
     }
@@ -49,32 +58,45 @@ fn write_refusal<W: Write>(told: Option<Explanation>, out: &mut W) -> io::Result
 /// # Errors
 ///
 /// Where a write fails.
-pub fn write_refused<W: Write>(modules: &[ModuleReport], out: &mut W) -> io::Result<()>
+pub fn write_refused<W: Write>(
+    alloc: Global,
+    modules: &[ModuleReport],
+    out: &mut W,
+) -> io::Result<()>
     ensures { IfOk result (λ _. (text : List ℕ) × TellRefused modules.now text × Appends (W.contents out.old) (W.contents out.new) text) }
 {
     for report in modules {
-        write_refusal(refusal_of(report), out)?;
+        write_refusal(alloc, refusal_of(report), out)?;
     }
     Ok(())
 }
 
 /// Writes the line of a connection, where it came to a fault.
-fn write_fault<W: Write>(number: usize, fault: Option<FrameFault>, out: &mut W) -> io::Result<()>
+fn write_fault<W: Write>(
+    alloc: Global,
+    number: usize,
+    fault: Option<FrameFault>,
+    out: &mut W,
+) -> io::Result<()>
     ensures { OnOk result (Appends (W.contents out.old) (W.contents out.new) (fault_line number fault)) }
 {
     match fault {
-        Some(fault) => writeln!(out, "connection {number}: {fault}"),
+        Some(fault) => write_line(alloc, out, format_args!("connection {number}: {fault}")),
         None => Ok(()),
     }
 }
 
 /// Writes a line for each of these connections that came to a fault, by their numbers: `connection 1: `, and then the fault
 /// in words.
-fn write_faults<W: Write>(faults: &[Option<FrameFault>], out: &mut W) -> io::Result<()>
+fn write_faults<W: Write>(
+    alloc: Global,
+    faults: &[Option<FrameFault>],
+    out: &mut W,
+) -> io::Result<()>
     ensures { OnOk result (Appends (W.contents out.old) (W.contents out.new) (fault_lines faults.now)) }
 {
     for (number, fault) in faults.iter().enumerate() {
-        write_fault(number, *fault, out)?;
+        write_fault(alloc, number, *fault, out)?;
     }
     Ok(())
 }
@@ -85,6 +107,7 @@ fn write_faults<W: Write>(faults: &[Option<FrameFault>], out: &mut W) -> io::Res
 ///
 /// Where a write fails.
 pub fn write_asked_refused<W: Write>(
+    alloc: Global,
     explain: bool,
     modules: &[ModuleReport],
     faults: &[Option<FrameFault>],
@@ -95,6 +118,6 @@ pub fn write_asked_refused<W: Write>(
     if !explain {
         return Ok(());
     }
-    write_refused(modules, out)?;
-    write_faults(faults, out)
+    write_refused(alloc, modules, out)?;
+    write_faults(alloc, faults, out)
 }

@@ -61,6 +61,14 @@ verifier_stays intake lanes k old new is same rows tie = record {
   hands_on = tie is.hands_on;
 }
 
+pub verifier_looked : (intake : QueueId) (lanes : List QueueId) (k : ℕ) (old new : Verifier) → IsVerifier intake lanes k old → take_pass_of new ≡ take_pass_of old → lane_puts_of new ≡ lane_puts_of old → hand_of new ≡ hand_of old → IsVerifier intake lanes k new
+verifier_looked intake lanes k old new is pass row hand = record {
+  takes = subst (λ (p : PassView ItemView). IsPass intake intake.takers k p) (sym pass) is.takes;
+  puts = subst (λ (r : List (PassView ItemView)). SameLanes (new_row lanes k) r) (sym row) is.puts;
+  hands_on = subst (λ (p : PassView ItemView). Hands p.items (put_in (lane_puts_of new)) (hand_of new)) (sym pass)
+      (subst (λ (r : List (PassView ItemView)). Hands (take_pass_of old).items (put_in r) (hand_of new)) (sym row) (subst (λ (o : Option ItemView). Hands (take_pass_of old).items (put_in (lane_puts_of old)) o) (sym hand) is.hands_on));
+}
+
 pub new_sequencer : (lane : QueueId) (m : ℕ) (s : Sequencer) → (sequence_of s).«module» ≡ m → lane_pass_of s ≡ new_pass lane 0 → IsSequenced s → IsSequencer lane m s
 new_sequencer lane m s numbered pass tie = record {
   numbered = numbered;

@@ -3,10 +3,15 @@ use Rattle.std.proofs.Common.{◌≡◌, ◌∙◌, ℕ, ◌≤◌, List, Some, 
 use Rattle.std.specs.Prelude.{set}
 use Rattle.std.proofs.lemmas.List.{length-set}
 use Rattle.lfi_model.specs.Item.{ItemView}
-use Rattle.lfi_board.specs.Known.{board_id, board_of, sequencer_board}
+use Rattle.lfi_board.specs.declared.hand.Hand.{Hand}
+use Rattle.lfi_board.specs.declared.seats.WatchSeat.{WatchSeat}
+use Rattle.lfi_board.specs.Calls.{Saw}
+use Rattle.lfi_board.specs.Hands.{ended_word}
+use Rattle.lfi_board.specs.Known.{board_id, board_of, sequencer_board, watcher_board, known_by_watcher}
 use Rattle.lfi_queues.specs.Passes.{QueueId, PassView, IsPass}
 use Rattle.lfi_place.specs.declared.sequencer.Sequencer.{Sequencer}
 use Rattle.lfi_place.specs.declared.verifier.Verifier.{Verifier}
+use Rattle.lfi_place.specs.Handed.{seat_of as watch_seat_of}
 use Rattle.lfi_place.specs.Turns.{seat_of as sequencer_seat_of}
 use Rattle.lfi_receive.specs.declared.receiver.Receiver.{Receiver}
 use Rattle.lfi_receive.specs.declared.receiver.ReceiverTurn.{ReceiverTurn}
@@ -16,7 +21,7 @@ use Rattle.lfi_receive.specs.Turns.{PutsAsTold}
 use Rattle.lfi_parts.specs.Workers.{IsVerifier, IsSequencer}
 use Rattle.lfi_parts.specs.declared.shared.Shared.{Shared}
 use Rattle.lfi_parts.specs.Shares.{intake_of, board_at, lanes_of}
-use Rattle.lfi_parts.specs.Parts.{IsReceiver, AreAllParts}
+use Rattle.lfi_parts.specs.Parts.{IsReceiver, HasSeat, AreAllParts}
 use Rattle.lfi_parts.proofs.Each.{set_each}
 
 pass_stays : (queue : QueueId) (count c : ℕ) (did : ReceiverTurn) (old new : PassView ItemView) → IsPass queue count c old → PutsAsTold did old new → IsPass queue count c new
@@ -34,6 +39,13 @@ receiver_ends shared c old new is pass seat = record {
   pass = (is.pass.0, ap (λ p. p.queue) pass ∙ is.pass.1, ap (λ p. p.number) pass ∙ is.pass.2);
   seat = ap board_of seat ∙ is.seat;
 }
+
+-- the verifier's seat knows as many receivers as before
+pub seat_turns : (shared : Shared) (old new : Verifier) → HasSeat shared old → watch_seat_of new ≡ watch_seat_of old → HasSeat shared new
+seat_turns shared old new is same = record { seat = ap watcher_board same ∙ is.seat; knows = ap (λ (w : WatchSeat). (known_by_watcher w).receivers) same ∙ is.knows }
+
+pub seat_saw : (shared : Shared) (old new : Verifier) (count : ℕ) → HasSeat shared old → watcher_board (watch_seat_of new) ≡ watcher_board (watch_seat_of old) → Saw (known_by_watcher (watch_seat_of old)) (known_by_watcher (watch_seat_of new)) ended_word count → HasSeat shared new
+seat_saw shared old new count is board saw = record { seat = board ∙ is.seat; knows = ap (λ (h : Hand). h.receivers) saw.1 ∙ is.knows }
 
 module _ (shared : Shared) (receivers : List Receiver) (verifiers : List Verifier) (sequencers : List Sequencer) where
   pub with_receiver : (c : ℕ) (r : Receiver) → AreAllParts shared receivers verifiers sequencers → IsReceiver shared c r → AreAllParts shared (set receivers c r) verifiers sequencers

@@ -1,10 +1,10 @@
 -- The parts of one stage.
 use Rattle.std.specs.Prelude.{◌≡◌, ℕ, ◌≤◌, List, length, Some, slice_get}
-use Rattle.lfi_board.specs.declared.seats.WatchSeat.{WatchSeat}
 use Rattle.lfi_board.specs.Known.{board_id, board_of, board_receivers, sequencer_board, watcher_board, known_by_watcher}
 use Rattle.lfi_queues.specs.Passes.{IsPass}
 use Rattle.lfi_place.specs.declared.sequencer.Sequencer.{Sequencer}
 use Rattle.lfi_place.specs.declared.verifier.Verifier.{Verifier}
+use Rattle.lfi_place.specs.Handed.{seat_of as watch_seat_of}
 use Rattle.lfi_place.specs.Turns.{seat_of as sequencer_seat_of}
 use Rattle.lfi_receive.specs.declared.receiver.Receiver.{Receiver}
 use Rattle.lfi_receive.specs.Receivers.{pass_of, seat_of}
@@ -17,10 +17,10 @@ pub record IsReceiver (shared : Shared) (c : ℕ) (r : Receiver) : Type 0 where
   pub pass : IsPass (intake_of shared) (intake_of shared).putters c (pass_of r)
   pub seat : board_of (seat_of r) ≡ board_id (board_at shared)
 
--- It is a watcher's seat at the board, which knows how many receivers that has.
-pub record IsWatcher (shared : Shared) (w : WatchSeat) : Type 0 where
-  pub seat : watcher_board w ≡ board_id (board_at shared)
-  pub knows : (known_by_watcher w).receivers ≡ board_receivers (board_at shared)
+-- The verifier's seat is at the board, and knows how many receivers that has.
+pub record HasSeat (shared : Shared) (v : Verifier) : Type 0 where
+  pub seat : watcher_board (watch_seat_of v) ≡ board_id (board_at shared)
+  pub knows : (known_by_watcher (watch_seat_of v)).receivers ≡ board_receivers (board_at shared)
 
 -- These are all verifiers and sequencers of the stage.
 pub record AreOthers (shared : Shared) (verifiers : List Verifier) (sequencers : List Sequencer) : Type 0 where

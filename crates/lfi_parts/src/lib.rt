@@ -6,7 +6,7 @@
 //! All parts of one stage take turns at what they share (`Shared`): the intake, the lanes, the board. Whoever has them
 //! turns them in any order, on any threads. Here is what is known of them all the while, and no code.
 //!
-//! What that is is told by specs/: Workers and Parts say whose a verifier, a sequencer and a receiver is, Shares what
+//! What that is is told by specs/: Workers and Parts say whose a verifier, a sequencer and a receiver is and where their seats are, Shares what
 //! contracts see of what they share, Fresh which of them have done nothing yet. The laws in `laws` and `parts` say that
 //! a single turn keeps what settling a stage asks of its part.
 //!

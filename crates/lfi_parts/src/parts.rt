@@ -19,10 +19,11 @@ pub fn parts_are_new()
     ensures sequencer { (lane : QueueId) (m : ℕ) (s : Sequencer) → module_number_of (sequence_of s) ≡ m → lane_pass_of s ≡ new_pass lane 0 → IsSequenced s → IsSequencer lane m s }
 {}
 
-/// After a turn they are so still.
+/// After a turn they are so still; a verifier also where it only looked at the board.
 pub fn parts_stay()
     ensures verifier { (intake : QueueId) (lanes : List QueueId) (k : ℕ) (old new : Verifier) → IsVerifier intake lanes k old → IsSamePass (take_pass_of old) (take_pass_of new) → SameLanes (lane_puts_of old) (lane_puts_of new)
         → (HandsOn (take_pass_of old).items old → HandsOn (take_pass_of new).items new) → IsVerifier intake lanes k new }
+    ensures looked { (intake : QueueId) (lanes : List QueueId) (k : ℕ) (old new : Verifier) → IsVerifier intake lanes k old → take_pass_of new ≡ take_pass_of old → lane_puts_of new ≡ lane_puts_of old → hand_of new ≡ hand_of old → IsVerifier intake lanes k new }
     ensures sequencer { (lane : QueueId) (m : ℕ) (old new : Sequencer) (did : SequencerTurn) → IsSequencer lane m old → LaneTaken did (lane_pass_of old) (lane_pass_of new) → (IsSequenced old → IsSequenced new)
         → module_number_of (sequence_of new) ≡ module_number_of (sequence_of old) → IsSequencer lane m new }
 {}

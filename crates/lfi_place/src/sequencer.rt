@@ -34,7 +34,7 @@ pub struct Sequencer {
 
 impl Sequencer {
     ghost use Rattle.lfi_place.specs.Sequenced.{module_number_of};
-    ghost use Rattle.lfi_place.specs.Turns.{lane_pass_of, seat_of, sequence_of, told_of_sequencer, IsSequenced, LaneTaken, TellsBoard};
+    ghost use Rattle.lfi_place.specs.Turns.{lane_pass_of, member_of, seat_of, sequence_of, told_of_sequencer, IsSequenced, LaneTaken, TellsBoard};
 
     /// The sequencer of a module, with its pass of the module's lane, its seat of the board, and the
     /// pool to which it gives the pages that it doesn't place. No item has come. The memory for the module's pages is reserved, and so is a place for each
@@ -56,6 +56,7 @@ impl Sequencer {
         ensures seat { IfOk result (λ s. seat_of s ≡ seat) }
         ensures module { IfOk result (λ s. module_number_of (sequence_of s) ≡ «module») }
         ensures sequenced { IfOk result IsSequenced }
+        ensures pool { IfOk result (λ s. (member_of s).pool ≡ pool.pool) }
     {
         let sequence = Sequence::new(alloc, module, pool)?;
         Ok(Sequencer {

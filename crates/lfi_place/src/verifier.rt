@@ -1,12 +1,16 @@
 //! A verifier: it takes items from the intake, judges them, and hands them on to the lanes of their
 //! modules.
 
-ghost use Rattle.std.specs.Prelude.{◌≡◌, ◌<◌, ◌+◌, List, length, Option, Some, None};
+ghost use Rattle.std.specs.Prelude.{◌≡◌, ◌<◌, ◌≤◌, ◌+◌, List, length, Option, Some, None};
 ghost use Rattle.lfi_module.specs.Numbers.{module_count};
 ghost use Rattle.lfi_model.specs.Item.{ItemView};
+ghost use Rattle.lfi_board.specs.Hands.{ended_word};
+ghost use Rattle.lfi_board.specs.Calls.{Saw};
+ghost use Rattle.lfi_board.specs.Known.{board_id, watcher_board, known_by_watcher};
 ghost use Rattle.lfi_queues.specs.Passes.{IsSamePass};
 ghost use Rattle.lfi_place.specs.declared.verifier.VerifierTurn.TheVariants as turn;
 
+use lfi_board::{Board, WatchSeat};
 use lfi_model::{Item, Judged};
 use lfi_queues::{Intake, Lane, LanePut, TakePass, Taken};
 use std::sync::Wait;
@@ -44,13 +48,14 @@ pub enum VerifierTurn {
     Blocked,
 }
 
-/// A verifier: its pass of the intake, its passes of the lanes by their modules, and the item in its
-/// hand.
+/// A verifier: its pass of the intake, its passes of the lanes by their modules, the item in its
+/// hand, and its seat at the board.
 #[derive(Drop)]
 pub struct Verifier {
     pub(crate) pass: TakePass<Item>,
     pub(crate) lanes: Vec<LanePut<Judged>>,
     pub(crate) hand: Option<Judged>,
+    pub(crate) seat: WatchSeat,
     ghost all: { length lanes.items ≡ module_count },
 }
 
@@ -65,20 +70,22 @@ fn judged<G: Gate>(gate: &G, item: Item) -> Judged
 }
 
 impl Verifier {
-    ghost use Rattle.lfi_place.specs.Handed.{take_pass_of, lane_puts_of, hand_of, HandsOn, WithLast, SameLanes, AreLanes, ByHand, AsTold};
+    ghost use Rattle.lfi_place.specs.Handed.{take_pass_of, lane_puts_of, hand_of, seat_of, HandsOn, WithLast, SameLanes, AreLanes, ByHand, AsTold};
 
-    /// A verifier with its pass of the intake and its passes of the lanes, one a module. Nothing is
-    /// in its hand.
-    pub fn new(pass: TakePass<Item>, lanes: Vec<LanePut<Judged>>) -> Verifier
+    /// A verifier with its pass of the intake, its passes of the lanes, one a module, and its seat at
+    /// the board. Nothing is in its hand.
+    pub fn new(pass: TakePass<Item>, lanes: Vec<LanePut<Judged>>, seat: WatchSeat) -> Verifier
         requires { length lanes.items ≡ module_count }
         ensures pass { take_pass_of result ≡ pass }
         ensures lanes { lane_puts_of result ≡ lanes.items }
         ensures empty_handed { hand_of result ≡ None }
+        ensures seat { seat_of result ≡ seat }
     {
         Verifier {
             pass,
             lanes,
             hand: None,
+            seat,
         }
     }
 
@@ -89,6 +96,7 @@ impl Verifier {
         ensures tie { (took : List ItemView) → WithLast took self.old item → HandsOn took self.new }
         ensures did { ByHand result item (hand_of self.new) (lane_puts_of self.old) (lane_puts_of self.new) }
         ensures pass { self.new.pass ≡ self.old.pass }
+        ensures seat { seat_of self.new ≡ seat_of self.old }
         ensures same { SameLanes (lane_puts_of self.old) (lane_puts_of self.new) }
     {
         let module = item.module.index();
@@ -116,6 +124,7 @@ impl Verifier {
         ensures did { AsTold result self.old self.new }
         ensures same { SameLanes (lane_puts_of self.old) (lane_puts_of self.new) }
         ensures pass { IsSamePass (take_pass_of self.old) (take_pass_of self.new) }
+        ensures seat { seat_of self.new ≡ seat_of self.old }
     {
         match self.hand.take() {
             Some(held) => self.put(rt, lanes, held),
@@ -127,13 +136,31 @@ impl Verifier {
         }
     }
 
+    /// How many receivers have ended, 0 to 8, as its seat sees it on the board.
+    pub fn ended(&mut self, board: &Board) -> u64
+        requires board { watcher_board (seat_of self.old) ≡ board_id board.now }
+        ensures board { watcher_board (seat_of self.new) ≡ watcher_board (seat_of self.old) }
+        ensures saw { Saw (known_by_watcher (seat_of self.old)) (known_by_watcher (seat_of self.new)) ended_word result }
+        ensures most { result ≤ (known_by_watcher (seat_of self.old)).receivers }
+        ensures pass { take_pass_of self.new ≡ take_pass_of self.old }
+        ensures lanes { lane_puts_of self.new ≡ lane_puts_of self.old }
+        ensures hand { hand_of self.new ≡ hand_of self.old }
+    {
+        board.ended(&mut self.seat)
+    }
+
     /// Its pass of the intake, its passes of the lanes, and the item in its hand.
     pub fn into_parts(self) -> (TakePass<Item>, Vec<LanePut<Judged>>, Option<Judged>)
         ensures pass { result.0 ≡ take_pass_of self }
         ensures lanes { result.1.items ≡ lane_puts_of self }
         ensures hand { result.2 ≡ hand_of self }
     {
-        let Verifier { pass, lanes, hand } = self;
+        let Verifier {
+            pass,
+            lanes,
+            hand,
+            seat: _,
+        } = self;
         (pass, lanes, hand)
     }
 }

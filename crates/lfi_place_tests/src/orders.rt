@@ -78,16 +78,15 @@ fn ends_of(image: &CompleteImage) -> Option<[u32; 4]> {
 
 /// What a report tells.
 fn told(report: ModuleReport) -> Seen {
-    let (placed, refused, whole) = match &report.image {
-        ImageState::Absent => (None, None, None),
-        ImageState::Part(builder) => (Some(builder.placed()), None, None),
-        ImageState::Refused(builder, word) => (Some(builder.placed()), Some(*word), None),
-        ImageState::Whole(image) => (Some(image.placed()), None, ends_of(image)),
+    let (placed, whole) = match &report.image {
+        ImageState::Absent => (None, None),
+        ImageState::Part(builder) => (Some(builder.placed()), None),
+        ImageState::Whole(image) => (Some(image.placed()), ends_of(image)),
     };
     Seen {
         outcome: report.outcome,
         placed,
-        refused,
+        refused: report.refused,
         whole,
     }
 }

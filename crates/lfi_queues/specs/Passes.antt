@@ -1,8 +1,9 @@
 -- What contracts see of a queue, and of the passes that put to it or take from it.
-use Rattle.std.specs.Prelude.{◌≡◌, ℕ, zero, suc, ◌+◌, ◌<◌, ◌≤◌, List, [], ◌∷◌, ◌++◌, Option, Some, None, MatchOption, get_or, slice_get}
+use Rattle.std.specs.Prelude.{◌≡◌, ◌⊎◌, ℕ, zero, suc, ◌+◌, ◌<◌, ◌≤◌, List, [], ◌∷◌, ◌++◌, Option, Some, None, MatchOption, get_or, slice_get, replicate}
 use Rattle.std.specs.Option.{option_map, option_map_or}
 use Rattle.atomic_table.specs.Seated.{TableId}
 use Rattle.atomic_blocks.specs.Lent.{RowsId}
+use Rattle.lfi_queues.specs.declared.part.Tally.{Tally}
 use Rattle.lfi_queues.specs.Kept.{Kept, IsShuffle}
 
 -- where a queue's items lie: in one ring, or in parts, one for each putter
@@ -16,14 +17,50 @@ pub record QueueId : Type 0 where
   pub putters : ℕ
   pub takers : ℕ
 
--- a pass: its queue, its number there, how often it was used, what it put or took, and how often a part of the intake
--- answered it that a steal is to be tried again
+-- the rounds of a pass that takes from the intake: the part at which the next one begins, and the counts of each part's answers to it, by the parts' numbers
+pub record Rounds : Type 0 where
+  pub next : ℕ
+  pub tallies : List Tally
+
+-- the counts of a part's answers, once it has given one more item
+abbrev pub gave_item : Tally → Tally
+gave_item t = record t { items = t.items + 1 }
+
+-- the same, once it was empty one more time
+abbrev pub was_empty : Tally → Tally
+was_empty t = record t { empties = t.empties + 1 }
+
+-- the same, once it has answered one more time that a steal is to be tried again
+abbrev pub asked_again : Tally → Tally
+asked_again t = record t { retries = t.retries + 1 }
+
+-- a part was asked once more, and gave none
+abbrev pub GaveNone : (old new : Tally) → Type 0
+GaveNone old new = (new ≡ was_empty old) ⊎ (new ≡ asked_again old)
+
+-- In a round that begins at part `first`, goes on to the last part and then from part 0 on, part q comes before part p.
+abbrev pub IsAskedBefore : (first q p : ℕ) → Type 0
+IsAskedBefore first q p = ((first ≤ q) × (q < p)) ⊎ ((p < first) × ((first ≤ q) ⊎ (q < p)))
+
+-- those of a part that wasn't asked yet
+abbrev pub no_answers : Tally
+no_answers = record { items = 0; empties = 0; retries = 0 }
+
+-- those of part p
+abbrev pub tally : Rounds → ℕ → Tally
+tally rounds p = get_or rounds.tallies p no_answers
+
+-- no part was asked yet, and the first round begins at part 0
+abbrev pub no_rounds : QueueId → Rounds
+no_rounds queue = record { next = 0; tallies = replicate queue.putters no_answers }
+
+-- a pass: its queue, its number there, how often it was used, what it put or took, and its rounds, which only those that take from the intake make
 pub record PassView (X : Type 0) : Type 0 where
   pub queue : QueueId
   pub number : ℕ
   pub calls : ℕ
   pub items : List X
-  pub retries : ℕ
+  pub rounds : Rounds
 
 module _ {X : Type 0} where
   -- it is the same pass of the same queue
@@ -39,16 +76,8 @@ module _ {X : Type 0} where
   abbrev pub AddsNone : (old new : PassView X) → Type 0
   AddsNone old new = new ≡ record old { calls = old.calls + 1 }
 
-  -- one take from the intake that added an item, whatever parts had answered before
-  abbrev pub GetsItem : (old new : PassView X) → Type 0
-  GetsItem old new = (item : X) × (new ≡ record old { calls = old.calls + 1; items = old.items ++ item ∷ []; retries = new.retries })
-
-  -- one take from the intake that added none, and in which a part answered that a steal is to be tried again
-  abbrev pub AsksAgain : (old new : PassView X) → Type 0
-  AsksAgain old new = (old.retries < new.retries) × (new ≡ record old { calls = old.calls + 1; retries = new.retries })
-
   abbrev pub new_pass : QueueId → ℕ → PassView X
-  new_pass queue k = record { queue = queue; number = k; calls = 0; items = []; retries = 0 }
+  new_pass queue k = record { queue = queue; number = k; calls = 0; items = []; rounds = no_rounds queue }
 
   -- the first k passes of a new queue, in the order of their numbers
   abbrev pub new_passes : QueueId → ℕ → List (PassView X)
@@ -115,3 +144,29 @@ module _ {X : Type 0} where
     pub shares : ℕ → List X
     pub mine : IsShuffle shares pass.items
     pub empty : (p : ℕ) → p < pass.queue.putters → EmptyPart pass.number (shares p)
+
+  -- One take from the intake that gave this item: each part before that of the item was asked once and gave none, those after it weren't asked, and the next round begins after it.
+  pub record GetsItem (old new : PassView X) (item : X) : Type 0 where
+    pub part : ℕ
+    pub there : part < old.queue.putters
+    pub pass : new ≡ record old { calls = old.calls + 1; items = old.items ++ item ∷ []; rounds = new.rounds }
+    pub next : new.rounds.next ≡ part + 1
+    pub gave : tally new.rounds part ≡ gave_item (tally old.rounds part)
+    pub before : (p : ℕ) → p < old.queue.putters → IsAskedBefore old.rounds.next p part → GaveNone (tally old.rounds p) (tally new.rounds p)
+    pub after : (p : ℕ) → p < old.queue.putters → IsAskedBefore old.rounds.next part p → tally new.rounds p ≡ tally old.rounds p
+
+  -- One take from the intake that found each part empty, at a moment of its own. The next round begins where this one did.
+  pub record FindsNone (old new : PassView X) : Type 0 where
+    pub pass : new ≡ record old { calls = old.calls + 1; rounds = new.rounds }
+    pub next : new.rounds.next ≡ old.rounds.next
+    pub each : (p : ℕ) → p < old.queue.putters → tally new.rounds p ≡ was_empty (tally old.rounds p)
+    pub empty : SeenEmptyEach old
+
+  -- One take from the intake that gave none: each part was asked once, and some part answered that a steal is to be tried again. The next round begins where this one did.
+  pub record AsksAgain (old new : PassView X) : Type 0 where
+    pub pass : new ≡ record old { calls = old.calls + 1; rounds = new.rounds }
+    pub next : new.rounds.next ≡ old.rounds.next
+    pub each : (p : ℕ) → p < old.queue.putters → GaveNone (tally old.rounds p) (tally new.rounds p)
+    pub part : ℕ
+    pub there : part < old.queue.putters
+    pub again : tally new.rounds part ≡ asked_again (tally old.rounds part)

@@ -2,7 +2,7 @@
 //! of its own, and each taker takes from all parts. Putting and taking never wait.
 
 ghost use Rattle.std.specs.Prelude.{◌≡◌, ◌+◌, ◌≤◌, ◌<◌, [], ◌∷◌, ◌++◌, length, IfOk, OnOk, IfErr, ⊤};
-ghost use Rattle.lfi_queues.specs.Passes.{new_passes, IsSamePass, SeenEmptyEach};
+ghost use Rattle.lfi_queues.specs.Passes.{new_passes, IsSamePass, GetsItem, FindsNone, AsksAgain};
 ghost use Rattle.lfi_queues.specs.Taken.{MatchTaken};
 
 use crate::auxiliary::Auxiliary;
@@ -40,14 +40,14 @@ pub struct PutPass<T> {
 impl<T> Model for PutPass<T> {
     ghost use Rattle.std.specs.Prelude.{◌≡◌, ◌≤◌, Some, length, slice_get};
     ghost use Rattle.crossbeam_deque.specs.Handles.{worker_deque, worker_view, worker_index, worker_capacity, worker_flavor};
-    ghost use Rattle.lfi_queues.specs.Passes.{PassView};
+    ghost use Rattle.lfi_queues.specs.Passes.{PassView, no_rounds};
 
     ghost Value = { PassView T };
 
     ghost use Rattle.lfi_queues.specs.inner.Ports.{items_of};
     ghost use Rattle.lfi_queues.specs.inner.Parts.{intake_id, owning};
 
-    ghost view = { λ p. record { queue = intake_id p.home.value; number = p.number.value; calls = p.calls.value; items = items_of (worker_view p.owner).puts; retries = 0 } };
+    ghost view = { λ p. record { queue = intake_id p.home.value; number = p.number.value; calls = p.calls.value; items = items_of (worker_view p.owner).puts; rounds = no_rounds (intake_id p.home.value) } };
 
     ghost invariant = { λ p. (worker_view p.owner ≡ owning p.home.value.takers (items_of (worker_view p.owner).puts)) × (slice_get p.home.value.parts p.number.value ≡ Some (worker_deque p.owner).0) × (256 ≤ worker_capacity p.owner) × (worker_index p.owner ≤ length (items_of (worker_view p.owner).puts)) × (worker_flavor p.owner ≡ 0) };
 }
@@ -125,21 +125,20 @@ impl<T> Intake<T> {
         ensures ok { OnOk result (pass.new.items ≡ pass.old.items ++ item ∷ []) }
         ensures err { IfErr result (λ back. (back ≡ item) × (pass.new.items ≡ pass.old.items)) }
         ensures room { IfErr result (λ _. 256 ≤ length pass.old.items) }
-        ensures retries { pass.new.retries ≡ pass.old.retries }
+        ensures rounds { pass.new.rounds ≡ pass.old.rounds }
     {
         pass.calls = Auxiliary::of::<Auxiliary<u64>, Next>(&pass.calls);
         pass.owner.push_as::<PartPuts>(item)
     }
 
-    /// Tries one steal a part, from the part after that of the last item on. An item is the first of
-    /// its part.
+    /// Tries one steal a part, until one gives an item, which is the first of its part. The first round begins at part 0,
+    /// and later ones at the part after that of the last item.
     pub fn take(&self, pass: &mut TakePass<T>) -> Taken<T>
         requires { pass.old.queue ≡ self.now }
         ensures same { IsSamePass pass.old pass.new }
         ensures counted { pass.new.calls ≡ pass.old.calls + 1 }
         ensures taken { MatchTaken result (λ item. pass.new.items ≡ pass.old.items ++ item ∷ []) (pass.new.items ≡ pass.old.items) (pass.new.items ≡ pass.old.items) }
-        ensures empty { MatchTaken result (λ _. ⊤) (SeenEmptyEach pass.old) ⊤ }
-        ensures retries { MatchTaken result (λ _. pass.old.retries ≤ pass.new.retries) (pass.new.retries ≡ pass.old.retries) (pass.old.retries < pass.new.retries) }
+        ensures round { MatchTaken result (GetsItem pass.old pass.new) (FindsNone pass.old pass.new) (AsksAgain pass.old pass.new) }
     {
         pass.ends.take()
     }

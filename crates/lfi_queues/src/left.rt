@@ -70,11 +70,19 @@ fn rest_of_ends<T: Drop>(
     let Some(end) = taker.ends[place].take() else {
         unreachable!()
     };
-    let TakeEnd { stealer, seat } = end;
+    let TakeEnd {
+        stealer,
+        seat,
+        tally,
+    } = end;
     owner.absorb::<All>(seat);
     let item = rest_of_ends(owner, place, asked, later);
     let seat = owner.another::<OneTaker>();
-    taker.ends[place] = Some(TakeEnd { stealer, seat });
+    taker.ends[place] = Some(TakeEnd {
+        stealer,
+        seat,
+        tally,
+    });
     *slot = Some(taker);
     item
 }
@@ -119,11 +127,19 @@ fn rest_at<T: Drop>(
     let Some(end) = first.ends[place].take() else {
         unreachable!()
     };
-    let TakeEnd { stealer, seat } = end;
+    let TakeEnd {
+        stealer,
+        seat,
+        tally,
+    } = end;
     owner.absorb::<All>(seat);
     let item = rest_of_ends(&mut owner, place, asked, others);
     let seat = owner.another::<OneTaker>();
-    first.ends[place] = Some(TakeEnd { stealer, seat });
+    first.ends[place] = Some(TakeEnd {
+        stealer,
+        seat,
+        tally,
+    });
     first.items = Auxiliary::of::<(&Auxiliary<LinkedList<T>>, &Option<T>), WithFound>(&(
         &first.items,
         &item,

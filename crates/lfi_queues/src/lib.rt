@@ -36,10 +36,11 @@
 //!   there are lists of all passes that go with it; such lists can always be made up, so these clauses refuse no wrong
 //!   body. A body that never takes is refused by tests, and, through all passes, by `rest`. The intake's `empty` says it
 //!   of each part, at a moment of its own: parts are looked at one after another.
-//! - **`Empty` and `Again` are told apart by a count.** What the work-stealing deque says of a steal that is to be tried
-//!   again holds of an empty part as well, so by itself it would let either answer stand for the other. So a taking pass
-//!   counts, for contracts alone, how often a steal was answered so, read off the answers themselves where the one
-//!   function that steals has them: with `Empty` it is what it was, with `Again` it is more.
+//! - **What a round did is told by counts of answers.** What the work-stealing deque says of a steal that is to be tried
+//!   again holds of an empty part as well, and lists that go with an empty part can always be made up. So each end of a
+//!   part counts, for contracts alone, how often the part gave an item, was empty, or is to be tried again, read off the
+//!   answers themselves where the one function that steals has them. With the part at which the next round begins
+//!   (`Rounds`) this says which parts a take asked, in which order, and what each answered.
 //! - **`rest` counts as no call**, and takes as the first taker. That of the intake has all takers' ends in an array, so
 //!   that what each took of each part is known in one place; so it is for 8 takers at most.
 //! - **A lane's call takes `Wait`**, the toolchain's leave to block, since the ruled array queue asks for it. So does

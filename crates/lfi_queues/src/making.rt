@@ -11,7 +11,7 @@ ghost use Rattle.lfi_queues.specs.inner.Owners.{part_of, parts_of, IsNewOwner, A
 use crate::auxiliary::{Auxiliary, Reading};
 use crate::intake::{PutPass, ROOM, TakePass};
 use crate::log::NewTaker;
-use crate::part::{Home, Owner, TakeEnd};
+use crate::part::{Home, Owner, TakeEnd, Tally};
 use crate::round::TakeEnds;
 use crossbeam_deque::Worker;
 use std::alloc::{AllocError, Global};
@@ -53,6 +53,14 @@ impl<T> Reading<usize, LinkedList<T>> for NoItems {
     ghost reads = { λ _. [] };
 }
 
+struct NoAnswers;
+
+impl Reading<(), Tally> for NoAnswers {
+    ghost use Rattle.lfi_queues.specs.Passes.{no_answers};
+
+    ghost reads = { λ _. no_answers };
+}
+
 struct NoHome;
 
 impl Reading<usize, Home> for NoHome {
@@ -73,6 +81,7 @@ fn new_end<T>(owner: &mut Owner<T>) -> Result<TakeEnd<T>, AllocError>
     Ok(TakeEnd {
         stealer,
         seat: owner.another::<NewTaker>(),
+        tally: Auxiliary::of::<(), NoAnswers>(&()),
     })
 }
 
@@ -87,7 +96,6 @@ fn new_taker<T>(alloc: Global, number: usize) -> TakeEnds<T>
         number: Auxiliary::of::<usize, Number>(&number),
         calls: Auxiliary::of::<usize, NoCalls>(&number),
         items: Auxiliary::of::<usize, NoItems>(&number),
-        retries: Auxiliary::of::<usize, NoCalls>(&number),
     }
 }
 

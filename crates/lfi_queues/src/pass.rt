@@ -44,13 +44,13 @@ pub struct LanePut<T> {
 impl<T> Model for LanePut<T> {
     ghost use Rattle.std.specs.Prelude.{◌≡◌, []};
     ghost use Rattle.crossbeam_queue.specs.Passes.{view as known};
-    ghost use Rattle.lfi_queues.specs.Passes.{PassView};
+    ghost use Rattle.lfi_queues.specs.Passes.{PassView, no_rounds};
 
     ghost Value = { PassView T };
 
     ghost use Rattle.lfi_queues.specs.inner.Ports.{queue_id, number_of, items_of, putting};
 
-    ghost view = { λ p. record { queue = queue_id p.seat.table_id p.counts.value; number = number_of (known p.seat).puts; calls = p.calls.value; items = items_of (known p.seat).puts; retries = 0 } };
+    ghost view = { λ p. record { queue = queue_id p.seat.table_id p.counts.value; number = number_of (known p.seat).puts; calls = p.calls.value; items = items_of (known p.seat).puts; rounds = no_rounds (queue_id p.seat.table_id p.counts.value) } };
 
     ghost invariant = { λ p. (known p.seat ≡ putting (number_of (known p.seat).puts) (items_of (known p.seat).puts)) × (p.seat.me.1 ≡ []) };
 }
@@ -66,13 +66,13 @@ pub struct LaneTake<T> {
 impl<T> Model for LaneTake<T> {
     ghost use Rattle.std.specs.Prelude.{◌≡◌, []};
     ghost use Rattle.crossbeam_queue.specs.Passes.{view as known};
-    ghost use Rattle.lfi_queues.specs.Passes.{PassView};
+    ghost use Rattle.lfi_queues.specs.Passes.{PassView, no_rounds};
 
     ghost Value = { PassView T };
 
     ghost use Rattle.lfi_queues.specs.inner.Ports.{queue_id, number_of, items_of, taking};
 
-    ghost view = { λ p. record { queue = queue_id p.seat.table_id p.counts.value; number = number_of (known p.seat).takes; calls = p.calls.value; items = items_of (known p.seat).takes; retries = 0 } };
+    ghost view = { λ p. record { queue = queue_id p.seat.table_id p.counts.value; number = number_of (known p.seat).takes; calls = p.calls.value; items = items_of (known p.seat).takes; rounds = no_rounds (queue_id p.seat.table_id p.counts.value) } };
 
     ghost invariant = { λ p. (known p.seat ≡ taking p.counts.value (number_of (known p.seat).takes) (items_of (known p.seat).takes)) × (p.seat.me.1 ≡ []) };
 }

@@ -79,7 +79,7 @@ impl<T, const CAPACITY: usize> RuledQueue<T, CAPACITY> {
         ensures ok { OnOk result (pass.new.items ≡ pass.old.items ++ item ∷ []) }
         ensures err { IfErr result (λ back. (back ≡ item) × (pass.new.items ≡ pass.old.items)) }
         ensures full { IfErr result (λ _. (held : List T) × (length held ≡ CAPACITY) × SeenByPutter pass.old held) }
-        ensures retries { pass.new.retries ≡ pass.old.retries }
+        ensures rounds { pass.new.rounds ≡ pass.old.rounds }
     {
         pass.calls = Auxiliary::of::<Auxiliary<u64>, Next>(&pass.calls);
         self.queue.push_as::<Puts, R>(rt, &mut pass.seat, item)
@@ -93,7 +93,7 @@ impl<T, const CAPACITY: usize> RuledQueue<T, CAPACITY> {
         ensures taken { IfSome result (λ item. pass.new.items ≡ pass.old.items ++ item ∷ []) }
         ensures none { IfNone result (pass.new.items ≡ pass.old.items) }
         ensures empty { IfNone result (SeenByTaker pass.old []) }
-        ensures retries { pass.new.retries ≡ pass.old.retries }
+        ensures rounds { pass.new.rounds ≡ pass.old.rounds }
     {
         pass.calls = Auxiliary::of::<Auxiliary<u64>, Next>(&pass.calls);
         self.queue.pop_as::<Takes, R>(rt, &mut pass.seat)

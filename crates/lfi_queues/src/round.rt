@@ -1,9 +1,9 @@
 //! What a taking pass does: one steal a part.
 
-ghost use Rattle.std.specs.Prelude.{◌≡◌, ◌+◌, ◌≤◌, ◌<◌, [], ◌∷◌, ◌++◌, length, ℕ, Some, IfSome};
+ghost use Rattle.std.specs.Prelude.{◌≤◌, length};
 ghost use Rattle.crossbeam_deque.specs.Steals.{MatchSteal};
-ghost use Rattle.lfi_queues.specs.inner.Parts.{EndView, SeenEmpty, StealsFrom, SeenEmptyFrom, with_item, retried};
-ghost use Rattle.lfi_queues.specs.inner.Rounds.{MatchRound, Retries, DidTake};
+ghost use Rattle.lfi_queues.specs.inner.Parts.{SeesEmpty, SeesRetry, Gives};
+ghost use Rattle.lfi_queues.specs.inner.Rounds.{DidParts, DidRound, DidTake};
 
 use crate::auxiliary::{Auxiliary, Reading};
 use crate::intake::Taken;
@@ -24,30 +24,23 @@ enum Round<T> {
 }
 
 /// One steal, where there is an end.
-fn steal_at<T>(slot: &mut Option<TakeEnd<T>>, retries: &mut Auxiliary<u64>) -> Steal<T>
-    ensures taken { MatchSteal result ((slot.new ≡ slot.old) × IfSome slot.old SeenEmpty) (slot.new ≡ slot.old) (λ item. (end : EndView T) × (slot.old ≡ Some end) × (slot.new ≡ Some (with_item end item))) }
-    ensures retries { retries.new.value ≡ retried retries.old.value result }
+fn steal_at<T>(slot: &mut Option<TakeEnd<T>>) -> Steal<T>
+    ensures { MatchSteal result (SeesEmpty slot.old slot.new) (SeesRetry slot.old slot.new) (λ item. Gives item slot.old slot.new) }
 {
     match slot {
-        Some(end) => end.steal(retries),
+        Some(end) => end.steal(),
         None => Steal::Empty,
     }
 }
 
 /// One steal from each of these parts, until one gives an item.
-fn try_parts<T>(
-    ends: &mut [Option<TakeEnd<T>>],
-    from: usize,
-    to: usize,
-    retries: &mut Auxiliary<u64>,
-) -> Round<T>
-    requires { to ≤ length ends.old }
-    ensures taken { MatchRound result (λ p item. StealsFrom ends.old ends.new p item) ((ends.new ≡ ends.old) × SeenEmptyFrom ends.old from to) (ends.new ≡ ends.old) }
-    ensures retries { Retries result retries.old.value retries.new.value }
+fn try_parts<T>(ends: &mut [Option<TakeEnd<T>>], from: usize, to: usize) -> Round<T>
+    requires { (from ≤ to) × (to ≤ length ends.old) }
+    ensures { DidParts from to result ends.old ends.new }
 {
     let mut again = false;
     for number in from..to {
-        match steal_at(&mut ends[number], retries) {
+        match steal_at(&mut ends[number]) {
             Steal::Success(item) => return Round::Got(number, item),
             Steal::Empty => {}
             Steal::Retry => again = true,
@@ -56,21 +49,16 @@ fn try_parts<T>(
     if again { Round::Again } else { Round::Empty }
 }
 
-/// One steal a part, from this part on and round to it.
-fn try_round<T>(
-    ends: &mut [Option<TakeEnd<T>>],
-    next: usize,
-    retries: &mut Auxiliary<u64>,
-) -> Round<T>
-    requires { next ≤ length ends.old }
-    ensures taken { MatchRound result (λ p item. StealsFrom ends.old ends.new p item) ((ends.new ≡ ends.old) × SeenEmptyFrom ends.old 0 (length ends.old)) (ends.new ≡ ends.old) }
-    ensures retries { Retries result retries.old.value retries.new.value }
+/// One steal a part, from this part on and round to it, until one gives an item.
+fn try_round<T>(ends: &mut [Option<TakeEnd<T>>], first: usize) -> Round<T>
+    requires { first ≤ length ends.old }
+    ensures { DidRound first result ends.old ends.new }
 {
     let count = ends.len();
-    match try_parts(ends, next, count, retries) {
+    match try_parts(ends, first, count) {
         Round::Got(number, item) => Round::Got(number, item),
-        Round::Empty => try_parts(ends, 0, next, retries),
-        Round::Again => match try_parts(ends, 0, next, retries) {
+        Round::Empty => try_parts(ends, 0, first),
+        Round::Again => match try_parts(ends, 0, first) {
             Round::Got(number, item) => Round::Got(number, item),
             Round::Empty | Round::Again => Round::Again,
         },
@@ -86,7 +74,7 @@ impl<'a, T> Reading<(&'a Auxiliary<LinkedList<T>>, &'a T), LinkedList<T>> for Wi
     ghost reads = { λ p. p.0.now.value ++ p.1.now ∷ [] };
 }
 
-/// What a taking pass has: its end of each part, and where its next round begins. The rest is known
+/// What a taking pass has: its end of each part, and the part at which its next round begins. The rest is known
 /// to contracts alone.
 #[derive(Drop)]
 pub(crate) struct TakeEnds<T> {
@@ -96,7 +84,6 @@ pub(crate) struct TakeEnds<T> {
     pub(crate) number: Auxiliary<u64>,
     pub(crate) calls: Auxiliary<u64>,
     pub(crate) items: Auxiliary<LinkedList<T>>,
-    pub(crate) retries: Auxiliary<u64>,
 }
 
 impl<T> Model for TakeEnds<T> {
@@ -104,7 +91,7 @@ impl<T> Model for TakeEnds<T> {
 
     ghost Value = { TakeView T };
 
-    ghost view = { λ t. record { home = t.home.value; number = t.number.value; calls = t.calls.value; items = t.items.value; retries = t.retries.value; ends = t.ends.items } };
+    ghost view = { λ t. record { home = t.home.value; number = t.number.value; calls = t.calls.value; items = t.items.value; next = t.next; ends = t.ends.items } };
 }
 
 impl<T> TakeEnds<T> {
@@ -113,8 +100,8 @@ impl<T> TakeEnds<T> {
         ensures { DidTake result self.old self.new }
     {
         self.calls = Auxiliary::of::<Auxiliary<u64>, Next>(&self.calls);
-        let from = self.next.min(self.ends.len());
-        let round = try_round(self.ends.as_mut_slice(), from, &mut self.retries);
+        let first = self.next.min(self.ends.len());
+        let round = try_round(self.ends.as_mut_slice(), first);
         match round {
             Round::Got(number, item) => {
                 self.next = number + 1;

@@ -10,16 +10,16 @@ ghost use Rattle.lfi_model.specs.declared.item.ItemKind.TheVariants.{Open, End};
 ghost use Rattle.lfi_model.specs.declared.connection.Progress.{Progress};
 ghost use Rattle.lfi_model.specs.declared.connection.Progress.TheVariants.{Going};
 ghost use Rattle.lfi_model.specs.Items.{item_of};
-ghost use Rattle.lfi_module.specs.Pages.{page_count, bytes_in_page};
-ghost use Rattle.lfi_connection.specs.Places.{IsPossible};
-ghost use Rattle.lfi_connection.specs.Events.{Follows};
+ghost use Rattle.lfi_module.specs.Pages.{page_count};
+ghost use Rattle.lfi_connection.specs.Modules.{IsPossible};
+ghost use Rattle.lfi_connection.specs.Events.{Follows, Continues};
 
 use crate::ahead::PageMemory;
 use crate::coming::ComingPage;
 use crate::modules::Modules;
 use crate::seat::OwnSeat;
 use lfi_board::{Board, Phase, ReceiverSeat};
-use lfi_connection::{Coming, Event, bring, end_by, lose};
+use lfi_connection::{DuePage, Event, advance, fault_at_end, lose_next};
 use lfi_frame::{Feed, FrameFault, Got, Step};
 use lfi_model::{Cause, Item, ItemKind, Reason};
 use lfi_module::{Extent, ModuleNumber};
@@ -50,9 +50,7 @@ pub struct Receiver {
     pass: PutPass<Item>,
     seat: OwnSeat,
     modules: Modules,
-    /// Which page's payload is coming, where it is the one due.
-    coming: Option<Coming>,
-    /// That page, with what came of it.
+    /// The page whose payload is coming, where it is one that is due.
     page: Option<ComingPage>,
     /// The item that is to be put next.
     hand: Option<Item>,
@@ -66,7 +64,8 @@ impl Receiver {
     ghost use Rattle.lfi_receive.specs.Turns.{PutsAsTold, CountsAsTold, is_finished};
     ghost use Rattle.lfi_receive.specs.inner.Holding.{made_by, knows, Holds, Brought};
     ghost use Rattle.lfi_receive.specs.inner.Steps.{Begins, Keeps};
-    ghost use Rattle.lfi_receive.specs.Receivers.{pass_of, seat_of, claimed_by, cause_of, hand_of, fault_of, strays_at, cause_after, StandsFor, IsOver, IsFinished, due_of, AfterEnd};
+    ghost use Rattle.lfi_receive.specs.inner.Pages.{coming_of, Fits};
+    ghost use Rattle.lfi_receive.specs.Receivers.{pass_of, seat_of, member_of, claimed_by, cause_of, hand_of, fault_of, strays_at, cause_told, cause_with, StandsFor, IsOver, IsFinished, due_of, EndsLeast, AfterEnd};
 
     /// A receiver of which no byte has come, with its pass of the intake and its seat at the board,
     /// neither of which was used, and the pool that it asks for pages first.
@@ -81,6 +80,7 @@ impl Receiver {
         ensures running { cause_of result ≡ None }
         ensures faultless { fault_of result ≡ None }
         ensures strays { strays_at result ≡ 0 }
+        ensures pool { (member_of result).pool ≡ pool.pool }
     {
         Receiver {
             memory: PageMemory::new(alloc, pool),
@@ -88,7 +88,6 @@ impl Receiver {
             pass,
             seat: OwnSeat { seat, told: false },
             modules: Modules::new(),
-            coming: None,
             page: None,
             hand: None,
             cause: None,
@@ -154,22 +153,14 @@ impl Receiver {
         });
     }
 
-    /// The page that is due of a module begins: it has memory now, or where there is none the input is over.
-    fn begin(&mut self, module: ModuleNumber, extent: Extent, pages: u32, len: u32)
-        requires due { (pages < page_count extent.pages extent.words) × (len ≡ bytes_in_page extent.pages extent.words pages) }
+    /// The page that is due begins: it has memory now, or where there is none the input is over.
+    fn begin(&mut self, due: DuePage)
+        requires due { (due.pages < page_count due.extent.pages due.extent.words) × (due.come ≡ 0) }
         requires running { self.old.cause ≡ None }
-        ensures page { Begins «module» extent pages self.old self.new }
+        ensures page { Begins due self.old self.new }
     {
-        match self.memory.page(extent.pages()) {
-            Ok(page) => {
-                self.page = Some(ComingPage {
-                    module,
-                    extent,
-                    pages,
-                    left: len,
-                    page,
-                });
-            }
+        match self.memory.page(due.extent.pages()) {
+            Ok(page) => self.page = Some(ComingPage::of(due, page)),
             Err(_) => {
                 self.feed.stop(FrameFault::NoMemory);
                 self.fault = Some(FrameFault::NoMemory);
@@ -178,21 +169,29 @@ impl Receiver {
         }
     }
 
-    /// Payload bytes of the page that is coming: they are kept, and where they make it whole it comes into the hand.
-    fn payload(&mut self, bytes: &[u8])
+    /// Payload bytes of the page that is coming: they are kept, and where they end it it comes into the hand.
+    fn payload(&mut self, ended: bool, bytes: &[u8])
         requires free { self.old.hand ≡ None }
-        ensures { Keeps bytes.now self.old self.new }
+        requires fits { Fits self.old.page (length bytes.now) «ended» }
+        ensures { Keeps «ended» bytes.now self.old self.new }
     {
         let Some(page) = self.page.take() else {
-            return;
+            unreachable!();
         };
-        match page.add(bytes) {
-            Ok(item) => {
-                self.hand = Some(item);
-            }
-            Err(page) => {
-                self.page = Some(page);
-            }
+        if ended {
+            self.hand = Some(page.end(bytes));
+        } else {
+            self.page = Some(page.add(bytes));
+        }
+    }
+
+    /// The page whose payload is coming.
+    fn coming(&self) -> Option<DuePage>
+        ensures { result ≡ coming_of self.now.page }
+    {
+        match &self.page {
+            Some(page) => Some(page.due()),
+            None => None,
         }
     }
 
@@ -201,6 +200,7 @@ impl Receiver {
         requires free { self.old.hand ≡ None }
         requires running { self.old.cause ≡ None }
         requires follows { (was : ℕ → Progress) × Follows event was }
+        requires continues { Continues event (coming_of self.old.page) (length bytes.now) }
         ensures stands { (messages : List Message) (rest : List ℕ) → Brought self.old event messages rest bytes.now → StandsFor self.new (flat_map spelling messages ++ (rest ++ bytes.now)) }
         ensures over { (messages : List Message) (rest : List ℕ) → Brought self.old event messages rest bytes.now → IsOver (claimed_by self.new) self.new.cause (flat_map spelling messages ++ (rest ++ bytes.now)) }
         ensures pass { self.new.pass ≡ self.old.pass }
@@ -211,13 +211,8 @@ impl Receiver {
         match event {
             Event::Nothing => {}
             Event::Open { module, extent } => self.open_module(module, extent),
-            Event::Begin {
-                module,
-                extent,
-                pages,
-                len,
-            } => self.begin(module, extent, pages, len),
-            Event::Code { .. } => self.payload(bytes),
+            Event::Begin(due) => self.begin(due),
+            Event::Code { ended, .. } => self.payload(ended, bytes),
             Event::Stray { .. } => {
                 self.stray();
                 return true;
@@ -228,7 +223,6 @@ impl Receiver {
                 pages,
                 reason,
             } => self.end_module(module, extent, pages, reason),
-            Event::Fault(_) => {}
         }
         false
     }
@@ -249,13 +243,8 @@ impl Receiver {
         ensures strays { self.new.strays ≡ (if result then min (self.old.strays + 1) (2 ^ 64 - 1) else self.old.strays) }
     {
         let is_free = self.seat.is_free(board, &got);
-        let event = bring(
-            &mut self.modules,
-            &mut self.coming,
-            got,
-            bytes.len(),
-            is_free,
-        );
+        let coming = self.coming();
+        let event = advance(&mut self.modules, &coming, got, bytes.len(), is_free);
         self.tell(event, bytes)
     }
 
@@ -296,6 +285,7 @@ impl Receiver {
         ensures seat { self.new.seat ≡ self.old.seat }
         ensures cause { self.new.cause ≡ self.old.cause }
         ensures strays { self.new.strays ≡ self.old.strays }
+        ensures least { IsTrue result → EndsLeast self.old self.new }
         ensures none { result ≡ false → (self.new ≡ self.old) × IsFinished self.old }
     {
         let Some(fault) = self.fault else {
@@ -306,7 +296,7 @@ impl Receiver {
             extent,
             pages,
             reason,
-        } = lose(&mut self.modules, fault)
+        } = lose_next(&mut self.modules, fault)
         else {
             return false;
         };
@@ -394,18 +384,23 @@ impl Receiver {
         board.look(&mut self.seat.seat, module)
     }
 
-    /// Tells the end of the input. A second call, or one after a fault, changes nothing. That a read
-    /// failed is told by `pull` alone, which reads.
-    pub fn end(&mut self)
+    /// Tells the end of the input, or that a read of it failed. A second call, or one after a fault, changes
+    /// nothing. Who calls `pull` needn't call it: `pull` reads, and tells both.
+    pub fn end(&mut self, failed: bool)
         ensures stands { (bytes : List ℕ) → StandsFor self.old bytes → StandsFor self.new bytes }
-        ensures ended { cause_of self.new ≡ Some (cause_after (cause_of self.old)) }
+        ensures ended { cause_of self.new ≡ Some (cause_with (cause_of self.old) (cause_told «failed»)) }
         ensures again { IsSome (cause_of self.old) → self.new ≡ self.old }
         ensures pass { pass_of self.new ≡ pass_of self.old }
         ensures hand { hand_of self.new ≡ hand_of self.old }
         ensures seat { seat_of self.new ≡ seat_of self.old }
         ensures strays { strays_at self.new ≡ strays_at self.old }
     {
-        if self.cause.is_none() {
+        if self.cause.is_some() {
+            return;
+        }
+        if failed {
+            self.end_by(Cause::Failed);
+        } else {
             self.end_by(Cause::End);
         }
     }
@@ -420,7 +415,7 @@ impl Receiver {
         ensures seat { seat_of self.new ≡ seat_of self.old }
         ensures strays { strays_at self.new ≡ strays_at self.old }
     {
-        self.fault = end_by(&self.modules, &mut self.feed, cause);
+        self.fault = fault_at_end(&self.modules, &mut self.feed, cause);
         self.cause = Some(cause);
     }
 

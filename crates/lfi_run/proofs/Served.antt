@@ -1,6 +1,5 @@
 -- Runs with one runtime, seen as runs with another.
 use Rattle.std.proofs.Common.{◌≡◌, ℕ, zero, suc, List, [], Option, Some, None, refl, sym, ap, subst, rules}
-use Rattle.std.specs.Io.KnownBytes.{append_known}
 use Rattle.a64_semantics.specs.declared.registers.Registers.{Registers}
 use Rattle.lfi_confinement.specs.Moves.{Move, go, stop, ask, escape}
 use Rattle.lfi_machine.specs.Owned.{Owned}
@@ -77,8 +76,3 @@ module _ {G : Type 0} (Related : G → G → Type 0) (same : (g : G) → Related
 
   pub run_related : (c d : Config) (g k : G) (halt : Halt) (count : ℕ) → RanThenHalts (related Related) c g halt count d k → Related g k
   run_related c d g k halt count e = further g e.1 k (related_ran count c e.0 g e.1 e.2) (related_ends halt e.0 d e.1 k e.3)
-
--- nothing is kept at first
-pub none_kept : (known : Option (List ℕ)) → append_known known [] ≡ known
-none_kept None = refl
-none_kept (Some xs) = search rules

@@ -1,4 +1,3 @@
-pub mod Growth
 pub mod Serving
 pub mod Runs
 pub mod Texts

@@ -1,40 +1,29 @@
 -- What comes of an image file that is run. Source: this project's profile, docs/COMMANDS.md.
-use Rattle.std.specs.Prelude.{◌≡◌, ◌↔◌, ◌≤◌, ◌⊎◌, ℕ, List, Option, IfSome}
-use Rattle.std.specs.Io.KnownBytes.{Keeps}
+use Rattle.std.specs.Prelude.{◌≡◌, ◌↔◌, ◌≤◌, ℕ, List, Option, IfSome}
 use Rattle.sparse_memory.specs.Kept.{byte_at}
 use Rattle.lfi_image.specs.Image.{Image, IsImage}
 use Rattle.lfi_image_file.specs.Files.{FileOf}
 use Rattle.lfi_image_file.specs.Reading.{IsFault}
 use Rattle.lfi_machine.specs.declared.halt.Halt.{Halt}
-use Rattle.lfi_machine.specs.declared.halt.Halt.TheVariants.{Stopped, StepsUsed}
-use Rattle.lfi_confinement.specs.declared.cause.Cause.TheVariants.{Ended as EndedWith}
+use Rattle.lfi_machine.specs.declared.halt.Halt.TheVariants.{StepsUsed}
 use Rattle.lfi_machine.specs.Starts.{start_of}
 use Rattle.lfi_machine.specs.Runs.{Config, IsConfined, RanThenHalts}
 use Rattle.lfi_run.specs.declared.image_run.ImageRun.{ImageRun}
 use Rattle.lfi_run.specs.declared.image_run.ImageRun.TheVariants.{Refused, Ended}
-use Rattle.lfi_run.specs.Growth.{Grows, IsBeginning}
 use Rattle.lfi_run.specs.Serving.{serves}
 
--- All that was printed is in the output, and the halt that is told is that of the run; or it could not be written, only a
--- beginning of it was added to the output, if anything, and an end with the status 255 is told.
-abbrev pub IsWritten : (old printed new : Option (List ℕ)) → (halt told : Halt) → Type 0
-IsWritten old printed new halt told = (Keeps printed new × (told ≡ halt)) ⊎ (Grows old new × IsBeginning new printed × (told ≡ Stopped (EndedWith 255)))
-
 -- A machine was made of the image, at the registers of its start and with no byte written, from which no run escapes. It ran for
--- so many steps with the program's runtime, and then halted.
-pub record RunsImage (image : Image) (steps : ℕ) (old new : Option (List ℕ)) (told : Halt) (count : ℕ) : Type 0 where
+-- so many steps with the program's runtime, which wrote what is printed to the output, and then halted.
+pub record RunsImage (image : Image) (steps : ℕ) (old new : Option (List ℕ)) (halt : Halt) (count : ℕ) : Type 0 where
   pub start : Config
   pub registers : start.registers ≡ start_of image
   pub placed : start.owned.image ≡ image
   pub unwritten : (offset : ℕ) → byte_at start.owned.kept offset ≡ 0
   pub confined : IsConfined start
   pub last : Config
-  pub halt : Halt
-  pub printed : Option (List ℕ)
-  pub ran : RanThenHalts serves start old halt count last printed
+  pub ran : RanThenHalts serves start old halt count last new
   pub within : count ≤ steps
   pub used : (halt ≡ StepsUsed) ↔ (count ≡ steps)
-  pub written : IsWritten old printed new halt told
 
 -- Of a file with these bytes, where they are known: it has a fault, and nothing is printed; or it is an image's, which runs.
 abbrev pub CameOf : (bytes : Option (List ℕ)) → (steps : ℕ) → (old new : Option (List ℕ)) → ImageRun → Type 0

@@ -25,7 +25,7 @@ refused r = record r { x = slice_set r.x 0 (2 ^ 64 - 1) }
 abbrev pub Serves : Service → Registers → (old : Option (List ℕ)) → Answer → (new : Option (List ℕ)) → Type 0
 Serves Finish r old (End status) new = (status ≡ low_byte r) × (new ≡ old)
 Serves Print r old (Resume next) new = (next ≡ r) × Appends old new (low_byte r ∷ [])
--- no more could be written: the byte is not printed
+-- the byte could not be written
 Serves Print r old (End status) new = (status ≡ 255) × Keeps old new
 Serves Unknown r old (Resume next) new = (next ≡ refused r) × (new ≡ old)
 Serves _ r old answer new = ⊥

@@ -1,2 +1,2 @@
 -- What private functions answer and types keep. No claim of this crate rests on these definitions.
-pub mod Consoles
+pub mod Attempts

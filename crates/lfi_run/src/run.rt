@@ -2,21 +2,16 @@
 
 ghost use Rattle.std.specs.Prelude.{◌≡◌, ◌≤◌, ◌↔◌, IfOk, OnErr};
 ghost use Rattle.lfi_machine.specs.Runs.{RanThenHalts};
-ghost use Rattle.lfi_run.specs.Growth.{Grows};
 ghost use Rattle.lfi_run.specs.Serving.{serves};
 ghost use Rattle.lfi_run.specs.Runs.{CameOf, RunsImage};
-ghost use Rattle.lfi_run.specs.inner.Consoles.{output_of};
 
-use crate::console::{Console, NOT_WRITTEN, NotWritten};
+use crate::console::Console;
 use crate::image_run::ImageRun;
 use lfi_image::CompleteImage;
 use lfi_image_file::read_image;
-use lfi_machine::{Cause, Halt, Machine, start_registers};
+use lfi_machine::{Halt, Machine, start_registers};
 use std::alloc::{AllocError, Global};
 use std::io::{Read, Write};
-
-/// How many bytes of output are kept before they are written.
-const MOST_PENDING: usize = 8192;
 
 /// Runs a machine, with a console that serves its calls.
 fn run_served<W: Write>(
@@ -26,15 +21,13 @@ fn run_served<W: Write>(
 ) -> (Halt, u64)
     ensures within { result.1 ≤ steps }
     ensures used { (result.0 ≡ Halt.StepsUsed) ↔ (result.1 ≡ steps) }
-    ensures ran { RanThenHalts serves machine.old (output_of W.contents console.old) result.0 result.1 machine.new (output_of W.contents console.new) }
-    ensures grown { Grows (W.contents console.old.out.now) (W.contents console.new.out.now) }
+    ensures ran { RanThenHalts serves machine.old (W.contents console.old.out.now) result.0 result.1 machine.new (W.contents console.new.out.now) }
     ensures same { console.new.out.ghost_name ≡ console.old.out.ghost_name }
 {
     machine.run(steps, console)
 }
 
-/// Runs an image from its start, for at most so many steps. What its code prints is in the output before this returns; a run
-/// of which that can't be written, or flushed, has ended with the status 255, and a beginning of it is in the output.
+/// Runs an image from its start, for at most so many steps. What its code prints is written to the output at its calls.
 fn run_from_start<W: Write>(
     alloc: Global,
     image: CompleteImage,
@@ -45,23 +38,20 @@ fn run_from_start<W: Write>(
     ensures unwritten { OnErr result (out.new ≡ out.old) }
 {
     let registers = start_registers(&image);
-    let pending = Vec::with_capacity(alloc, MOST_PENDING)?;
     let Ok(mut machine) = Machine::new(alloc, image, registers) else {
         return Err(AllocError);
     };
-    let mut console = Console { out, pending };
-    let (halt, count) = run_served(&mut machine, steps, &mut console);
-    let finished = console.finish();
-    let Console { out, pending: _ } = console;
+    let mut console = Console { out };
+    let ended = run_served(&mut machine, steps, &mut console);
+    let Console { out } = console;
     // It does nothing: the proof reads from this use what the output holds.
     let _ = &*out;
-    match finished {
-        Ok(()) => Ok((halt, count)),
-        Err(NotWritten) => Ok((Halt::Stopped(Cause::Ended(NOT_WRITTEN)), count)),
-    }
+    Ok(ended)
 }
 
 /// Reads an image's file, which is all that the reader has left, and runs the image from its start, for at most so many steps.
+/// Each byte that its code prints is written at its call. A byte that can't be written ends the run at this call, with the
+/// status 255.
 ///
 /// # Errors
 ///

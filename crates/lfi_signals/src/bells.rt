@@ -1,6 +1,7 @@
 //! Bells: how threads wait for what others bring, and how those call them.
 
 use lfi_module::VERIFIERS;
+use std::array;
 use std::sync::Wait;
 use std::sync::atomic::{AtomicU64, Ordering};
 use std::thread::Parker;
@@ -31,16 +32,7 @@ impl Bell {
         Bell {
             threads,
             waiting: AtomicU64::new(0),
-            sleepers: [
-                Parker::new(),
-                Parker::new(),
-                Parker::new(),
-                Parker::new(),
-                Parker::new(),
-                Parker::new(),
-                Parker::new(),
-                Parker::new(),
-            ],
+            sleepers: array::from_fn(|_| Parker::new()),
         }
     }
 

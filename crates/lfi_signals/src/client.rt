@@ -11,6 +11,7 @@ use std::io::{self, Read};
 use std::net::Shutdown;
 use std::os::unix::net::UnixStream;
 use std::rt::Clock;
+use std::array;
 use std::sync::{OnceLock, Wait};
 
 /// The streams of the clients that were accepted, by their connections' numbers. They lie where
@@ -24,16 +25,7 @@ impl Streams {
     /// Those of no clients yet.
     pub fn new() -> Streams {
         Streams {
-            slots: [
-                OnceLock::new(),
-                OnceLock::new(),
-                OnceLock::new(),
-                OnceLock::new(),
-                OnceLock::new(),
-                OnceLock::new(),
-                OnceLock::new(),
-                OnceLock::new(),
-            ],
+            slots: array::from_fn(|_| OnceLock::new()),
         }
     }
 
@@ -43,7 +35,7 @@ impl Streams {
         &self,
         door: &Door<'_, S>,
         number: usize,
-    ) -> Client<&UnixStream> {
+    ) -> Client<Connection<'_>> {
         let Some(slot) = self.slots.get(number) else {
             return Client::Absent;
         };
@@ -54,7 +46,7 @@ impl Streams {
             return Client::Absent;
         };
         match slot.get() {
-            Some(stream) => Client::Present(stream),
+            Some(stream) => Client::Present(Connection { stream }),
             None => Client::Absent,
         }
     }
@@ -73,6 +65,26 @@ impl Streams {
                 let _ = stream.shutdown(Shutdown::Both);
             }
         }
+    }
+}
+
+/// The stream of a client, as its receiver reads it. It is shut down when this is dropped: so a client that waits for the
+/// end of its connection is told once its receiver has nothing more to hear.
+pub struct Connection<'a> {
+    stream: &'a UnixStream,
+}
+
+impl Drop for Connection<'_> {
+    fn drop(self) {
+        let Connection { stream } = self;
+        let _ = stream.shutdown(Shutdown::Both);
+    }
+}
+
+impl Read for Connection<'_> {
+    fn read(&mut self, buf: &mut [u8]) -> io::Result<usize> {
+        let mut stream = self.stream;
+        stream.read(buf)
     }
 }
 

@@ -7,6 +7,7 @@ use crate::client::Streams;
 use crate::deadline::{Deadline, Span};
 use crate::ends::{Ends, Waited};
 use std::fs::Files;
+use std::os::unix::fs::MetadataExt;
 use std::os::unix::net::{UnixListener, UnixStream};
 use std::rt::Clock;
 use std::sync::Wait;
@@ -21,12 +22,32 @@ fn is_early(error: io::Error) -> bool {
     error.kind() == io::ErrorKind::WouldBlock
 }
 
+/// What stands at a path: the device and the inode.
+#[derive(Clone, Copy, PartialEq, Eq)]
+struct Identity {
+    device: u64,
+    inode: u64,
+}
+
+impl Identity {
+    /// That of what stands at this path now, where the system tells it.
+    fn at<S: Files>(rt: &S, path: &str) -> Option<Identity> {
+        let metadata = fs::symlink_metadata(rt, path).ok()?;
+        Some(Identity {
+            device: metadata.dev(),
+            inode: metadata.ino(),
+        })
+    }
+}
+
 /// The listener at a path, and until when clients are waited for and heard. The path is removed when
-/// this is dropped, and so once, whatever comes before; that this fails isn't told.
+/// this is dropped, and so once, whatever comes before, where what stands there is still what stood
+/// there when this was made. That this fails isn't told.
 pub struct Door<'a, S: Files> {
     rt: &'a S,
     listener: &'a UnixListener,
     path: &'a str,
+    socket: Option<Identity>,
     deadline: Deadline,
 }
 
@@ -36,14 +57,17 @@ impl<'a, S: Files> Drop for Door<'a, S> {
             rt,
             listener: _,
             path,
+            socket,
             deadline: _,
         } = self;
-        let _ = fs::remove_file(rt, path);
+        if Identity::at(rt, path) == socket {
+            let _ = fs::remove_file(rt, path);
+        }
     }
 }
 
 impl<'a, S: Files> Door<'a, S> {
-    /// That of a listener at this path. Where its time is limited, it begins now.
+    /// That of a listener that was bound to this path just now. Where its time is limited, it begins now.
     pub fn new(
         rt: &'a S,
         listener: &'a UnixListener,
@@ -58,6 +82,7 @@ impl<'a, S: Files> Door<'a, S> {
             rt,
             listener,
             path,
+            socket: Identity::at(rt, path),
             deadline: Deadline::from_now(rt, limit),
         }
     }

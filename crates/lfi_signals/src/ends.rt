@@ -57,6 +57,27 @@ impl Stopped {
     }
 }
 
+/// That all verifiers' threads have ended, or that all threads are to stop. None but the word of `Ends` tells it, so a
+/// thread that has one was told.
+#[derive(Clone, Copy)]
+pub struct Verified {
+    word: u64,
+}
+
+impl Verified {
+    /// What this word tells.
+    fn of(word: u64) -> Option<Verified>
+        ensures before { word < VERIFIED → result ≡ None }
+        ensures after { VERIFIED ≤ word → result ≡ Some (record { word = word }) }
+    {
+        if word < VERIFIED {
+            None
+        } else {
+            Some(Verified { word })
+        }
+    }
+}
+
 /// The word by which all are to stop for this.
 fn word_of(why: LoadError) -> u64
     ensures memory { why ≡ LoadError.NoMemory → result ≡ NO_MEMORY }
@@ -136,9 +157,9 @@ impl Ends {
         Going { ends: self }
     }
 
-    /// Whether all verifiers' threads have ended, or all are to stop.
-    pub fn are_verified(&self) -> bool {
-        self.word.load(Ordering::SeqCst) >= VERIFIED
+    /// Whether all verifiers' threads have ended, or all threads are to stop.
+    pub fn are_verified(&self) -> Option<Verified> {
+        Verified::of(self.word.load(Ordering::SeqCst))
     }
 
     /// Whether all threads are to stop, and why.

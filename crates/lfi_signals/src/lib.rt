@@ -19,9 +19,10 @@
 //!
 //! - **One word tells how far the threads are to go** (`Ends`): starting, running, all verifiers have ended, stopped
 //!   for want of memory, stopped for want of a thread. It only grows. No clause rests on it.
-//! - **What the word told is a value that nothing else makes**: `Stopped`, with why, and `Going`, once it was waited for
-//!   the start. A receiver's thread asks by its `Going`, and gives up with the `Stopped` that it was told. So one that
-//!   gives up by itself, or doesn't wait, doesn't compile.
+//! - **What the word told is a value that nothing else makes**: `Stopped`, with why; `Verified`, once all verifiers'
+//!   threads have ended or all are to stop; and `Going`, once it was waited for the start. A receiver's thread asks by
+//!   its `Going`. A receiver's or verifier's thread gives up with the `Stopped` that it was told, and the sequencers'
+//!   thread ends with a `Verified`. So one that gives up by itself, or doesn't wait, doesn't compile.
 //! - **A load fails for one of two causes** (`LoadError`): memory was refused, or a thread. Who is refused it tells the
 //!   word at once, so the first cause is the one that is answered. The program has one line for both, which
 //!   `lfi_commands` chooses.
@@ -34,8 +35,11 @@
 //!   `Ends`' word calls all threads, which ask it before they sleep.
 //! - **The streams of clients lie in 8 places that are written once and lent** (`Streams`), so no descriptor is doubled,
 //!   and who accepts can shut them all down while their threads read.
-//! - **The path is removed where the door is dropped** (`Door`), so once in every case. The clients that came are waited
-//!   for with what closing it gives (`Closed`).
+//! - **The path is removed where the door is dropped** (`Door`), so once in every case, and only where it is still the
+//!   socket that was bound, by its device and inode. The clients that came are waited for with what closing it gives
+//!   (`Closed`).
+//! - **A connection is shut down where its reader is dropped** (`Connection`), so once its receiver has nothing more to
+//!   hear, after a fault too: a client that waits for the end isn't kept until the last one has come.
 //! - **A client is a reader or nobody** (`Client`), for any reader: so the clause of `read` holds for readers that tell
 //!   their bytes too, and a read that fails can't be told as the end of a socket alone.
 //! - **A limit of time is kept by the thread that accepts, and not by one more** (`Deadline`, `Door`). Where there is
@@ -60,8 +64,8 @@ mod joining;
 mod refusal;
 
 pub use bells::{Bell, Bells, Rest, Teller};
-pub use client::{Client, Streams};
+pub use client::{Client, Connection, Streams};
 pub use door::{Closed, Door};
-pub use ends::{Ends, Going, Stopped};
+pub use ends::{Ends, Going, Stopped, Verified};
 pub use joining::{join_all, keep};
 pub use refusal::LoadError;

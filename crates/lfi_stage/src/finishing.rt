@@ -40,7 +40,7 @@ fn finish<R: Wait>(
     ensures is { (c : ℕ) → IsReceiver shared.now c receiver.old → IsReceiver shared.now c receiver.new }
     ensures others { AreOthers shared.now verifiers.new.items sequencers.new.items }
 {
-    receiver.end();
+    receiver.end(false);
     for _ in rt.forever() {
         if finish_once(receiver, shared) {
             return;

@@ -1,4 +1,5 @@
 mod ProfileNumbers
+mod Pages
 mod Told
 mod OneText
 mod Wholes

@@ -1,11 +1,11 @@
 -- What the numbers stand for that a caller keeps of a stream. Source: include/lfi_verifier.h, docs/PROFILE.md.
-use Rattle.std.specs.Prelude.{ℕ, ◌==◌, ◌||◌, ◌&&◌, nat_lt, nat_le, if◌then◌else◌, List, get_or, Option, Some, None, option_map}
+use Rattle.std.specs.Prelude.{◌≡◌, ◌⊎◌, ◌+◌, true, false, Bool, ℕ, ◌==◌, ◌||◌, ◌&&◌, nat_lt, nat_le, if◌then◌else◌, List, get_or, Option, Some, None, option_map}
 use Rattle.lfi_module.specs.Numbers.{module_count, most_words, small_page, large_page}
 use Rattle.lfi_module.specs.declared.profile.Profile.{Profile}
 use Rattle.lfi_module.specs.declared.profile.Profile.TheVariants.{One, Two}
 use Rattle.lfi_module.specs.Profiles.{is_two}
 use Rattle.lfi_module.specs.Extents.{ExtentView}
-use Rattle.lfi_module.specs.Pages.{page_count}
+use Rattle.lfi_module.specs.Pages.{page_count, bytes_in_page}
 use Rattle.lfi_frame.specs.declared.fault.FrameFault.{FrameFault}
 use Rattle.lfi_frame.specs.declared.fault.FrameFault.TheVariants as fault
 use Rattle.lfi_frame.specs.declared.feed.Position.{Position}
@@ -14,7 +14,9 @@ use Rattle.lfi_model.specs.declared.connection.Progress.{Progress}
 use Rattle.lfi_model.specs.declared.connection.Progress.TheVariants.{Unclaimed, Going, Ended}
 use Rattle.lfi_stream.specs.declared.numbers.LfiStreamModule.{LfiStreamModule}
 use Rattle.lfi_stream.specs.declared.numbers.LfiStreamPage.{LfiStreamPage}
-use Rattle.lfi_connection.specs.declared.coming.Coming.{Coming}
+use Rattle.lfi_stream.specs.declared.numbers.LfiStreamText.{LfiStreamText}
+use Rattle.lfi_connection.specs.declared.due_page.DuePage.{DuePage}
+use Rattle.lfi_connection.specs.DuePages.{bytes_of}
 
 -- the fault with a number
 abbrev pub fault_at_number : ℕ → Option FrameFault
@@ -70,6 +72,30 @@ untouched = record { phase = 0; words = 0; entry = 0; profile = 0; page_words = 
 abbrev pub progress_at : List LfiStreamModule → ℕ → Progress
 progress_at modules m = progress_of (get_or modules m untouched)
 
+-- the next page of an open module, of which so many bytes came, where it has more than these
+abbrev pub page_of : (m come : ℕ) → Progress → Option DuePage
+page_of m come (Going extent pages) =
+    if nat_lt come (bytes_in_page extent.pages extent.words pages) then Some (record { «module» = m; extent = extent; pages = pages; come = come }) else None
+page_of m come progress = None
+
+-- no page is coming, by its numbers
+abbrev pub names_none : LfiStreamPage → Bool
+names_none page = nat_le module_count page.«module»
+
 -- the page that is coming
-abbrev pub page_at : LfiStreamPage → Option Coming
-page_at page = if nat_le module_count page.«module» then None else Some (record { «module» = page.«module»; come = page.come })
+abbrev pub page_at : LfiStreamText → Option DuePage
+page_at stream = if names_none stream.page then None else page_of stream.page.«module» stream.page.come (progress_at stream.modules stream.page.«module»)
+
+-- So many bytes of the page are to come: it has them, beside those that came.
+abbrev pub IsLeft : Option DuePage → Position → Type 0
+IsLeft (Some page) (Payload left) = page.come + left ≡ bytes_of page
+IsLeft page position = ⊥
+
+-- The numbers of the page that is coming fit those of its module, and of the feed that is at this position; or none is coming.
+abbrev pub FitsPage : LfiStreamText → Position → Type 0
+FitsPage stream position = (names_none stream.page ≡ true) ⊎ IsLeft (page_at stream) position
+
+-- the numbers of the page that is coming
+abbrev pub IsPageOf : LfiStreamPage → Option DuePage → Type 0
+IsPageOf numbers None = names_none numbers ≡ true
+IsPageOf numbers (Some page) = (names_none numbers ≡ false) × (numbers.«module» ≡ page.«module») × (numbers.come ≡ page.come)

@@ -1,5 +1,5 @@
 -- What a stream whose numbers a caller keeps stands for. Source: docs/PROFILE.md, "Streams".
-use Rattle.std.specs.Prelude.{◌≡◌, ℕ, Bool, true, List, ◌++◌, flat_map, Some, None, All}
+use Rattle.std.specs.Prelude.{◌≡◌, ℕ, Bool, true, List, ◌++◌, flat_map, Some, None, IsSome, ◌⊎◌, All}
 use Rattle.lfi_frame.specs.Streams.{Message, IsMessage, spelling, Rest}
 use Rattle.lfi_frame.specs.Feeds.{IsAt, fault_at}
 use Rattle.lfi_frame.specs.declared.feed.Position.{Position}
@@ -7,7 +7,7 @@ use Rattle.lfi_model.specs.Items.{Share, share_of}
 use Rattle.lfi_connection.specs.Connections.{Holds}
 use Rattle.lfi_stream.specs.declared.numbers.LfiStreamText.{LfiStreamText}
 use Rattle.lfi_stream.specs.declared.numbers.LfiStreamFeed.{LfiStreamFeed}
-use Rattle.lfi_stream.specs.Numbers.{position_at, page_at, progress_at}
+use Rattle.lfi_stream.specs.Numbers.{position_at, names_none, page_at, progress_at}
 
 -- each claim of a module succeeds
 abbrev pub all : ℕ → Bool
@@ -28,7 +28,8 @@ pub record IsIn (feed : LfiStreamFeed) (rest : List ℕ) : Type 0 where
 pub record StandsFor (stream : LfiStreamText) (messages : List Message) (rest : List ℕ) : Type 0 where
   pub each : All IsMessage messages
   pub feed : IsIn stream.feed rest
-  pub holds : Holds (progress_at stream.modules) (page_at stream.page) all messages rest
+  pub page : (names_none stream.page ≡ true) ⊎ IsSome (page_at stream)
+  pub holds : Holds (progress_at stream.modules) (page_at stream) all messages rest
 
 -- The numbers stand for a stream of which these bytes came.
 pub record StandsForText (stream : LfiStreamText) (text : List ℕ) : Type 0 where

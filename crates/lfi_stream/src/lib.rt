@@ -4,8 +4,9 @@
 //! # How data flows
 //!
 //! A [`LfiStreamText`] is the numbers that are kept between two pieces. [`next`] goes on in a piece, up to the end of a
-//! header or a payload, and tells what the bytes that it used brought: an [`Event`]. [`end`] tells the end of the input,
-//! and then the modules that are lost by it.
+//! header or a payload, and tells what the bytes that it used brought: an [`Event`], or
+//! the stream's fault. [`end`] tells the end of the input, and then the modules that are lost by it. Numbers that no stream
+//! can have are refused, so that code always lies within its module, whoever wrote the numbers.
 //!
 //! # What it may not know
 //!

@@ -1,13 +1,13 @@
 //! The numbers that a caller keeps of a stream between two pieces, and what they stand for.
 
-ghost use Rattle.std.specs.Prelude.{◌≡◌, ◌<◌, ◌≤◌, ◌==◌, Some, IfSome};
+ghost use Rattle.std.specs.Prelude.{◌≡◌, ◌↔◌, ◌<◌, ◌≤◌, ◌==◌, Some, IfSome, true};
 ghost use Rattle.lfi_module.specs.Pages.{HasPages, page_count};
 ghost use Rattle.lfi_model.specs.declared.connection.Progress.TheVariants.{Going};
 ghost use Rattle.lfi_frame.specs.inner.Positions.{filled_at};
-ghost use Rattle.lfi_stream.specs.Numbers.{fault_at_number, position_at, profile_at, pages_at, extent_at, going_by, progress_of, untouched, page_at};
-ghost use Rattle.lfi_connection.specs.Places.{IsPossible};
+ghost use Rattle.lfi_stream.specs.Numbers.{fault_at_number, position_at, profile_at, pages_at, extent_at, going_by, progress_of, untouched, names_none, page_of, page_at, FitsPage, IsPageOf};
+ghost use Rattle.lfi_connection.specs.Modules.{IsPossible};
 
-use lfi_connection::{Coming, Places};
+use lfi_connection::{DuePage, ProgressTable};
 use lfi_frame::{FrameFault, HEADER_BYTES, Position};
 use lfi_model::Progress;
 use lfi_module::{Extent, ModuleNumber, PageSize, Profile, WordCount};
@@ -225,7 +225,7 @@ impl LfiStreamModule {
 impl LfiStreamPage {
     /// No page is coming.
     pub(crate) fn none() -> LfiStreamPage
-        ensures { page_at result ≡ None }
+        ensures { names_none result ≡ true }
     {
         LfiStreamPage {
             module: ModuleNumber::COUNT as u32,
@@ -234,33 +234,78 @@ impl LfiStreamPage {
     }
 
     /// The numbers of the page that is coming, where one is.
-    pub(crate) fn of(coming: Option<Coming>) -> LfiStreamPage
-        ensures { page_at result ≡ coming }
+    pub(crate) fn of(coming: Option<DuePage>) -> LfiStreamPage
+        ensures { IsPageOf result coming }
     {
         match coming {
             Some(page) => LfiStreamPage {
                 module: u32::from(page.module.number()),
-                come: page.come,
+                come: page.come as usize,
             },
             None => LfiStreamPage::none(),
         }
     }
 
-    /// The page that is coming, where one is.
-    pub(crate) fn coming(self) -> Option<Coming>
-        ensures { result ≡ page_at self }
+    /// By these numbers no page is coming.
+    fn is_none(self) -> bool
+        ensures { result ≡ names_none self }
     {
-        if self.module as usize >= ModuleNumber::COUNT {
-            return None;
-        }
-        Some(Coming {
-            module: ModuleNumber::at(self.module as usize),
-            come: self.come,
-        })
+        self.module as usize >= ModuleNumber::COUNT
     }
 }
 
-impl Places for LfiStreamText {
+/// The next page of a module that is so far, of which so many bytes came; `None` where it hasn't more than these.
+fn page_of(module: ModuleNumber, come: usize, progress: Progress) -> Option<DuePage>
+    ensures { result ≡ page_of «module» come progress }
+{
+    let Progress::Going { extent, pages } = progress else {
+        return None;
+    };
+    if come >= extent.words().bytes_in_page(extent.pages(), pages) as usize {
+        return None;
+    }
+    Some(DuePage {
+        module,
+        extent,
+        pages,
+        come: come as u32,
+    })
+}
+
+impl LfiStreamText {
+    /// The page that is coming, where one is.
+    pub(crate) fn coming(&self) -> Option<DuePage>
+        ensures { result ≡ page_at self.now }
+    {
+        if self.page.is_none() {
+            return None;
+        }
+        let module = ModuleNumber::at(self.page.module as usize);
+        page_of(
+            module,
+            self.page.come,
+            self.modules[module.index()].progress(),
+        )
+    }
+
+    /// Whether the numbers of the page that is coming fit those of its module, and of the feed, which is at this position.
+    pub(crate) fn fits_page(&self, position: &Position) -> bool
+        ensures { result ≡ true ↔ FitsPage self.now position.now }
+    {
+        if self.page.is_none() {
+            return true;
+        }
+        let Some(page) = self.coming() else {
+            return false;
+        };
+        match *position {
+            Position::Payload { left } => page.left() == left,
+            _ => false,
+        }
+    }
+}
+
+impl ProgressTable for LfiStreamText {
     ghost use Rattle.std.specs.Prelude.{◌≡◌};
     ghost use Rattle.lfi_stream.specs.Numbers.{progress_at};
 

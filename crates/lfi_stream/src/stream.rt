@@ -1,30 +1,33 @@
 //! A stream goes on.
 
-ghost use Rattle.std.specs.Prelude.{◌≡◌, ◌≢◌, ◌<◌, ◌≤◌, ℕ, List, [], length, take, Some, None, IfSome, IfNone};
+ghost use Rattle.std.specs.Prelude.{◌≡◌, ◌≢◌, ◌<◌, ◌≤◌, ℕ, List, [], length, take, Some, None, Ok, Err, IfSome, IfNone};
 ghost use Rattle.lfi_frame.specs.declared.feed.Feed.{Feed};
 ghost use Rattle.lfi_frame.specs.declared.feed.Position.TheVariants.{Faulty};
 ghost use Rattle.lfi_frame.specs.declared.fault.FrameFault.{FrameFault};
 ghost use Rattle.lfi_frame.specs.declared.answer.Got.TheVariants.{More};
 ghost use Rattle.lfi_frame.specs.Streams.{Message};
-ghost use Rattle.lfi_frame.specs.Feeds.{FeedStands, IsTold, feed_fault};
+ghost use Rattle.lfi_frame.specs.Feeds.{FeedStands, IsTold, feed_fault, fault_at};
 ghost use Rattle.lfi_connection.specs.Connections.{Holds};
-ghost use Rattle.lfi_connection.specs.Events.{Moves};
-ghost use Rattle.lfi_stream.specs.Numbers.{position_at, progress_at, page_at};
+ghost use Rattle.lfi_connection.specs.Events.{coming_after, Moves};
+ghost use Rattle.lfi_frame.specs.declared.feed.Position.{Position};
+ghost use Rattle.lfi_stream.specs.Numbers.{position_at, progress_at, page_at, FitsPage, IsPageOf};
 ghost use Rattle.lfi_stream.specs.Streams.{all, IsIn, StandsFor};
-ghost use Rattle.lfi_stream.specs.Events.{Tells};
+ghost use Rattle.lfi_stream.specs.Events.{Tells, IsWithin};
 
 use crate::numbers::{LfiStreamFeed, LfiStreamPage, LfiStreamText, feed_at, position_of};
-use lfi_connection::{Event, bring};
-use lfi_frame::{Feed, Got, Position, Step};
+use lfi_connection::{Event, advance};
+use lfi_frame::{Feed, FrameFault, Got, Position, Step};
 
 /// What is told of what so many bytes brought.
 fn brought(stream: &mut LfiStreamText, got: Got, count: usize) -> Event
-    ensures { (feed : Feed) (messages : List Message) (rest used : List ℕ) → length used ≡ count → (got ≢ More → used ≢ []) → Holds (progress_at stream.old.modules) (page_at stream.old.page) all messages rest →
-        IsTold got feed messages rest used → Moves feed (progress_at stream.new.modules) (page_at stream.new.page) all messages rest used result }
+    ensures moves { (feed : Feed) (messages : List Message) (rest used : List ℕ) → length used ≡ count → (got ≢ More → used ≢ []) → Holds (progress_at stream.old.modules) (page_at stream.old) all messages rest →
+        IsTold got feed messages rest used → Moves feed (progress_at stream.new.modules) (page_at stream.old) all messages rest used result }
+    ensures page { IsPageOf stream.new.page (coming_after result count (page_at stream.old)) }
+    ensures within { IsWithin (Ok result) count stream.old }
 {
-    let mut coming = stream.page.coming();
-    let event = bring(stream, &mut coming, got, count, true);
-    stream.page = LfiStreamPage::of(coming);
+    let coming = stream.coming();
+    let event = advance(stream, &coming, got, count, true);
+    stream.page = LfiStreamPage::of(event.coming_after(count, coming));
     event
 }
 
@@ -38,43 +41,54 @@ fn kept(feed: &Feed) -> LfiStreamFeed
 }
 
 /// Goes on from where a feed is.
-fn go_on(stream: &mut LfiStreamText, start: Feed, piece: &[u8]) -> (usize, Event)
+fn go_on(
+    stream: &mut LfiStreamText,
+    start: Feed,
+    piece: &[u8],
+) -> (usize, Result<Event, FrameFault>)
     requires { feed_fault start ≡ None }
-    ensures told { (messages : List Message) (rest : List ℕ) → FeedStands start messages rest → Holds (progress_at stream.old.modules) (page_at stream.old.page) all messages rest →
+    ensures told { (messages : List Message) (rest : List ℕ) → FeedStands start messages rest → Holds (progress_at stream.old.modules) (page_at stream.old) all messages rest →
         Tells result.1 stream.new messages rest (take result.0 piece.now) }
     ensures within { result.0 ≤ length piece.now }
     ensures moves { piece.now ≢ [] → 0 < result.0 }
+    ensures code { IsWithin result.1 result.0 stream.old }
 {
     let mut feed = start;
     match feed.feed(piece) {
         Ok(Step { used, got }) => {
             let event = brought(stream, got, used);
             stream.feed = kept(&feed);
-            (used, event)
+            (used, Ok(event))
         }
         Err((used, fault)) => {
             stream.feed = kept(&feed);
-            (used, Event::Fault(fault))
+            (used, Err(fault))
         }
     }
 }
 
 /// Uses bytes of the next piece, up to the end of a header or of a payload, and tells how many it used and what they
-/// brought. Give it what it didn't use again. After the stream's fault it uses nothing, and tells the fault. `None` where
-/// the numbers are those of no stream.
-pub fn next(stream: &mut LfiStreamText, piece: &[u8]) -> Option<(usize, Event)>
+/// brought, or the stream's fault. Give it what it didn't use again. After the fault it uses nothing, and tells the fault.
+/// `None` where the numbers are those of no stream: no feed has them, or the page that is coming and what came of it
+/// don't fit its module and what is to come.
+pub fn next(stream: &mut LfiStreamText, piece: &[u8]) -> Option<(usize, Result<Event, FrameFault>)>
     ensures told { IfSome result (λ answer. (messages : List Message) (rest : List ℕ) → StandsFor stream.old messages rest →
         Tells answer.1 stream.new messages rest (take answer.0 piece.now)) }
     ensures within { IfSome result (λ answer. answer.0 ≤ length piece.now) }
     ensures moves { IfSome result (λ answer. (rest : List ℕ) → IsIn stream.old.feed rest → piece.now ≢ [] → 0 < answer.0) }
+    ensures code { IfSome result (λ answer. IsWithin answer.1 answer.0 stream.old) }
     ensures over { (fault : FrameFault) → position_at stream.old.feed.place stream.old.feed.number ≡ Some (Faulty fault) →
-        (result ≡ Some (0, Event.Fault fault)) × (stream.new ≡ stream.old) }
-    ensures none { IfNone result ((stream.new ≡ stream.old) × ((rest : List ℕ) → ¬ (IsIn stream.old.feed rest))) }
+        (result ≡ Some (0, Err fault)) × (stream.new ≡ stream.old) }
+    ensures none { IfNone result ((stream.new ≡ stream.old) × ((messages : List Message) (rest : List ℕ) → ¬ (StandsFor stream.old messages rest))) }
     ensures no_feed { position_at stream.old.feed.place stream.old.feed.number ≡ None → result ≡ None }
+    ensures no_page { (position : Position) → position_at stream.old.feed.place stream.old.feed.number ≡ Some position → fault_at position ≡ None → ¬ (FitsPage stream.old position) → result ≡ None }
 {
     let position = position_of(stream.feed.place, stream.feed.number)?;
     if let Position::Faulty(fault) = position {
-        return Some((0, Event::Fault(fault)));
+        return Some((0, Err(fault)));
+    }
+    if !stream.fits_page(&position) {
+        return None;
     }
     let feed = Feed::at(stream.feed.held, position)?;
     Some(go_on(stream, feed, piece))

@@ -5,7 +5,7 @@ ghost use Rattle.lfi_workers.specs.Running.{AreReady};
 
 use lfi_parts::Shared;
 use lfi_stage::Stage;
-use lfi_workers::{Ready, SeatedVerifiers};
+use lfi_workers::Parts;
 use std::alloc::{AllocError, Global};
 
 /// The parts of a new stage of so many receivers and verifiers, 1 to 8 of each, and what they share.
@@ -13,26 +13,22 @@ pub(crate) fn make_ready(
     alloc: Global,
     receivers: usize,
     verifiers: usize,
-) -> Result<(Ready, Shared), AllocError>
+) -> Result<(Parts, Shared), AllocError>
     requires receivers { (1 ≤ receivers) × (receivers ≤ 8) }
     requires verifiers { (1 ≤ verifiers) × (verifiers ≤ 8) }
     ensures ready { IfOk result (λ made. AreReady made.1 receivers made.0) }
-    ensures verifiers { IfOk result (λ made. length made.0.verifiers.verifiers.items ≡ verifiers) }
+    ensures verifiers { IfOk result (λ made. length made.0.verifiers.items ≡ verifiers) }
 {
     let Stage {
         receivers,
         verifiers,
-        watchers,
         sequencers,
         shared,
     } = Stage::new(alloc, receivers, verifiers)?;
-    let ready = Ready {
+    let parts = Parts {
         receivers,
-        verifiers: SeatedVerifiers {
-            verifiers,
-            seats: watchers,
-        },
+        verifiers,
         sequencers,
     };
-    Ok((ready, shared))
+    Ok((parts, shared))
 }

@@ -13,20 +13,19 @@ use Rattle.lfi_parts.proofs.Each.{some_at}
 use Rattle.lfi_parts.specs.Fresh.{IsFresh}
 use Rattle.lfi_workers.specs.Heard.{HasHeard}
 use Rattle.lfi_workers.specs.declared.running.Parts.{Parts}
-use Rattle.lfi_workers.specs.declared.running.Ready.{Ready}
 use Rattle.lfi_workers.specs.Running.{ArePartsOf, AreReady}
-use Rattle.lfi_workers.specs.Seated.{IsVerifierOf}
+use Rattle.lfi_workers.specs.Seated.{AreVerifiersOf}
 use Rattle.lfi_workers.specs.inner.Workers.{AreSequencersOf}
 
-pub sequencers_of : (shared : Shared) (count : ℕ) (ready : Ready) → AreReady shared count ready → AreSequencersOf shared ready.sequencers.items
+pub sequencers_of : (shared : Shared) (count : ℕ) (ready : Parts) → AreReady shared count ready → AreSequencersOf shared ready.sequencers.items
 sequencers_of shared count ready are = (let others = are.all.others_are in record { lanes = others.workers.lane_count; count = others.workers.sequencer_count; are = others.workers.sequencers_are; seats = others.seats })
 
-pub receivers_of : (shared : Shared) (count : ℕ) (ready : Ready) → AreReady shared count ready → (k : ℕ) (r : Receiver) → slice_get ready.receivers.items k ≡ Some r → IsReceiver shared k r × IsFresh r
+pub receivers_of : (shared : Shared) (count : ℕ) (ready : Parts) → AreReady shared count ready → (k : ℕ) (r : Receiver) → slice_get ready.receivers.items k ≡ Some r → IsReceiver shared k r × IsFresh r
 receivers_of shared count ready are k r at = (are.all.receivers_are.each k r at, are.fresh k r at)
 
 -- they are as many as before, and each is what it was
-pub back_of : (shared : Shared) (count : ℕ) (old : Ready) (new : Parts) → AreReady shared count old → length new.receivers.items ≡ length old.receivers.items → ((k : ℕ) (r : Receiver) → slice_get new.receivers.items k ≡ Some r → IsReceiver shared k r)
-    → length new.verifiers.items ≡ length old.verifiers.verifiers.items → ((k : ℕ) (v : Verifier) → slice_get new.verifiers.items k ≡ Some v → IsVerifierOf shared k v) → AreSequencersOf shared new.sequencers.items → ArePartsOf shared new
+pub back_of : (shared : Shared) (count : ℕ) (old : Parts) (new : Parts) → AreReady shared count old → length new.receivers.items ≡ length old.receivers.items → ((k : ℕ) (r : Receiver) → slice_get new.receivers.items k ≡ Some r → IsReceiver shared k r)
+    → length new.verifiers.items ≡ length old.verifiers.items → AreVerifiersOf shared new.verifiers.items → AreSequencersOf shared new.sequencers.items → ArePartsOf shared new
 back_of shared count old new ready receiver_count receivers verifier_count verifiers sequencers =
     let all = ready.all in
     let was = all.others_are.workers in

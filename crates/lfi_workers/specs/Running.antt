@@ -4,33 +4,34 @@ use Rattle.std.specs.Option.{option_map_or}
 use Rattle.std.specs.declared.time.Duration.{Duration}
 use Rattle.lfi_receive.specs.declared.receiver.Receiver.{Receiver}
 use Rattle.lfi_receive.specs.declared.input.Input.{Input}
+use Rattle.lfi_place.specs.declared.verifier.Verifier.{Verifier}
 use Rattle.lfi_receive.specs.Inputs.{left_of}
 use Rattle.lfi_parts.specs.declared.shared.Shared.{Shared}
 use Rattle.lfi_parts.specs.Parts.{AreAllParts}
 use Rattle.lfi_parts.specs.Fresh.{IsFresh}
 use Rattle.lfi_workers.specs.declared.running.Parts.{Parts}
-use Rattle.lfi_workers.specs.declared.running.Ready.{Ready}
 use Rattle.lfi_workers.specs.declared.serving.Back.{Back}
 use Rattle.lfi_workers.specs.Heard.{HasHeard}
-use Rattle.lfi_workers.specs.Seated.{AreSeated}
+use Rattle.lfi_workers.specs.Seated.{AreVerifiersOf, HasEnded}
 
 -- These are all parts of the stage.
 abbrev pub ArePartsOf : Shared → Parts → Type 0
 ArePartsOf shared parts = AreAllParts shared parts.receivers.items parts.verifiers.items parts.sequencers.items
 
 -- These are all parts of a stage with so many receivers, of which no byte has come.
-pub record AreReady (shared : Shared) (count : ℕ) (ready : Ready) : Type 0 where
-  pub all : AreAllParts shared ready.receivers.items ready.verifiers.verifiers.items ready.sequencers.items
-  pub seated : AreSeated shared ready.verifiers
-  pub counted : length ready.receivers.items ≡ count
-  pub fresh : (c : ℕ) (r : Receiver) → slice_get ready.receivers.items c ≡ Some r → IsFresh r
+pub record AreReady (shared : Shared) (count : ℕ) (parts : Parts) : Type 0 where
+  pub all : ArePartsOf shared parts
+  pub seated : AreVerifiersOf shared parts.verifiers.items
+  pub counted : length parts.receivers.items ≡ count
+  pub fresh : (c : ℕ) (r : Receiver) → slice_get parts.receivers.items c ≡ Some r → IsFresh r
 
--- These are all parts of a stage with so many receivers and verifiers, and each receiver has heard what its input had, as far as that is known.
+-- These are all parts of a stage with so many receivers and verifiers. Each receiver has heard what its input had, as far as that is known, and each verifier has ended after all receivers had.
 pub record AreBack (shared : Shared) (count verifiers : ℕ) (had : ℕ → Option (List ℕ)) (parts : Parts) : Type 0 where
   pub all : ArePartsOf shared parts
   pub counted : length parts.receivers.items ≡ count
   pub verifiers_counted : length parts.verifiers.items ≡ verifiers
   pub heard : (c : ℕ) (r : Receiver) → slice_get parts.receivers.items c ≡ Some r → HasHeard (had c) r
+  pub ended : (k : ℕ) (v : Verifier) → slice_get parts.verifiers.items k ≡ Some v → HasEnded shared v
 
 -- what these inputs have, by their numbers
 abbrev pub had_by : {R : Type 0} → (remaining : R → Option (List ℕ)) → List (Input R) → ℕ → Option (List ℕ)

@@ -4,7 +4,7 @@
 //! # How data flows
 //!
 //! `load_with` over readers and `serve_with` over a door are handed what the parts of a stage share, lent by `&`, and all
-//! parts (`Ready`). They start the threads in a scope with what these share, join them, and give the parts back
+//! parts (`Parts`). They start the threads in a scope with what these share, join them, and give the parts back
 //! (`Parts`, `Back`). What each thread promises of its parts (promises.rt) is what settling the stage asks for. A
 //! receiver's thread tells of refused modules (`Notices`).
 //!
@@ -24,12 +24,11 @@
 //!   into the thread.
 //! - **What the threads share is one value** (`Env`), made once a load, and lent: to the scope's closure as a whole, and
 //!   a thread's closure takes its fields one by one. Of a closure that owns a struct with references no clause is known.
-//! - **A verifier's thread ends by the board's count**: before each turn it asks `ended`, by a seat of its own, and
-//!   ends where all receivers had ended and the turn is Idle. A receiver tells its end after its last put, so no item
-//!   comes after such a turn. The turn is handed the answer and can't ask again (`seen`, `seat` and `over` of
-//!   `verify_once`), so what it found is later than what was asked; that it may also end because all threads are to
-//!   stop is no more than an answer of its own (`Ending`), since no clause knows the word. Each receiver's thread calls
-//!   all verifiers once it has told its end.
+//! - **A verifier's thread ends by the board's count**: before each turn it asks the verifier how many receivers have
+//!   ended, and ends where all had and the turn is Idle. A receiver tells its end after its last put, so no item comes
+//!   after such a turn. The turn is handed the answer and can't ask again (`seen`, `seat` and `over` of `verify_once`),
+//!   so what it found is later than what was asked. What the thread gives back promises it (`HasEnded`), or is why it
+//!   was told to stop (`VerifierExit`). Each receiver's thread calls all verifiers once it has told its end.
 //! - **A receiver whose item the intake refuses sleeps for 200 microseconds**, and puts it again: only memory is refused
 //!   there, and memory comes free in many places, also of others, without a call.
 //! - **Not each thing is called for at once.** A sleep and a wake take some 5 microseconds over two processors, as much
@@ -43,8 +42,9 @@
 //! - **In `load_with` no input is read until all threads have been started**: a read of a terminal or a pipe can't be
 //!   told to stop. In `serve_with` reads can wait from the first client on, so where a thread is refused all sockets are
 //!   shut down.
-//! - **A thread that is told to stop gives no receiver back** (`Heard::GaveUp`), and then there is no report, but why it
-//!   was told to.
+//! - **A thread that is told to stop gives no part back** (`Heard::GaveUp`, `VerifierExit::GaveUp`), and then there is no
+//!   report, but why it was told to. The sequencers' thread gives back what it was told, too (`Placed`). So a thread that
+//!   ends by itself doesn't compile.
 //! - **A connection that wasn't accepted has a receiver and a thread as the others**, with a reader that is at its end
 //!   at once. Of that reader alone a clause knows what is left, which is nothing. Where `all_accepted` is true, all of
 //!   them were: that stands in `HaveServed` and in private clauses alone (`each`), since of a client that was accepted
@@ -73,5 +73,5 @@ mod verifying;
 
 pub use loading::load_with;
 pub use notices::{NoNotices, Notices};
-pub use running::{Parts, Ready, SeatedVerifiers};
+pub use running::Parts;
 pub use serving::{Back, serve_with};

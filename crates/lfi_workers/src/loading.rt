@@ -5,7 +5,7 @@ ghost use Rattle.lfi_workers.specs.Running.{AreBack, AreReady, had_by};
 
 use crate::env::Env;
 use crate::notices::Notices;
-use crate::running::{Parts, Ready, join_parts};
+use crate::running::{Parts, join_parts};
 use crate::starting::{start_receivers, start_sequencers, start_verifiers};
 use lfi_parts::Shared;
 use lfi_place::Gate;
@@ -28,13 +28,13 @@ fn load_in<
 >(
     scope: &Scope<'s, &'e ()>,
     env: &Env<'e, S, G, N>,
-    ready: Ready,
+    ready: Parts,
     inputs: Vec<Input<R>>,
 ) -> Result<Parts, LoadError>
     requires ready { AreReady env.now.shared.now (length inputs.items) ready }
-    ensures { IfOk result (AreBack env.entry.now.shared.now (length inputs.items) (length ready.verifiers.verifiers.items) (had_by R.remaining inputs.items)) }
+    ensures { IfOk result (AreBack env.entry.now.shared.now (length inputs.items) (length ready.verifiers.items) (had_by R.remaining inputs.items)) }
 {
-    let Ready {
+    let Parts {
         receivers,
         verifiers,
         sequencers,
@@ -66,15 +66,15 @@ pub fn load_with<
     rt: &'x S,
     alloc: Global,
     shared: &'x Shared,
-    ready: Ready,
+    ready: Parts,
     inputs: Vec<Input<R>>,
     gate: &'x G,
     notices: &'x N,
 ) -> Result<Parts, LoadError>
     requires ready { AreReady shared.now (length inputs.items) ready }
-    ensures { IfOk result (AreBack shared.now (length inputs.items) (length ready.verifiers.verifiers.items) (had_by R.remaining inputs.items)) }
+    ensures { IfOk result (AreBack shared.now (length inputs.items) (length ready.verifiers.items) (had_by R.remaining inputs.items)) }
 {
-    let ends = Ends::new(ready.verifiers.verifiers.len());
+    let ends = Ends::new(ready.verifiers.len());
     let env = Env {
         rt,
         alloc,
@@ -89,7 +89,7 @@ pub fn load_with<
         rt,
         move |scope| -> Result<Parts, LoadError>
             requires { AreReady env.now.shared.now (length inputs.items) ready }
-            ensures { IfOk result (AreBack env.entry.now.shared.now (length inputs.items) (length ready.verifiers.verifiers.items) (had_by R.remaining inputs.items)) }
+            ensures { IfOk result (AreBack env.entry.now.shared.now (length inputs.items) (length ready.verifiers.items) (had_by R.remaining inputs.items)) }
         { load_in(scope, env, ready, inputs) },
     )
 }

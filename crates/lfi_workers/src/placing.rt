@@ -2,6 +2,7 @@
 
 ghost use Rattle.lfi_workers.specs.inner.Workers.{AreSequencersOf, HavePlaced};
 
+use crate::promises::Placed;
 use lfi_parts::Shared;
 use lfi_place::{Sequencer, SequencerTurn};
 use lfi_signals::{Bell, Ends, Rest};
@@ -69,17 +70,17 @@ pub(crate) fn place<S: Wait>(
     shared: &Shared,
     ends: &Ends,
     mut sequencers: Vec<Sequencer>,
-) -> Vec<Sequencer>
+) -> Placed
     requires { AreSequencersOf shared.now sequencers.items }
-    ensures { AreSequencersOf shared.now result.items }
+    ensures { AreSequencersOf shared.now result.sequencers.items }
 {
     let mut pace = Pace::new(ends);
     for _ in rt.forever() {
-        if ends.are_verified() {
-            break;
+        if let Some(told) = ends.are_verified() {
+            return Placed { sequencers, told };
         }
         let worked = place_once(rt, shared, &mut sequencers);
         pace.go_on(rt, worked);
     }
-    sequencers
+    unreachable!()
 }

@@ -3,7 +3,7 @@
 use lfi_parts::Shared;
 use lfi_place::{Sequencer, Verifier};
 use lfi_receive::{Input, Receiver};
-use lfi_signals::Stopped;
+use lfi_signals::{Stopped, Verified};
 use std::io::Read;
 use std::snapshot::Snapshot;
 use std::thread::{Promise, PromisedHandle};
@@ -15,16 +15,25 @@ pub(crate) struct Place<'a> {
     pub(crate) number: usize,
 }
 
-/// The thread gives back the verifier of this place.
+/// How the thread of a verifier ended.
+#[derive(Drop)]
+pub(crate) enum VerifierExit {
+    /// All receivers had ended, and a later turn of the verifier found nothing.
+    Over(Verifier),
+    /// It gave up, since the threads are to stop.
+    GaveUp(Stopped),
+}
+
+/// The thread gives back the verifier of this place, once all receivers have ended, or it gave up.
 #[derive(Drop)]
 pub(crate) struct VerifiedBy<'a> {
     pub(crate) place: Place<'a>,
 }
 
-impl<'a> Promise<Verifier> for VerifiedBy<'a> {
-    ghost use Rattle.lfi_workers.specs.Seated.{IsVerifierOf};
+impl<'a> Promise<VerifierExit> for VerifiedBy<'a> {
+    ghost use Rattle.lfi_workers.specs.inner.Workers.{IsVerifiedBy};
 
-    ghost kept_by = { λ p v. IsVerifierOf p.place.shared.now p.place.number v };
+    ghost kept_by = { λ p e. IsVerifiedBy p.place.shared.now p.place.number e };
 }
 
 /// How the thread of a receiver ended.
@@ -51,20 +60,28 @@ impl<'a, R: Read> Promise<Heard> for HeardBy<'a, R> {
     ghost kept_by = { λ p h. IsHeardBy p.place.shared.now p.place.number (left_of R.remaining p.input.value) h };
 }
 
+/// All sequencers, once their thread was told that no more judged items come, or that all are to stop.
+#[derive(Drop)]
+pub(crate) struct Placed {
+    pub(crate) sequencers: Vec<Sequencer>,
+    /// What it was told. Nobody asks for it: that it is there shows that the thread didn't end by itself.
+    pub(crate) told: Verified,
+}
+
 /// The thread gives back all sequencers of the stage.
 #[derive(Clone, Copy)]
 pub(crate) struct AllPlaced<'a> {
     pub(crate) shared: &'a Shared,
 }
 
-impl<'a> Promise<Vec<Sequencer>> for AllPlaced<'a> {
+impl<'a> Promise<Placed> for AllPlaced<'a> {
     ghost use Rattle.lfi_workers.specs.inner.Workers.{AreSequencersOf};
 
-    ghost kept_by = { λ p s. AreSequencersOf p.shared.now s.items };
+    ghost kept_by = { λ p placed. AreSequencersOf p.shared.now placed.sequencers.items };
 }
 
 pub(crate) type ReceiverThread<'a, R> = PromisedHandle<Heard, HeardBy<'a, R>>;
 
-pub(crate) type VerifierThread<'a> = PromisedHandle<Verifier, VerifiedBy<'a>>;
+pub(crate) type VerifierThread<'a> = PromisedHandle<VerifierExit, VerifiedBy<'a>>;
 
-pub(crate) type SequencersThread<'a> = PromisedHandle<Vec<Sequencer>, AllPlaced<'a>>;
+pub(crate) type SequencersThread<'a> = PromisedHandle<Placed, AllPlaced<'a>>;

@@ -6,37 +6,22 @@ ghost use Rattle.lfi_place.specs.declared.verifier.Verifier.{Verifier};
 ghost use Rattle.lfi_receive.specs.Inputs.{left_of};
 ghost use Rattle.lfi_parts.specs.Parts.{IsReceiver};
 ghost use Rattle.lfi_workers.specs.Heard.{HasHeard};
-ghost use Rattle.lfi_workers.specs.Seated.{IsVerifierOf};
+ghost use Rattle.lfi_workers.specs.Seated.{AreVerifiersOf, HasEnded};
+ghost use Rattle.lfi_workers.specs.declared.promises.VerifierExit.TheVariants as exit;
 ghost use Rattle.lfi_workers.specs.declared.promises.Heard.TheVariants as heard_kind;
 ghost use Rattle.lfi_workers.specs.inner.Places.{AreAt};
 ghost use Rattle.lfi_workers.specs.inner.Workers.{AreSequencersOf};
 
 use crate::env::Env;
-use crate::promises::{Heard, ReceiverThread, SequencersThread, VerifierThread};
-use lfi_board::WatchSeat;
+use crate::promises::{Heard, ReceiverThread, SequencersThread, VerifierExit, VerifierThread};
 use lfi_place::{Sequencer, Verifier};
 use lfi_receive::Receiver;
 use lfi_signals::{LoadError, join_all};
-use std::alloc::{AllocError, Global};
+use std::alloc::Global;
 use std::io::Read;
 use std::thread::Threads;
 
-/// All verifiers of a stage, and their seats at its board, by the verifiers' numbers.
-#[derive(Drop)]
-pub struct SeatedVerifiers {
-    pub verifiers: Vec<Verifier>,
-    pub seats: Vec<WatchSeat>,
-}
-
-/// All parts of a stage before their threads.
-#[derive(Drop)]
-pub struct Ready {
-    pub receivers: Vec<Receiver>,
-    pub verifiers: SeatedVerifiers,
-    pub sequencers: Vec<Sequencer>,
-}
-
-/// All parts of a stage after their threads.
+/// All parts of a stage, before their threads and after.
 #[derive(Drop)]
 pub struct Parts {
     pub receivers: Vec<Receiver>,
@@ -74,10 +59,40 @@ fn join_receivers<S: Threads, R: Read + Drop, G, N>(
     all_finished(env.alloc, heard)
 }
 
+/// The verifiers of these threads. Where one of them gave up, it is why it was told to; else only
+/// memory can be refused.
+fn all_over(alloc: Global, threads: Vec<VerifierExit>) -> Result<Vec<Verifier>, LoadError>
+    ensures count { IfOk result (λ verifiers. length verifiers.items ≡ length threads.items) }
+    ensures over { IfOk result (λ verifiers. (k : ℕ) (v : Verifier) → slice_get verifiers.items k ≡ Some v → slice_get threads.items k ≡ Some (exit.Over v)) }
+{
+    let mut verifiers = Vec::new(alloc);
+    for ended in threads {
+        match ended {
+            VerifierExit::Over(verifier) => verifiers.push(verifier)?,
+            VerifierExit::GaveUp(stopped) => return Err(stopped.why()),
+        }
+    }
+    Ok(verifiers)
+}
+
+/// Joins the threads of all verifiers. Where one of them gave up, it is why it was told to.
+fn join_verifiers<S: Threads, G, N>(
+    env: &Env<'_, S, G, N>,
+    verifying: Vec<VerifierThread<'_>>,
+) -> Result<Vec<Verifier>, LoadError>
+    requires { AreAt env.now.shared.now verifying.items (λ h. h.promise.place) }
+    ensures count { IfOk result (λ verifiers. length verifiers.items ≡ length verifying.entry.items) }
+    ensures are { IfOk result (λ verifiers. AreVerifiersOf env.entry.now.shared.now verifiers.items) }
+    ensures ended { IfOk result (λ verifiers. (k : ℕ) (v : Verifier) → slice_get verifiers.items k ≡ Some v → HasEnded env.entry.now.shared.now v) }
+{
+    let ended = join_all(env.rt, verifying)?;
+    all_over(env.alloc, ended)
+}
+
 /// All parts, where all of them are there.
 fn parts_of(
     receivers: Result<Vec<Receiver>, LoadError>,
-    verifiers: Result<Vec<Verifier>, AllocError>,
+    verifiers: Result<Vec<Verifier>, LoadError>,
     sequencers: Vec<Sequencer>,
 ) -> Result<Parts, LoadError>
     ensures receivers { IfOk result (λ parts. receivers ≡ Ok parts.receivers) }
@@ -92,7 +107,7 @@ fn parts_of(
 }
 
 /// Joins all threads, first the receivers', then the verifiers', and then the sequencers', which is
-/// told when the verifiers' have ended. Where a receiver's thread gave up, it is why it was told to.
+/// told when the verifiers' have ended. Where a thread gave up, it is why it was told to.
 pub(crate) fn join_parts<S: Threads, R: Read + Drop, G, N>(
     env: &Env<'_, S, G, N>,
     receiving: Vec<ReceiverThread<'_, R>>,
@@ -106,12 +121,13 @@ pub(crate) fn join_parts<S: Threads, R: Read + Drop, G, N>(
     ensures receivers { IfOk result (λ parts. (k : ℕ) (r : Receiver) → slice_get parts.receivers.items k ≡ Some r → IsReceiver env.entry.now.shared.now k r) }
     ensures heard { IfOk result (λ parts. (k : ℕ) (r : Receiver) (h : _) → slice_get parts.receivers.items k ≡ Some r → slice_get receiving.entry.items k ≡ Some h → HasHeard (left_of R.remaining h.promise.input.value) r) }
     ensures verifier_count { IfOk result (λ parts. length parts.verifiers.items ≡ length verifying.entry.items) }
-    ensures verifiers { IfOk result (λ parts. (k : ℕ) (v : Verifier) → slice_get parts.verifiers.items k ≡ Some v → IsVerifierOf env.entry.now.shared.now k v) }
+    ensures verifiers { IfOk result (λ parts. AreVerifiersOf env.entry.now.shared.now parts.verifiers.items) }
+    ensures ended { IfOk result (λ parts. (k : ℕ) (v : Verifier) → slice_get parts.verifiers.items k ≡ Some v → HasEnded env.entry.now.shared.now v) }
     ensures sequencers { IfOk result (λ parts. AreSequencersOf env.entry.now.shared.now parts.sequencers.items) }
 {
     let receivers = join_receivers(env, receiving);
-    let verifiers = join_all(env.rt, verifying);
+    let verifiers = join_verifiers(env, verifying);
     env.ends.verified();
-    let sequencers = placing.join(env.rt);
-    parts_of(receivers, verifiers, sequencers)
+    let placed = placing.join(env.rt);
+    parts_of(receivers, verifiers, placed.sequencers)
 }

@@ -14,15 +14,14 @@ ghost use Rattle.lfi_workers.specs.inner.Places.{AreAt};
 use crate::env::Env;
 use crate::notices::Notices;
 use crate::promises::ReceiverThread;
-use crate::running::{Parts, Ready, join_parts};
+use crate::running::{Parts, join_parts};
 use crate::starting::{start_receiver, start_sequencers, start_verifiers};
 use lfi_parts::Shared;
 use lfi_place::Gate;
 use lfi_receive::{Input, Receiver};
-use lfi_signals::{Client, Door, Ends, LoadError, Streams, keep};
+use lfi_signals::{Client, Connection, Door, Ends, LoadError, Streams, keep};
 use std::alloc::Global;
 use std::fs::Files;
-use std::os::unix::net::UnixStream;
 use std::rt::Clock;
 use std::sync::Wait;
 use std::thread;
@@ -40,7 +39,7 @@ pub struct Back {
 }
 
 /// The thread of a client's receiver.
-type ClientThread<'e> = ReceiverThread<'e, Client<&'e UnixStream>>;
+type ClientThread<'e> = ReceiverThread<'e, Client<Connection<'e>>>;
 
 /// Starts the thread of one client's receiver. Where it or memory is refused, all are told to stop.
 fn start_client<'s, 'e: 's, S: Wait + Sync, G, N: Notices + Sync>(
@@ -48,7 +47,7 @@ fn start_client<'s, 'e: 's, S: Wait + Sync, G, N: Notices + Sync>(
     env: &Env<'e, S, G, N>,
     number: usize,
     receiver: Receiver,
-    client: Client<&'e UnixStream>,
+    client: Client<Connection<'e>>,
 ) -> Result<ClientThread<'e>, LoadError>
     requires is { IsReceiver env.now.shared.now number receiver }
     requires fresh { IsFresh receiver }
@@ -122,14 +121,14 @@ fn serve_in<
 >(
     scope: &Scope<'s, &'e ()>,
     env: &Env<'e, S, G, N>,
-    ready: Ready,
+    ready: Parts,
     door: Door<'_, S>,
     streams: &'e Streams,
 ) -> Result<Back, LoadError>
     requires ready { (count : ℕ) × AreReady env.now.shared.now count ready }
-    ensures { IfOk result (HaveServed env.entry.now.shared.now (length ready.receivers.items) (length ready.verifiers.verifiers.items) (limit_of_door door.entry)) }
+    ensures { IfOk result (HaveServed env.entry.now.shared.now (length ready.receivers.items) (length ready.verifiers.items) (limit_of_door door.entry)) }
 {
-    let Ready {
+    let Parts {
         receivers,
         verifiers,
         sequencers,
@@ -159,15 +158,15 @@ pub fn serve_with<'x, S: Threads + Wait + Files + Clock + Sync, G: Gate + Sync, 
     rt: &'x S,
     alloc: Global,
     shared: &'x Shared,
-    ready: Ready,
+    ready: Parts,
     door: Door<'_, S>,
     gate: &'x G,
     notices: &'x N,
 ) -> Result<Back, LoadError>
     requires ready { (count : ℕ) × AreReady shared.now count ready }
-    ensures { IfOk result (HaveServed shared.now (length ready.receivers.items) (length ready.verifiers.verifiers.items) (limit_of_door door.entry)) }
+    ensures { IfOk result (HaveServed shared.now (length ready.receivers.items) (length ready.verifiers.items) (limit_of_door door.entry)) }
 {
-    let ends = Ends::new(ready.verifiers.verifiers.len());
+    let ends = Ends::new(ready.verifiers.len());
     let streams = Streams::new();
     let streams = &streams;
     let env = Env {
@@ -184,7 +183,7 @@ pub fn serve_with<'x, S: Threads + Wait + Files + Clock + Sync, G: Gate + Sync, 
         rt,
         move |scope| -> Result<Back, LoadError>
             requires { (count : ℕ) × AreReady env.now.shared.now count ready }
-            ensures { IfOk result (HaveServed env.entry.now.shared.now (length ready.receivers.items) (length ready.verifiers.verifiers.items) (limit_of_door door.entry)) }
+            ensures { IfOk result (HaveServed env.entry.now.shared.now (length ready.receivers.items) (length ready.verifiers.items) (limit_of_door door.entry)) }
         { serve_in(scope, env, ready, door, streams) },
     )
 }

@@ -5,8 +5,8 @@ ghost use Rattle.lfi_receive.specs.declared.receiver.Receiver.{Receiver};
 ghost use Rattle.lfi_parts.specs.Parts.{IsReceiver};
 ghost use Rattle.lfi_parts.specs.Fresh.{IsFresh};
 ghost use Rattle.lfi_workers.specs.inner.Places.{AreAt};
-ghost use Rattle.lfi_workers.specs.Seated.{AreSeated};
-ghost use Rattle.lfi_workers.specs.inner.Workers.{IsSeated, AreSequencersOf};
+ghost use Rattle.lfi_workers.specs.Seated.{AreVerifiersOf, IsVerifierOf};
+ghost use Rattle.lfi_workers.specs.inner.Workers.{AreSequencersOf};
 
 use crate::env::Env;
 use crate::hearing::hear;
@@ -15,9 +15,8 @@ use crate::placing::place;
 use crate::promises::{
     AllPlaced, HeardBy, Place, ReceiverThread, SequencersThread, VerifiedBy, VerifierThread,
 };
-use crate::running::SeatedVerifiers;
-use crate::verifying::{SeatedVerifier, verify};
-use lfi_place::{Gate, Sequencer};
+use crate::verifying::verify;
+use lfi_place::{Gate, Sequencer, Verifier};
 use lfi_receive::{Input, Receiver};
 use lfi_signals::{Ends, LoadError, keep};
 use std::io::Read;
@@ -116,9 +115,9 @@ fn start_verifier<'s, 'e: 's, S: Wait + Sync, G: Gate + Sync, N>(
     scope: &Scope<'s, &'e ()>,
     env: &Env<'e, S, G, N>,
     number: usize,
-    seated: SeatedVerifier,
+    verifier: Verifier,
 ) -> Result<VerifierThread<'e>, LoadError>
-    requires is { IsSeated env.now.shared.now number seated }
+    requires is { IsVerifierOf env.now.shared.now number verifier }
     ensures promised { IfOk result (λ handle. (handle.promise.place.shared.now ≡ env.entry.now.shared.now) × (handle.promise.place.number ≡ number)) }
     ensures refused { IfErr result (λ why. why ≡ LoadError.NoThread) }
 {
@@ -134,7 +133,7 @@ fn start_verifier<'s, 'e: 's, S: Wait + Sync, G: Gate + Sync, N>(
     };
     let spawned = scope.spawn_with(
         promise,
-        move || verify(rt, shared, number, ends, gate, seated),
+        move || verify(rt, shared, number, ends, gate, verifier),
     );
     handle_of(ends, spawned)
 }
@@ -143,20 +142,17 @@ fn start_verifier<'s, 'e: 's, S: Wait + Sync, G: Gate + Sync, N>(
 pub(crate) fn start_verifiers<'s, 'e: 's, S: Threads + Wait + Sync, G: Gate + Sync, N>(
     scope: &Scope<'s, &'e ()>,
     env: &Env<'e, S, G, N>,
-    verifiers: SeatedVerifiers,
+    verifiers: Vec<Verifier>,
     handles: &mut Vec<VerifierThread<'e>>,
 ) -> Result<(), LoadError>
-    requires are { AreSeated env.now.shared.now verifiers }
+    requires are { AreVerifiersOf env.now.shared.now verifiers.items }
     requires none { handles.old.items ≡ [] }
     ensures places { AreAt env.entry.now.shared.now handles.new.items (λ h. h.promise.place) }
-    ensures all { OnOk result (length handles.new.items ≡ length verifiers.verifiers.items) }
+    ensures all { OnOk result (length handles.new.items ≡ length verifiers.items) }
 {
-    let mut seats = verifiers.seats.into_iter();
-    for verifier in verifiers.verifiers {
+    for verifier in verifiers {
         let number = handles.len();
-        let seat = seats.next().unwrap();
-        let seated = SeatedVerifier { verifier, seat };
-        let handle = start_verifier(scope, env, number, seated);
+        let handle = start_verifier(scope, env, number, verifier);
         keep(env.rt, env.ends, handles, handle)?;
     }
     Ok(())

@@ -2,24 +2,16 @@
 
 ghost use Rattle.std.specs.Prelude.{◌≡◌, Some, IsTrue};
 ghost use Rattle.lfi_place.specs.declared.verifier.VerifierTurn.TheVariants as turn;
-ghost use Rattle.lfi_parts.specs.Parts.{IsWatcher};
+ghost use Rattle.lfi_place.specs.Handed.{seat_of};
 ghost use Rattle.lfi_workers.specs.declared.verifying.Ending.TheVariants as ending;
-ghost use Rattle.lfi_workers.specs.Seated.{IsVerifierOf};
-ghost use Rattle.lfi_workers.specs.inner.Workers.{IsSeated, HasSeenAllEnd, FoundNothing, EndsAsTold};
+ghost use Rattle.lfi_workers.specs.Seated.{IsVerifierOf, HasSeenAllEnd};
+ghost use Rattle.lfi_workers.specs.inner.Workers.{FoundNothing, EndsAsTold, IsVerifiedBy};
 
-use crate::promises::Place;
-use lfi_board::WatchSeat;
+use crate::promises::{Place, VerifierExit};
 use lfi_parts::Shared;
 use lfi_place::{Gate, Verifier, VerifierTurn};
 use lfi_signals::{Ends, Rest, Stopped, Teller};
 use std::sync::Wait;
-
-/// A verifier, and the seat by which it sees how many receivers have ended.
-#[derive(Drop)]
-pub(crate) struct SeatedVerifier {
-    pub(crate) verifier: Verifier,
-    pub(crate) seat: WatchSeat,
-}
 
 /// Why a verifier's thread ends.
 #[derive(Clone, Copy)]
@@ -30,13 +22,14 @@ pub(crate) enum Ending {
     Stopped(Stopped),
 }
 
-/// Whether the board tells that all receivers have ended.
-fn have_all_ended(shared: &Shared, seat: &mut WatchSeat) -> bool
-    requires seat { IsWatcher shared.now seat.old }
-    ensures seat { IsWatcher shared.now seat.new }
-    ensures seen { IsTrue result → HasSeenAllEnd shared.now seat.new }
+/// Whether the board tells a verifier that all receivers have ended.
+fn have_all_ended(place: Place<'_>, verifier: &mut Verifier) -> bool
+    requires is { IsVerifierOf place.shared.now place.number verifier.old }
+    ensures is { IsVerifierOf place.entry.shared.now place.entry.number verifier.new }
+    ensures seen { IsTrue result → HasSeenAllEnd place.entry.shared.now verifier.new }
 {
-    shared.board.ended(seat) == shared.receivers
+    let shared = place.shared;
+    verifier.ended(&shared.board) == shared.receivers
 }
 
 /// One turn of a verifier.
@@ -48,6 +41,7 @@ fn turn_one<S: Wait, G: Gate>(
 ) -> VerifierTurn
     requires is { IsVerifierOf place.shared.now place.number verifier.old }
     ensures is { IsVerifierOf place.entry.shared.now place.entry.number verifier.new }
+    ensures seat { seat_of verifier.new ≡ seat_of verifier.old }
     ensures idle { result ≡ turn.Idle → FoundNothing verifier.old verifier.new }
 {
     let shared = place.shared;
@@ -114,17 +108,17 @@ fn verify_once<S: Wait, G: Gate>(
     place: Place<'_>,
     ends: &Ends,
     gate: &G,
-    seated: &mut SeatedVerifier,
+    verifier: &mut Verifier,
     all_ended: bool,
     pace: &mut Pace<'_>,
 ) -> Option<Ending>
-    requires is { IsSeated place.shared.now place.number seated.old }
-    requires seen { IsTrue all_ended → HasSeenAllEnd place.shared.now seated.old.seat }
-    ensures is { IsSeated place.entry.shared.now place.entry.number seated.new }
-    ensures seat { seated.new.seat ≡ seated.old.seat }
-    ensures over { result ≡ Some ending.Over → IsTrue all_ended × FoundNothing seated.old.verifier seated.new.verifier }
+    requires is { IsVerifierOf place.shared.now place.number verifier.old }
+    requires seen { IsTrue all_ended → HasSeenAllEnd place.shared.now verifier.old }
+    ensures is { IsVerifierOf place.entry.shared.now place.entry.number verifier.new }
+    ensures seat { seat_of verifier.new ≡ seat_of verifier.old }
+    ensures over { result ≡ Some ending.Over → IsTrue all_ended × FoundNothing verifier.old verifier.new }
 {
-    let did = turn_one(rt, place, gate, &mut seated.verifier);
+    let did = turn_one(rt, place, gate, verifier);
     pace.tell(did);
     if all_ended && did == VerifierTurn::Idle {
         return Some(Ending::Over);
@@ -143,35 +137,40 @@ fn verify_on<S: Wait, G: Gate>(
     place: Place<'_>,
     ends: &Ends,
     gate: &G,
-    seated: &mut SeatedVerifier,
+    verifier: &mut Verifier,
 ) -> Ending
-    requires is { IsSeated place.shared.now place.number seated.old }
-    ensures is { IsSeated place.entry.shared.now place.entry.number seated.new }
-    ensures ended { EndsAsTold result place.entry.shared.now seated.new }
+    requires is { IsVerifierOf place.shared.now place.number verifier.old }
+    ensures is { IsVerifierOf place.entry.shared.now place.entry.number verifier.new }
+    ensures ended { EndsAsTold result place.entry.shared.now verifier.new }
 {
     let mut pace = Pace::new(ends, place.number);
     for _ in rt.forever() {
-        let all_ended = have_all_ended(place.shared, &mut seated.seat);
-        if let Some(ending) = verify_once(rt, place, ends, gate, seated, all_ended, &mut pace) {
+        let all_ended = have_all_ended(place, verifier);
+        if let Some(ending) = verify_once(rt, place, ends, gate, verifier, all_ended, &mut pace) {
             return ending;
         }
     }
     unreachable!()
 }
 
-/// What the thread of the verifier with this number does.
+/// What the thread of the verifier with this number does. Where the threads are to stop it gives up.
 pub(crate) fn verify<S: Wait, G: Gate>(
     rt: &S,
     shared: &Shared,
     number: usize,
     ends: &Ends,
     gate: &G,
-    mut seated: SeatedVerifier,
-) -> Verifier
-    requires is { IsSeated shared.now number seated }
-    ensures is { IsVerifierOf shared.now number result }
+    mut verifier: Verifier,
+) -> VerifierExit
+    requires is { IsVerifierOf shared.now number verifier }
+    ensures { IsVerifiedBy shared.now number result }
 {
     let place = Place { shared, number };
-    verify_on(rt, place, ends, gate, &mut seated);
-    seated.verifier
+    match verify_on(rt, place, ends, gate, &mut verifier) {
+        Ending::Over => VerifierExit::Over(verifier),
+        Ending::Stopped(stopped) => {
+            drop(verifier);
+            VerifierExit::GaveUp(stopped)
+        }
+    }
 }

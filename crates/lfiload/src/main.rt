@@ -2,9 +2,37 @@
 #![tactic(auto)]
 
 use lfi_commands::{WrittenNotices, run_words};
-use lfi_file_commands::{Ending, Errors, Failure, SystemDisk};
+use lfi_file_commands::{Errors, SystemDisk, tell_unread_arguments};
+use std::fs::File;
+use std::os::fd::{AsRawFd, IntoRawFd};
 use std::process::ExitCode;
 use std::{env, io};
+
+/// What stands for a standard descriptor that is closed.
+const NOTHING: &str = "/dev/null";
+
+/// Opens each standard descriptor that is closed, so that no file or connection of this run gets its number. Reads from
+/// it and writes to it fail, as those of a closed one do: the standard input can't be read, nor the others written.
+fn hold_standard_descriptors(rt: &HostRuntime) {
+    for _ in 0..3 {
+        // What is opened gets the least number that is free.
+        let Ok(file) = File::open(rt, NOTHING) else {
+            return;
+        };
+        match file.as_raw_fd() {
+            0 => {
+                drop(file);
+                if let Ok(file) = File::options().write(true).open(rt, NOTHING) {
+                    file.into_raw_fd();
+                }
+            }
+            1 | 2 => {
+                file.into_raw_fd();
+            }
+            _ => return,
+        }
+    }
+}
 
 /// The words of the command line.
 fn words(rt: &HostRuntime) -> io::Result<Vec<String>> {
@@ -12,10 +40,14 @@ fn words(rt: &HostRuntime) -> io::Result<Vec<String>> {
 }
 
 fn main(rt: HostRuntime) -> ExitCode {
-    let mut errors = Errors::new(rt.stderr());
+    hold_standard_descriptors(&rt);
+    let mut errors = Errors::new(rt.alloc(), rt.stderr());
     let ending = match words(&rt) {
         Ok(words) => {
-            let mut disk = SystemDisk { rt: &rt };
+            let mut disk = SystemDisk {
+                rt: &rt,
+                input: rt.stdin(),
+            };
             run_words(
                 &rt,
                 rt.alloc(),
@@ -26,10 +58,7 @@ fn main(rt: HostRuntime) -> ExitCode {
                 &mut errors,
             )
         }
-        Err(error) => {
-            errors.tell(&Failure::reading("the command line", &error));
-            Ending::Failed
-        }
+        Err(error) => tell_unread_arguments(&error, &mut errors),
     };
     ExitCode::from(ending.status())
 }

@@ -52,6 +52,7 @@ fn sit_all(alloc: Global, top: &Top, count: usize) -> Result<Vec<PoolSeat>, Allo
     requires { 0 < top.now.table_id.words }
     ensures count { IfOk result (λ seats. length seats.items ≡ count) }
     ensures seated { IfOk result (λ seats. All (λ s. s.seat.table_id ≡ top.now.table_id) seats.items) }
+    ensures unused { IfOk result (λ seats. All (λ s. s.seat.me.0.seen ≡ []) seats.items) }
 {
     let mut seats = Vec::with_capacity(alloc, count)?;
     for _ in 0..count {
@@ -65,7 +66,8 @@ impl Pool {
     ghost use Rattle.page_buf.specs.Sightings.{Found, Passed, empty, full};
     ghost use Rattle.page_buf.specs.Pools.{pool_id, pool_of, seen_by};
 
-    /// A pool in which each slot is empty, and its seats. This is its only call that takes memory.
+    /// A pool in which each slot is empty, and its seats, which have found nothing yet. This is its only call that takes
+    /// memory. That each slot is empty is asked by the pool's rule: at first no page is there, and no seat is at a slot.
     ///
     /// # Errors
     ///
@@ -73,6 +75,7 @@ impl Pool {
     pub fn new(alloc: Global, seats: usize) -> Result<(Pool, Vec<PoolSeat>), AllocError>
         ensures count { IfOk result (λ r. length r.1.items ≡ seats) }
         ensures seated { IfOk result (λ r. All (λ s. pool_of s ≡ pool_id r.0) r.1.items) }
+        ensures unused { IfOk result (λ r. All (λ s. seen_by s ≡ []) r.1.items) }
     {
         let (table, _first) = Table::vacant(alloc, &[EMPTY; SLOTS], SLOTS, &())?;
         let pool = Pool { table };

@@ -2,7 +2,7 @@
 use Rattle.std.specs.Prelude.{◌≡◌, ⊤, ℕ, ◌+◌, ◌<◌, List, [], codes, length, Some, None}
 use Rattle.clap.specs.Words.{IsUnsignedIn, Row, Text, all_of, fault_of, first_of, one_of, subcommand_of, subcommand_rows_of}
 use Rattle.lfi_command_line.specs.declared.fault.LineFault.{LineFault}
-use Rattle.lfi_command_line.specs.declared.fault.LineFault.TheVariants.{NoMemory, Help, Wrong, TooManyStreams, TooManyModules, NoPages}
+use Rattle.lfi_command_line.specs.declared.fault.LineFault.TheVariants.{NoMemory, Help, Wrong, TooManyStreams, TooManyModules, NoPages, Flawed}
 use Rattle.clap.specs.declared.parser.matches.ArgMatches.{ArgMatches}
 use Rattle.lfi_command_line.specs.Apps.{lfiload_app}
 use Rattle.lfi_module.specs.declared.profile.Profile.{Profile}
@@ -20,6 +20,7 @@ IsFaultOfLoad given (Help error) = ⊥
 IsFaultOfLoad given (Wrong error) = ⊥
 IsFaultOfLoad given TooManyModules = ⊥
 IsFaultOfLoad given NoPages = ⊥
+IsFaultOfLoad given (Flawed flaw) = ⊥
 
 -- there are more files than modules from the first one's number on, pages of a size that there isn't, or no memory for a list of them
 abbrev pub IsFaultOfPack : List Row → LineFault → Type 0
@@ -29,6 +30,7 @@ IsFaultOfPack given TooManyModules = (number : ℕ) × (files : List Text) × Is
 IsFaultOfPack given (Help error) = ⊥
 IsFaultOfPack given (Wrong error) = ⊥
 IsFaultOfPack given TooManyStreams = ⊥
+IsFaultOfPack given (Flawed flaw) = ⊥
 IsFaultOfPack given NoPages = (profile : Profile) × IsProfile given profile × (pages_named (first_of (codes "pages") given) profile ≡ None)
 
 -- the parser finds nothing wrong with the words, and these are its matches: those of the subcommand that the words name

@@ -1,25 +1,25 @@
 -- What the steps of a receiver change. Only private clauses and proofs use it.
-use Rattle.std.specs.Prelude.{◌≡◌, ℕ, ◌+◌, ◌<◌, ◌≤◌, ◌++◌, List, [], length, take, Option, Some, None, ◌⊎◌}
-use Rattle.lfi_module.specs.Extents.{ExtentView}
+use Rattle.std.specs.Prelude.{◌≡◌, ℕ, ◌+◌, ◌++◌, Bool, true, false, List, [], Option, Some, None, ◌⊎◌}
 use Rattle.lfi_frame.specs.declared.fault.FrameFault.TheVariants.{NoMemory}
 use Rattle.lfi_model.specs.declared.connection.Cause.TheVariants.{Starved}
 use Rattle.lfi_model.specs.declared.item.ItemKind.TheVariants.{Page}
 use Rattle.lfi_model.specs.Items.{item_of}
+use Rattle.lfi_connection.specs.declared.due_page.DuePage.{DuePage}
 use Rattle.lfi_receive.specs.declared.coming.ComingPage.{ComingPage}
 use Rattle.lfi_receive.specs.declared.receiver.Receiver.{Receiver}
+use Rattle.lfi_receive.specs.inner.Pages.{due_page, IsLonger}
 
 -- The page has memory now, and no byte of it came; or there was none, and the input is over.
-abbrev pub Begins : ℕ → ExtentView → (pages : ℕ) → (old new : Receiver) → Type 0
-Begins m extent pages old new =
-    ((c : ComingPage) × (new ≡ record old { memory = new.memory; page = Some c }) × (c.«module» ≡ m) × (c.extent ≡ extent) × (c.pages ≡ pages) × (c.page.bytes ≡ []))
+abbrev pub Begins : DuePage → (old new : Receiver) → Type 0
+Begins page old new =
+    ((c : ComingPage) × (new ≡ record old { memory = new.memory; page = Some c }) × (due_page c ≡ page) × (c.page.bytes ≡ []))
     ⊎ (new ≡ record old { memory = new.memory; feed = new.feed; fault = Some NoMemory; cause = Some Starved })
 
--- The page has these bytes more, as far as they were to come; where it is whole it is in the hand, and no page is coming.
-abbrev pub KeepsPage : Option ComingPage → List ℕ → (old new : Receiver) → Type 0
-KeepsPage None bytes old new = new ≡ old
-KeepsPage (Some c) bytes old new =
-    ((c.left ≤ length bytes) × (new ≡ record old { page = None; hand = Some (item_of c.«module» (c.pages + 1) c.extent (Page (c.page.bytes ++ take c.left bytes))) }))
-    ⊎ ((length bytes < c.left) × ((d : ComingPage) × (new ≡ record old { page = Some d }) × (d.«module» ≡ c.«module») × (d.extent ≡ c.extent) × (d.pages ≡ c.pages) × (d.page.bytes ≡ c.page.bytes ++ bytes)))
+-- The page has these bytes more; where it ended it is in the hand, and no page is coming.
+abbrev pub KeepsPage : Option ComingPage → (ended : Bool) → List ℕ → (old new : Receiver) → Type 0
+KeepsPage None ended bytes old new = ⊥
+KeepsPage (Some c) true bytes old new = new ≡ record old { page = None; hand = Some (item_of c.«module» (c.pages + 1) c.extent (Page (c.page.bytes ++ bytes))) }
+KeepsPage (Some c) false bytes old new = (d : ComingPage) × (new ≡ record old { page = Some d }) × IsLonger c d bytes
 
-abbrev pub Keeps : List ℕ → (old new : Receiver) → Type 0
-Keeps bytes old new = KeepsPage old.page bytes old new
+abbrev pub Keeps : (ended : Bool) → List ℕ → (old new : Receiver) → Type 0
+Keeps ended bytes old new = KeepsPage old.page ended bytes old new

@@ -135,7 +135,6 @@ pub fn settled<S: Wait>(rt: &S, stage: Stage) -> Summary
     let Stage {
         receivers,
         verifiers,
-        watchers: _,
         sequencers,
         shared,
     } = stage;

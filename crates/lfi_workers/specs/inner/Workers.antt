@@ -1,44 +1,37 @@
 -- Verifiers and sequencers that are with their threads. Only private clauses and proofs use it.
-use Rattle.std.specs.Prelude.{◌≡◌, ℕ, Bool, false, IsTrue, List, length, Some, None, slice_get}
+use Rattle.std.specs.Prelude.{◌≡◌, ℕ, Bool, false, IsTrue, List, length, Some, slice_get}
 use Rattle.lfi_module.specs.Numbers.{module_count}
-use Rattle.lfi_board.specs.Hands.{ended_word, sees}
-use Rattle.lfi_board.specs.Known.{board_id, board_receivers, sequencer_board, known_by_watcher}
-use Rattle.lfi_board.specs.declared.hand.Hand.{Hand}
-use Rattle.lfi_board.specs.declared.seats.WatchSeat.{WatchSeat}
+use Rattle.lfi_board.specs.Known.{board_id, sequencer_board}
 use Rattle.lfi_queues.specs.Passes.{QueueId}
 use Rattle.lfi_place.specs.declared.verifier.Verifier.{Verifier}
 use Rattle.lfi_place.specs.declared.verifier.VerifierTurn.TheVariants.{Idle}
 use Rattle.lfi_place.specs.declared.sequencer.Sequencer.{Sequencer}
-use Rattle.lfi_place.specs.Handed.{hand_of, AsTold}
+use Rattle.lfi_place.specs.Handed.{AsTold}
 use Rattle.lfi_place.specs.declared.sequencer.SequencerTurn.{SequencerTurn}
 use Rattle.lfi_place.specs.declared.sequencer.SequencerTurn.TheVariants.{Worked, Idle as IdleLane}
 use Rattle.lfi_place.specs.Turns.{lane_pass_of, seat_of as sequencer_seat_of, LaneTaken}
 use Rattle.lfi_parts.specs.Workers.{IsSequencer}
 use Rattle.lfi_parts.specs.declared.shared.Shared.{Shared}
-use Rattle.lfi_parts.specs.Parts.{IsWatcher}
 use Rattle.lfi_parts.specs.Shares.{board_at, lanes_of}
 use Rattle.lfi_workers.specs.declared.verifying.Ending.{Ending}
 use Rattle.lfi_workers.specs.declared.verifying.Ending.TheVariants.{Over, Stopped}
-use Rattle.lfi_workers.specs.declared.verifying.SeatedVerifier.{SeatedVerifier}
-use Rattle.lfi_workers.specs.Seated.{IsVerifierOf}
-
--- It is verifier k of the stage, with a seat at its board.
-pub record IsSeated (shared : Shared) (k : ℕ) (s : SeatedVerifier) : Type 0 where
-  pub verifier_is : IsVerifierOf shared k s.verifier
-  pub seat_is : IsWatcher shared s.seat
-
--- The last that the seat saw is that all receivers of the stage have ended.
-abbrev pub HasSeenAllEnd : Shared → WatchSeat → Type 0
-HasSeenAllEnd shared seat = (before : Hand) × (known_by_watcher seat ≡ sees ended_word (board_receivers (board_at shared)) before)
+use Rattle.lfi_workers.specs.declared.promises.VerifierExit.{VerifierExit}
+use Rattle.lfi_workers.specs.declared.promises.VerifierExit.TheVariants as exit
+use Rattle.lfi_workers.specs.Seated.{IsVerifierOf, HasEnded}
 
 -- The turn found no item, neither in hand nor in the intake.
 abbrev pub FoundNothing : (old new : Verifier) → Type 0
 FoundNothing old new = AsTold Idle old new
 
 -- where a verifier's thread ends and isn't told to stop, all receivers have ended, and nothing is in hand
-abbrev pub EndsAsTold : Ending → Shared → SeatedVerifier → Type 0
-EndsAsTold Over shared s = HasSeenAllEnd shared s.seat × (hand_of s.verifier ≡ None)
-EndsAsTold (Stopped stopped) shared s = Unit {0}
+abbrev pub EndsAsTold : Ending → Shared → Verifier → Type 0
+EndsAsTold Over shared v = HasEnded shared v
+EndsAsTold (Stopped stopped) shared v = Unit {0}
+
+-- What the thread of the verifier with this number gives back: the verifier, once all receivers have ended; nothing where it gave up.
+abbrev pub IsVerifiedBy : Shared → (number : ℕ) → VerifierExit → Type 0
+IsVerifiedBy shared number (exit.Over v) = IsVerifierOf shared number v × HasEnded shared v
+IsVerifiedBy shared number (exit.GaveUp stopped) = Unit {0}
 
 -- Each sequencer took one turn, which is one take from its lane. The answer is yes exactly where one of them took an item.
 pub record HavePlaced (worked : Bool) (old new : List Sequencer) : Type 0 where

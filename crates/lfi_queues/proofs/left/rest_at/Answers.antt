@@ -116,8 +116,8 @@ another-seat-requires g c =
     let now = taken_now (worker_view c.absorb.new.self) (worker_view c.rest_of_ends-item.new.owner) 0 (items_of w.takes) c.rest_of_ends-item.result c.rest_of_ends-item.ensures.taken all in
     gives_taker _ _ _ _ _ now
 
-pub invariant_of-t-35 : goal.invariant_of-t-35
-invariant_of-t-35 g c =
+pub invariant_of-t-37 : goal.invariant_of-t-37
+invariant_of-t-37 g c =
     let q = c.args.intake.now in
     let p = c.args.place in
     let is = pass_there q p _ c.in-Some.pass c.in-Some.ensures.value c.requires.slot in
@@ -180,11 +180,11 @@ returns-clause-first g c =
     let here = c.another-seat.ensures.same.2 in
     let rows : c.another-seat.result.rows ≡ c.end.inside.seat.rows = here.0 ∙ ap (λ d. d.0) deque ∙ sym (ap (λ e. e.part) c.end.view_is ∙ ap (λ e. e.part) met.1 ∙ e0.2) in
     let r = c.rest_of_ends-item.result in
-    let new : EndView _ = record { part = c.another-seat.result.rows; number = number_of (known c.another-seat.result).takes; items = items_of (known c.another-seat.result).takes } in
+    let new : EndView _ = record { part = c.another-seat.result.rows; number = number_of (known c.another-seat.result).takes; items = items_of (known c.another-seat.result).takes; tally = c.end.inside.tally.value } in
     let seen = c.end.view_is ∙ met.1 in
     let is : new ≡ record e0.0 { items = with_found e0.0.items r } =
-    same_end c.another-seat.result.rows c.end.inside.seat.rows (known c.another-seat.result).takes ((0, with_found (items_of w.takes) r) ∷ []) rows (ap (λ u. u.takes) back)
-    ∙ (λ i. record { part = c.end.inside.seat.rows; number = number i; items = with_found (items_of w.takes) r })
+    same_end c.another-seat.result.rows c.end.inside.seat.rows c.end.inside.tally.value (known c.another-seat.result).takes ((0, with_found (items_of w.takes) r) ∷ []) rows (ap (λ u. u.takes) back)
+    ∙ (λ i. record { part = c.end.inside.seat.rows; number = number i; items = with_found (items_of w.takes) r; tally = c.end.inside.tally.value })
     ∙ (λ i. record (seen i) { items = with_found (ap (λ z. z.items) seen i) r }) in
     let view = c.first.view_is in
     takes_found p c.args.first.now _ e0.0 new r e0.1 is

@@ -1,26 +1,16 @@
 use Rattle.std.proofs.Common.{◌≡◌, ◌∙◌, refl}
-use Rattle.lfi_run.specs.Growth.{Grows}
 use Rattle.lfi_run.specs.Serving.{serves}
-use Rattle.lfi_run.specs.inner.Consoles.{output_of}
-use Rattle.lfi_run.proofs.Growing.{grows_further, grows_same}
 use Rattle.lfi_run.proofs.Served.{related, run_alike, run_related}
 use Rattle.lfi_run.proofs.run.run_served.Goals as goal
 
 pub returns-clause-ran : goal.returns-clause-ran
 returns-clause-ran g c =
-    run_alike _ serves (output_of g.W.Write.contents) (λ h entry r o a k p answered. answered.0)
+    run_alike _ serves (λ console. g.W.Write.contents console.out.now) (λ h entry r o a k p answered. answered.0)
     c.args.machine.now c.run.new.self c.args.console.now c.run.new.runtime c.run.result.0 c.run.result.1 c.run.ensures.ran
-
-pub returns-clause-grown : goal.returns-clause-grown
-returns-clause-grown g c =
-    run_related Grows grows_same grows_further c.args.machine.now c.run.new.self (g.W.Write.contents c.args.console.now.out.now) (g.W.Write.contents c.run.new.runtime.out.now)
-    c.run.result.0 c.run.result.1
-    (run_alike _ (related Grows) (λ console. g.W.Write.contents console.out.now) (λ h entry r o a k p answered. answered.1)
-    c.args.machine.now c.run.new.self c.args.console.now c.run.new.runtime c.run.result.0 c.run.result.1 c.run.ensures.ran)
 
 pub returns-clause-same : goal.returns-clause-same
 returns-clause-same g c =
     run_related (λ old new. new ≡ old) (λ name. refl) (λ a b d first second. second ∙ first)
     c.args.machine.now c.run.new.self c.args.console.now.out.ghost_name c.run.new.runtime.out.ghost_name c.run.result.0 c.run.result.1
-    (run_alike _ (related (λ old new. new ≡ old)) (λ console. console.out.ghost_name) (λ h entry r o a k p answered. answered.2)
+    (run_alike _ (related (λ old new. new ≡ old)) (λ console. console.out.ghost_name) (λ h entry r o a k p answered. answered.1)
     c.args.machine.now c.run.new.self c.args.console.now c.run.new.runtime c.run.result.0 c.run.result.1 c.run.ensures.ran)

@@ -13,4 +13,7 @@ pub make_receivers-requires-clause-seats : goal.make_receivers-requires-clause-s
 make_receivers-requires-clause-seats c = subst (λ n. AreUnusedSeats n c.args.seats) (sym (count_of_new c.in_ok-intake.intake c.args.count c.in_ok-intake.puts.items c.in_ok-intake.ensures.puts)) c.requires.seats
 
 pub returns-clause-receivers : goal.returns-clause-receivers
-returns-clause-receivers c = subst (λ p. AreFreshOf p c.args.seats c.in_ok-receivers.receivers.items) c.in_ok-intake.ensures.puts c.in_ok-receivers.ensures
+returns-clause-receivers c = subst (λ p. AreFreshOf p c.args.seats c.in_ok-receivers.receivers.items) c.in_ok-intake.ensures.puts c.in_ok-receivers.ensures.fresh
+
+pub returns-clause-pool : goal.returns-clause-pool
+returns-clause-pool c = c.in_ok-receivers.ensures.pool

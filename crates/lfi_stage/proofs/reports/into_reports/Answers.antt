@@ -12,7 +12,7 @@ use Rattle.lfi_stage.proofs.reports.into_reports.Goals as goal
 
 pub returns : goal.returns
 returns c = λ m in_range.
-    let e : ModuleReport = record { outcome = Unused; image = Absent } in
+    let e : ModuleReport = record { outcome = Unused; image = Absent; refused = None } in
     let made = c.map.ensures.items.at m None e in_range in
     let told : (s : Sequence) (taken items : List ItemView) → get_or c.args.sequences m None ≡ Some s → Sequenced s taken → Come taken items → HasEnd items → Tells s.«module» (get_or c.map.result m e) items = made.2.met in
     let long = c.map.ensures.items.long in

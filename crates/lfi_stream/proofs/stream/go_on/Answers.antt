@@ -1,5 +1,7 @@
-use Rattle.std.proofs.Common.{arith, ◌≡◌, ◌≢◌, ◌++◌, [], take, length, length-append, length-take, List, ℕ}
+use Rattle.std.proofs.Common.{arith, ◌≡◌, ◌≢◌, ◌++◌, [], take, length, length-append, length-take, List, ℕ, sym, subst}
 use Rattle.lfi_connection.proofs.Texts.{some_used, fault_used}
+use Rattle.lfi_connection.specs.Events.{coming_after}
+use Rattle.lfi_stream.specs.Numbers.{page_at, IsPageOf}
 use Rattle.lfi_stream.proofs.Told.{told, at_fault}
 use Rattle.lfi_stream.proofs.stream.go_on.Goals as goal
 
@@ -9,8 +11,12 @@ returns-in-Ok-clause-told c = λ ms rest stands holds.
     let used : List ℕ = take step.used c.args.piece.now in
     let within = c.in-Ok.ensures.within in
     let size : length used ≡ step.used = (let t = length-take step.used c.args.piece.now in omega arith) in
-    told c.feed.new.self c.brought-event.new.stream c.kept-stream.result ms rest used c.brought-event.result
-    (c.brought-event.ensures c.feed.new.self ms rest used size (some_used c.args.piece.now step (c.in-Ok.ensures.moves c.requires) (c.in-Ok.ensures.empty c.requires)) holds (c.in-Ok.ensures.told ms rest stands))
+    let event = c.brought-event.result in
+    let s = c.brought-event.new.stream in
+    let o = page_at c.args.stream.now in
+    told c.feed.new.self s c.kept-stream.result o ms rest used event
+    (c.brought-event.ensures.moves c.feed.new.self ms rest used size (some_used c.args.piece.now step (c.in-Ok.ensures.moves c.requires) (c.in-Ok.ensures.empty c.requires)) holds (c.in-Ok.ensures.told ms rest stands))
+    (subst (λ n. IsPageOf s.page (coming_after event n o)) (sym size) c.brought-event.ensures.page)
     (λ now left s. c.kept-stream.ensures.stands now left s c.in-Ok.ensures.fault)
 
 pub returns-in-Err-clause-told : goal.returns-in-Err-clause-told

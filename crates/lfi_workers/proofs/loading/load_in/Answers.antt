@@ -37,6 +37,7 @@ returns g c = both_ok c.start_receivers-started.result c.join_parts-back.result 
           let h = some_at hs k within in
           let is_had : had k ≡ left_of remaining h.0.promise.input.value = ap (λ o. option_map_or (left_of remaining) o None) (started.inputs k h.0 h.1) in
           subst (λ o. HasHeard o r) (sym is_had) ((IfOk-at_ok _ is on.heard) k r h.0 at h.1);
+      ended = IfOk-at_ok _ is on.ended;
     })
 
 pub join_parts-back-requires-clause-receiving : goal.join_parts-back-requires-clause-receiving

@@ -1,8 +1,6 @@
 use Rattle.std.proofs.Common.{◌≡◌, sym, subst}
-use Rattle.std.specs.Prelude.{Ok}
 use Rattle.std.proofs.lemmas.Result.{IfOk-at_ok, IfOk-weaker}
 use Rattle.lfi_workers.specs.declared.running.Parts.{Parts}
-use Rattle.lfi_workers.specs.Seated.{IsVerifierOf}
 use Rattle.lfi_workers.specs.inner.Workers.{AreSequencersOf}
 use Rattle.lfi_workers.proofs.running.join_parts.Goals as goal
 
@@ -16,14 +14,14 @@ pub returns-clause-heard : goal.returns-clause-heard
 returns-clause-heard g c = IfOk-weaker c.parts_of.result _ _ (λ parts is. IfOk-at_ok _ is c.join_receivers-receivers.ensures.heard) c.parts_of.ensures.receivers
 
 pub returns-clause-verifier_count : goal.returns-clause-verifier_count
-returns-clause-verifier_count g c = IfOk-weaker c.parts_of.result _ _ (λ parts is. IfOk-at_ok _ is c.join_all-verifiers.ensures.count) c.parts_of.ensures.verifiers
+returns-clause-verifier_count g c = IfOk-weaker c.parts_of.result _ _ (λ parts is. IfOk-at_ok _ is c.join_verifiers-verifiers.ensures.count) c.parts_of.ensures.verifiers
 
 pub returns-clause-verifiers : goal.returns-clause-verifiers
-returns-clause-verifiers g c = IfOk-weaker c.parts_of.result _ _ (λ (parts : Parts) (there : c.join_all-verifiers.result ≡ Ok parts.verifiers) k v at.
-    let kept = IfOk-at_ok _ there c.join_all-verifiers.ensures.kept k v at in
-    let is = c.requires.verifying k kept.0 kept.1 in
-    subst (λ s. IsVerifierOf s k v) is.0 (subst (λ n. IsVerifierOf kept.0.promise.place.shared.now n v) is.1 kept.2)) c.parts_of.ensures.verifiers
+returns-clause-verifiers g c = IfOk-weaker c.parts_of.result _ _ (λ parts is. IfOk-at_ok _ is c.join_verifiers-verifiers.ensures.are) c.parts_of.ensures.verifiers
+
+pub returns-clause-ended : goal.returns-clause-ended
+returns-clause-ended g c = IfOk-weaker c.parts_of.result _ _ (λ parts is. IfOk-at_ok _ is c.join_verifiers-verifiers.ensures.ended) c.parts_of.ensures.verifiers
 
 pub returns-clause-sequencers : goal.returns-clause-sequencers
-returns-clause-sequencers g c = IfOk-weaker c.parts_of.result _ _ (λ (parts : Parts) (same : parts.sequencers ≡ c.join-sequencers.result). subst (λ s. AreSequencersOf c.args.env.now.shared.now s.items) (sym same)
-    (subst (λ s. AreSequencersOf s c.join-sequencers.result.items) c.requires.placing c.join-sequencers.ensures)) c.parts_of.ensures.sequencers
+returns-clause-sequencers g c = IfOk-weaker c.parts_of.result _ _ (λ (parts : Parts) (same : parts.sequencers ≡ c.join-placed.result.sequencers). subst (λ s. AreSequencersOf c.args.env.now.shared.now s.items) (sym same)
+    (subst (λ s. AreSequencersOf s c.join-placed.result.sequencers.items) c.requires.placing c.join-placed.ensures)) c.parts_of.ensures.sequencers

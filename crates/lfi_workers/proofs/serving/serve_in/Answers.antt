@@ -34,6 +34,7 @@ returns g c = of_three c.back_from.result _ _ _ _ c.back_from.ensures.accepted c
         counted = receiver_count ∙ count;
         verifiers_counted = verifier_count ∙ verifiers;
         heard = heard_by (λ h. left_of sent_over_socket h.promise.input.value) hs new.receivers.items receiver_count (IfOk-at_ok _ are on.heard);
+        ended = IfOk-at_ok _ are on.ended;
       };
       known = sent_known (λ h. left_of sent_over_socket h.promise.input.value) hs count taken;
       each = sent_each (λ h. left_of sent_over_socket h.promise.input.value) hs count taken;

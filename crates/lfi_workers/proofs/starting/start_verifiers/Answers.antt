@@ -1,9 +1,9 @@
 use Rattle.std.proofs.Common.{◌≡◌, ◌++◌, ◌∷◌, [], ◌∙◌, ℕ, Some, length, slice_get, sym, subst, arith}
 use Rattle.std.proofs.lemmas.Result.{IfOk-at_ok, IfOk-from_err}
-use Rattle.std.specs.Vec.Iter.{into_iter_items, into_iter_steps}
+use Rattle.std.specs.Vec.Iter.{into_iter_items}
 use Rattle.lfi_parts.proofs.Filling.{push_each, one_more, next_is, still_from}
 use Rattle.lfi_workers.specs.Seated.{IsVerifierOf}
-use Rattle.lfi_signals.proofs.Begun.{all_left, from_first, each_of_none, one_left, all_kept}
+use Rattle.lfi_signals.proofs.Begun.{all_left, from_first, each_of_none, all_kept}
 use Rattle.lfi_workers.proofs.starting.start_verifiers.Goals as goal
 
 pub loop-verifier-init : goal.loop-verifier-init
@@ -11,15 +11,10 @@ loop-verifier-init g c =
     let none = c.requires.none in
     let hs = c.args.handles.now.items in
     record {
-      count = all_left hs _ _ c.args.verifiers.verifiers.items none c.into_iter-verifier-iterator.ensures.into_iter_gives.1 c.args.verifiers.verifiers.ok.0;
-      rest = from_first hs _ c.args.verifiers.verifiers.items none c.into_iter-verifier-iterator.ensures.into_iter_gives.0;
-      seat_count = all_left hs _ _ c.args.verifiers.seats.items none c.into_iter-seats.ensures.len c.args.verifiers.seats.ok.0;
-      seat_rest = from_first hs _ c.args.verifiers.seats.items none c.into_iter-seats.ensures.rest;
+      count = all_left hs _ _ c.args.verifiers.items none c.into_iter-verifier-iterator.ensures.into_iter_gives.1 c.args.verifiers.ok.0;
+      rest = from_first hs _ c.args.verifiers.items none c.into_iter-verifier-iterator.ensures.into_iter_gives.0;
       places = each_of_none (λ k h. (h.promise.place.shared.now ≡ c.args.env.now.shared.now) × (h.promise.place.number ≡ k)) hs none;
     }
-
-pub unwrap-seat-requires : goal.unwrap-seat-requires
-unwrap-seat-requires g c = c.next-in-loop-verifier.ensures.variant.1 (one_left _ _ _ _ _ _ c.loop-verifier.invariant.count c.loop-verifier.invariant.seat_count c.requires.are.count c.in-Some.ensures.steps.1)
 
 pub returns-in_err-keep-clause-all : goal.returns-in_err-keep-clause-all
 returns-in_err-keep-clause-all g c = IfOk-from_err c.from_residual.result _ c.from_residual.ensures.0
@@ -33,17 +28,10 @@ returns-clause-all g c = all_kept _ _ _ c.loop-verifier.invariant.count c.in-Non
 pub start_verifier-handle-requires-clause-is : goal.start_verifier-handle-requires-clause-is
 start_verifier-handle-requires-clause-is g c = λ κs within.
     let i = c.loop-verifier.invariant in
-    let are = c.requires.are in
     let step = c.in-Some.ensures.steps in
     let n : ℕ = length c.loop-verifier.handles.items in
     let at : n ≡ c.len-number.result = sym (c.len-number.ensures ∙ c.loop-verifier.handles.ok.0) in
-    let old_seats = into_iter_items c.loop-verifier.seats in
-    let new_seats = into_iter_items c.next-in-loop-verifier.new.self in
-    let taken = subst (λ o. into_iter_steps c.loop-verifier.seats o c.next-in-loop-verifier.new.self) c.unwrap-seat.ensures c.next-in-loop-verifier.ensures.cases in
-    record {
-      verifier_is = subst (λ k. IsVerifierOf c.args.env.now.shared.now k c.in-Some.verifier) at (are.verifiers_are n c.in-Some.verifier (next_is c.args.verifiers.verifiers.items (into_iter_items c.loop-verifier.verifier-iterator) (into_iter_items c.next.new.self) c.in-Some.verifier n i.rest step.0));
-      seat_is = are.seats_are n c.unwrap-seat.result (next_is c.args.verifiers.seats.items old_seats new_seats c.unwrap-seat.result n i.seat_rest taken.0);
-    }
+    subst (λ k. IsVerifierOf c.args.env.now.shared.now k c.in-Some.verifier) at (c.requires.are n c.in-Some.verifier (next_is c.args.verifiers.items (into_iter_items c.loop-verifier.verifier-iterator) (into_iter_items c.next.new.self) c.in-Some.verifier n i.rest step.0))
 
 pub loop-verifier-preserved : goal.loop-verifier-preserved
 loop-verifier-preserved g c =
@@ -53,18 +41,12 @@ loop-verifier-preserved g c =
     let at : c.len-number.result ≡ n = c.len-number.ensures ∙ c.loop-verifier.handles.ok.0 in
     let kept = c.in_ok-keep.ensures.kept in
     let handle = kept.0 in
-    let seats = c.args.verifiers.seats.items in
-    let old_seats = into_iter_items c.loop-verifier.seats in
-    let new_seats = into_iter_items c.next-in-loop-verifier.new.self in
-    let taken = subst (λ o. into_iter_steps c.loop-verifier.seats o c.next-in-loop-verifier.new.self) c.unwrap-seat.ensures c.next-in-loop-verifier.ensures.cases in
     let grown : c.keep.new.handles.items ≡ c.loop-verifier.handles.items ++ handle ∷ [] = kept.2 in
     let more = one_more c.loop-verifier.handles.items c.keep.new.handles.items handle grown in
     let started = IfOk-at_ok _ kept.1 c.start_verifier-handle.ensures.promised in
     record {
       count = (let count = i.count in let less = step.1 in omega arith);
-      rest = still_from c.args.verifiers.verifiers.items (into_iter_items c.loop-verifier.verifier-iterator) (into_iter_items c.next.new.self) c.in-Some.verifier n i.rest step.0 (length c.keep.new.handles.items) more;
-      seat_count = (let count = i.seat_count in let less = taken.1 in omega arith);
-      seat_rest = still_from seats old_seats new_seats c.unwrap-seat.result n i.seat_rest taken.0 (length c.keep.new.handles.items) more;
+      rest = still_from c.args.verifiers.items (into_iter_items c.loop-verifier.verifier-iterator) (into_iter_items c.next.new.self) c.in-Some.verifier n i.rest step.0 (length c.keep.new.handles.items) more;
       places = push_each (λ k h. (h.promise.place.shared.now ≡ c.args.env.now.shared.now) × (h.promise.place.number ≡ k)) c.loop-verifier.handles.items c.keep.new.handles.items handle grown i.places (started.0, started.1 ∙ at);
     }
 

@@ -4,9 +4,7 @@ use Rattle.lfi_workers.proofs.starting.start_verifiers.Given as goal
 
 abbrev pub invariant-loop-verifier : goal.invariant-loop-verifier
 invariant-loop-verifier g l = record {
-  count : length l.handles.items + into_iter_len l.verifier-iterator ≡ length l.fn.verifiers.verifiers.items;
-  rest : (k : ℕ) → slice_get (into_iter_items l.verifier-iterator) k ≡ slice_get l.fn.verifiers.verifiers.items (length l.handles.items + k);
-  seat_count : length l.handles.items + into_iter_len l.seats ≡ length l.fn.verifiers.seats.items;
-  seat_rest : (k : ℕ) → slice_get (into_iter_items l.seats) k ≡ slice_get l.fn.verifiers.seats.items (length l.handles.items + k);
+  count : length l.handles.items + into_iter_len l.verifier-iterator ≡ length l.fn.verifiers.items;
+  rest : (k : ℕ) → slice_get (into_iter_items l.verifier-iterator) k ≡ slice_get l.fn.verifiers.items (length l.handles.items + k);
   places : (k : ℕ) (h : _) → slice_get l.handles.items k ≡ Some h → (h.promise.place.shared.now ≡ l.env.shared.now) × (h.promise.place.number ≡ k);
 }

@@ -1,6 +1,7 @@
 use Rattle.std.proofs.Common.{sym, subst}
 use Rattle.lfi_place.specs.Handed.{AreLanes, AsTold, lane_puts_of}
 use Rattle.lfi_parts.proofs.Kept.{lanes_of, verifier_stays}
+use Rattle.lfi_parts.proofs.Staying.{seat_turns}
 use Rattle.lfi_workers.proofs.verifying.turn_one.Goals as goal
 
 pub turn-requires-clause-intake : goal.turn-requires-clause-intake
@@ -14,6 +15,7 @@ pub returns-clause-is : goal.returns-clause-is
 returns-clause-is g c = record {
   lanes = c.requires.is.lanes;
   is = verifier_stays c.args.place.shared.now.intake c.args.place.shared.now.lanes.items c.args.place.number c.args.verifier.now c.turn.new.self c.requires.is.is c.turn.ensures.pass c.turn.ensures.same c.turn.ensures.tie;
+  seat = seat_turns c.args.place.shared.now c.args.verifier.now c.turn.new.self c.requires.is.seat c.turn.ensures.seat;
 }
 
 pub returns-clause-idle : goal.returns-clause-idle

@@ -1,7 +1,9 @@
-use Rattle.std.proofs.Common.{rules, ◌<◌, ◌++◌, sym, subst, refl, flat_map}
+use Rattle.std.proofs.Common.{rules, ◌<◌, ◌++◌, sym, subst, refl, flat_map, length}
 use Rattle.lfi_module.specs.Numbers.{module_count}
 use Rattle.lfi_frame.specs.Streams.{spelling}
 use Rattle.lfi_receive.specs.Receivers.{StandsFor}
+use Rattle.lfi_connection.specs.Events.{Continues}
+use Rattle.lfi_receive.specs.inner.Pages.{coming_of}
 use Rattle.lfi_receive.specs.inner.Holding.{Brought}
 use Rattle.lfi_receive.proofs.Standing.{not_over}
 use Rattle.lfi_receive.proofs.Telling.{on_nothing, on_stray, on_open, on_end, on_begin, begin_over, on_code, code_runs}
@@ -28,18 +30,17 @@ returns-in-End-clause-stands c = λ ms rest b.
 
 pub returns-in-Begin-clause-stands : goal.returns-in-Begin-clause-stands
 returns-in-Begin-clause-stands c = λ ms rest b.
-    on_begin c.args.self.now c.begin.new.self c.in-Begin.«module» c.in-Begin.extent c.in-Begin.pages c.in-Begin.len ms rest c.args.bytes.now c.requires.running c.requires.free c.begin.ensures.page (subst (λ e. Brought c.args.self.now e ms rest c.args.bytes.now) c.in-Begin.is b)
+    on_begin c.args.self.now c.begin.new.self c.in-Begin.due ms rest c.args.bytes.now c.requires.running c.requires.free c.begin.ensures.page (subst (λ e. Brought c.args.self.now e ms rest c.args.bytes.now) c.in-Begin.is b)
 
 pub returns-in-Begin-clause-over : goal.returns-in-Begin-clause-over
 returns-in-Begin-clause-over c = λ ms rest b.
-    begin_over c.args.self.now c.begin.new.self c.in-Begin.«module» c.in-Begin.extent c.in-Begin.pages c.in-Begin.len ms rest c.args.bytes.now c.requires.running c.begin.ensures.page (subst (λ e. Brought c.args.self.now e ms rest c.args.bytes.now) c.in-Begin.is b)
+    begin_over c.args.self.now c.begin.new.self c.in-Begin.due ms rest c.args.bytes.now c.requires.running c.begin.ensures.page (subst (λ e. Brought c.args.self.now e ms rest c.args.bytes.now) c.in-Begin.is b)
 
 pub returns-in-Code-clause-stands : goal.returns-in-Code-clause-stands
 returns-in-Code-clause-stands c = λ ms rest b.
-    on_code c.args.self.now c.payload.new.self c.in-Code.«module» c.in-Code.offset c.in-Code.ended ms rest c.args.bytes.now c.requires.running c.requires.free c.payload.ensures (subst (λ e. Brought c.args.self.now e ms rest c.args.bytes.now) c.in-Code.is b)
+    let r = c.args.self.now in
+    on_code r c.payload.new.self c.in-Code.page c.in-Code.ended ms rest c.args.bytes.now c.requires.running c.requires.free
+    (subst (λ e. Continues e (coming_of r.page) (length c.args.bytes.now)) c.in-Code.is c.requires.continues) c.payload.ensures (subst (λ e. Brought r e ms rest c.args.bytes.now) c.in-Code.is b)
 
 pub returns-in-Code-clause-over : goal.returns-in-Code-clause-over
-returns-in-Code-clause-over c = λ ms rest b. not_over _ _ _ (code_runs c.args.self.now c.payload.new.self c.args.self.now.page c.args.bytes.now c.payload.ensures c.requires.running)
-
-pub returns-in-Fault-clause-stands : goal.returns-in-Fault-clause-stands
-returns-in-Fault-clause-stands c = λ ms rest b. absurd (b.moves.sound _ c.in-Fault.is)
+returns-in-Code-clause-over c = λ ms rest b. not_over _ _ _ (code_runs c.args.self.now c.payload.new.self c.args.self.now.page c.in-Code.ended c.args.bytes.now c.payload.ensures c.requires.running)
