@@ -88,8 +88,9 @@ def end_of(words):
 
 
 def fold(at, size):
-    """Words that put a number into x2 that rests on all bytes from `at` on, which is a multiple of 8."""
-    return [*move(1, at), *move(3, size // 8), 0xF8614AA0 | 4, 0xCA040042, 0xAAC2E7E2, 0x8B020C42, add(1, 8), 0x51000463, 0x35000003 | (-6 & 0x7FFFF) << 5]
+    """Words that put a number into x2 that rests on all of so many bytes from `at` on, which is a multiple of 8."""
+    # LDR X4, [X21, W1, UXTW]; EOR X2, X2, X4; ORR X2, XZR, X2, ROR #57; ADD X2, X2, X2, LSL #3; SUB W3, W3, #1; CBNZ W3, back
+    return [*move(1, at), *move(3, size // 8), 0xF8614AA4, 0xCA040042, 0xAAC2E7E2, 0x8B020C42, add(1, 8), 0x51000463, 0x35000003 | (-6 & 0x7FFFF) << 5]
 
 
 def tell(scratch, at, windows):
@@ -98,13 +99,14 @@ def tell(scratch, at, windows):
     for register in [it for it in range(31) if it != scratch]:
         words += [store(register, scratch), add(scratch, 8)]
         count += 1
-    told = [[0x910003E0], *([0x9A9F07E0 | (condition ^ 1) << 12] for condition in (4, 0, 2, 6))]
+    told = [[0x910003E0], *([0x9A9F07E0 | (condition ^ 1) << 12] for condition in (4, 0, 2, 6))]  # MOV X0, SP; CSET X0, MI and EQ, CS, VS
     told += [[*move(2, 0), *fold(start, size), copy(0, 2)] for start, size in windows]
     for part in told:
         words += [*part, store(0, scratch), add(scratch, 8)]
         count += 1
     words += [*move(scratch, at), *move(1, 8 * count)]
-    words += [0x38604AA0 & ~(31 << 16) | scratch << 16, *call(1), add(scratch, 1), 0x51000421, 0x35000001 | (-5 & 0x7FFFF) << 5]
+    # LDRB W0, [X21, the scratch register, UXTW]; entry 1; SUB W1, W1, #1; CBNZ W1, back
+    words += [0x38604AA0 | scratch << 16, *call(1), add(scratch, 1), 0x51000421, 0x35000001 | (-5 & 0x7FFFF) << 5]
     return words + call(0)
 
 
@@ -164,13 +166,16 @@ class Body:
         source, register = self.source, self.register()
         number = source.choice((0, 8, 16, 16, 32, 64, 128, 4_095))
         late = source.randrange(4) if self.profile == 2 else 0
+        # LDR XZR; STR, LDR and STRB of a register; STP of it and XZR: all at [SP]
         probe = source.choice((PROBE, 0xF90003E0 | register, 0xF94003E0 | register, 0x390003E0 | register, 0xA9007FE0 | register))
         return [source.choice((0xD10003FF, 0x910003FF)) | number << 10, *(self.lawful(calm=True) for _ in range(late)), probe]
 
     def link(self):
         """x30 loaded, and guarded at once."""
         register = self.register()
-        return [self.source.choice((0xF94003FE, 0xF940025E, 0xF85F83FE, 0xF87E4ABE & ~(31 << 16) | register << 16, 0xA94003FE | register << 10)), guard(LINK, LINK)]
+        # LDR X30 at [SP], [X18], [SP, #-8] and [X21, W, UXTW]; LDP X30 and a register at [SP]
+        loads = (0xF94003FE, 0xF940025E, 0xF85F83FE, 0xF8604ABE | register << 16, 0xA94003FE | register << 10)
+        return [self.source.choice(loads), guard(LINK, LINK)]
 
     def address(self):
         return [guard(self.source.choice(ADDRESSES), self.register())]
@@ -215,7 +220,7 @@ def random_program(source):
     words = [word for register in FREE if register != scratch for word in move(register, some_number(source, arena))]
     for register in (*ADDRESSES, SP):
         words += [*move(scratch, arena + source.randrange(1_024, 3_072, 16)), guard(register, scratch)]
-    words += [0x52800000 | source.getrandbits(16) << 5 | OFFSET, 0x6B00001F | source.choice(FREE) << 16 | source.choice(FREE) << 5]
+    words += [0x52800000 | source.getrandbits(16) << 5 | OFFSET, 0x6B00001F | source.choice(FREE) << 16 | source.choice(FREE) << 5]  # MOVZ; CMP
     words += [0xF9000240 | at << 10 | source.choice(FREE) for at in range(0, 64, 7)]  # some numbers in memory, through x18
     words += body.draw(source.randrange(5, 120))
     words += tell(scratch, 0xC0000000, [(arena, 4_096)])
@@ -269,7 +274,7 @@ def longest():
 def entries():
     """Each entry, one by one among the edges of their numbers and all in one program; what they answer and keep."""
     fill = [word for register in FREE for word in move(register, (register + 1) * 0x0123456789ABCDEF % (1 << 64))]
-    fill += [*(guard(register, register - 17) for register in ADDRESSES), 0x52800000 | 0xFEDC << 5 | OFFSET, 0xB100001F | 5 << 5]
+    fill += [*(guard(register, register - 17) for register in ADDRESSES), 0x52800000 | 0xFEDC << 5 | OFFSET, 0xB100001F | 5 << 5]  # MOVZ; CMN
     yield "entries", program([*fill, *(word for number in range(1, 512) for word in call(number)), *END])
     for number in (0, 1, 2, 3, 8, 255, 256, 510, 511):
         yield f"entry-{number}", program([*fill, *call(number), *END])
@@ -295,12 +300,13 @@ def jumps():
 
 def accesses():
     """Loads and stores of each class and size at each such place: through an address register, as single, pair and ordered ones, and by an
-    offset."""
+    offset; and as far from it as an immediate goes."""
     sizes, kinds = range(4), (0, 1)
     forms = [(1, 0x39000241 | size << 30 | loads << 22) for size in sizes for loads in kinds]
     forms += [(1, 0x38204AA1 | size << 30 | loads << 22) for size in sizes for loads in kinds]
     forms += [(2, 0x089FFE41 | size << 30 | loads << 22) for size in sizes for loads in kinds]
     forms += [(1, 0x29000A41 | wide << 31 | loads << 22) for wide in kinds for loads in kinds]
+    forms += [(1, word) for word in (0xF97FFE41, 0xF93FFE41, 0xF8500241, 0xF8100241, 0xA9600A41, 0xA9200A41)]  # at 32760, -256, -512
     for at in places(1_024):
         for profile, word in forms:
             yield f"access-{word:x}-{at:x}", program([*move(0, at), guard(18, 0), word, *END], profile=profile, count=1_024)

@@ -72,6 +72,7 @@ static int take_image(const char *name, FILE *file) {
 /* Does what an event of a stream asks for (docs/C.md, "A stream"); what is told of a module's end is kept.
  * HOST: nobody writes that piece until it is copied here */
 static void follow(const lfi_event *event, const uint8_t *bytes, size_t used, lfi_event *ends) {
+    if (event->kind == LFI_NO_STREAM || (event->kind == LFI_CODE && event->verdict > LFI_REFUSED)) die("stream"); /* it wasn't judged */
     if (event->kind == LFI_OPEN) open_slot(event->module, event->words, event->entry, event->profile);
     if (event->kind == LFI_CODE) memcpy((uint8_t *)code_of(&slots[event->module]) + event->offset, bytes, used);
     if (event->kind == LFI_END) ends[event->module] = *event;
@@ -89,8 +90,7 @@ static int take_stream(const char *name, FILE *file) {
             used = lfi_stream_next(&stream, piece + at, got - at, &event);
             follow(&event, piece + at, used, ends);
         }
-    do lfi_stream_end(&stream, &event), follow(&event, piece, 0, ends);
-    while (event.kind != LFI_NOTHING && event.kind != LFI_NO_STREAM);
+    do lfi_stream_end(&stream, &event), follow(&event, piece, 0, ends); while (event.kind != LFI_NOTHING);
     for (uint32_t m = 0; m < LFI_MODULES; m++)
         if (ends[m].kind == LFI_END && ends[m].verdict == LFI_LAWFUL) status |= run_module(name, m);
         else if (ends[m].kind == LFI_END) close_slot(&slots[m]), begin(name, m), end("not run"), status |= 1;
