@@ -2,7 +2,13 @@
 //!
 //! Types keep the rest, in all blocks alike: a reference and a slice's pointer are never null and are aligned, a slice has less
 //! than 2^63 bytes, all of which can be read, nobody writes behind a `&`, and a `&mut` overlaps nothing and is used by nobody else.
+//!
+//! A library of another interface may have other structs, and write past these. So whatever begins something asks for its number
+//! first; what goes on, with a state or a stream, has one that such a call made.
 #![allow(unsafe_code)]
+
+/// The status of a call that isn't made, since the library is of another interface. The library has no such status.
+pub const OTHER_INTERFACE: u32 = u32::MAX;
 
 /// `lfi_fault`.
 #[repr(C)]
@@ -156,8 +162,15 @@ extern "C" {
     fn lfi_version() -> u32;
 }
 
+fn is_of_this_interface() -> bool {
+    version() == crate::VERSION
+}
+
 pub fn verify(code: &[u8], profile: u32) -> (u32, LfiFault) {
     let mut fault = LfiFault::default();
+    if !is_of_this_interface() {
+        return (OTHER_INTERFACE, fault);
+    }
     // docs/C.md: Nobody writes these bytes during the call.
     let status = unsafe { lfi_verify(code.as_ptr(), code.len(), profile, &mut fault) };
     (status, fault)
@@ -165,6 +178,9 @@ pub fn verify(code: &[u8], profile: u32) -> (u32, LfiFault) {
 
 pub fn verify_init(words: u32, profile: u32) -> (u32, LfiState) {
     let mut state = LfiState::default();
+    if !is_of_this_interface() {
+        return (OTHER_INTERFACE, state);
+    }
     // docs/C.md: A pointer to a struct is aligned for it.
     let status = unsafe { lfi_verify_init(&mut state, words, profile) };
     (status, state)
@@ -195,6 +211,9 @@ pub struct Refused {
 
 pub fn explain(of: &Refused, text: &mut [u8]) -> (u32, usize) {
     let mut size = 0;
+    if !is_of_this_interface() {
+        return (OTHER_INTERFACE, size);
+    }
     // docs/C.md: so `room`, of bytes that can be written at `text`.
     let status = unsafe {
         lfi_explain(of.profile, of.module, of.words, &of.fault, of.word, of.before, text.as_mut_ptr(), text.len(), &mut size)
@@ -204,6 +223,9 @@ pub fn explain(of: &Refused, text: &mut [u8]) -> (u32, usize) {
 
 pub fn stream_init(profile: u32) -> (u32, LfiStream) {
     let mut stream = LfiStream::default();
+    if !is_of_this_interface() {
+        return (OTHER_INTERFACE, stream);
+    }
     // docs/C.md: A pointer to a struct is aligned for it.
     let status = unsafe { lfi_stream_init(&mut stream, profile) };
     (status, stream)
@@ -226,6 +248,9 @@ pub fn stream_end(stream: &mut LfiStream) -> (u32, LfiEvent) {
 
 pub fn profile_map(profile: u32, module: u32) -> (u32, LfiMap) {
     let mut map = LfiMap::default();
+    if !is_of_this_interface() {
+        return (OTHER_INTERFACE, map);
+    }
     // docs/C.md: A pointer to a struct is aligned for it.
     let status = unsafe { lfi_profile_map(profile, module, &mut map) };
     (status, map)
@@ -233,6 +258,9 @@ pub fn profile_map(profile: u32, module: u32) -> (u32, LfiMap) {
 
 pub fn profile_registers(profile: u32) -> (u32, LfiRegisters) {
     let mut registers = LfiRegisters::default();
+    if !is_of_this_interface() {
+        return (OTHER_INTERFACE, registers);
+    }
     // docs/C.md: A pointer to a struct is aligned for it.
     let status = unsafe { lfi_profile_registers(profile, &mut registers) };
     (status, registers)

@@ -20,8 +20,8 @@
 //!
 //! The library's contracts are proved of its own code (docs/C.md, "What is proved, tested and believed"). Nothing of this crate
 //! is proved: it is a plain layer that keeps, by its types, what docs/C.md asks of a caller. All `unsafe` stands in `calls.rs`.
-//! It takes no memory, starts no thread and never panics. What the library answers that this crate doesn't know, as one of
-//! another interface may, is an error and never `Ok`; [`version`] tells the interface, which [`VERSION`] has to be.
+//! It takes no memory, starts no thread and never panics. A library whose interface isn't [`VERSION`] isn't asked, and what
+//! the library answers that this crate doesn't know is an error and never `Ok`.
 //!
 //! The rules, the profiles, the stream and its faults are those of docs/PROFILE.md. docs/HOST.md says what else a host owes
 //! that runs verified code.
@@ -48,7 +48,7 @@ pub use verify::{verify, Profile, Verifier, MAX_BYTES, MAX_WORDS};
 /// The number of the interface for which this crate is written: `LFI_VERSION` of the header.
 pub const VERSION: u32 = 5;
 
-/// The number of the interface of the library that is linked. It has to be [`VERSION`].
+/// The number of the interface of the library that is linked. Where it isn't [`VERSION`], all else fails.
 pub fn version() -> u32 {
     calls::version()
 }

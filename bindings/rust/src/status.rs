@@ -1,5 +1,6 @@
 //! What a call of the library answers.
 
+use crate::calls::OTHER_INTERFACE;
 use core::fmt;
 
 /// What a call found, or why it found nothing: the `lfi_status` of docs/C.md.
@@ -21,7 +22,9 @@ pub enum Status {
     UnknownModule,
     /// 7: a text is longer than the library has room for.
     NoRoom,
-    /// A number that this crate doesn't know, of a library of another interface.
+    /// The library that is linked isn't of the interface [`crate::VERSION`]: it wasn't asked.
+    OtherInterface,
+    /// A number that this crate doesn't know.
     Other(u32),
 }
 
@@ -36,6 +39,7 @@ impl Status {
             5 => Status::UnknownProfile,
             6 => Status::UnknownModule,
             7 => Status::NoRoom,
+            OTHER_INTERFACE => Status::OtherInterface,
             other => Status::Other(other),
         }
     }
@@ -60,6 +64,7 @@ impl fmt::Display for Status {
             Status::UnknownProfile => f.write_str("unknown profile"),
             Status::UnknownModule => f.write_str("unknown module"),
             Status::NoRoom => f.write_str("no room for the text"),
+            Status::OtherInterface => f.write_str("the library is of another interface"),
             Status::Other(number) => write!(f, "unknown status {number}"),
         }
     }

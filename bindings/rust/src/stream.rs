@@ -68,7 +68,7 @@ pub enum Event<'p> {
     },
     /// The stream's fault: nothing after it is read. [`Stream::end`] tells which modules it loses.
     Fault(StreamFault),
-    /// The library told what this crate doesn't know, as one of another interface may: nothing after it is read.
+    /// The library told what these calls never bring about, or what this crate doesn't know: nothing after it is read.
     Unreadable,
 }
 
