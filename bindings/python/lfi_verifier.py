@@ -218,7 +218,7 @@ class Stream:
     def read(self, piece: Buffer) -> List[Event]:
         """Goes on in the next bytes, cut in any way, and tells what they bring. After the stream's fault nothing is read."""
         whole, at, events = bytes(piece), 0, []
-        start = ctypes.cast(ctypes.c_char_p(whole), ctypes.c_void_p).value
+        start = ctypes.cast(ctypes.c_char_p(whole), ctypes.c_void_p).value or 0
         with self._turn:
             while at < len(whole) and not self._is_over:
                 event = _Event()
