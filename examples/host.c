@@ -5,7 +5,9 @@
  *   ./host 1 124 < examples/checksums.code
  *
  * The first word is the module, 0 to 15, the second one how many words it has; a third one is its profile, which is 1 without. */
+#ifndef _GNU_SOURCE
 #define _GNU_SOURCE
+#endif
 #include "lfi_verifier.h"
 #include <stdio.h>
 #include <stdlib.h>

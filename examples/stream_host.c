@@ -3,7 +3,9 @@
  *
  *   cc -I include examples/stream_host.c crates/lfi_verifier/out/liblfi_verifier.a -o stream_host
  *   ./stream_host < examples/two_modules.stream */
+#ifndef _GNU_SOURCE
 #define _GNU_SOURCE
+#endif
 #include "lfi_verifier.h"
 #include <stdio.h>
 #include <string.h>
@@ -28,15 +30,20 @@ static int open_module(const lfi_event *event) {
     void *at = (void *)(uintptr_t)(map.base + map.code);
     it->words = event->words;
     it->page_bytes = event->page_bytes;
-    it->code = mmap(at, 4 * (size_t)it->words, PROT_READ | PROT_WRITE, MAP_PRIVATE | MAP_ANONYMOUS | MAP_FIXED_NOREPLACE, -1, 0);
+    it->code = (uint8_t *)mmap(at, 4 * (size_t)it->words, PROT_READ | PROT_WRITE, MAP_PRIVATE | MAP_ANONYMOUS | MAP_FIXED_NOREPLACE, -1, 0);
     return it->code == at;
 }
 
-/* Does what an event asks for; answers 0 where the system gives no memory. The bytes were judged where they are: nobody else
- * writes this piece before they are copied. */
+/* Does what an event asks for; answers 0 where the system gives no memory, where code wasn't judged, or where the stream's
+ * numbers aren't those that these calls wrote. The bytes were judged where they are: nobody else writes this piece before they
+ * are copied. */
 static int follow(const lfi_event *event, const uint8_t *bytes, size_t used) {
+    if (event->kind == LFI_NO_STREAM) return 0;
     if (event->kind == LFI_OPEN) return open_module(event);
-    if (event->kind == LFI_CODE) memcpy(modules[event->module].code + event->offset, bytes, used);
+    if (event->kind == LFI_CODE) {
+        if (event->verdict > LFI_REFUSED || !modules[event->module].code) return 0;
+        memcpy(modules[event->module].code + event->offset, bytes, used);
+    }
     if (event->kind == LFI_STRAY) strays++;
     if (event->kind == LFI_END) modules[event->module].end = *event;
     if (event->kind == LFI_FAULT) fault = event->number;
@@ -58,11 +65,11 @@ static int tell(uint32_t number, const module *it) {
 int main(void) {
     static uint8_t piece[4096];
     lfi_stream stream;
-    lfi_event event = {0};
+    static lfi_event event; /* of kind LFI_NOTHING */
     int well = 1;
     if (lfi_stream_init(&stream, LFI_PROFILE_1)) return 3;
-    for (ssize_t got; event.kind != LFI_FAULT && (got = read(0, piece, sizeof piece)) > 0;)
-        for (size_t at = 0, used; at < (size_t)got && event.kind != LFI_FAULT; at += used) {
+    for (ssize_t got; event.kind < LFI_FAULT && (got = read(0, piece, sizeof piece)) > 0;)
+        for (size_t at = 0, used; at < (size_t)got && event.kind < LFI_FAULT; at += used) {
             used = lfi_stream_next(&stream, piece + at, (size_t)got - at, &event);
             if (!follow(&event, piece + at, used)) return 3;
         }

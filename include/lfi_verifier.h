@@ -205,7 +205,10 @@ lfi_status lfi_stream_init(lfi_stream *stream, uint32_t profile);
  *    LFI_REFUSED and their first fault, whatever its end is; LFI_LAWFUL, where all its words came, none breaks a rule, and a
  *    Close ended it: lfi_verify tells the same of its code; LFI_INCOMPLETE, else.
  * At the stream's fault every call answers 0 and tells it. LFI_NO_STREAM: *stream can't stand for any stream, and is as it
- * was. Where only the verifier's numbers of a module are none that it can have, `verdict` is LFI_BAD_STATE.
+ * was: no feed is at its place, or what came of the page and what is to come aren't the bytes of an open module's next page.
+ * Where only the verifier's numbers of a module are none that it can have, `verdict` is LFI_BAD_STATE.
+ * Whatever the numbers in *stream are, LFI_CODE is told of a module that is open by them, and `offset` and the bytes used are
+ * at most four times its `words` together; `verdict` is one of the eight statuses.
  * The bytes are judged here, in this piece: from this call on until the host has made its own copy of them nobody may write
  * them, or what is judged isn't what is copied. A host may judge its copy besides, by lfi_verify_update. */
 size_t lfi_stream_next(lfi_stream *LFI_RESTRICT stream, const uint8_t *LFI_RESTRICT bytes, size_t size, lfi_event *LFI_RESTRICT event);

@@ -9,6 +9,7 @@ ghost use Rattle.lfi_file_commands.specs.Failures.{fault_of_read, is_of_a_write}
 
 use crate::device_cause::DeviceCause;
 use crate::pieces::judge_pieces;
+use crate::texts::write_line;
 use a64_word::WORD_BYTES;
 use lfi_code::{Verdict, judge_code};
 use lfi_module::{Profile, WordCount};

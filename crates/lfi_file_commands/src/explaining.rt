@@ -148,7 +148,7 @@ fn write_words<W: Write>(
 }
 
 /// Writes the line of what isn't code.
-fn write_bad_length<W: Write>(writer: &mut W) -> Result<Ending, CommandFault>
+fn write_bad_length<W: Write>(alloc: Global, writer: &mut W) -> Result<Ending, CommandFault>
     ensures listed { IfOk result (λ ending. (ending ≡ Ending.NotWell) × Appends (W.contents writer.old) (W.contents writer.new) (codes "bad length\n")) }
     ensures fault { IfErr result (λ fault. is_of_a_write fault ≡ true) }
 {
@@ -175,7 +175,7 @@ pub fn disassemble<R: Read + Drop, W: Write>(
 {
     match read_code(alloc, reader) {
         Ok(Some(bytes)) => write_words(alloc, &bytes, profile, writer),
-        Ok(None) => write_bad_length(writer),
+        Ok(None) => write_bad_length(alloc, writer),
         Err(fault) => Err(fault),
     }
 }

@@ -4,6 +4,7 @@ ghost use Rattle.std.specs.Prelude.{◌≡◌, Some, slice_get};
 ghost use Rattle.lfi_place.specs.Handed.{AreLanes, lane_puts_of, take_pass_of};
 
 use crate::items::{Part, UNKNOWN, WORDS, extent_of, item_of, mark};
+use lfi_board::Board;
 use lfi_model::{Item, ItemKind, Judged, Reason};
 use lfi_module::{Profile, WordCount};
 use lfi_place::{Lanes, OpenGate, Verifier, VerifierTurn};
@@ -32,7 +33,12 @@ impl Row {
             puts: mut rows,
             takes: mut taking,
         } = Lanes::new(rt.alloc(), 1).expect(rt, "no lanes");
-        let verifier = Verifier::new(takes.swap_remove(0), rows.swap_remove(0));
+        let (_, mut seats) = Board::new(rt.alloc(), 1, 1).expect(rt, "no board");
+        let verifier = Verifier::new(
+            takes.swap_remove(0),
+            rows.swap_remove(0),
+            seats.watchers.swap_remove(0),
+        );
         Row {
             intake,
             put: puts.swap_remove(0),

@@ -1,5 +1,5 @@
 -- What is judged after an event.
-use Rattle.std.proofs.Common.{◌≡◌, ℕ, ◌+◌, ◌*◌, ◌≤◌, ◌⊎◌, Bool, List, [], ◌++◌, length, drop, sym, ap, subst, ◌∙◌, inl, inr, arith, min, mul_assoc, append_assoc, length-append}
+use Rattle.std.proofs.Common.{◌≡◌, ℕ, ◌+◌, ◌*◌, ◌≤◌, ◌⊎◌, Bool, List, [], ◌++◌, length, drop, sym, ap, subst, ◌∙◌, inl, inr, arith, true, false, min, mul_assoc, append_assoc, length-append}
 use Rattle.std.proofs.lemmas.List.{append-nil, drop_all}
 use Rattle.lfi_module.specs.Extents.{ExtentView}
 use Rattle.lfi_module.specs.Pages.{bytes_in_page}
@@ -8,10 +8,12 @@ use Rattle.lfi_model.specs.declared.connection.Progress.{Progress}
 use Rattle.lfi_model.specs.declared.connection.Progress.TheVariants.{Going}
 use Rattle.lfi_stream.specs.declared.numbers.LfiStreamText.{LfiStreamText}
 use Rattle.lfi_connection.specs.declared.event.Event.{Event}
-use Rattle.lfi_connection.specs.Events.{IsInMessage, IsCodeAt}
+use Rattle.lfi_connection.specs.Events.{IsInMessage, IsCodeOf}
+use Rattle.lfi_connection.specs.declared.due_page.DuePage.{DuePage}
+use Rattle.lfi_connection.specs.DuePages.{bytes_of, offset_of, IsWhole}
 use Rattle.lfi_stream.specs.Events.{IsTold}
 use Rattle.lfi_stream.specs.Outcomes.{code_of}
-use Rattle.lfi_connection.specs.Places.{IsOver}
+use Rattle.lfi_connection.specs.Modules.{IsOver}
 use Rattle.lfi_stream.specs.Streams.{all, made_of}
 use Rattle.lfi_stream.proofs.Paged.{paged}
 use Rattle.lfi_connection.proofs.Texts.{drop_append_left, unfinished_long}
@@ -61,55 +63,55 @@ abbrev pub come : (k : ℕ) (messages : List Message) (rest used : List ℕ) →
 come k ms rest used = (code_of (made_of ms (rest_of rest) k).items ++ drop 12 rest) ++ used
 
 -- code was told
-pub goes : (coming : LfiCutState) (k offset : ℕ) (ended : Bool) (ms : List Message) (rest used : List ℕ) (code : IsCodeAt k offset ended all ms rest used) → StandsForCut coming code.extent.profile code.extent.words (come k ms rest used)
+pub goes : (coming : LfiCutState) (page : DuePage) (ended : Bool) (ms : List Message) (rest used : List ℕ) (code : IsCodeOf page ended all ms rest used) → StandsForCut coming page.extent.profile page.extent.words (come page.«module» ms rest used)
     → 12 ≤ length rest → JudgesComing coming ms (rest ++ used)
-goes coming k offset ended ms rest used code stands long = λ m size index len extent pages is going some.
+goes coming page ended ms rest used code stands long = λ m size index len extent pages is going some.
     let before : rest_of rest ≡ unfinished m size index len = unfinished_before rest used m size index len long is in
     let same : rest_of rest ≡ rest_of (rest ++ used) = before ∙ sym is in
-    let told : unfinished k code.extent.pages code.pages (bytes_in_page code.extent.pages code.extent.words code.pages) ≡ unfinished m size index len = sym code.header ∙ before in
-    let mine : k ≡ m = cc in
-    let was : (made_of ms (rest_of (rest ++ used)) m).progress ≡ Going code.extent code.pages = (λ i. (made_of ms (sym same i) (sym mine i)).progress) ∙ code.going in
-    let both : Going code.extent code.pages ≡ Going extent pages = sym was ∙ going in
-    let same_extent : code.extent ≡ extent = cc in
-    let bytes : come k ms rest used ≡ code_of (made_of ms (rest_of (rest ++ used)) m).items ++ drop 12 (rest ++ used) =
-    append_assoc (code_of (made_of ms (rest_of rest) k).items) (drop 12 rest) used ∙ (λ i. code_of (made_of ms (same i) (mine i)).items ++ sym (drop_append_left 12 rest used long) i) in
-    subst (λ l. StandsForCut coming extent.profile extent.words l) bytes (subst (λ e. StandsForCut coming e.profile e.words (come k ms rest used)) same_extent stands)
+    let told : unfinished page.«module» page.extent.pages page.pages (bytes_in_page page.extent.pages page.extent.words page.pages) ≡ unfinished m size index len = sym code.due.header ∙ before in
+    let mine : page.«module» ≡ m = cc in
+    let was : (made_of ms (rest_of (rest ++ used)) m).progress ≡ Going page.extent page.pages = (λ i. (made_of ms (sym same i) (sym mine i)).progress) ∙ code.due.going in
+    let both : Going page.extent page.pages ≡ Going extent pages = sym was ∙ going in
+    let same_extent : page.extent ≡ extent = cc in
+    let bytes : come page.«module» ms rest used ≡ code_of (made_of ms (rest_of (rest ++ used)) m).items ++ drop 12 (rest ++ used) =
+    append_assoc (code_of (made_of ms (rest_of rest) page.«module»).items) (drop 12 rest) used ∙ (λ i. code_of (made_of ms (same i) (mine i)).items ++ sym (drop_append_left 12 rest used long) i) in
+    subst (λ l. StandsForCut coming extent.profile extent.words l) bytes (subst (λ e. StandsForCut coming e.profile e.words (come page.«module» ms rest used)) same_extent stands)
+
+all_within : (ended : Bool) (come due : ℕ) → IsWhole ended come due → come ≤ due
+all_within true come due h = omega arith
+all_within false come due h = omega arith
 
 -- What a text says of the module of which code is told.
-module _ (v : LfiStreamVerdicts) (k offset : ℕ) (ended : Bool) (ms : List Message) (rest used : List ℕ) (code : IsCodeAt k offset ended all ms rest used) (h : HasJudged v ms rest) where
-  size : length (code_of (made_of ms (rest_of rest) k).items) ≡ 4 * min (code.extent.pages * code.pages) code.extent.words
-  size = (h.pages k code.extent code.pages code.going).whole.size
+module _ (v : LfiStreamVerdicts) (page : DuePage) (ended : Bool) (ms : List Message) (rest used : List ℕ) (code : IsCodeOf page ended all ms rest used) (h : HasJudged v ms rest) where
+  size : length (code_of (made_of ms (rest_of rest) page.«module»).items) ≡ 4 * min (page.extent.pages * page.pages) page.extent.words
+  size = (h.pages page.«module» page.extent page.pages code.due.going).whole.size
 
   -- its whole pages are judged, and the page that is coming as far as it came
-  pub judged_to : IsJudgedTo v k code.extent.profile code.extent.words (code_of (made_of ms (rest_of rest) k).items) (drop 12 rest)
+  pub judged_to : IsJudgedTo v page.«module» page.extent.profile page.extent.words (code_of (made_of ms (rest_of rest) page.«module»).items) (drop 12 rest)
   judged_to = record {
-    pages = (h.pages k code.extent code.pages code.going).stands;
-    coming = λ some. h.coming k code.extent.pages code.pages (bytes_in_page code.extent.pages code.extent.words code.pages) code.extent code.pages code.header code.going some;
+    pages = (h.pages page.«module» page.extent page.pages code.due.going).stands;
+    coming = λ some. h.coming page.«module» page.extent.pages page.pages (bytes_in_page page.extent.pages page.extent.words page.pages) page.extent page.pages code.due.header code.due.going some;
   }
 
   -- the bytes used belong after them
-  pub belongs : offset ≡ length (code_of (made_of ms (rest_of rest) k).items) + length (drop 12 rest)
+  pub belongs : offset_of page ≡ length (code_of (made_of ms (rest_of rest) page.«module»).items) + length (drop 12 rest)
   belongs =
-      let less = (unfinished_long rest k code.extent.pages code.pages (bytes_in_page code.extent.pages code.extent.words code.pages) code.header).1 in
-      let is = code.offset_is in
-      omega (arith, less, is, size, mul_assoc 4 code.extent.pages code.pages)
+      let less = (unfinished_long rest page.«module» page.extent.pages page.pages (bytes_in_page page.extent.pages page.extent.words page.pages) code.due.header).1 in
+      let is = code.due.come in
+      omega (arith, less, is, size, mul_assoc 4 page.extent.pages page.pages)
 
   -- and the module has that many
-  pub fits : length (code_of (made_of ms (rest_of rest) k).items ++ drop 12 rest) + length used ≤ 4 * code.extent.words
+  pub fits : length (code_of (made_of ms (rest_of rest) page.«module»).items ++ drop 12 rest) + length used ≤ 4 * page.extent.words
   fits =
-      let within = code.within in
-      let both = length-append (code_of (made_of ms (rest_of rest) k).items) (drop 12 rest) in
+      let within = all_within ended (length (drop 12 rest ++ used)) (bytes_of page) code.whole in
+      let both = length-append (code_of (made_of ms (rest_of rest) page.«module»).items) (drop 12 rest) in
       let more = length-append (drop 12 rest) used in
       omega (arith, within, both, more, size)
 
--- the same, wherever the extent comes from
-pub found : (k offset : ℕ) (ended : Bool) (ms : List Message) (rest used : List ℕ) (code : IsCodeAt k offset ended all ms rest used) (finding : Finding) → FindsSoFar code.extent.profile code.extent.words (come k ms rest used) finding
-    → (extent : ExtentView) (pages : ℕ) → (made_of ms (rest_of rest) k).progress ≡ Going extent pages → FindsSoFar extent.profile extent.words (code_of (made_of ms (rest_of rest) k).items ++ (drop 12 rest ++ used)) finding
-found k offset ended ms rest used code finding finds extent pages going =
-    let both : Going code.extent code.pages ≡ Going extent pages = sym code.going ∙ going in
-    let same_extent : code.extent ≡ extent = cc in
-    subst (λ l. FindsSoFar extent.profile extent.words l finding) (append_assoc (code_of (made_of ms (rest_of rest) k).items) (drop 12 rest) used)
-    (subst (λ e. FindsSoFar e.profile e.words (come k ms rest used) finding) same_extent finds)
+-- the same of what was used before it
+pub found : (page : DuePage) (ms : List Message) (rest used : List ℕ) (finding : Finding) → FindsSoFar page.extent.profile page.extent.words (come page.«module» ms rest used) finding
+    → FindsSoFar page.extent.profile page.extent.words (code_of (made_of ms (rest_of rest) page.«module»).items ++ (drop 12 rest ++ used)) finding
+found page ms rest used finding finds = subst (λ l. FindsSoFar page.extent.profile page.extent.words l finding) (append_assoc (code_of (made_of ms (rest_of rest) page.«module»).items) (drop 12 rest) used) finds
 
 -- what came of open modules is whole pages
 pub whole_now : (text : LfiStreamText) (event : Event) (ms : List Message) (rest used : List ℕ) (told : IsTold text ms rest used event) → AreWhole (made_of told.now (rest_of told.left))

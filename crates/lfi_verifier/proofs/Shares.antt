@@ -10,7 +10,6 @@ use Rattle.lfi_model.specs.Items.{Share, with_item, with_stray, item_of}
 use Rattle.lfi_model.specs.declared.connection.Progress.TheVariants.{Going, Ended}
 use Rattle.lfi_model.specs.declared.item.ItemKind.TheVariants as item
 use Rattle.lfi_model.specs.declared.item.Reason.{Reason}
-use Rattle.lfi_connection.specs.Events.{with_page}
 use Rattle.lfi_stream.specs.Outcomes.{bytes_at, code_of, HasWholePages}
 use Rattle.lfi_verifier.specs.declared.state.LfiState.{LfiState}
 use Rattle.lfi_verifier.specs.States.{StandsFor}
@@ -94,13 +93,13 @@ code_more : (items : List ItemView) (m ordinal : ℕ) (extent : ExtentView) (pay
 code_more items m ordinal extent payload = flat_map-append (λ i. bytes_at i.kind) items (item_of m ordinal extent (item.Page payload) ∷ []) ∙ ap (λ l. code_of items ++ l) (append-nil payload)
 
 -- a page of a module is whole
-pub page_ended : (k : ℕ) (extent : ExtentView) (pages : ℕ) (payload : List ℕ) (old new : List LfiState) (made after : ℕ → Share) → ((m : ℕ) → m ≢ k → state_at new m ≡ state_at old m) → (made k).progress ≡ Going extent pages
+pub page_ended : (k : ℕ) (extent : ExtentView) (pages : ℕ) (payload : List ℕ) (old new : List LfiState) (made after : ℕ → Share) → ((m : ℕ) → m ≢ k → state_at new m ≡ state_at old m)
     → (length (code_of (made k).items ++ payload) % 4 ≡ 0 → StandsFor (state_at new k) extent.profile extent.words (code_of (made k).items ++ payload))
-    → ((m : ℕ) → after m ≡ (if m == k then with_page m (made m) (made m).progress payload else made m)) → AreWhole after → Shares old made → Shares new after
-page_ended k extent pages payload old new made after others was stands grows whole h =
-    let F : ℕ → Share → Share = (λ m s. with_page m s s.progress payload) in
+    → ((m : ℕ) → after m ≡ (if m == k then with_item (made m) (item_of m (pages + 1) extent (item.Page payload)) (Going extent (pages + 1)) else made m)) → AreWhole after → Shares old made → Shares new after
+page_ended k extent pages payload old new made after others stands grows whole h =
+    let F : ℕ → Share → Share = (λ m s. with_item s (item_of m (pages + 1) extent (item.Page payload)) (Going extent (pages + 1))) in
     let mine : after k ≡ with_item (made k) (item_of k (pages + 1) extent (item.Page payload)) (Going extent (pages + 1)) =
-    own k old new made after F others grows h ∙ ap (λ q. with_page k (made k) q payload) was in
+    own k old new made after F others grows h in
     let code : code_of (after k).items ≡ code_of (made k).items ++ payload = ap (λ s. code_of s.items) mine ∙ code_more (made k).items k (pages + 1) extent payload in
     but k old new made after F others grows h (λ e p going.
     let is : Going extent (pages + 1) ≡ Going e p = sym (ap (λ s. s.progress) mine) ∙ going in

@@ -1,10 +1,11 @@
 -- What is judged of a stream's code while it comes, and what its events tell of it. Source: include/lfi_verifier.h.
-use Rattle.std.specs.Prelude.{◌≡◌, ◌≢◌, ℕ, ◌+◌, List, [], ◌∷◌, ◌++◌, drop, get_or, Option, Some, None}
+use Rattle.std.specs.Prelude.{◌≡◌, ◌≢◌, ℕ, ◌+◌, List, [], ◌∷◌, ◌++◌, drop, get_or, Option, Some, None, Result, Ok, Err}
 use Rattle.a64_word.specs.Words.{words_of}
 use Rattle.lfi_module.specs.Extents.{ExtentView}
 use Rattle.lfi_module.specs.declared.profile.Profile.{Profile}
 use Rattle.lfi_rules.specs.Faults.{FirstFault}
 use Rattle.lfi_rules.specs.declared.fault.Fault.{Fault}
+use Rattle.lfi_frame.specs.declared.fault.FrameFault.{FrameFault}
 use Rattle.lfi_frame.specs.Streams.{Message, Rest, rest_of, unfinished}
 use Rattle.lfi_model.specs.Item.{ItemView}
 use Rattle.lfi_model.specs.Items.{item_of}
@@ -24,7 +25,7 @@ use Rattle.lfi_stream.specs.Streams.{made_of}
 use Rattle.lfi_verifier.specs.declared.cut_state.LfiCutState.{LfiCutState}
 use Rattle.lfi_verifier.specs.declared.finding.Finding.{Finding}
 use Rattle.lfi_verifier.specs.declared.state.LfiState.{LfiState}
-use Rattle.lfi_verifier.specs.declared.status.Status.TheVariants.{Lawful, Refused, Incomplete}
+use Rattle.lfi_verifier.specs.declared.status.Status.TheVariants.{Lawful, Refused, Incomplete, BadState}
 use Rattle.lfi_verifier.specs.declared.verdicts.LfiStreamVerdicts.{LfiStreamVerdicts}
 use Rattle.lfi_verifier.specs.CutStates.{StandsForCut}
 use Rattle.lfi_verifier.specs.States.{StandsFor, status_after}
@@ -40,6 +41,10 @@ state_at states m = get_or states m no_state
 -- nothing is told of code
 abbrev pub nothing_found : Finding
 nothing_found = record { status = Lawful; fault = None }
+
+-- the numbers are those of no module, and nothing is judged
+abbrev pub bad_found : Finding
+bad_found = record { status = BadState; fault = None }
 
 -- What is told of these bytes, the first of a module of so many words: the first fault by a profile of the whole words of them, or that there is none.
 pub record FindsSoFar (profile : Profile) (words : ℕ) (bytes : List ℕ) (finding : Finding) : Type 0 where
@@ -84,15 +89,14 @@ pub record HasJudged (verdicts : LfiStreamVerdicts) (messages : List Message) (r
   pub coming : JudgesComing verdicts.coming messages rest
 
 -- What an event tells of code, where these bytes were used after this text: of code, the first fault of all that came of its module, these bytes included; of an end, the module's outcome.
-abbrev pub Finds : Event → Finding → (messages : List Message) → (rest used : List ℕ) → Type 0
-Finds (event.Code k offset ended) finding messages rest used =
-    (extent : ExtentView) (pages : ℕ) → (made_of messages (rest_of rest) k).progress ≡ Going extent pages →
-    FindsSoFar extent.profile extent.words (code_of (made_of messages (rest_of rest) k).items ++ (drop 12 rest ++ used)) finding
-Finds (event.End k extent pages reason) finding messages rest used =
+abbrev pub Finds : Result Event FrameFault → Finding → (messages : List Message) → (rest used : List ℕ) → Type 0
+Finds (Ok (event.Code page ended)) finding messages rest used =
+    FindsSoFar page.extent.profile page.extent.words (code_of (made_of messages (rest_of rest) page.«module»).items ++ (drop 12 rest ++ used)) finding
+Finds (Ok (event.End k extent pages reason)) finding messages rest used =
     FindsOutcome extent ((made_of messages (rest_of rest) k).items ++ item_of k (pages + 1) extent (item.End reason) ∷ []) finding
 Finds other finding messages rest used = finding ≡ nothing_found
 
 -- After an event all code of open modules is judged; after a fault, the whole pages of those that the numbers tell as open.
-abbrev pub StaysJudged : (told : Event) → LfiStreamVerdicts → (text : LfiStreamText) → (messages : List Message) → (rest used : List ℕ) → Tells told text messages rest used → Type 0
-StaysJudged (event.Fault fault) verdicts text messages rest used told = AreJudged verdicts.modules (progress_at text.modules) (λ m. (made_of messages (rest_of (rest ++ used)) m).items)
-StaysJudged other verdicts text messages rest used told = HasJudged verdicts told.now told.left
+abbrev pub StaysJudged : (told : Result Event FrameFault) → LfiStreamVerdicts → (text : LfiStreamText) → (messages : List Message) → (rest used : List ℕ) → Tells told text messages rest used → Type 0
+StaysJudged (Err fault) verdicts text messages rest used told = AreJudged verdicts.modules (progress_at text.modules) (λ m. (made_of messages (rest_of (rest ++ used)) m).items)
+StaysJudged (Ok event) verdicts text messages rest used told = HasJudged verdicts told.now told.left

@@ -1,5 +1,5 @@
 -- What a connection's stream stands for, with what is judged of its code; and what its calls tell: include/lfi_verifier.h.
-use Rattle.std.specs.Prelude.{◌≡◌, ℕ, ◌+◌, List, ◌∷◌, [], ◌++◌}
+use Rattle.std.specs.Prelude.{◌≡◌, ℕ, ◌+◌, List, ◌∷◌, [], ◌++◌, Result}
 use Rattle.lfi_frame.specs.Streams.{Message}
 use Rattle.lfi_frame.specs.declared.fault.FrameFault.{FrameFault}
 use Rattle.lfi_model.specs.Item.{ItemView}
@@ -14,7 +14,7 @@ use Rattle.lfi_stream.specs.Streams as text
 use Rattle.lfi_verifier.specs.declared.finding.Finding.{Finding}
 use Rattle.lfi_verifier.specs.declared.stream.LfiEvent.{LfiEvent}
 use Rattle.lfi_verifier.specs.declared.stream.LfiStream.{LfiStream}
-use Rattle.lfi_verifier.specs.StreamEvents.{event_numbers, with_finding}
+use Rattle.lfi_verifier.specs.StreamEvents.{numbers_of, event_numbers, with_finding}
 use Rattle.lfi_verifier.specs.StreamVerdicts.{AreJudged, HasJudged, Finds, FindsOutcome, StaysJudged, nothing_found}
 
 -- The numbers stand for a stream of which these whole messages came, and then these bytes, and all code of its open modules is judged.
@@ -24,7 +24,7 @@ pub record StandsForStream (stream : LfiStream) (messages : List Message) (rest 
 
 -- The numbers tell an event that tells what the used bytes brought, after this text, and what is found of code; and all code is judged.
 pub record JudgesNext (told : LfiEvent) (stream : LfiStream) (messages : List Message) (rest used : List ℕ) : Type 0 where
-  pub event : Event
+  pub event : Result Event FrameFault
   pub finding : Finding
   pub numbers : told ≡ with_finding (event_numbers event) finding
   pub tells : Tells event stream.text messages rest used
@@ -40,7 +40,7 @@ FindsLost event finding items = finding ≡ nothing_found
 pub record JudgesLost (fault : FrameFault) (told : LfiEvent) (old new : LfiStream) (items : ℕ → List ItemView) : Type 0 where
   pub event : Event
   pub finding : Finding
-  pub numbers : told ≡ with_finding (event_numbers event) finding
+  pub numbers : told ≡ with_finding (numbers_of event) finding
   pub loses : LosesIn fault old.text new.text event
   pub finds : FindsLost event finding items
   pub judged : AreJudged new.verdicts.modules (progress_at new.text.modules) items

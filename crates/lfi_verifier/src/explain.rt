@@ -1,6 +1,6 @@
 //! What is told of a fault, as text.
 
-ghost use Rattle.std.specs.Prelude.{◌≡◌, ◌≢◌, ◌<◌, ◌++◌, IfSome, Some, length, take, drop};
+ghost use Rattle.std.specs.Prelude.{◌≡◌, ◌≤◌, ◌≢◌, ◌<◌, ◌++◌, IfSome, Some, length, take, drop};
 ghost use Rattle.lfi_module.specs.Numbers.{module_count};
 ghost use Rattle.lfi_rules.specs.declared.fault.Fault.{Fault};
 ghost use Rattle.lfi_explain.specs.Explanations.{explanation_text};
@@ -65,6 +65,7 @@ pub extern "C" fn lfi_explain(
         TellsFault by «module» words found word before text.old text.new size.new }
     ensures kept { result ≢ status_number Status.Lawful → (text.new ≡ text.old) × (size.new ≡ size.old) }
     ensures unknown { IsUnknown profile → result ≡ status_number Status.UnknownProfile }
+    ensures most { result ≤ 7 }
     ensures module { (by : Profile) → profile_number by ≡ profile → ¬ («module» < module_count) → result ≡ status_number Status.UnknownModule }
     ensures length { (by : Profile) → profile_number by ≡ profile → «module» < module_count → ¬ (IsWordCount words × (fault.now.word < words)) → result ≡ status_number Status.BadLength }
     ensures fault { (by : Profile) → profile_number by ≡ profile → «module» < module_count → IsWordCount words × (fault.now.word < words) → ((found : Fault) → fault_at fault.now ≢ Some (Some found)) →

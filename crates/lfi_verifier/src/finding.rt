@@ -2,7 +2,7 @@
 
 ghost use Rattle.std.specs.Prelude.{◌≡◌, ◌==◌};
 ghost use Rattle.lfi_verifier.specs.States.{status_after};
-ghost use Rattle.lfi_verifier.specs.StreamVerdicts.{nothing_found};
+ghost use Rattle.lfi_verifier.specs.StreamVerdicts.{nothing_found, bad_found};
 ghost use Rattle.lfi_verifier.specs.inner.Judging.{finding_of_end, finding_by};
 
 use crate::status::Status;
@@ -29,7 +29,9 @@ impl Finding {
     }
 
     /// The numbers are those of no module: nothing is judged.
-    pub(crate) fn bad_state() -> Finding {
+    pub(crate) fn bad_state() -> Finding
+        ensures { result ≡ bad_found }
+    {
         Finding {
             status: Status::BadState,
             fault: None,

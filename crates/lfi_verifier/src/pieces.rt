@@ -1,6 +1,6 @@
 //! Code that comes in pieces, in a state that the caller keeps.
 
-ghost use Rattle.std.specs.Prelude.{◌≡◌, ◌*◌, ◌<◌, ℕ, List, [], ◌++◌, length, true, false, None};
+ghost use Rattle.std.specs.Prelude.{◌≡◌, ◌≤◌, ◌*◌, ◌<◌, ℕ, List, [], ◌++◌, length, true, false, None};
 ghost use Rattle.lfi_verifier.specs.Faults.{fault_told};
 ghost use Rattle.lfi_module.specs.declared.profile.Profile.{Profile};
 ghost use Rattle.lfi_module.specs.Profiles.{profile_number};
@@ -25,6 +25,7 @@ pub extern "C" fn lfi_verify_init(state: &mut LfiState, words: u32, profile: u32
     ensures begun { (by : Profile) → profile_number by ≡ profile → IsWordCount words → StandsFor state.new by words [] × (result ≡ status_number Status.Lawful) }
     ensures length { (by : Profile) → profile_number by ≡ profile → ¬ (IsWordCount words) → (result ≡ status_number Status.BadLength) × (state.new ≡ state.old) }
     ensures unknown { IsUnknown profile → (result ≡ status_number Status.UnknownProfile) × (state.new ≡ state.old) }
+    ensures most { result ≤ 7 }
 {
     let Some(by) = profile_of(profile) else {
         return Status::UnknownProfile.number();
@@ -74,6 +75,7 @@ pub extern "C" fn lfi_verify_update(state: &mut LfiState, piece: &[u8]) -> u32
     ensures unfit { (by : Profile) (words : ℕ) (bytes : List ℕ) → StandsFor state.old by words bytes → ¬ (Fits words bytes piece.now) →
         (result ≡ status_number Status.BadLength) × (state.new ≡ state.old) }
     ensures bad { ¬ (IsState state.old) → (result ≡ status_number Status.BadState) × (state.new ≡ state.old) }
+    ensures most { result ≤ 7 }
 {
     let Some(beginning) = beginning_of(*state) else {
         return Status::BadState.number();
@@ -97,6 +99,7 @@ pub extern "C" fn lfi_verify_final(state: &LfiState, fault: &mut LfiFault) -> u3
     ensures part { (by : Profile) (words : ℕ) (bytes : List ℕ) → StandsFor state.now by words bytes → length bytes < 4 * words →
         TellsPart by words bytes result fault.new }
     ensures bad { ¬ (IsState state.now) → (result ≡ status_number Status.BadState) × (fault.new ≡ fault_told None) }
+    ensures most { result ≤ 7 }
 {
     let Some(beginning) = beginning_of(*state) else {
         *fault = NO_FAULT;

@@ -1,7 +1,7 @@
 //! The profiles by which code is judged, and what a host needs to know of them: there are two, which share map and
 //! registers.
 
-ghost use Rattle.std.specs.Prelude.{◌≡◌, ◌<◌, IfSome, IfNone, Some};
+ghost use Rattle.std.specs.Prelude.{◌≡◌, ◌≤◌, ◌<◌, IfSome, IfNone, Some};
 ghost use Rattle.lfi_module.specs.Numbers.{module_count, base_of};
 ghost use Rattle.lfi_module.specs.declared.profile.Profile.{Profile};
 ghost use Rattle.lfi_module.specs.Profiles.{profile_number};
@@ -85,6 +85,7 @@ pub extern "C" fn lfi_profile_map(profile: u32, module: u32, map: &mut LfiMap) -
     ensures known { (by : Profile) → profile_number by ≡ profile → «module» < module_count → IsMapOf (base_of «module») map.new × (result ≡ status_number Status.Lawful) }
     ensures module { (by : Profile) → profile_number by ≡ profile → ¬ («module» < module_count) → (result ≡ status_number Status.UnknownModule) × (map.new ≡ map.old) }
     ensures unknown { IsUnknown profile → (result ≡ status_number Status.UnknownProfile) × (map.new ≡ map.old) }
+    ensures most { result ≤ 7 }
 {
     if profile_of(profile).is_none() {
         return Status::UnknownProfile.number();
@@ -101,6 +102,7 @@ pub extern "C" fn lfi_profile_map(profile: u32, module: u32, map: &mut LfiMap) -
 pub extern "C" fn lfi_profile_registers(profile: u32, registers: &mut LfiRegisters) -> u32
     ensures known { (by : Profile) → profile_number by ≡ profile → AreRegisters registers.new × (result ≡ status_number Status.Lawful) }
     ensures unknown { IsUnknown profile → (result ≡ status_number Status.UnknownProfile) × (registers.new ≡ registers.old) }
+    ensures most { result ≤ 7 }
 {
     if profile_of(profile).is_none() {
         return Status::UnknownProfile.number();

@@ -1,6 +1,6 @@
 //! The statuses that calls answer.
 
-ghost use Rattle.std.specs.Prelude.{◌≡◌};
+ghost use Rattle.std.specs.Prelude.{◌≡◌, ◌≤◌};
 ghost use Rattle.lfi_verifier.specs.Statuses.{status_number};
 
 /// What a call found, or why it found nothing.
@@ -29,7 +29,8 @@ pub(crate) enum Status {
 impl Status {
     /// Its number in C, 0 to 7.
     pub(crate) fn number(self) -> u32
-        ensures { result ≡ status_number self }
+        ensures is { result ≡ status_number self }
+        ensures most { result ≤ 7 }
     {
         match self {
             Status::Lawful => 0,

@@ -1,20 +1,22 @@
 //! A connection's stream, in a state that the caller keeps.
 
-ghost use Rattle.std.specs.Prelude.{◌≡◌, ◌≢◌, ◌<◌, ◌≤◌, ℕ, List, [], length, take, Some, None};
+ghost use Rattle.std.specs.Prelude.{◌≡◌, ◌≢◌, ◌<◌, ◌≤◌, ℕ, List, [], length, take, Some, None, Err};
 ghost use Rattle.lfi_frame.specs.declared.fault.FrameFault.{FrameFault};
 ghost use Rattle.lfi_frame.specs.declared.feed.Position.TheVariants.{Faulty};
 ghost use Rattle.lfi_frame.specs.Streams.{Message, rest_of};
 ghost use Rattle.lfi_stream.specs.Streams.{IsIn, StandsFor, made_of};
-ghost use Rattle.lfi_connection.specs.declared.event.Event.TheVariants.{Fault};
+ghost use Rattle.lfi_frame.specs.declared.feed.Position.{Position};
+ghost use Rattle.lfi_frame.specs.Feeds.{fault_at};
 ghost use Rattle.lfi_module.specs.declared.profile.Profile.{Profile};
 ghost use Rattle.lfi_module.specs.Profiles.{profile_number};
 ghost use Rattle.lfi_verifier.specs.Profiles.{IsUnknown};
 ghost use Rattle.lfi_verifier.specs.Statuses.{status_number};
 ghost use Rattle.lfi_model.specs.Item.{ItemView};
-ghost use Rattle.lfi_stream.specs.Numbers.{position_at, progress_at};
-ghost use Rattle.lfi_verifier.specs.StreamEvents.{reason_numbers, event_numbers, with_finding, no_stream, TellsNext, TellsEnd, TellsLost};
+ghost use Rattle.lfi_stream.specs.Numbers.{position_at, progress_at, FitsPage};
+ghost use Rattle.lfi_verifier.specs.StreamEvents.{reason_numbers, numbers_of, event_numbers, with_finding, no_stream, TellsNext, TellsEnd, TellsLost, LiesWithin, TellsOfCode};
+ghost use Rattle.lfi_verifier.specs.States.{IsState};
 ghost use Rattle.lfi_stream.specs.Endings.{LosesIn};
-ghost use Rattle.lfi_verifier.specs.StreamVerdicts.{AreJudged};
+ghost use Rattle.lfi_verifier.specs.StreamVerdicts.{state_at, nothing_found, bad_found, AreJudged};
 ghost use Rattle.lfi_verifier.specs.Streams.{StandsForStream, JudgesNext, JudgesLost, FindsLost};
 
 use crate::fault::{LfiFault, NO_FAULT, told_of};
@@ -22,6 +24,7 @@ use crate::finding::Finding;
 use crate::profile::profile_of;
 use crate::status::Status;
 use crate::verdicts::{LfiStreamVerdicts, end, follow};
+use lfi_frame::FrameFault;
 use lfi_model::Reason;
 use lfi_stream::{Event, LfiStreamText};
 
@@ -99,10 +102,10 @@ fn reason_of(reason: Reason) -> (u32, u32)
 
 /// An event in numbers.
 fn numbers_of(event: Event) -> LfiEvent
-    ensures { result ≡ event_numbers event }
+    ensures { result ≡ numbers_of event }
 {
     match event {
-        Event::Nothing => NO_EVENT,
+        Event::Nothing | Event::Begin(_) => NO_EVENT,
         Event::Open { module, extent } => LfiEvent {
             kind: 1,
             module: u32::from(module.number()),
@@ -112,15 +115,10 @@ fn numbers_of(event: Event) -> LfiEvent
             page_bytes: extent.pages().bytes(),
             ..NO_EVENT
         },
-        Event::Begin { .. } => NO_EVENT,
-        Event::Code {
-            module,
-            offset,
-            ended,
-        } => LfiEvent {
+        Event::Code { page, ended } => LfiEvent {
             kind: 2,
-            module: u32::from(module.number()),
-            offset,
+            module: u32::from(page.module.number()),
+            offset: page.offset(),
             ended: u32::from(ended),
             ..NO_EVENT
         },
@@ -146,17 +144,24 @@ fn numbers_of(event: Event) -> LfiEvent
                 ..NO_EVENT
             }
         }
-        Event::Fault(fault) => LfiEvent {
-            kind: 5,
-            number: u32::from(fault.number()),
-            ..NO_EVENT
-        },
+    }
+}
+
+/// The stream's fault in numbers.
+fn fault_event(fault: FrameFault) -> LfiEvent
+    ensures { result ≡ event_numbers (Err fault) }
+{
+    LfiEvent {
+        kind: 5,
+        number: u32::from(fault.number()),
+        ..NO_EVENT
     }
 }
 
 /// An event in numbers, with what is found of code.
 fn told(event: &Event, finding: Finding) -> LfiEvent
-    ensures { result ≡ with_finding (event_numbers event.now) finding }
+    ensures told { result ≡ with_finding (numbers_of event.now) finding }
+    ensures most { result.verdict ≤ 7 }
 {
     LfiEvent {
         verdict: finding.status.number(),
@@ -171,6 +176,7 @@ fn told(event: &Event, finding: Finding) -> LfiEvent
 pub extern "C" fn lfi_stream_init(stream: &mut LfiStream, profile: u32) -> u32
     ensures begun { (by : Profile) → profile_number by ≡ profile → StandsForStream stream.new [] [] × (result ≡ status_number Status.Lawful) }
     ensures unknown { IsUnknown profile → (result ≡ status_number Status.UnknownProfile) × (stream.new ≡ stream.old) }
+    ensures most { result ≤ 7 }
 {
     if profile_of(profile).is_none() {
         return Status::UnknownProfile.number();
@@ -195,16 +201,24 @@ pub extern "C" fn lfi_stream_next(
     ensures told { (messages : List Message) (rest : List ℕ) → StandsFor stream.old.text messages rest →
         TellsNext event.new stream.new.text messages rest (take result bytes.now) }
     ensures within { result ≤ length bytes.now }
-    ensures moves { (rest : List ℕ) → IsIn stream.old.text.feed rest → bytes.now ≢ [] → 0 < result }
+    ensures moves { (rest : List ℕ) → IsIn stream.old.text.feed rest → event.new ≢ no_stream → bytes.now ≢ [] → 0 < result }
     ensures over { (fault : FrameFault) → position_at stream.old.text.feed.place stream.old.text.feed.number ≡ Some (Faulty fault) →
-        (result ≡ 0) × (event.new ≡ event_numbers (Fault fault)) × (stream.new ≡ stream.old) }
-    ensures bad { event.new ≡ no_stream → (result ≡ 0) × (stream.new ≡ stream.old) × ((rest : List ℕ) → ¬ (IsIn stream.old.text.feed rest)) }
+        (result ≡ 0) × (event.new ≡ event_numbers (Err fault)) × (stream.new ≡ stream.old) }
+    ensures code { event.new.kind ≡ 2 → LiesWithin stream.old.text event.new result }
+    ensures unjudged { TellsOfCode event.new → ¬ (IsState (state_at stream.old.verdicts.modules event.new.«module»)) → event.new.verdict ≡ status_number Status.BadState }
+    ensures most { event.new.verdict ≤ 7 }
+    ensures bad { event.new ≡ no_stream → (result ≡ 0) × (stream.new ≡ stream.old) × ((messages : List Message) (rest : List ℕ) → ¬ (StandsFor stream.old.text messages rest)) }
     ensures no_feed { position_at stream.old.text.feed.place stream.old.text.feed.number ≡ None → event.new ≡ no_stream }
+    ensures no_page { (position : Position) → position_at stream.old.text.feed.place stream.old.text.feed.number ≡ Some position → fault_at position ≡ None → ¬ (FitsPage stream.old.text position) → event.new ≡ no_stream }
 {
     match lfi_stream::next(&mut stream.text, bytes) {
-        Some((used, brought)) => {
+        Some((used, Ok(brought))) => {
             let finding = follow(&mut stream.verdicts, brought, &bytes[..used]);
             *event = told(&brought, finding);
+            used
+        }
+        Some((used, Err(fault))) => {
+            *event = fault_event(fault);
             used
         }
         None => {
@@ -219,8 +233,10 @@ pub extern "C" fn lfi_stream_next(
 
 /// What an event of the input's end tells of code: what becomes of the module that is lost.
 fn lost(verdicts: &LfiStreamVerdicts, event: Event) -> Finding
-    ensures { (items : ℕ → List ItemView) (old new : LfiStreamText) (fault : FrameFault) → AreJudged verdicts.now.modules (progress_at old.modules) items →
+    ensures found { (items : ℕ → List ItemView) (old new : LfiStreamText) (fault : FrameFault) → AreJudged verdicts.now.modules (progress_at old.modules) items →
         LosesIn fault old new event → FindsLost event result items }
+    ensures nothing { event ≡ Event.Nothing → result ≡ nothing_found }
+    ensures bad { ¬ (IsState (state_at verdicts.now.modules (numbers_of event).«module»)) → (numbers_of event).kind ≡ 4 → result ≡ bad_found }
 {
     match event {
         Event::End { module, reason, .. } => end(verdicts, module, reason),
@@ -241,14 +257,21 @@ pub extern "C" fn lfi_stream_end(stream: &mut LfiStream, event: &mut LfiEvent) -
     ensures judged { (items : ℕ → List ItemView) (fault : FrameFault) → AreJudged stream.old.verdicts.modules (progress_at stream.old.text.modules) items →
         position_at stream.old.text.feed.place stream.old.text.feed.number ≡ Some (Faulty fault) → JudgesLost fault event.new stream.old stream.new items }
     ensures kept { stream.new.verdicts ≡ stream.old.verdicts }
+    ensures unjudged { event.new.kind ≡ 4 → ¬ (IsState (state_at stream.old.verdicts.modules event.new.«module»)) → event.new.verdict ≡ status_number Status.BadState }
+    ensures most { (result ≤ 7) × (event.new.verdict ≤ 7) }
     ensures bad { result ≡ status_number Status.BadState →
-        (event.new ≡ no_stream) × (stream.new ≡ stream.old) × ((rest : List ℕ) → ¬ (IsIn stream.old.text.feed rest)) }
+        (event.new ≡ no_stream) × (stream.new ≡ stream.old) × ((messages : List Message) (rest : List ℕ) → ¬ (StandsFor stream.old.text messages rest)) }
     ensures no_feed { position_at stream.old.text.feed.place stream.old.text.feed.number ≡ None → result ≡ status_number Status.BadState }
+    ensures no_page { (position : Position) → position_at stream.old.text.feed.place stream.old.text.feed.number ≡ Some position → fault_at position ≡ None → ¬ (FitsPage stream.old.text position) → result ≡ status_number Status.BadState }
 {
     match lfi_stream::end(&mut stream.text) {
-        Some(ending) => {
+        Some(Ok(ending)) => {
             let finding = lost(&stream.verdicts, ending);
             *event = told(&ending, finding);
+            Status::Lawful.number()
+        }
+        Some(Err(fault)) => {
+            *event = fault_event(fault);
             Status::Lawful.number()
         }
         None => {

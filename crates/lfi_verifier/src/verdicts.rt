@@ -1,17 +1,17 @@
 //! The verdicts on a stream's code, as it comes.
 
-ghost use Rattle.std.specs.Prelude.{◌≡◌, ◌≢◌, ◌+◌, ◌*◌, ◌≤◌, ◌++◌, ◌∷◌, ℕ, List, [], length, true, false, IfSome};
+ghost use Rattle.std.specs.Prelude.{◌≡◌, ◌≢◌, ◌+◌, ◌*◌, ◌≤◌, ◌++◌, ◌∷◌, ℕ, List, [], length, true, false, Ok, IfSome};
 ghost use Rattle.lfi_module.specs.Extents.{ExtentView};
 ghost use Rattle.lfi_module.specs.declared.profile.Profile.{Profile};
 ghost use Rattle.lfi_frame.specs.Streams.{Message};
-ghost use Rattle.lfi_frame.specs.declared.fault.FrameFault.{FrameFault};
 ghost use Rattle.lfi_model.specs.Item.{ItemView};
 ghost use Rattle.lfi_model.specs.Items.{item_of};
 ghost use Rattle.lfi_model.specs.declared.item.ItemKind.TheVariants as item;
 ghost use Rattle.lfi_stream.specs.declared.numbers.LfiStreamText.{LfiStreamText};
 ghost use Rattle.lfi_stream.specs.Events.{Tells};
-ghost use Rattle.lfi_verifier.specs.States.{Keeps, IsInRange, StandsFor};
-ghost use Rattle.lfi_verifier.specs.StreamVerdicts.{state_at, nothing_found, FindsOutcome, IsJudged, HasJudged, Finds, StaysJudged};
+ghost use Rattle.lfi_verifier.specs.States.{Keeps, IsInRange, IsState, StandsFor};
+ghost use Rattle.lfi_verifier.specs.StreamEvents.{numbers_of, TellsOfCode};
+ghost use Rattle.lfi_verifier.specs.StreamVerdicts.{state_at, bad_found, FindsOutcome, IsJudged, HasJudged, Finds, StaysJudged};
 ghost use Rattle.lfi_verifier.specs.inner.Judging.{IsJudgedTo, IsFound, GoesOn};
 
 use crate::cut_state::{LfiCutState, cut_of, cut_state_of};
@@ -100,6 +100,7 @@ fn judged_to(
     offset: usize,
 ) -> Option<CutBeginning>
     ensures in_range { IfSome result (λ cut. IsInRange cut.whole) }
+    ensures state { IfSome result (λ cut. ¬ ¬ (IsState (state_at verdicts.now.modules «module»))) }
     ensures found { (profile : Profile) (words : ℕ) (whole came : List ℕ) → IsJudgedTo verdicts.now «module» profile words whole came →
         offset ≡ length whole + length came → IsFound result profile words (whole ++ came) }
 {
@@ -123,6 +124,7 @@ fn take_code(
         GoesOn verdicts.new «module» ended profile words ((whole ++ came) ++ used.now) result }
     ensures others { (m : ℕ) → m ≢ «module» → state_at verdicts.new.modules m ≡ state_at verdicts.old.modules m }
     ensures kept { ended ≡ false → verdicts.new.modules ≡ verdicts.old.modules }
+    ensures bad { ¬ (IsState (state_at verdicts.old.modules «module»)) → result ≡ bad_found }
 {
     let Some(before) = judged_to(verdicts, module, offset) else {
         return Finding::bad_state();
@@ -138,8 +140,9 @@ fn take_code(
 
 /// What becomes of a module that has ended for a reason.
 pub(crate) fn end(verdicts: &LfiStreamVerdicts, module: ModuleNumber, reason: Reason) -> Finding
-    ensures { (extent : ExtentView) (pages : ℕ) (items : List ItemView) → IsJudged (state_at verdicts.now.modules «module») extent pages items →
+    ensures found { (extent : ExtentView) (pages : ℕ) (items : List ItemView) → IsJudged (state_at verdicts.now.modules «module») extent pages items →
         FindsOutcome extent (items ++ item_of «module» (pages + 1) extent (item.End reason) ∷ []) result }
+    ensures bad { ¬ (IsState (state_at verdicts.now.modules «module»)) → result ≡ bad_found }
 {
     match beginning_of(verdicts.modules[module.index()]) {
         Some(whole) => Finding::of_end(whole, reason),
@@ -149,20 +152,18 @@ pub(crate) fn end(verdicts: &LfiStreamVerdicts, module: ModuleNumber, reason: Re
 
 /// What an event tells of code, by the bytes used; and the verdicts go on with it.
 pub(crate) fn follow(verdicts: &mut LfiStreamVerdicts, event: Event, used: &[u8]) -> Finding
-    ensures judged { (text : LfiStreamText) (messages : List Message) (rest : List ℕ) (told : Tells event text messages rest used.now) → HasJudged verdicts.old messages rest →
-        Finds event result messages rest used.now × StaysJudged event verdicts.new text messages rest used.now told }
-    ensures over { (fault : FrameFault) → event ≡ Event.Fault fault → (verdicts.new ≡ verdicts.old) × (result ≡ nothing_found) }
+    ensures judged { (text : LfiStreamText) (messages : List Message) (rest : List ℕ) (told : Tells (Ok event) text messages rest used.now) → HasJudged verdicts.old messages rest →
+        Finds (Ok event) result messages rest used.now × StaysJudged (Ok event) verdicts.new text messages rest used.now told }
+    ensures bad { ¬ (IsState (state_at verdicts.old.modules (numbers_of event).«module»)) → TellsOfCode (numbers_of event) → result ≡ bad_found }
 {
     match event {
         Event::Open { module, extent } => {
             begin(verdicts, module, extent);
             Finding::nothing()
         }
-        Event::Code {
-            module,
-            offset,
-            ended,
-        } => take_code(verdicts, module, offset, ended, used),
+        Event::Code { page, ended } => {
+            take_code(verdicts, page.module, page.offset(), ended, used)
+        }
         Event::End { module, reason, .. } => end(verdicts, module, reason),
         _ => Finding::nothing(),
     }

@@ -1,6 +1,6 @@
 //! Whole code in one call.
 
-ghost use Rattle.std.specs.Prelude.{◌≡◌, None};
+ghost use Rattle.std.specs.Prelude.{◌≡◌, ◌≤◌, None};
 ghost use Rattle.lfi_verifier.specs.Faults.{fault_told};
 ghost use Rattle.lfi_module.specs.declared.profile.Profile.{Profile};
 ghost use Rattle.lfi_module.specs.Profiles.{profile_number};
@@ -38,6 +38,7 @@ pub(crate) fn tell(verdict: Verdict, fault: &mut LfiFault) -> u32
 pub extern "C" fn lfi_verify(code: &[u8], profile: u32, fault: &mut LfiFault) -> u32
     ensures known { (by : Profile) → profile_number by ≡ profile → TellsVerdict by code.now result fault.new }
     ensures unknown { IsUnknown profile → (result ≡ status_number Status.UnknownProfile) × (fault.new ≡ fault_told None) }
+    ensures most { result ≤ 7 }
 {
     let Some(by) = profile_of(profile) else {
         *fault = NO_FAULT;

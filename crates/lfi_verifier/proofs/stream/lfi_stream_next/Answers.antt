@@ -1,45 +1,67 @@
-use Rattle.std.proofs.Common.{◌≡◌, ◌∙◌, ℕ, Option, Some, ap, take}
-use Rattle.lfi_frame.specs.declared.fault.FrameFault.{FrameFault}
-use Rattle.lfi_connection.specs.declared.event.Event.{Event}
-use Rattle.lfi_connection.specs.declared.event.Event.TheVariants.{Fault}
-use Rattle.lfi_stream.specs.Events.{Tells}
-use Rattle.lfi_verifier.specs.StreamEvents.{event_numbers, with_finding}
+use Rattle.std.proofs.Common.{refl, subst, take}
+use Rattle.std.specs.Prelude.{Ok, Err}
+use Rattle.lfi_stream.specs.Events.{Tells, IsWithin}
+use Rattle.lfi_verifier.specs.StreamVerdicts.{nothing_found}
+use Rattle.lfi_verifier.proofs.Followed.{faults}
+use Rattle.lfi_verifier.proofs.Told.{lies}
 use Rattle.lfi_verifier.proofs.stream.lfi_stream_next.Goals as goal
 
-pub returns-in-Some-clause-judged : goal.returns-in-Some-clause-judged
-returns-in-Some-clause-judged c = λ messages rest stands.
-    let tells : Tells c.in-Some.brought c.next.new.stream messages rest (take c.in-Some.used c.args.bytes.now) = c.in-Some.ensures.told messages rest stands.text in
+pub returns-in-Some-default-Ok-clause-judged : goal.returns-in-Some-default-Ok-clause-judged
+returns-in-Some-default-Ok-clause-judged c = λ messages rest stands.
+    let used = take c.in-Some-default-Ok.used c.args.bytes.now in
+    let tells : Tells (Ok c.in-Some-default-Ok.brought) c.next.new.stream messages rest used = subst (λ z. Tells z c.next.new.stream messages rest used) c.in-Some-default-Ok.field-0-1-is (c.in-Some-default-Ok.ensures.told messages rest stands.text) in
     let goes = c.follow-finding.ensures.judged c.next.new.stream messages rest tells stands.judged in
     record {
-      event = c.in-Some.brought;
+      event = Ok c.in-Some-default-Ok.brought;
       finding = c.follow-finding.result;
-      numbers = c.told.ensures;
+      numbers = c.told.ensures.told;
       tells = tells;
       finds = goes.0;
       judged = goes.1;
     }
 
-same_some : (p q : ℕ × Event) → Some p ≡ Some q → p ≡ q
-same_some p q e = cc
+pub returns-in-Some-default-Ok-clause-moves : goal.returns-in-Some-default-Ok-clause-moves
+returns-in-Some-default-Ok-clause-moves c = λ rest inside other some. c.in-Some-default-Ok.ensures.moves rest inside some
 
-parts : (used : ℕ) (event : Event) (fault : FrameFault) → ◌≡◌ {A = Option (ℕ × Event)} (Some (used, event)) (Some (0, Fault fault)) → (used ≡ 0) × (event ≡ Fault fault)
-parts used event fault e = let same = same_some (used, event) (0, Fault fault) e in (ap (λ z. z.0) same, ap (λ z. z.1) same)
+pub returns-in-Some-default-Ok-clause-code : goal.returns-in-Some-default-Ok-clause-code
+returns-in-Some-default-Ok-clause-code c = λ kind.
+    let s = c.args.stream.now.text in
+    let n = c.in-Some-default-Ok.used in
+    let within : IsWithin (Ok c.in-Some-default-Ok.brought) n s = subst (λ z. IsWithin z n s) c.in-Some-default-Ok.field-0-1-is c.in-Some-default-Ok.ensures.code in
+    lies c.in-Some-default-Ok.brought n s c.follow-finding.result c.told.result c.told.ensures.told within kind
 
-pub returns-in-Some-clause-over : goal.returns-in-Some-clause-over
-returns-in-Some-clause-over c = λ fault at.
-    let over = c.in-Some.ensures.over fault at in
-    let answer = parts c.in-Some.used c.in-Some.brought fault over.0 in
-    let follows = c.follow-finding.ensures.over fault answer.1 in (
-      answer.0,
-      c.told.ensures ∙ (λ i. with_finding (event_numbers (answer.1 i)) (follows.1 i)),
-      λ i. record { text = over.1 i; verdicts = follows.0 i },
-    )
+pub returns-in-Some-default-Ok-clause-no_page : goal.returns-in-Some-default-Ok-clause-no_page
+returns-in-Some-default-Ok-clause-no_page c = λ position is faultless bad. absurd (let none = c.in-Some-default-Ok.ensures.no_page position is faultless bad in cc)
+
+pub returns-in-Some-default-Err-clause-judged : goal.returns-in-Some-default-Err-clause-judged
+returns-in-Some-default-Err-clause-judged c = λ messages rest stands.
+    let used = take c.in-Some-default-Err.used c.args.bytes.now in
+    let fault = c.in-Some-default-Err.fault in
+    let tells : Tells (Err fault) c.next.new.stream messages rest used = subst (λ z. Tells z c.next.new.stream messages rest used) c.in-Some-default-Err.field-0-1-is (c.in-Some-default-Err.ensures.told messages rest stands.text) in
+    record {
+      event = Err fault;
+      finding = nothing_found;
+      numbers = c.fault_event.ensures;
+      tells = tells;
+      finds = refl;
+      judged = faults c.args.stream.now.verdicts fault used c.next.new.stream messages rest tells stands.judged;
+    }
+
+pub returns-in-Some-default-Err-clause-told : goal.returns-in-Some-default-Err-clause-told
+returns-in-Some-default-Err-clause-told c = λ messages rest stands.
+    let used = take c.in-Some-default-Err.used c.args.bytes.now in
+    record {
+      event = Err c.in-Some-default-Err.fault;
+      finding = nothing_found;
+      numbers = c.fault_event.ensures;
+      tells = subst (λ z. Tells z c.next.new.stream messages rest used) c.in-Some-default-Err.field-0-1-is (c.in-Some-default-Err.ensures.told messages rest stands);
+    }
+
+pub returns-in-Some-default-Err-clause-moves : goal.returns-in-Some-default-Err-clause-moves
+returns-in-Some-default-Err-clause-moves c = λ rest inside other some. c.in-Some-default-Err.ensures.moves rest inside some
 
 pub returns-in-None-clause-judged : goal.returns-in-None-clause-judged
-returns-in-None-clause-judged c = λ messages rest stands. absurd (c.in-None.ensures.none.1 rest stands.text.feed)
+returns-in-None-clause-judged c = λ messages rest stands. absurd (c.in-None.ensures.none.1 messages rest stands.text)
 
 pub returns-in-None-clause-told : goal.returns-in-None-clause-told
-returns-in-None-clause-told c = λ messages rest stands. absurd (c.in-None.ensures.none.1 rest stands.feed)
-
-pub returns-in-None-clause-moves : goal.returns-in-None-clause-moves
-returns-in-None-clause-moves c = λ rest inside some. absurd (c.in-None.ensures.none.1 rest inside)
+returns-in-None-clause-told c = λ messages rest stands. absurd (c.in-None.ensures.none.1 messages rest stands)

@@ -3,13 +3,13 @@ use Rattle.lfi_parts.proofs.Staying.{seat_saw}
 use Rattle.lfi_workers.proofs.verifying.have_all_ended.Goals as goal
 
 pub ended-requires : goal.ended-requires
-ended-requires c = c.requires.seat.seat
+ended-requires c = record { board = c.requires.is.seat.seat }
 
 pub returns-clause-is : goal.returns-clause-is
 returns-clause-is c =
     let did = c.ended.ensures in
     record {
-      lanes = c.requires.lanes;
-      is = verifier_looked _ _ c.args.place.number c.args.verifier.now c.ended.new.self c.requires.is did.pass did.lanes did.hand;
-      seat = seat_saw c.args.place.shared.now c.args.verifier.now c.ended.new.self c.ended.result c.requires.seat did.board did.saw;
+      lanes = c.requires.is.lanes;
+      is = verifier_looked _ _ c.args.place.number c.args.verifier.now c.ended.new.self c.requires.is.is did.pass did.lanes did.hand;
+      seat = seat_saw c.args.place.shared.now c.args.verifier.now c.ended.new.self c.ended.result c.requires.is.seat did.board did.saw;
     }

@@ -1,0 +1,2 @@
+// word 0 rule 1
+    extr x0, x1, x2, #12

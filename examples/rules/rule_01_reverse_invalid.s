@@ -1,0 +1,2 @@
+// word 0 rule 1
+    rev w0, w1

@@ -1,0 +1,5 @@
+// word 1 rule 2
+    add x18, x21, w1, uxtw
+    ldr x0, [x1]
+    ldr x2, [x18, #8]
+    stp x2, x0, [x18]
