@@ -24,7 +24,7 @@ use Rattle.lfi_file_commands.specs.Running.{EndsRun}
 use Rattle.lfi_file_commands.specs.Failures.{failure_line, is_of_output, Told}
 use Rattle.lfi_file_commands.specs.declared.failure.Failure.{Failure}
 use Rattle.lfi_commands.proofs.Failing.{fails_by}
-use Rattle.lfi_commands.specs.Runs.{CarriesOut, FailsAs, Runs, TellsFailure, TellsNoPages, TellsTooMany, TellsTooManyModules}
+use Rattle.lfi_commands.specs.Runs.{CarriesOut, FailsAs, Runs, TellsFailure, TellsFlaw, TellsNoPages, TellsTooMany, TellsTooManyModules}
 use Rattle.lfi_file_commands.specs.declared.failure.Failure.TheVariants.{NoMemory}
 
 by_verdict : (verdict : Verdict) → WrongWords ≡ ending_of verdict → ⊥
@@ -79,7 +79,7 @@ module _ (words : List (List ℕ)) (file_at : List ℕ → Option (List ℕ)) (o
   AreWrongOf lost =
       let old = left out put was errors in
       let new = left out put lost told in
-      AreWrong words ⊎ (TellsTooMany words old new ⊎ (TellsTooManyModules words old new ⊎ TellsNoPages words old new))
+      AreWrong words ⊎ (TellsTooMany words old new ⊎ (TellsTooManyModules words old new ⊎ (TellsNoPages words old new ⊎ TellsFlaw words old new)))
 
   pub ends_wrong : (lost : Bool) (ending : Ending) → EndsUnlessLost lost WrongWords ending → AreWrongOf lost → Runs words file_at (left out put was errors) (left out put lost told) ending
   ends_wrong true ending ends wrong = subst (Runs words file_at (left out put was errors) (left out put true told)) (sym ends) (inl (NoMemory, tt, tt, refl, λ other. refl))

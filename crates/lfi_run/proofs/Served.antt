@@ -1,5 +1,5 @@
 -- Runs with one runtime, seen as runs with another.
-use Rattle.std.proofs.Common.{◌≡◌, ℕ, zero, suc, List, [], Option, Some, None, refl, sym, ap, subst, rules}
+use Rattle.std.proofs.Common.{◌≡◌, ℕ, zero, suc, sym, ap, subst}
 use Rattle.a64_semantics.specs.declared.registers.Registers.{Registers}
 use Rattle.lfi_confinement.specs.Moves.{Move, go, stop, ask, escape}
 use Rattle.lfi_machine.specs.Owned.{Owned}

@@ -6,12 +6,12 @@ ghost use Rattle.lfi_signals.specs.Clients.{sent_by, sent_over_socket};
 use crate::door::Door;
 use crate::refusal::LoadError;
 use lfi_module::CONNECTIONS;
+use std::array;
 use std::fs::Files;
 use std::io::{self, Read};
 use std::net::Shutdown;
 use std::os::unix::net::UnixStream;
 use std::rt::Clock;
-use std::array;
 use std::sync::{OnceLock, Wait};
 
 /// The streams of the clients that were accepted, by their connections' numbers. They lie where

@@ -1,4 +1,4 @@
-use Rattle.std.proofs.Common.{◌≡◌, ◌∙◌, ◌≤◌, suc, Bor, List, ℕ, sym, ap, subst, arith}
+use Rattle.std.proofs.Common.{◌∙◌, ◌≤◌, suc, Bor, List, ℕ, sym, ap, subst, arith}
 use Rattle.lfi_command_line.proofs.Counts.{counted_after, plus_one, plus_one_most}
 use Rattle.lfi_command_line.proofs.flaw.input_count.Goals as goal
 

@@ -26,4 +26,10 @@ returns-in-TooManyModules g c = λ words file_at put is.
 pub returns-in-NoPages : goal.returns-in-NoPages
 returns-in-NoPages g c = λ words file_at put is.
     let ends = c.unless_lost-in-NoPages in
-    ends_wrong words file_at _ put _ _ _ _ ends.result ends.ensures (inr (inr (inr (subst (λ fault. IsLineFault words fault) c.in-NoPages.is is, c.write_line-in-NoPages.ensures.told))))
+    ends_wrong words file_at _ put _ _ _ _ ends.result ends.ensures (inr (inr (inr (inl (subst (λ fault. IsLineFault words fault) c.in-NoPages.is is, c.write_line-in-NoPages.ensures.told)))))
+
+pub returns-in-Flawed : goal.returns-in-Flawed
+returns-in-Flawed g c = λ words file_at put is.
+    let ends = c.unless_lost-in-Flawed in
+    let flawed = subst (λ fault. IsLineFault words fault) c.in-Flawed.is is in
+    ends_wrong words file_at _ put _ _ _ _ ends.result ends.ensures (inr (inr (inr (inr (flawed.0, c.in-Flawed.flaw, flawed.1, flawed.2, c.write_line-in-Flawed.ensures.told)))))

@@ -1,4 +1,4 @@
-use Rattle.std.proofs.Common.{◌≡◌, ◌∙◌, ℕ, List, Option, sym, ap, subst}
+use Rattle.std.proofs.Common.{◌∙◌, ℕ, List, Option, sym, ap, subst}
 use Rattle.lfi_machine.specs.Runs.{RanThenHalts}
 use Rattle.lfi_run.specs.Serving.{serves}
 use Rattle.lfi_run.proofs.run.run_from_start.Goals as goal

@@ -1,0 +1,46 @@
+//! Finds the C library: in the folder, or as the archive, that LFI_VERIFIER_LIB names, or else by pkg-config.
+
+use std::{env, path::PathBuf, process::Command};
+
+/// The number of the interface that src/calls.rs declares: LFI_VERSION of the header.
+const INTERFACE: &str = "5";
+
+fn main() -> Result<(), String> {
+    for name in ["LFI_VERIFIER_LIB", "PKG_CONFIG", "PKG_CONFIG_PATH"] {
+        println!("cargo:rerun-if-env-changed={name}");
+    }
+    let named = match env::var_os("LFI_VERIFIER_LIB") {
+        Some(named) => PathBuf::from(named),
+        None => by_pkg_config()?,
+    };
+    let folder = match named.is_file() {
+        true => named.parent().map_or_else(|| PathBuf::from("."), PathBuf::from),
+        false => named,
+    };
+    let archive = folder.join("liblfi_verifier.a");
+    let kind = match (archive.is_file(), folder.join("liblfi_verifier.so").exists()) {
+        (true, _) => "static",
+        (false, true) => "dylib",
+        (false, false) => return Err(format!("{}: no liblfi_verifier.a and no liblfi_verifier.so", folder.display())),
+    };
+    println!("cargo:rerun-if-changed={}", archive.display());
+    println!("cargo:rustc-link-search=native={}", folder.display());
+    println!("cargo:rustc-link-lib={kind}=lfi_verifier");
+    Ok(())
+}
+
+/// The folder of the library that is installed, where its interface is this one.
+fn by_pkg_config() -> Result<PathBuf, String> {
+    let program = env::var("PKG_CONFIG").unwrap_or_else(|_| "pkg-config".to_owned());
+    let ask = |words: &[&str]| {
+        let told = Command::new(&program).args(words).output().map_err(|why| format!("{program}: {why}"))?;
+        match told.status.success() {
+            true => Ok(String::from_utf8_lossy(&told.stdout).trim().to_owned()),
+            false => {
+                Err(format!("{}; name the library's folder by LFI_VERIFIER_LIB", String::from_utf8_lossy(&told.stderr).trim()))
+            }
+        }
+    };
+    ask(&["--print-errors", &format!("--exact-version={INTERFACE}"), "lfi_verifier"])?;
+    ask(&["--variable=libdir", "lfi_verifier"]).map(PathBuf::from)
+}

@@ -1,0 +1,68 @@
+//! Why a word is refused, and how it is mended.
+
+use crate::{calls, Fault, ModuleNumber, Profile, Status};
+
+/// A refused word with what is needed to explain it: no more of the code than two words.
+#[derive(Clone, Copy, Debug)]
+pub struct RefusedWord {
+    /// The profile by which the code was judged.
+    pub profile: Profile,
+    /// The module, in whose slot the word's address lies.
+    pub module: ModuleNumber,
+    /// How many words the module has.
+    pub words: u32,
+    /// The fault.
+    pub fault: Fault,
+    /// The word at the fault's place.
+    pub word: u32,
+    /// The word before it; any number where the place is 0.
+    pub before: u32,
+}
+
+impl RefusedWord {
+    /// The word at fault of code that is there as a whole; `None` where the code has no such word.
+    pub fn of(code: &[u8], module: ModuleNumber, profile: Profile, fault: Fault) -> Option<RefusedWord> {
+        let word_at = |place: u32| {
+            let at = usize::try_from(place).ok()?.checked_mul(4)?;
+            Some(u32::from_le_bytes(code.get(at..)?.first_chunk().copied()?))
+        };
+        let before = fault.word.checked_sub(1).and_then(word_at).unwrap_or(0);
+        let words = u32::try_from(code.len() / 4).ok()?;
+        Some(RefusedWord { profile, module, words, fault, word: word_at(fault.word)?, before })
+    }
+}
+
+/// Writes the text of `lfiload check --explain` to this room, and returns it: the fault, the word at its address with its
+/// assembly text, what the rule asks, and how the word is mended. It is cut where the room ends; 1,024 bytes were enough for
+/// all of 20,000 words at random.
+///
+/// It fails where the fault is none that such a word can have.
+///
+/// ```
+/// use lfi_verifier::{explain, verify, ModuleNumber, Profile, RefusedWord, Violation};
+///
+/// let code = 0xB823_7880u32.to_le_bytes(); // str w0, [x4, x3, lsl #2]
+/// let Err(Violation::Refused(fault)) = verify(&code, Profile::One) else { panic!("it is refused") };
+/// let module = ModuleNumber::new(0).expect("there is a module 0");
+/// let refused = RefusedWord::of(&code, module, Profile::One, fault).expect("the code has the word");
+/// let mut text = [0; 1024];
+/// let told = explain(&refused, &mut text).expect("the fault is one");
+/// assert!(told.starts_with("word 0 rule 2\n  0x0000000100010000  b8237880  str w0, [x4, x3, lsl #2]\n"));
+/// ```
+pub fn explain<'t>(refused: &RefusedWord, text: &'t mut [u8]) -> Result<&'t str, Status> {
+    let of = calls::Refused {
+        profile: refused.profile.number(),
+        module: refused.module.number(),
+        words: refused.words,
+        fault: refused.fault.numbers(),
+        word: refused.word,
+        before: refused.before,
+    };
+    let (status, size) = calls::explain(&of, text);
+    Status::of(status).done()?;
+    let told = text.get(..size).unwrap_or(text);
+    match core::str::from_utf8(told) {
+        Ok(told) => Ok(told),
+        Err(why) => Ok(core::str::from_utf8(told.get(..why.valid_up_to()).unwrap_or(&[])).unwrap_or("")),
+    }
+}

@@ -1,0 +1,139 @@
+//! What a host relies on, with values of docs/PROFILE.md and the examples.
+
+use lfi_verifier::{
+    explain, registers, verify, version, Event, Fault, ModuleNumber, Profile, Reason, RefusedWord, Rule, SlotMap, Stream,
+    StreamFault, Verifier, Violation, VERSION,
+};
+use std::{fs, path::Path};
+
+fn example(name: &str) -> Vec<u8> {
+    fs::read(Path::new("../../examples").join(name)).expect("the example is there")
+}
+
+fn code(words: &[u32]) -> Vec<u8> {
+    words.iter().flat_map(|word| word.to_le_bytes()).collect()
+}
+
+fn refused(word: u32, rule: Rule) -> Result<(), Violation> {
+    Err(Violation::Refused(Fault { word, rule }))
+}
+
+#[test]
+fn interface() {
+    assert_eq!(version(), VERSION);
+    let header = fs::read_to_string("../../include/lfi_verifier.h").expect("the header is there");
+    assert!(header.contains(&format!("#define LFI_VERSION {VERSION}u\n")));
+}
+
+/// Each sequence of docs/PROFILE.md with the verdict that stands above it.
+#[test]
+fn rules() {
+    let mut count = 0;
+    for file in fs::read_dir("../../examples/rules").expect("the sequences are there") {
+        let path = file.expect("a file").path();
+        if path.extension().is_some_and(|it| it == "s") {
+            let text = fs::read_to_string(&path).expect("a text");
+            let wanted = text.lines().next().and_then(|line| line.strip_prefix("// ")).expect("a verdict");
+            let code = fs::read(path.with_extension("code")).expect("its words");
+            let told = match verify(&code, Profile::One) {
+                Ok(()) => format!("lawful, {} words", code.len() / 4),
+                Err(violation) => violation.to_string(),
+            };
+            assert_eq!(told, wanted, "{}", path.display());
+            count += 1;
+        }
+    }
+    assert!(count > 20);
+}
+
+#[test]
+fn profiles() {
+    let acquire = code(&[0x88DF_FE40]); // ldar w0, [x18]
+    assert_eq!(verify(&acquire, Profile::One), refused(0, Rule::Spelled));
+    assert_eq!(verify(&acquire, Profile::Two), Ok(()));
+}
+
+#[test]
+fn lengths() {
+    assert_eq!(verify(&[], Profile::One), Err(Violation::BadLength));
+    assert_eq!(verify(&[0; 3], Profile::One), Err(Violation::BadLength));
+    assert_eq!(Verifier::new(0, Profile::One), Err(Violation::BadLength));
+    assert_eq!(Verifier::new(4_194_305, Profile::One), Err(Violation::BadLength));
+    let mut verifier = Verifier::new(1, Profile::One).expect("one word");
+    assert_eq!(verifier.update(&[0; 3]), Err(Violation::BadLength));
+    assert_eq!(verifier.update(&[0; 8]), Err(Violation::BadLength));
+    assert_eq!(verifier.judged(), 0);
+}
+
+#[test]
+fn pieces() {
+    for (name, wanted) in [("checksums.code", Ok(())), ("checksums_unguarded.code", refused(16, Rule::AccessConfined))] {
+        let code = example(name);
+        assert_eq!(verify(&code, Profile::One), wanted);
+        for size in [4, 12, 40, 4096] {
+            let words = u32::try_from(code.len() / 4).expect("few words");
+            let mut verifier = Verifier::new(words, Profile::One).expect("so many words");
+            let last = code.chunks(size).map(|piece| verifier.update(piece)).last();
+            assert_eq!(last, Some(wanted), "{name} by {size}");
+            assert_eq!(verifier.finish(), wanted, "{name} by {size}");
+        }
+    }
+}
+
+/// The text that README.md shows.
+#[test]
+fn explanation() {
+    let code = example("checksums_unguarded.code");
+    let module = ModuleNumber::new(0).expect("there is a module 0");
+    let fault = Fault { word: 16, rule: Rule::AccessConfined };
+    let word = RefusedWord::of(&code, module, Profile::One, fault).expect("the code has it");
+    let mut text = [0; 1024];
+    let told = explain(&word, &mut text).expect("it is a fault");
+    assert!(told.starts_with("word 16 rule 2\n  0x0000000100010040  b8237880  str w0, [x4, x3, lsl #2]\n"));
+    assert!(told.ends_with("M being 22 or free, and let it go through x21 by wM, uxtw"));
+    assert_eq!(explain(&word, &mut [0; 14]), Ok("word 16 rule 2"));
+    let past = Fault { word: 105, rule: Rule::Spelled };
+    assert!(RefusedWord::of(&code, module, Profile::One, past).is_none());
+}
+
+/// Each module of examples/hostile.stream as README.md of the examples tells it, in pieces of all sizes.
+#[test]
+fn stream() {
+    let text = example("hostile.stream");
+    for size in 1..text.len() {
+        let (mut stream, mut told) = (Stream::new().expect("a stream"), Vec::new());
+        let keep = |told: &mut Vec<_>, event: Event<'_>| match event {
+            Event::End { module, reason, verdict, .. } => told.push((module.index(), reason, verdict)),
+            Event::Fault(fault) => assert_eq!(fault, StreamFault::Kind),
+            _ => {}
+        };
+        for piece in text.chunks(size) {
+            stream.read(piece).for_each(|event| keep(&mut told, event));
+        }
+        stream.end().for_each(|event| keep(&mut told, event));
+        told.sort_by_key(|it| it.0);
+        let wanted = [
+            (2, Reason::Closed, refused(0, Rule::AccessConfined)),
+            (3, Reason::PageFault(1), Err(Violation::Incomplete)),
+            (4, Reason::Lost(StreamFault::Kind), Err(Violation::Incomplete)),
+        ];
+        assert_eq!(told, wanted, "by {size}");
+        assert_eq!(stream.read(&[1]).next(), None, "nothing is read after a fault");
+    }
+}
+
+/// docs/PROFILE.md, "Modules, pages, slots" and "Registers".
+#[test]
+fn map() {
+    assert_eq!(ModuleNumber::new(16), None);
+    for number in 0..16 {
+        let module = ModuleNumber::new(number).expect("there are 16");
+        let map = SlotMap::of(Profile::One, module).expect("it has a slot");
+        assert_eq!((map.base, map.size), ((2 * u64::from(number) + 1) << 32, 1 << 32));
+        assert_eq!((map.guard, map.table, map.code), (65_536, 4_096, 65_536));
+        assert_eq!((map.entry, map.entry_step, map.entries), (1 << 40, 16, 512));
+    }
+    let found = registers(Profile::One).expect("a profile has registers");
+    assert_eq!((found.base, found.offset, found.link, found.stack_reach), (21, 22, 30, 512));
+    assert_eq!((found.first_address, found.second_address, found.third_address), (18, 23, 24));
+}

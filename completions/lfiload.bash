@@ -1,0 +1,86 @@
+# Written by checks/completions from the program's --help.
+_lfiload() {
+    local word=${COMP_WORDS[COMP_CWORD]} before=${COMP_WORDS[COMP_CWORD - 1]} offered=
+    COMPREPLY=()
+    if ((COMP_CWORD == 1)); then
+        offered='check load serve run disassemble pack --help --version'
+        mapfile -t COMPREPLY < <(compgen -W "$offered" -- "$word")
+        return
+    fi
+    case ${COMP_WORDS[1]}:$before in
+        check:--profile)
+            compopt +o default 2>/dev/null
+            mapfile -t COMPREPLY < <(compgen -W '1 2' -- "$word")
+            return
+            ;;
+        load:--verifiers)
+            compopt +o default 2>/dev/null
+            mapfile -t COMPREPLY < <(compgen -W '1 2 3 4 5 6 7 8' -- "$word")
+            return
+            ;;
+        load:--out)
+            compopt +o default -o dirnames 2>/dev/null
+            return
+            ;;
+        serve:--socket)
+            return
+            ;;
+        serve:--connections)
+            compopt +o default 2>/dev/null
+            mapfile -t COMPREPLY < <(compgen -W '1 2 3 4 5 6 7 8' -- "$word")
+            return
+            ;;
+        serve:--verifiers)
+            compopt +o default 2>/dev/null
+            mapfile -t COMPREPLY < <(compgen -W '1 2 3 4 5 6 7 8' -- "$word")
+            return
+            ;;
+        serve:--seconds)
+            compopt +o default 2>/dev/null
+            return
+            ;;
+        serve:--out)
+            compopt +o default -o dirnames 2>/dev/null
+            return
+            ;;
+        run:--steps)
+            compopt +o default 2>/dev/null
+            return
+            ;;
+        disassemble:--profile)
+            compopt +o default 2>/dev/null
+            mapfile -t COMPREPLY < <(compgen -W '1 2' -- "$word")
+            return
+            ;;
+        pack:--module)
+            compopt +o default 2>/dev/null
+            mapfile -t COMPREPLY < <(compgen -W '0 1 2 3 4 5 6 7 8 9 10 11 12 13 14 15' -- "$word")
+            return
+            ;;
+        pack:--entry)
+            compopt +o default 2>/dev/null
+            return
+            ;;
+        pack:--profile)
+            compopt +o default 2>/dev/null
+            mapfile -t COMPREPLY < <(compgen -W '1 2' -- "$word")
+            return
+            ;;
+        pack:--pages)
+            compopt +o default 2>/dev/null
+            mapfile -t COMPREPLY < <(compgen -W 'small large' -- "$word")
+            return
+            ;;
+    esac
+    [[ $word == -* ]] || return
+    case ${COMP_WORDS[1]} in
+        check) offered='--explain --all --profile --help' ;;
+        load) offered='--verifiers --out --explain --help' ;;
+        serve) offered='--socket --connections --verifiers --seconds --out --explain --help' ;;
+        run) offered='--steps --help' ;;
+        disassemble) offered='--profile --help' ;;
+        pack) offered='--module --entry --profile --pages --help' ;;
+    esac
+    mapfile -t COMPREPLY < <(compgen -W "$offered" -- "$word")
+}
+complete -o default -F _lfiload lfiload
