@@ -60,11 +60,7 @@ impl<'a> From<LoadFault> for Failure<'a> {
 }
 
 /// Writes the text of a report.
-fn write_report<W: Write>(
-    alloc: Global,
-    report: &Report,
-    writer: &mut W,
-) -> Result<(), LoadFault>
+fn write_report<W: Write>(alloc: Global, report: &Report, writer: &mut W) -> Result<(), LoadFault>
     ensures written { OnOk result (Appends (W.contents writer.old) (W.contents writer.new) (summary_text (summary_of report.now))) }
     ensures fault { IfErr result (λ fault. is_of_the_report fault ≡ true) }
 {

@@ -78,7 +78,11 @@ impl<W: Write> Errors<W> {
         if failure.is_of_closed_output() {
             return;
         }
-        let written = write_line(self.alloc, &mut self.writer, format_args!("lfiload: {failure}"));
+        let written = write_line(
+            self.alloc,
+            &mut self.writer,
+            format_args!("lfiload: {failure}"),
+        );
         self.keep(written);
     }
 
@@ -87,7 +91,11 @@ impl<W: Write> Errors<W> {
         ensures told { Told (is_lost_of self.new) (W.contents (writer_of self.old)) (W.contents (writer_of self.new)) (no_module_line no_module.entry) }
         ensures lost { is_lost_of self.old ≡ true → is_lost_of self.new ≡ true }
     {
-        let written = write_line(self.alloc, &mut self.writer, format_args!("lfiload: {no_module}"));
+        let written = write_line(
+            self.alloc,
+            &mut self.writer,
+            format_args!("lfiload: {no_module}"),
+        );
         self.keep(written);
     }
 

@@ -99,5 +99,5 @@ pub use images::{write_asked_images, write_images};
 pub use opening::open_all;
 pub use packing::NoModule;
 pub use refused::{write_asked_refused, write_refused};
-pub use texts::write_text;
 pub use running::{run_check, run_disassemble, run_pack, run_run};
+pub use texts::write_text;

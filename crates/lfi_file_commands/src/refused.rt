@@ -36,11 +36,7 @@ fn refusal_of(report: &ModuleReport) -> Option<Explanation>
 }
 
 /// Writes what is told of a module, if anything is.
-fn write_refusal<W: Write>(
-    alloc: Global,
-    told: Option<Explanation>,
-    out: &mut W,
-) -> io::Result<()>
+fn write_refusal<W: Write>(alloc: Global, told: Option<Explanation>, out: &mut W) -> io::Result<()>
     ensures { OnOk result (Appends (W.contents out.old) (W.contents out.new) (refusal_lines told)) }
 {
     match told {

@@ -5,7 +5,6 @@ use Rattle.std.specs.Prelude.{Ok, Err, IsOk, IfOk, OnOk}
 use Rattle.std.specs.Result.{result_and}
 use Rattle.std.specs.declared.result.Result.{Result}
 use Rattle.std.proofs.lemmas.Option.{slice_get_within}
-use Rattle.lfi_place.specs.declared.verifier.Verifier.{Verifier}
 use Rattle.lfi_receive.specs.declared.receiver.Receiver.{Receiver}
 use Rattle.lfi_parts.specs.declared.shared.Shared.{Shared}
 use Rattle.lfi_parts.specs.Parts.{IsReceiver}
