@@ -341,27 +341,30 @@ fn is_told(alloc: Global, failure: Failure<'_>, text: &str) -> bool {
     !errors.is_lost() && errors.writer().as_slice() == text.as_bytes()
 }
 
-/// Which of five failures are told as they should be: of a read, an output, an image, a socket and memory.
-fn told(alloc: Global) -> Result<[bool; 5], AllocError> {
+/// Which of six failures are told as they should be: of a read, an output, one that nobody reads any longer, an image, a
+/// socket and memory.
+fn told(alloc: Global) -> Result<[bool; 6], AllocError> {
     let path = String::from_str(alloc, "a.img")?;
     let image = Failure::CannotWrite(Target::File(path), DeviceCause::Other);
     let image = is_told(alloc, image, "lfiload: cannot write a.img\n");
     let read = Failure::CannotRead("a.code", DeviceCause::PermissionDenied);
     let text = "lfiload: cannot read a.code\n  Permission denied\n";
     let read = is_told(alloc, read, text);
-    let output = Failure::CannotWrite(Target::StandardOutput, DeviceCause::BrokenPipe);
-    let text = "lfiload: cannot write standard output\n  Broken pipe\n";
+    let output = Failure::CannotWrite(Target::StandardOutput, DeviceCause::StorageFull);
+    let text = "lfiload: cannot write standard output\n  No space left on device\n";
     let output = is_told(alloc, output, text);
+    let closed = Failure::CannotWrite(Target::StandardOutput, DeviceCause::BrokenPipe);
+    let closed = is_told(alloc, closed, "");
     let socket = Failure::CannotListen(DeviceCause::AddressInUse);
     let text = "lfiload: cannot listen\n  Address already in use\n";
     let socket = is_told(alloc, socket, text);
     let memory = is_told(alloc, Failure::NoMemory, "lfiload: no memory\n");
-    Ok([read, output, image, socket, memory])
+    Ok([read, output, closed, image, socket, memory])
 }
 
 #[test]
 fn failures_are_told(rt: HostRuntime) {
-    assert!(rt; told(rt.alloc()) == Ok([true; 5]));
+    assert!(rt; told(rt.alloc()) == Ok([true; 6]));
 }
 
 const UNTOLD: [&str; 6] = [
@@ -380,7 +383,7 @@ pub fn loses<S: Threads + Wait + Files<File = File> + Net + Clock + Sync + Alloc
     out: &mut O,
     left: usize,
 ) -> bool {
-    let mut errors = Errors::new(alloc, FullWriter { left });
+    let mut errors = Errors::new(rt.alloc(), FullWriter { left });
     let status = run_over(rt, line, out, &mut errors);
     status == FAILED && errors.is_lost()
 }

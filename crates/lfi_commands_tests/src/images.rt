@@ -1,9 +1,7 @@
 //! Outputs that take what `lfiload run` prints.
 
 use crate::devices::{FullWriter, loses};
-use crate::runs::{WELL, begin, run_over, tells};
-use lfi_file_commands::Errors;
-use std::cell::Cell;
+use crate::runs::{WELL, begin, tells};
 use std::fs::{self, File, Files};
 use std::io::{self, Write};
 use std::net::Net;
@@ -43,7 +41,6 @@ const LINE: &str = "lfiload run hello.tmp/hello.img --steps 1000";
 struct PartWriter {
     bytes: Vec<u8>,
     left: usize,
-    flushes: bool,
 }
 
 impl Write for PartWriter {
@@ -55,47 +52,33 @@ impl Write for PartWriter {
     }
 
     fn flush(&mut self) -> io::Result<()> {
-        if self.flushes {
-            Ok(())
-        } else {
-            Err(io::Error::from(io::ErrorKind::StorageFull))
-        }
+        Ok(())
     }
 }
 
-/// What is in an output that takes so many bytes, and can be flushed or not, and what is told.
+/// What is in an output that takes so many bytes, and what is told: the run ends at the call that prints a byte more.
 #[derive(Clone, Copy)]
 struct Taken {
     left: usize,
-    flushes: bool,
     out: &'static str,
     err: &'static str,
 }
 
-const TAKEN: [Taken; 4] = [
+const TAKEN: [Taken; 3] = [
     Taken {
         left: 0,
-        flushes: true,
         out: "",
-        err: "halt 5 status 255 after 7 steps\n",
+        err: "halt 5 status 255 after 2 steps\n",
     },
     Taken {
         left: 1,
-        flushes: true,
         out: "H",
-        err: "halt 5 status 255 after 7 steps\n",
+        err: "halt 5 status 255 after 5 steps\n",
     },
     Taken {
         left: 2,
-        flushes: true,
         out: "Hi",
         err: "halt 5 status 105 after 7 steps\n",
-    },
-    Taken {
-        left: 2,
-        flushes: false,
-        out: "Hi",
-        err: "halt 5 status 255 after 7 steps\n",
     },
 ];
 
@@ -107,7 +90,6 @@ fn takes<S: Threads + Wait + Files<File = File> + Net + Clock + Sync + AllocGlob
     let mut out = PartWriter {
         bytes: Vec::new(rt.alloc()),
         left: taken.left,
-        flushes: taken.flushes,
     };
     let is_so = tells(rt, LINE, &mut out, WELL, taken.err);
     is_so && out.bytes.as_slice() == taken.out.as_bytes()
@@ -129,7 +111,7 @@ fn first_other_taken<S: Threads + Wait + Files<File = File> + Net + Clock + Sync
 fn fails_midway<S: Threads + Wait + Files<File = File> + Net + Clock + Sync + AllocGlobal>(
     rt: &S,
 ) -> bool {
-    let told = "halt 5 status 255 after 7 steps\n";
+    let told = "halt 5 status 255 after 5 steps\n";
     tells(rt, LINE, &mut FullWriter { left: 1 }, WELL, told)
 }
 
@@ -176,67 +158,12 @@ fn is_written_beside_a_loss<
     loses(rt, LINE, &mut out, 5) && out.as_slice() == b"Hi".as_slice()
 }
 
-/// An output of which is noted whether all that was written to it was flushed.
-#[derive(Drop)]
-struct NotedWriter<'a> {
-    is_flushed: &'a Cell<bool>,
-}
-
-impl Write for NotedWriter<'_> {
-    fn write(&mut self, bytes: &[u8]) -> io::Result<usize> {
-        self.is_flushed.set(false);
-        Ok(bytes.len())
-    }
-
-    fn flush(&mut self) -> io::Result<()> {
-        self.is_flushed.set(true);
-        Ok(())
-    }
-}
-
-/// What is told beside that output, and whether some of it was before all was flushed.
-#[derive(Drop)]
-struct LaterWriter<'a> {
-    is_flushed: &'a Cell<bool>,
-    told: usize,
-    is_early: bool,
-}
-
-impl Write for LaterWriter<'_> {
-    fn write(&mut self, bytes: &[u8]) -> io::Result<usize> {
-        self.told = self.told.saturating_add(bytes.len());
-        self.is_early |= !self.is_flushed.get();
-        Ok(bytes.len())
-    }
-
-    fn flush(&mut self) -> io::Result<()> {
-        Ok(())
-    }
-}
-
-/// Whether the line is told, of 32 bytes, and none of them before all that is printed was flushed.
-fn is_told_later<S: Threads + Wait + Files<File = File> + Net + Clock + Sync + AllocGlobal>(
-    rt: &S,
-) -> bool {
-    let is_flushed = Cell::new(false);
-    let mut out = NotedWriter {
-        is_flushed: &is_flushed,
-    };
-    let mut errors = Errors::new(alloc, LaterWriter {
-        is_flushed: &is_flushed,
-        told: 0,
-        is_early: false,
-    });
-    let status = run_over(rt, LINE, &mut out, &mut errors);
-    status == WELL && errors.writer().told == 32 && !errors.writer().is_early
-}
-
 #[test]
 fn outputs_of_an_image(rt: HostRuntime) -> io::Result<()> {
     begin(&rt, "hello.tmp", &HELLO_FILES)?;
     let is_written = is_written_all_the_same(&rt) && is_written_beside_a_loss(&rt);
     let takes = first_other_taken(&rt).is_none() && fails_midway(&rt);
-    assert!(rt; is_written && takes && is_told_later(&rt));
+    assert!(rt; is_written && takes);
     fs::remove_dir_all(&rt, "hello.tmp")
 }
 
@@ -259,7 +186,7 @@ fn prints<S: Threads + Wait + Files<File = File> + Net + Clock + Sync + AllocGlo
 fn much_output(rt: HostRuntime) -> io::Result<()> {
     begin(&rt, "much.tmp", &PRINTS_FILES)?;
     let all = prints(&rt, 20_000, 10_000, "halt 1 after 30000 steps\n");
-    let less = prints(&rt, 8191, 8191, "halt 5 status 255 after 24577 steps\n");
+    let less = prints(&rt, 8191, 8191, "halt 5 status 255 after 24574 steps\n");
     assert!(rt; all && less);
     fs::remove_dir_all(&rt, "much.tmp")
 }

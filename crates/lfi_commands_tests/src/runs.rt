@@ -89,7 +89,10 @@ pub fn run_over<
     O: Write,
     E: Write,
 >(rt: &S, line: &str, out: &mut O, errors: &mut Errors<E>) -> u8 {
-    let mut disk = SystemDisk { rt };
+    let mut disk = SystemDisk {
+        rt,
+        input: io::empty(),
+    };
     run_noticed(rt, rt.alloc(), &mut disk, &NoNotices, line, out, errors)
 }
 
@@ -114,7 +117,10 @@ pub fn tells<S: Threads + Wait + Files<File = File> + Net + Clock + Sync + Alloc
     status: u8,
     told: &str,
 ) -> bool {
-    let mut disk = SystemDisk { rt };
+    let mut disk = SystemDisk {
+        rt,
+        input: io::empty(),
+    };
     tells_over(rt, &mut disk, &NoNotices, line, out, status, told)
 }
 

@@ -9,7 +9,6 @@ use lfi_image_file::write_image;
 use std::fs::{self, File, Files, OpenFile};
 use std::io::{self, Read, Write};
 use std::os::unix::fs::MetadataExt;
-use std::rt::Stdin;
 
 /// Where the commands find their input, and put the images.
 pub trait Disk {
@@ -49,23 +48,23 @@ pub trait Disk {
 /// The path that names the standard input. A file of this name is `./-`.
 const STANDARD_INPUT: &str = "-";
 
-/// The system's files. It tells contracts nothing of their bytes.
+/// The system's files, and its standard input. It tells contracts nothing of their bytes.
 #[derive(Drop)]
-pub struct SystemDisk<'a, R> {
+pub struct SystemDisk<'a, R, I> {
     /// The runtime that reaches them.
     pub rt: &'a R,
-    /// What the path `-` reads.
-    pub input: Stdin,
+    /// The standard input, which the path `-` names.
+    pub input: I,
 }
 
 /// What reads a file of the system, or its standard input.
 #[derive(Drop)]
-pub enum SystemReader {
+pub enum SystemReader<I> {
     File(File),
-    StandardInput(Stdin),
+    StandardInput(I),
 }
 
-impl Read for SystemReader {
+impl<I: Read> Read for SystemReader<I> {
     fn read(&mut self, buf: &mut [u8]) -> io::Result<usize> {
         match self {
             SystemReader::File(file) => file.read(buf),
@@ -95,10 +94,10 @@ impl Write for Telling<'_> {
     }
 }
 
-impl<R: Files<File = File>> Disk for SystemDisk<'_, R> {
-    type Reader = SystemReader;
+impl<R: Files<File = File>, I: Read + Copy + Send + Drop> Disk for SystemDisk<'_, R, I> {
+    type Reader = SystemReader<I>;
 
-    fn open(&self, path: &str) -> io::Result<SystemReader> {
+    fn open(&self, path: &str) -> io::Result<SystemReader<I>> {
         if path == STANDARD_INPUT {
             return Ok(SystemReader::StandardInput(self.input));
         }
@@ -108,7 +107,7 @@ impl<R: Files<File = File>> Disk for SystemDisk<'_, R> {
         }
     }
 
-    fn length(&self, reader: &SystemReader) -> Option<u64> {
+    fn length(&self, reader: &SystemReader<I>) -> Option<u64> {
         match reader {
             SystemReader::File(file) => length_of(file),
             SystemReader::StandardInput(_) => None,
