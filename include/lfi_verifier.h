@@ -23,7 +23,7 @@ extern "C" {
 /* The number of this interface; lfi_version() answers that of the library that is linked. */
 #define LFI_VERSION 5u
 
-/* The profiles: the rules, registers and map of slots of docs/DEFINITIONS.md. The second has the instructions of the first,
+/* The profiles: the rules, registers and map of slots of docs/PROFILE.md. The second has the instructions of the first,
  * and LDAR and STLR. Calls with another number answer LFI_UNKNOWN_PROFILE. */
 #define LFI_PROFILE_1 1u
 #define LFI_PROFILE_2 2u

@@ -5,24 +5,14 @@ A program puts numbers into its registers, carries out its body, and tells by th
 the flags and some memory hold then. So whatever a run does otherwise shows in its output.
 """
 
-import importlib.machinery
-import importlib.util
 import pathlib
 import struct
+import sys
 
-CHECKS = pathlib.Path(__file__).resolve().parent.parent
+sys.path.insert(0, str(pathlib.Path(__file__).resolve().parent.parent))
+from lib import formats
+from lib.plain import RULES
 
-
-def load(name):
-    """A check of this repository, as a module."""
-    loader = importlib.machinery.SourceFileLoader(name, str(CHECKS / name))
-    module = importlib.util.module_from_spec(importlib.util.spec_from_loader(name, loader))
-    loader.exec_module(module)
-    return module
-
-
-FUZZ = load("fuzz")
-RULES = FUZZ.RULES
 SLOT, CODE, PAGE, TABLE = 1 << 32, 65_536, 4_096, 4_096
 FREE = (*range(18), 19, 20, *range(25, 30))
 ADDRESSES, BASE, OFFSET, LINK, SP, ZERO = (18, 23, 24), 21, 22, 30, 31, 31
@@ -225,7 +215,7 @@ def random_program(source):
     words += body.draw(source.randrange(5, 120))
     words += tell(scratch, 0xC0000000, [(arena, 4_096)])
     words += [NOP] * (source.choice((0, 0, 1, 1_024)) if len(words) < 1_000 else 0)
-    return FUZZ.image(module, 0, struct.pack(f"<{len(words)}I", *words), profile)
+    return formats.image(module, 0, formats.code_of(*words), profile)
 
 
 def random_stream(source):
@@ -233,14 +223,9 @@ def random_stream(source):
     lists = []
     for module in (0, 1, 7, 15):
         file = random_program(source)
-        (count, entry, profile), code = struct.unpack_from("<III", file, 4), file[24:]
-        second = source.choice((0, 2)) if profile == 2 else 0
-        kind = FUZZ.OPENED[second]
-        size = FUZZ.SIZES[kind]
-        pages = [code[at : at + size] for at in range(0, len(code), size)]
-        messages = [struct.pack("<BBHII", {1: 1, 2: 4}[profile], second, module, count, entry)]
-        messages += [struct.pack("<BBHII", kind, 0, module, index, len(page)) + page for index, page in enumerate(pages)]
-        lists.append([*messages, struct.pack("<BBHII", 3, 0, module, 0, 0)])
+        (_, entry, profile), code = struct.unpack_from("<III", file, 4), file[24:]
+        large = profile == 2 and source.choice((False, True))
+        lists.append(formats.messages(module, code, profile, large, entry))
     mixed = []
     while any(lists):
         mixed.append(source.choice([it for it in lists if it]).pop(0))
@@ -256,19 +241,19 @@ END = tell(28, 0xC0000000, [(end_of(1_024), 64)])
 def program(words, entry=0, module=0, profile=1, count=0):
     """An image of these words, filled up with NOP to so many."""
     words = [*words, *[NOP] * (count - len(words))]
-    return FUZZ.image(module, entry, struct.pack(f"<{len(words)}I", *words), profile)
+    return formats.image(module, entry, formats.code_of(*words), profile)
 
 
 def starts():
     """What the registers hold at the start, in each slot, entered at the first word and at a later one."""
-    for module in range(FUZZ.MODULES):
+    for module in range(formats.MODULES):
         yield f"start-{module}", program(END, module=module)
         yield f"entered-{module}", program([BRK] * 700 + END, 700, module, 2)
 
 
 def longest():
     """A module of as many words as there may be, entered near its end: the start has the farthest to go."""
-    yield "longest", program([BRK] * (FUZZ.MOST_WORDS - len(END)) + END, FUZZ.MOST_WORDS - len(END))
+    yield "longest", program([BRK] * (formats.MOST_WORDS - len(END)) + END, formats.MOST_WORDS - len(END))
 
 
 def entries():

@@ -13,11 +13,13 @@ is_sum (instruction.AddSubShifted i) = true
 is_sum (instruction.AddSubExtended i) = true
 is_sum _ = false
 
+-- a logical operation
 abbrev pub is_logical : Instruction → Bool
 is_logical (instruction.LogicalImmediate i) = true
 is_logical (instruction.LogicalShifted i) = true
 is_logical _ = false
 
+-- an instruction that writes a value and no flags
 abbrev pub is_value : Instruction → Bool
 is_value (instruction.MoveWide i) = true
 is_value (instruction.Bitfield i) = true
@@ -37,6 +39,7 @@ compares _ = false
 abbrev pub computes : Instruction → Bool
 computes i = (is_sum i || is_logical i) || (is_value i || compares i)
 
+-- it is ANDS
 abbrev pub is_ands : Logical → Bool
 is_ands = elim [ Ands ↦ true | operation ↦ false ]
 

@@ -9,6 +9,7 @@ use Rattle.a64_word.specs.Operands.{data_size}
 abbrev pub field_of : (immr imms : ℕ) → ℕ → ℕ
 field_of immr imms x = if nat_le immr imms then x / 2 ^ immr % 2 ^ (imms - immr + 1) else x % 2 ^ (imms + 1)
 
+-- the bit at which a field begins in the result
 abbrev pub field_place : Width → (immr imms : ℕ) → ℕ
 field_place width immr imms = if nat_le immr imms then 0 else data_size width - immr
 

@@ -4,9 +4,11 @@ use Rattle.a64_word.specs.declared.operands.Condition.{Condition}
 use Rattle.a64_word.specs.declared.operands.Condition.TheVariants as condition
 use Rattle.a64_semantics.specs.declared.flags.Flags.{Flags}
 
+-- both or neither
 abbrev pub is_same : Bool → Bool → Bool
 is_same = elim [ true ↦ λ b. b | false ↦ not ]
 
+-- a condition holds of these flags
 abbrev pub holds : Condition → Flags → Bool
 holds condition.Eq f = f.zero
 holds condition.Ne f = not f.zero

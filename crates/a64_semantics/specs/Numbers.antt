@@ -22,5 +22,6 @@ difference width x y = (x + (2 ^ data_size width - y % 2 ^ data_size width)) % 2
 abbrev pub signed : Width → ℕ → ℤ
 signed = elim [ widths.W ↦ cast_signed w32 | widths.X ↦ cast_signed w64 ]
 
+-- a number as the unsigned one of this width
 abbrev pub unsigned : Width → ℤ → ℕ
 unsigned = elim [ widths.W ↦ cast_unsigned w32 | widths.X ↦ cast_unsigned w64 ]

@@ -9,6 +9,7 @@ use Rattle.a64_semantics.specs.Numbers.{signed, unsigned}
 abbrev pub high_product : ℕ → ℕ → ℕ
 high_product x y = x * y / 2 ^ 64
 
+-- the upper 64 bits of a signed product
 abbrev pub signed_high_product : ℕ → ℕ → ℕ
 signed_high_product x y = cast_unsigned w128 (signed widths.X x *ℤ signed widths.X y) / 2 ^ 64
 

@@ -39,10 +39,12 @@ use Rattle.a64_semantics.specs.Products.{high_product, signed_high_product, quot
 abbrev pub add_sub_immediate : AddSubImmediate → (rn : ℕ) → Computed
 add_sub_immediate i rn = add_sub i.width i.subtract i.set_flags (operand i.width rn) (if i.shifted then i.imm12 * 2 ^ 12 else i.imm12)
 
+-- ADD and SUB of a shifted register
 abbrev pub add_sub_shifted : AddSubShifted → (rn rm : ℕ) → Computed
 add_sub_shifted i rn rm =
     add_sub i.width i.subtract i.set_flags (operand i.width rn) (shifted i.width i.shift (operand i.width rm) i.amount)
 
+-- ADD and SUB of an extended register
 abbrev pub add_sub_extended : AddSubExtended → (rn rm : ℕ) → Computed
 add_sub_extended i rn rm = add_sub i.width i.subtract i.set_flags (operand i.width rn) (extended_operand i.width i.extend rm i.amount)
 
@@ -50,13 +52,16 @@ add_sub_extended i rn rm = add_sub i.width i.subtract i.set_flags (operand i.wid
 abbrev pub bitwise : Logical → ℕ → ℕ → ℕ
 bitwise = elim [ logicals.And ↦ bit_and | logicals.Orr ↦ bit_or | logicals.Eor ↦ bit_xor | logicals.Ands ↦ bit_and ]
 
+-- it is ANDS
 abbrev pub sets_flags : Logical → Bool
 sets_flags = elim [ logicals.Ands ↦ true | operation ↦ false ]
 
+-- a logical operation, with flags where it is ANDS
 abbrev pub logical : Width → Logical → ℕ → ℕ → Computed
 logical width operation x y =
     let z = bitwise operation x y in record { value = z; flags = flags_where (sets_flags operation) (flags_of_bits width z) }
 
+-- the same with a mask
 abbrev pub logical_immediate : LogicalImmediate → (rn : ℕ) → Computed
 logical_immediate i rn = logical i.width i.operation (operand i.width rn) (mask_of i.width i.n i.immr i.imms)
 
@@ -72,6 +77,7 @@ move_wide_of width wide_moves.Movz place imm16 rd = imm16 * 2 ^ place
 move_wide_of width wide_moves.Movn place imm16 rd = complement width (imm16 * 2 ^ place)
 move_wide_of width wide_moves.Movk place imm16 rd = inserted place (place + 16) (imm16 * 2 ^ place) (operand width rd)
 
+-- MOVN, MOVZ and MOVK
 abbrev pub move_wide : MoveWide → (rd : ℕ) → ℕ
 move_wide i rd = move_wide_of i.width i.kind (16 * i.hw) i.imm16 rd
 
@@ -99,6 +105,7 @@ not_selected width false true x = (x + 1) % 2 ^ data_size width
 not_selected width true false x = complement width x
 not_selected width true true x = difference width 0 x
 
+-- CSEL, CSINC, CSINV and CSNEG
 abbrev pub conditional_select : ConditionalSelect → Flags → (rn rm : ℕ) → ℕ
 conditional_select i flags rn rm =
     if holds i.condition flags then operand i.width rn else not_selected i.width i.invert i.increment (operand i.width rm)
@@ -112,6 +119,7 @@ two_source_of width two_sources.Lsrv x y = shifted width shifts.Lsr x (y % data_
 two_source_of width two_sources.Asrv x y = shifted width shifts.Asr x (y % data_size width)
 two_source_of width two_sources.Rorv x y = shifted width shifts.Ror x (y % data_size width)
 
+-- UDIV, SDIV and shifts by a register
 abbrev pub two_source : TwoSource → (rn rm : ℕ) → ℕ
 two_source i rn rm = two_source_of i.width i.kind (operand i.width rn) (operand i.width rm)
 

@@ -36,6 +36,7 @@ flags_of_bits width x = record { negative = is_negative width x; zero = x == 0; 
 abbrev pub number_of_flags : Flags → ℕ
 number_of_flags f = 8 * bit f.negative + 4 * bit f.zero + 2 * bit f.carry + bit f.overflow
 
+-- flags by their number
 abbrev pub flags_of_number : ℕ → Flags
 flags_of_number n = record { negative = n / 8 % 2 == 1; zero = n / 4 % 2 == 1; carry = n / 2 % 2 == 1; overflow = n % 2 == 1 }
 
@@ -43,6 +44,7 @@ flags_of_number n = record { negative = n / 8 % 2 == 1; zero = n / 4 % 2 == 1; c
 abbrev pub addend : Width → (subtract : Bool) → ℕ → ℕ
 addend width subtract y = if subtract then complement width y else y
 
+-- the flags, where they are set
 abbrev pub flags_where : Bool → Flags → Option Flags
 flags_where set_flags flags = if set_flags then Some flags else None
 

@@ -32,9 +32,11 @@ joined (operand ∷ operands) = operand ++ codes ", " ++ joined operands
 abbrev pub line : List ℕ → List (List ℕ) → List ℕ
 line name operands = name ++ codes " " ++ joined operands
 
+-- the letter of a register's name
 abbrev pub width_letter : Width → List ℕ
 width_letter = elim [ W ↦ codes "w" | X ↦ codes "x" ]
 
+-- sp by its width
 abbrev pub sp_name : Width → List ℕ
 sp_name = elim [ W ↦ codes "wsp" | X ↦ codes "sp" ]
 
@@ -50,9 +52,11 @@ or_sp width n = if n == 31 then sp_name width else general width n
 abbrev pub destination : (set_flags : Bool) → Width → ℕ → List ℕ
 destination set_flags width n = if set_flags then general width n else or_sp width n
 
+-- an immediate
 abbrev pub number : ℕ → List ℕ
 number n = codes "#" ++ decimal n
 
+-- a signed immediate
 abbrev pub signed_number : ℤ → List ℕ
 signed_number n = codes "#" ++ signed_decimal n
 
@@ -65,6 +69,7 @@ mask_text None = codes "#?"
 abbrev pub shifted_left : ℕ → List ℕ
 shifted_left amount = if amount == 0 then [] else codes ", lsl #" ++ decimal amount
 
+-- it is LSL
 abbrev pub is_lsl : Shift → Bool
 is_lsl = elim [ Lsl ↦ true | _ ↦ false ]
 
@@ -105,16 +110,19 @@ pre_indexed base offset = codes "[" ++ or_sp X base ++ codes ", " ++ signed_numb
 abbrev pub post_indexed : ℕ → ℤ → List ℕ
 post_indexed base offset = codes "[" ++ or_sp X base ++ codes "], " ++ signed_number offset
 
+-- an address by its mode
 abbrev pub by_index_mode : IndexMode → ℕ → ℤ → List ℕ
 by_index_mode index_mode.Unscaled = offset_by
 by_index_mode index_mode.PostIndex = post_indexed
 by_index_mode index_mode.PreIndex = pre_indexed
 
+-- the same of a pair
 abbrev pub by_pair_mode : PairMode → ℕ → ℤ → List ℕ
 by_pair_mode pair_mode.Offset = offset_by
 by_pair_mode pair_mode.PostIndex = post_indexed
 by_pair_mode pair_mode.PreIndex = pre_indexed
 
+-- the base isn't changed
 abbrev pub is_unscaled : IndexMode → Bool
 is_unscaled = elim [ index_mode.Unscaled ↦ true | _ ↦ false ]
 
@@ -137,6 +145,7 @@ indexed base index extend scaled amount =
 abbrev pub pair_bytes : Width → ℤ
 pair_bytes = elim [ W ↦ pos 4 | X ↦ pos 8 ]
 
+-- it is ANDS
 abbrev pub is_ands : Logical → Bool
 is_ands = elim [ Ands ↦ true | _ ↦ false ]
 
@@ -144,6 +153,7 @@ is_ands = elim [ Ands ↦ true | _ ↦ false ]
 abbrev pub compared : (immediate : Bool) → Width → ℕ → List ℕ
 compared immediate width n = if immediate then number n else general width n
 
+-- the text of an instruction
 abbrev pub text : Instruction → List ℕ
 -- Data Processing -- Immediate
 -- ADD, ADDS, SUB, SUBS <Rd|SP>, <Rn|SP>, #<imm>{, LSL #12}

@@ -39,6 +39,7 @@ abbrev pub hand_of : List Hand → Hand
 hand_of [] = onlooker 0
 hand_of (h ∷ hs) = h
 
+-- a word of the board, and the number that it held
 abbrev pub sighting : ℕ → ℕ → Sighting
 sighting word number = record { word = word; number = number }
 

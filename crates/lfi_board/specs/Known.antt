@@ -20,6 +20,7 @@ board_receivers b = b.table.shared.key
 abbrev pub board_of : ReceiverSeat → TableId
 board_of s = s.seat.table_id
 
+-- what a receiver's seat knows
 abbrev pub known_by : ReceiverSeat → Hand
 known_by s = hand_of s.seat.me.0
 
@@ -27,9 +28,11 @@ known_by s = hand_of s.seat.me.0
 abbrev pub sequencer_board : SequencerSeat → TableId
 sequencer_board s = s.seat.table_id
 
+-- what a sequencer's seat knows
 abbrev pub known_by_sequencer : SequencerSeat → Hand
 known_by_sequencer s = hand_of s.seat.me.0
 
+-- the module of a sequencer's seat
 abbrev pub module_of : SequencerSeat → ℕ
 module_of s = s.of
 
@@ -37,5 +40,6 @@ module_of s = s.of
 abbrev pub watcher_board : WatchSeat → TableId
 watcher_board s = s.seat.table_id
 
+-- what a verifier's seat knows
 abbrev pub known_by_watcher : WatchSeat → Hand
 known_by_watcher s = hand_of s.seat.me.0

@@ -8,6 +8,7 @@ use Rattle.lfi_board.specs.declared.seats.WatchSeat.{WatchSeat}
 use Rattle.lfi_board.specs.Hands.{Follows, times, receiver_hand, onlooker}
 use Rattle.lfi_board.specs.Known.{board_id, board_receivers, board_of, known_by, sequencer_board, known_by_sequencer, module_of, watcher_board, known_by_watcher}
 
+-- the receivers' seats by their numbers
 abbrev pub Row : Type 0
 Row = List (Option ReceiverSeat)
 
@@ -27,6 +28,7 @@ abbrev pub NewSequencers : TableId → ℕ → ℕ → List SequencerSeat → Ty
 NewSequencers z n i [] = Unit {0}
 NewSequencers z n i (s ∷ ss) = ((sequencer_board s ≡ z) × (module_of s ≡ i) × (known_by_sequencer s ≡ onlooker n)) × NewSequencers z n (suc i) ss
 
+-- a seat of this board that has seen nothing
 abbrev pub IsNewWatcher : TableId → ℕ → WatchSeat → Type 0
 IsNewWatcher z n s = (watcher_board s ≡ z) × (known_by_watcher s ≡ onlooker n)
 
@@ -64,6 +66,7 @@ abbrev pub claims_in : ℕ → Option ReceiverSeat → ℕ
 claims_in m None = 0
 claims_in m (Some s) = times m (known_by s).claimed
 
+-- how often the seat at a place was answered `Mine` for module m
 abbrev pub claims_at : ℕ → Row → ℕ → ℕ
 claims_at m ss i = claims_in m (slice_index_or ss i None)
 

@@ -14,7 +14,7 @@ use Rattle.lfi_code.proofs.Begun.{words_append}
 abbrev pub cut_at : Beginning → CutWord → CutBeginning
 cut_at whole word = record { whole = whole; word = word }
 
--- a cut word has three bytes at the most, which spell no word
+-- a cut word has at most three bytes, which spell no word
 pub few_bytes : (word : CutWord) → length (bytes_of word) < 4
 few_bytes Nothing = omega arith
 few_bytes (One a) = omega arith

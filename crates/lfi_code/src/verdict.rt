@@ -32,6 +32,14 @@ impl fmt::Display for Verdict {
 }
 
 /// Judges code by all rules of a profile.
+///
+/// ```
+/// match judge_code(bytes, Profile::One) {
+///     Verdict::Lawful { words } => keep(bytes, words),
+///     Verdict::Refused(fault) => refuse(fault.word, fault.rule),
+///     Verdict::BadLength => refuse_file(),
+/// }
+/// ```
 pub fn judge_code(bytes: &[u8], profile: Profile) -> Verdict
     ensures { Checks profile bytes.now result }
 {

@@ -6,6 +6,7 @@ use Rattle.lfi_confinement.specs.Moves.{State}
 use Rattle.lfi_module.specs.declared.profile.Profile.TheVariants.{One}
 use Rattle.lfi_image.specs.Image.{Image}
 
+-- the words of a loop that stores, loads, calls its runtime, links and returns
 abbrev pub loop_words : List ℕ
 loop_words =
     -- 0: STR X0, [SP]

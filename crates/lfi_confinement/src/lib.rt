@@ -20,10 +20,6 @@
 //! - **The invariant is about the words that come next**: registers are lawful but for what the open need weakens, and
 //!   the instruction at pc, if there is one, meets that need; or it is calm, and a probe comes among so many (`Awaits`).
 //!   It asks for no number of them but that it isn't 0, so one proof serves both profiles.
-//! - **Bytes of a word are written through the lent slice of frames**: through the memory, one by one, each store of a
-//!   byte may change the pointer to the frames, which is then read anew.
-//! - The index of the memory is a table of 2^20 numbers of 32 bits, written at `new`: 4 MiB. Frames are one `Vec`,
-//!   which grows by doubling.
 #![tactic(auto)]
 
 mod cause;

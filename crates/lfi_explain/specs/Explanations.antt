@@ -14,6 +14,7 @@ use Rattle.lfi_explain.specs.Openers.{IsOpenerIf, IsNextOpener}
 use Rattle.lfi_explain.specs.Sentences.{unmet_in, sentence_text}
 use Rattle.lfi_explain.specs.Mendings.{mending_text}
 
+-- it is rule 10
 abbrev pub is_need_met : Rule → Bool
 is_need_met = elim [ NeedMet ↦ true | _ ↦ false ]
 
@@ -64,6 +65,7 @@ IsToldAt profile ws slot k None = IsLeastAt profile ws (length ws) k None
 IsToldAt profile ws slot k (Some e) =
     (rule : Rule) × IsLeastAt profile ws (length ws) k (Some rule) × Explains profile ws slot (record { word = k; rule = rule }) e
 
+-- as a list
 abbrev pub one_or_none : Option Explanation → List Explanation
 one_or_none (Some e) = e ∷ []
 one_or_none None = []
@@ -75,6 +77,7 @@ AreTold profile ws slot (suc k) all =
     (before : List Explanation) × (here : Option Explanation) × AreTold profile ws slot k before × IsToldAt profile ws slot k here
     × (all ≡ before ++ one_or_none here)
 
+-- an explanation with the end of its last line
 abbrev pub explanation_line : Explanation → List ℕ
 explanation_line e = explanation_text e ++ codes "\n"
 

@@ -51,6 +51,7 @@ AreListed profile ws slot (suc k) all =
     (before : List ListedWord) × (here : ListedWord) × AreListed profile ws slot k before × IsListed profile ws slot k here
     × (all ≡ before ++ here ∷ [])
 
+-- a word's line of a listing
 abbrev pub listed_line : ListedWord → List ℕ
 listed_line listed = listed_text listed ++ codes "\n"
 

@@ -20,6 +20,7 @@ use Rattle.lfi_explain.specs.Sentences.{unmet_in}
 abbrev pub shift_of : (bytes : ℕ) → ℕ
 shift_of bytes = if bytes == 1 then 0 else (if bytes == 2 then 1 else (if bytes == 4 then 2 else 3))
 
+-- the shift of a scaled index
 abbrev pub shift_text : (scaled : Bool) → (bytes : ℕ) → List ℕ
 shift_text true bytes = codes ", lsl #" ++ decimal (shift_of bytes)
 shift_text false bytes = []
@@ -53,6 +54,7 @@ at_text address = by_form address.form
     by_form forms.PostIndex = indexed_text address.base
     by_form (forms.Index register extend scaled) = sum_text address.base register scaled address.bytes
 
+-- what to write in place of an access
 abbrev pub access_text : Option Address → List ℕ
 access_text (Some address) = at_text address
 access_text None = codes "let it go through x18, x21, x23, x24 or sp"
@@ -66,6 +68,7 @@ abbrev pub address_text : Option ℕ → List ℕ
 address_text (Some register) = guarded_text (codes "x" ++ decimal register)
 address_text None = guarded_text (codes "xD")
 
+-- what to do about a target outside of the module
 abbrev pub target_text : List ℕ
 target_text = codes "let it go to a word of the module; code outside is called by ldr x30, [x21, #8j], j being 0 to 511, with blr x30 right after it"
 
@@ -104,5 +107,6 @@ way_text rules.TargetInside e = target_text
 way_text rules.BranchBounded e = bounded_text (branch_register_by e.at)
 way_text rules.NeedMet e = met_text (asked_in e)
 
+-- what to write in place of the word
 abbrev pub mending_text : Explanation → List ℕ
 mending_text e = way_text e.fault.rule e

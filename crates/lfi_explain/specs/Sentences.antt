@@ -47,14 +47,17 @@ abbrev pub through_text : Option Address → List ℕ
 through_text (Some address) = codes "; this one goes through " ++ or_sp X address.base ++ form_text address.form
 through_text None = []
 
+-- which register the word writes
 abbrev pub writes_text : Option ℕ → List ℕ
 writes_text (Some register) = codes "; this one writes x" ++ decimal register
 writes_text None = []
 
+-- where it goes
 abbrev pub goes_text : Option ℤ → List ℕ
 goes_text (Some place) = codes ", and this one goes to word " ++ signed_decimal place
 goes_text None = []
 
+-- which register it goes through
 abbrev pub branch_text : Option ℕ → List ℕ
 branch_text (Some register) = codes "; this one goes through " ++ general X register
 branch_text None = []
@@ -137,5 +140,6 @@ does_text rules.TargetInside e = codes "; it has " ++ decimal e.words ++ goes_te
 does_text rules.BranchBounded e = branch_text (branch_register_by e.at)
 does_text rules.NeedMet e = unmet_text (unmet_in e) (opened_by e.at) (gone_before e.opener) (is_calm_by e.at)
 
+-- what the rule asks, and what the word does
 abbrev pub sentence_text : Explanation → List ℕ
 sentence_text e = asks_text e.fault.rule ++ does_text e.fault.rule e

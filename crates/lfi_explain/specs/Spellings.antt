@@ -35,9 +35,11 @@ opened_by spelling = of spelling.instruction
     of (Some i) = opens_of spelling.profile i
     of None = Nothing
 
+-- nothing is asked of the next word
 abbrev pub is_nothing : Need → Bool
 is_nothing = elim [ Nothing ↦ true | _ ↦ false ]
 
+-- the word meets this need; one that nothing spells meets only the need of nothing
 abbrev pub is_met_by : Spelling → Need → Bool
 is_met_by spelling need = of spelling.instruction
   where
@@ -83,6 +85,7 @@ first_written i =
     if writes i first_address then Some first_address
     else (if writes i second_address then Some second_address else (if writes i third_address then Some third_address else None))
 
+-- the first address register that the word writes
 abbrev pub written_address_by : Spelling → Option ℕ
 written_address_by spelling = of spelling.instruction
   where
@@ -90,6 +93,7 @@ written_address_by spelling = of spelling.instruction
     of (Some i) = first_written i
     of None = None
 
+-- the text of a word: its instruction's, or `.inst` with its number
 abbrev pub instruction_text : (word : ℕ) → Option Instruction → List ℕ
 instruction_text word (Some i) = text i
 instruction_text word None = codes ".inst 0x" ++ hexadecimal 8 word

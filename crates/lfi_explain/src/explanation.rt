@@ -157,6 +157,14 @@ pub fn explain_word(
 }
 
 /// What is told of a fault of the words of a module in a slot, by a profile.
+///
+/// ```
+/// let code = Code::of(bytes);
+/// if let Verdict::Refused(fault) = judge_code(bytes, profile) {
+///     let told = explain(&code, ModuleNumber::at(0), fault, profile);
+///     write!(out, "{told}")?;   // the fault, the word, what its rule asks, and the mending
+/// }
+/// ```
 pub fn explain<W: Words>(
     words: &W,
     slot: ModuleNumber,

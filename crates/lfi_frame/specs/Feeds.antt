@@ -90,6 +90,7 @@ abbrev pub UsesHeader : Result Step (ℕ × FrameFault) → List ℕ → Type 0
 UsesHeader (Ok step) rest = Unit {0}
 UsesHeader (Err fault) rest = length rest + fault.0 ≡ 12
 
+-- whatever text the feed stands for, the answer uses bytes of a header
 abbrev pub IsHeaderUsed : Feed → Result Step (ℕ × FrameFault) → Type 0
 IsHeaderUsed old answer = (messages : List Message) (rest : List ℕ) → FeedStands old messages rest → UsesHeader answer rest
 
@@ -144,16 +145,20 @@ opened h = record { words = h.a; entry = h.b; profile = opened_by h.kind; pages 
 abbrev pub got_by : Header → Got
 got_by h = if is_page h.kind then Page h.«module» (size_by h.kind) h.a h.b else if is_open h.kind then Open h.«module» (opened h) else Close h.«module»
 
+-- what is told of a header: its fault, or what it brings
 abbrev pub answer_by : Option FrameFault → Header → Result Got FrameFault
 answer_by (Some fault) h = Err fault
 answer_by None h = Ok (got_by h)
 
+-- the same, by the header alone
 abbrev pub answer_to : Header → Result Got FrameFault
 answer_to h = answer_by (header_fault h) h
 
+-- where a feed is after a header
 abbrev pub position_by : Option FrameFault → Header → Position
 position_by (Some fault) h = position.Faulty fault
 position_by None h = if is_page h.kind then position.Payload h.b else position.Header 0
 
+-- the same, by the header alone
 abbrev pub position_after : Header → Position
 position_after h = position_by (header_fault h) h

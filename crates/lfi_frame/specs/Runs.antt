@@ -20,6 +20,7 @@ abbrev pub AreCalls : Feed → List Call → Feed → Type 0
 AreCalls from [] to = from ≡ to
 AreCalls from (call ∷ calls) to = (call.old ≡ from) × IsFed call.old call.piece call.answer call.new × AreCalls call.new calls to
 
+-- the bytes that a call used
 abbrev pub used_by : Call → List ℕ
 used_by call = take (used_in call.answer) call.piece
 
@@ -31,6 +32,7 @@ pub record Heard : Type 0 where
   pub index : ℕ
   pub payload : List ℕ
 
+-- what was heard, with what one answer brings
 abbrev pub hear_got : Got → Heard → List ℕ → Heard
 hear_got More heard used = heard
 hear_got (Open m extent) heard used = record heard { messages = heard.messages ++ open_message m extent ∷ [] }
@@ -39,14 +41,17 @@ hear_got (Payload false) heard used = record heard { payload = heard.payload ++ 
 hear_got (Payload true) heard used = record heard { messages = heard.messages ++ page_message heard.m heard.size heard.index (heard.payload ++ used) ∷ [] }
 hear_got (Close m) heard used = record heard { messages = heard.messages ++ close_message m ∷ [] }
 
+-- the same; a fault brings nothing
 abbrev pub hear_answer : Result Step (ℕ × FrameFault) → Heard → List ℕ → Heard
 hear_answer (Ok step) heard used = hear_got step.got heard used
 hear_answer (Err fault) heard used = heard
 
+-- what was heard after these calls
 abbrev pub hear : Heard → List Call → Heard
 hear heard [] = heard
 hear heard (call ∷ calls) = hear (hear_answer call.answer heard (used_by call)) calls
 
+-- before the first call
 abbrev pub nothing_heard : Heard
 nothing_heard = record { messages = []; m = 0; size = 0; index = 0; payload = [] }
 

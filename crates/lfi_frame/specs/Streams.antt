@@ -28,6 +28,7 @@ open_kind = elim [ One ↦ 1 | Two ↦ 4 ]
 abbrev pub is_open : ℕ → Bool
 is_open kind = kind == 1 || kind == 4
 
+-- the profile of a module that a message of this kind opens
 abbrev pub opened_by : ℕ → Profile
 opened_by kind = if kind == 4 then Two else One
 
@@ -35,6 +36,7 @@ opened_by kind = if kind == 4 then Two else One
 abbrev pub second_byte : (pages : ℕ) → ℕ
 second_byte pages = if pages == large_page then 2 else 0
 
+-- the page size that the second byte of an Open tells, in words
 abbrev pub pages_by : (second : ℕ) → ℕ
 pages_by second = if second == 2 then large_page else small_page
 
@@ -50,6 +52,7 @@ page_kind size = if size == large_page then 5 else 2
 abbrev pub is_page : ℕ → Bool
 is_page kind = kind == 2 || kind == 5
 
+-- the page size of a page's kind, in words
 abbrev pub size_by : ℕ → ℕ
 size_by kind = if kind == 5 then large_page else small_page
 

@@ -84,6 +84,15 @@ impl Feed {
     ///
     /// The fault of a header, with the bytes used, which are those up to the header's end. After a
     /// fault it uses nothing and answers that fault.
+    ///
+    /// ```
+    /// let mut feed = Feed::new();
+    /// while !piece.is_empty() {
+    ///     let step = feed.feed(piece)?;
+    ///     act_on(step.got, &piece[..step.used]);
+    ///     piece = &piece[step.used..];
+    /// }
+    /// ```
     pub fn feed(&mut self, piece: &[u8]) -> Result<Step, (usize, FrameFault)>
         ensures told { IsFed self.old piece.now result self.new }
         ensures range { IfOk result (λ step. IsInRange step.got) }

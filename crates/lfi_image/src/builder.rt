@@ -77,6 +77,15 @@ impl Builder {
     ///
     /// The first fault of the words placed and the page's own, which for the last page can be that its last word opens a
     /// need; and the page.
+    ///
+    /// ```
+    /// let mut builder = Builder::new(alloc, extent, slot)?;
+    /// while builder.due() > 0 {
+    ///     let page = JudgedPage::judge(next_page(), builder.placed(), extent.words(), extent.profile());
+    ///     builder.append(page)?;   // or the first fault, and the page
+    /// }
+    /// let image = builder.finish();
+    /// ```
     pub fn append(&mut self, page: JudgedPage) -> Result<(), (Fault, SealedPage)>
         requires module { page.words ≡ self.old.words }
         requires profile { page.profile ≡ self.old.profile }

@@ -4,6 +4,7 @@ use Rattle.lfi_rules.specs.Rules.{rule_number}
 use Rattle.lfi_image_file.specs.declared.fault.ImageFault.{ImageFault}
 use Rattle.lfi_image_file.specs.declared.fault.ImageFault.TheVariants.{Magic, Profile, Counts, Base, Truncated, More, Unlawful, NoMemory, Device}
 
+-- a fault's number, as it is printed
 abbrev pub number_of : ImageFault → ℕ
 number_of Magic = 1
 number_of Profile = 2

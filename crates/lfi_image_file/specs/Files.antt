@@ -15,9 +15,11 @@ abbrev pub header_of : (count entry : ℕ) → Profile → (slot : ℕ) → List
 header_of count entry profile slot =
     magic ++ little_bytes 4 count ++ little_bytes 4 entry ++ little_bytes 4 (profile_number profile) ++ little_bytes 8 (base_of slot)
 
+-- words as bytes, the lowest first
 abbrev pub code_of : List ℕ → List ℕ
 code_of words = flat_map (little_bytes 4) words
 
+-- the file of an image: its header and its code
 abbrev pub file_of : Image → List ℕ
 file_of image = header_of (length image.words) image.entry image.profile image.slot ++ code_of image.words
 

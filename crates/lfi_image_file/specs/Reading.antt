@@ -15,12 +15,15 @@ use Rattle.lfi_image_file.specs.Files.{magic}
 abbrev pub count_in : List ℕ → ℕ
 count_in header = little_number 4 (drop 4 header)
 
+-- the entry that a header names
 abbrev pub entry_in : List ℕ → ℕ
 entry_in header = little_number 4 (drop 8 header)
 
+-- the profile that it names
 abbrev pub profile_in : List ℕ → ℕ
 profile_in header = little_number 4 (drop 12 header)
 
+-- the base that it names
 abbrev pub base_in : List ℕ → ℕ
 base_in header = little_number 8 (drop 16 header)
 
@@ -28,6 +31,7 @@ base_in header = little_number 8 (drop 16 header)
 abbrev pub slot_at : ℕ → ℕ
 slot_at base = base / 2 ^ 33
 
+-- it is the base of a slot
 abbrev pub is_base : ℕ → Bool
 is_base base = nat_lt (slot_at base) module_count && base == base_of (slot_at base)
 

@@ -20,6 +20,7 @@ addresses_held from r =
 abbrev pub stack_held : (from : ℕ) → Registers → Bool
 stack_held from r = nat_le from (r.sp + stack_reach) && nat_lt r.sp (from + slot_size + stack_reach)
 
+-- why no run may start with these registers, the first reason in order
 abbrev pub refusal_of : (from : ℕ) → Registers → Option StartFault
 refusal_of from r =
     if x_at r registers.base == from then

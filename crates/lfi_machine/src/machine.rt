@@ -136,6 +136,16 @@ impl Machine {
     }
 
     /// So many steps, or until one is halted: why it ends, and how many were carried out.
+    ///
+    /// ```
+    /// let registers = start_registers(&image);
+    /// let mut machine = Machine::new(alloc, image, registers)?;
+    /// let (halt, steps) = machine.run(1_000_000, &mut runtime);
+    /// match halt {
+    ///     Halt::StepsUsed => go_on(machine),   // the next run begins where this one ended
+    ///     _ => tell(halt.number(), steps),
+    /// }
+    /// ```
     pub fn run<R: Runtime>(&mut self, steps: u64, runtime: &mut R) -> (Halt, u64)
         ensures within { result.1 ≤ steps }
         ensures used { (result.0 ≡ Halt.StepsUsed) ↔ (result.1 ≡ steps) }

@@ -113,7 +113,7 @@ fn code_of(alloc: Global, words: &[u32]) -> Result<Vec<u8>, AllocError> {
     Ok(code)
 }
 
-/// The page of these words, a page of code at the most.
+/// The page of these words, at most a page of code.
 fn page_of(alloc: Global, size: PageSize, words: &[u32]) -> Result<SealedPage, Fail>
     ensures { IfOk result (λ page. page.size ≡ size) }
 {

@@ -40,6 +40,7 @@ module _ {P : Type 0} where
   kind_seen bytes (Page page) = Page (bytes page)
   kind_seen bytes (End reason) = End reason
 
+  -- it holds of the page, where the item is one
   abbrev pub IfPage : (P → Type 0) → ItemKind P → Type 0
   IfPage is (Page page) = is page
   IfPage is kind = Unit {0}

@@ -22,15 +22,19 @@ pub record Share : Type 0 where
   pub strays : ℕ
   pub progress : Progress
 
+-- a module of which no message came
 abbrev pub nothing_yet : Share
 nothing_yet = record { items = []; strays = 0; progress = Unclaimed }
 
+-- one stray more
 abbrev pub with_stray : Share → Share
 with_stray s = record { items = s.items; strays = s.strays + 1; progress = s.progress }
 
+-- one item more, and how far the module is then
 abbrev pub with_item : Share → ItemView → Progress → Share
 with_item s item progress = record { items = s.items ++ item ∷ []; strays = s.strays; progress = progress }
 
+-- an item of module m
 abbrev pub item_of : (m ordinal : ℕ) → ExtentView → KindView → ItemView
 item_of m ordinal extent kind = record { «module» = m; ordinal = ordinal; extent = extent; kind = kind }
 
@@ -58,9 +62,11 @@ abbrev pub after_header : ℕ → Share → Progress → (size index len : ℕ) 
 after_header m s (Going extent p) size index len = after_page m extent p s size index len s
 after_header m s progress size index len = with_stray s
 
+-- the message is one of module m
 abbrev pub is_of : ℕ → Message → Bool
 is_of m message = (header_of message).«module» == m
 
+-- what the rest of a text makes of module m: a page whose header alone came may be none that is due
 abbrev pub after_rest : ℕ → Share → Rest → Share
 after_rest m s (unfinished of size index len) = if of == m then after_header m s s.progress size index len else s
 after_rest m s rest = s
@@ -70,6 +76,7 @@ abbrev pub share_of : Bool → ℕ → List Message → Rest → Share
 share_of claimed m messages rest =
     after_rest m (fold (λ s message. after_message claimed m s s.progress message) nothing_yet (filter (is_of m) messages)) rest
 
+-- the module is open
 abbrev pub is_going : Progress → Bool
 is_going (Going extent p) = true
 is_going progress = false
@@ -80,6 +87,7 @@ fault_by_cause cause.End inside = if inside then Some fault.Ended else None
 fault_by_cause cause.Failed inside = Some fault.ReadFailed
 fault_by_cause cause.Starved inside = Some fault.NoMemory
 
+-- the connection's fault: the rest's own, else that of what ended the input
 abbrev pub fault_of : Rest → Cause → Bool → Option FrameFault
 fault_of (faulty found) cause inside = Some found
 fault_of rest cause inside = fault_by_cause cause inside
@@ -88,6 +96,7 @@ fault_of rest cause inside = fault_by_cause cause inside
 abbrev pub reason_of : FrameFault → Reason
 reason_of = elim [ fault.NoMemory ↦ NoMemory | found ↦ Lost found ]
 
+-- the End of an open module whose connection has a fault
 abbrev pub ends_of : ℕ → Progress → Option FrameFault → List ItemView
 ends_of m (Going extent p) (Some found) = item_of m (p + 1) extent (End (reason_of found)) ∷ []
 ends_of m progress found = []
@@ -105,6 +114,7 @@ module _ (messages : List Message) (rest : List ℕ) (cause : Cause) (claimed : 
   abbrev pub is_inside : Bool
   is_inside = not (length rest == 0) || list_any (λ m. is_going (share_at m).progress) modules
 
+  -- the fault of this connection
   abbrev pub connection_fault : Option FrameFault
   connection_fault = fault_of (rest_of rest) cause is_inside
 
@@ -112,6 +122,7 @@ module _ (messages : List Message) (rest : List ℕ) (cause : Cause) (claimed : 
   abbrev pub items_of : ℕ → List ItemView
   items_of m = (share_at m).items ++ ends_of m (share_at m).progress connection_fault
 
+  -- the strays of all modules
   abbrev pub strays_of : ℕ
   strays_of = sum_by (λ m. (share_at m).strays) modules
 

@@ -18,6 +18,7 @@ abbrev pub page_of : KindView → List (List ℕ)
 page_of (Page bytes) = words_of bytes ∷ []
 page_of kind = []
 
+-- the words of each page
 abbrev pub pages_of : List ItemView → List (List ℕ)
 pages_of items = flat_map (λ item. page_of item.kind) items
 
@@ -26,6 +27,7 @@ abbrev pub reason_at : KindView → Option Reason → Option Reason
 reason_at (End reason) later = Some reason
 reason_at kind later = later
 
+-- why the module ended, by its first End
 abbrev pub end_of : List ItemView → Option Reason
 end_of [] = None
 end_of (item ∷ items) = reason_at item.kind (end_of items)
@@ -38,6 +40,7 @@ by_end extent items (Lost fault) = outcome.Lost fault
 by_end extent items (PageFault index) = outcome.PageFault index
 by_end extent items NoMemory = outcome.NoMemory
 
+-- by the first fault of the pages, else by the module's end
 abbrev pub IsOutcome : ExtentView → List ItemView → Option Fault → Outcome → Type 0
 IsOutcome extent items (Some fault) result = result ≡ outcome.Refused fault
 IsOutcome extent items None result = (reason : Reason) × (end_of items ≡ Some reason) × (result ≡ by_end extent items reason)
@@ -48,6 +51,7 @@ Load extent [] result = result ≡ outcome.Unused
 Load extent (item ∷ items) result =
     (fault : Option Fault) × FirstFault extent.profile (all_words (pages_of (item ∷ items))) extent.words fault × IsOutcome extent (item ∷ items) fault result
 
+-- the one list is the beginning of the other
 abbrev pub Begins : {A : Type 0} → List A → List A → Type 0
 Begins {A} us xs = (rest : List A) × (xs ≡ us ++ rest)
 

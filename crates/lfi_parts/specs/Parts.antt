@@ -27,7 +27,7 @@ pub record AreOthers (shared : Shared) (verifiers : List Verifier) (sequencers :
   pub workers : AreWorkers (intake_of shared) (lanes_of shared) verifiers sequencers
   pub seats : (m : ℕ) (s : Sequencer) → slice_get sequencers m ≡ Some s → sequencer_board (sequencer_seat_of s) ≡ board_id (board_at shared)
 
--- These are all its receivers: 8 at the most, as many as put to its intake and as its board has.
+-- These are all its receivers: at most 8, as many as put to its intake and as its board has.
 pub record AreReceivers (shared : Shared) (receivers : List Receiver) : Type 0 where
   pub count : length receivers ≡ (intake_of shared).putters
   pub few : length receivers ≤ 8

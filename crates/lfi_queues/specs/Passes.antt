@@ -76,6 +76,7 @@ module _ {X : Type 0} where
   abbrev pub AddsNone : (old new : PassView X) → Type 0
   AddsNone old new = new ≡ record old { calls = old.calls + 1 }
 
+  -- a pass that did nothing yet
   abbrev pub new_pass : QueueId → ℕ → PassView X
   new_pass queue k = record { queue = queue; number = k; calls = 0; items = []; rounds = no_rounds queue }
 

@@ -21,6 +21,7 @@ impl<V> Model for Auxiliary<V> {
 }
 
 impl<V> Auxiliary<V> {
+    /// A value of no bytes, which contracts see as what `M` reads off `x`.
     pub fn of<X, M: Reading<X, V>>(x: &X) -> Auxiliary<V>
         ensures { result.value ≡ M.reads x.now }
     {

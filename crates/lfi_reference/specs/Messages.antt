@@ -17,11 +17,13 @@ size_of large = if large then large_page else small_page
 abbrev pub extent_by : PlainExtent → ExtentView
 extent_by extent = record { words = extent.words; entry = extent.entry; profile = extent.profile; pages = size_of extent.large }
 
+-- a message of the plain program
 abbrev pub message_of : PlainMessage → Message
 message_of (Open m extent) = open_message m (extent_by extent)
 message_of (Page m large index payload) = page_message m (size_of large) index payload.items
 message_of (Close m) = close_message m
 
+-- a rest of the plain program
 abbrev pub rest_by : PlainRest → Rest
 rest_by Short = short
 rest_by (Faulty fault) = faulty fault

@@ -46,6 +46,7 @@ pub record IsLoaded (items : List ItemView) (loaded : Loaded) : Type 0 where
   pub outcome : Load (extent_of items) items loaded.outcome
   pub placed : Placed (extent_of items) (pages_of items) (pages_by loaded.placed.items)
 
+-- what is told of module m by the connection that claimed it, or by none
 abbrev pub IsReportedBy : Option ℕ → List Connection → ℕ → Loaded → Type 0
 IsReportedBy None made m loaded = (loaded.outcome ≡ outcome.Unused) × (loaded.placed.items ≡ [])
 IsReportedBy (Some place) made m loaded = (owner : Connection) × (slice_get made place ≡ Some owner) × IsLoaded (items_at owner.items.items m) loaded

@@ -18,6 +18,7 @@ abbrev pub branches : Instruction → Bool
 branches (instructions.BranchRegister i) = true
 branches i = is_some (target_of i 0)
 
+-- it is BRK
 abbrev pub is_breakpoint : Instruction → Bool
 is_breakpoint = elim [ instructions.Breakpoint i ↦ true | _ ↦ false ]
 
@@ -25,6 +26,7 @@ is_breakpoint = elim [ instructions.Breakpoint i ↦ true | _ ↦ false ]
 abbrev pub is_at_stack : Option Address → Bool
 is_at_stack = elim [ Some address ↦ address.base == registers.stack | None ↦ false ]
 
+-- nothing is asked of the next word
 abbrev pub is_nothing : Need → Bool
 is_nothing = elim [ needs.Nothing ↦ true | _ ↦ false ]
 

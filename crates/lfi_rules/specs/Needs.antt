@@ -25,6 +25,7 @@ is_load_64 size transfer = false
 abbrev pub is_offset : PairMode → Bool
 is_offset = elim [ pair_modes.Offset ↦ true | mode ↦ false ]
 
+-- it is 0
 abbrev pub is_zero : ℤ → Bool
 is_zero = elim [ pos n ↦ n == 0 | negsuc n ↦ false ]
 

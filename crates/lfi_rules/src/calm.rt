@@ -1,4 +1,4 @@
-//! The words that may stand between an instruction that moves sp and its probe: docs/DEFINITIONS.md, "Needs".
+//! The words that may stand between an instruction that moves sp and its probe: docs/PROFILE.md, "Needs".
 
 ghost use Rattle.std.specs.Prelude.{◌≡◌};
 ghost use Rattle.lfi_rules.specs.Registers.{stack};

@@ -13,7 +13,7 @@ use std::sync::Wait;
 use std::sync::atomic::{AtomicU64, Ordering};
 use std::thread::{Threads, yield_now};
 
-/// How often one that waits for other threads lets them go on at the most.
+/// How often one that waits for other threads lets them go on, at most.
 pub const YIELDS: u32 = 10_000_000;
 
 /// Waits until a counter is at this count. The answer is whether it came there.

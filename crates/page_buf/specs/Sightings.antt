@@ -6,9 +6,11 @@ use Rattle.page_buf.specs.declared.hand.Sighting.{Sighting}
 abbrev pub empty : ℕ
 empty = 0
 
+-- a slot that a seat is at
 abbrev pub busy : ℕ
 busy = 1
 
+-- a slot with a page
 abbrev pub full : ℕ
 full = 2
 

@@ -7,6 +7,7 @@ pub record Kept : Type 0 where
   pub table : List ℕ
   pub frames : List ℕ
 
+-- the bytes of a page that is kept
 abbrev pub page_size : ℕ
 page_size = 4096
 
