@@ -160,6 +160,9 @@ fn made_after(rt: &(impl Abort + AllocGlobal), builder: Builder, last: u32) -> O
 #[test]
 fn a_builder_that_comes_back_takes_its_page(rt: HostRuntime) {
     let two_words = Extent::of(WordCount::of(2), 1, Profile::One, PageSize::SMALL);
-    let builder = Builder::new(rt.alloc(), two_words, ModuleNumber::at(3)).expect(&rt, "no builder");
+    let builder = Builder::new(rt.alloc(), two_words, ModuleNumber::at(3)).expect(
+        &rt,
+        "no builder",
+    );
     assert!(rt; made_after(&rt, builder, RET) == Some([2, 2, 1, 3, NOP, RET]));
 }
