@@ -228,14 +228,15 @@ static int explanations(void) {
     return 0;
 }
 
-/* Any word, at any place, for any rule, has a text that fits. */
+/* Any word, at any place of a module of any number of words, for any rule, has a text that fits. */
 static int all_explained(void) {
     uint8_t text[2048];
     size_t size, longest = 0;
-    for (uint32_t i = 0; i < 20000; i++) {
+    for (uint32_t i = 0; i < 200000; i++) {
         uint32_t word = i * 2654435761u, before = word * 40503u + i;
-        lfi_fault f = {(word >> 5) % LFI_MAX_WORDS, 1 + i % 10};
-        CHECK(110, lfi_explain(1 + i / 16 % 2, i % 16, LFI_MAX_WORDS, &f, word, before, text, sizeof text, &size) == LFI_LAWFUL);
+        uint32_t words = i % 3 == 0 ? LFI_MAX_WORDS : i % 3 == 1 ? 1 + i / 3 : 1 + before % LFI_MAX_WORDS;
+        lfi_fault f = {i % 7 == 0 ? words - 1 : (word >> 5) % words, 1 + i % 10};
+        CHECK(110, lfi_explain(1 + i / 16 % 2, i % 16, words, &f, word, before, text, sizeof text, &size) == LFI_LAWFUL);
         if (size > longest) longest = size;
     }
     CHECK(111, longest < 1024);

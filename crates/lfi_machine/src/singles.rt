@@ -3,6 +3,7 @@
 ghost use Rattle.std.specs.Prelude.{◌≡◌, ◌≢◌, ℕ, [], ◌+◌, ◌-◌, ◌*◌, ◌^◌, ◌<◌, ◌≤◌, true, false, Some, None, IfOk, IfErr, if◌then◌else◌};
 ghost use Rattle.a64_word.specs.declared.instruction.Instruction.{Instruction};
 ghost use Rattle.a64_word.specs.Operands.{size_code};
+ghost use Rattle.a64_word.specs.Bytes.{low_bytes};
 ghost use Rattle.a64_effects.specs.Effects.{data_width, is_store};
 ghost use Rattle.sparse_memory.specs.Kept.{KeepsOnly};
 ghost use Rattle.a64_semantics.specs.Registers.{x_at};
@@ -79,6 +80,32 @@ pub(crate) fn located(slot: &Data, access: Access, bytes: u32, address: u64) -> 
     }
 }
 
+/// Stores the lowest bytes of a register from an address on.
+#[inline(always)]
+fn store(
+    slot: &mut Data,
+    registers: &Registers,
+    size: Size,
+    rt: Register,
+    address: u64,
+) -> Result<(), Halt>
+    requires { address + 2 ^ size_code size < 2 ^ 64 }
+    ensures transfers { Transfers slot.old slot.new registers.now registers.now
+        (record { stores = true; bytes = 2 ^ size_code size; address = address }) [] (low_bytes (2 ^ size_code size) (x_at registers.now rt)) result }
+    ensures keeps { KeepsOnly slot.old.kept slot.new.kept (address - base slot.old.image) (2 ^ size_code size) }
+    ensures image { slot.new.image ≡ slot.old.image }
+{
+    let bytes = bytes_of(size);
+    let offset = located(slot, Access::Store, bytes, address)?;
+    match slot.keep(offset, bytes) {
+        Ok(()) => {
+            slot.put(size, offset, registers.x(rt));
+            Ok(())
+        }
+        Err(_) => Err(Halt::NoMemory),
+    }
+}
+
 /// The transfer of a single access, at an address.
 #[inline(always)]
 fn transfer(
@@ -96,23 +123,17 @@ fn transfer(
     ensures keeps { KeepsOnly slot.old.kept slot.new.kept (address - base slot.old.image) (if is_store transfer then 2 ^ size_code size else 0) }
     ensures image { slot.new.image ≡ slot.old.image }
 {
-    let bytes = bytes_of(size);
     match transfer {
-        Transfer::Store => {
-            let offset = located(slot, Access::Store, bytes, address)?;
-            if slot.keep(offset, bytes).is_err() {
-                return Err(Halt::NoMemory);
-            }
-            slot.put(size, offset, registers.x(rt));
-        }
+        Transfer::Store => store(slot, registers, size, rt, address),
         _ => {
+            let bytes = bytes_of(size);
             let offset = located(slot, Access::Load, bytes, address)?;
             let value = slot.load(size, offset);
             let value = extended_load(size, transfer, value);
             registers.put(rt, data_width(size, transfer), value);
+            Ok(())
         }
     }
-    Ok(())
 }
 
 /// An index register, extended to 64 bits.

@@ -1,7 +1,7 @@
 ghost use Rattle.std.specs.Prelude.{◌≡◌, ℕ, ◌+◌, ◌-◌, ◌*◌, ◌^◌, ◌<◌, ◌≤◌, true, false, not, Bool, length, SomeIff, IfOk, IfErr, OnOk, OnErr, IsErrOf, IsTrue, Some, None};
 ghost use Rattle.a64_word.specs.Operands.{size_code};
 ghost use Rattle.a64_word.specs.Bytes.{number_at};
-ghost use Rattle.sparse_memory.specs.Kept.{byte_at, AreKept, KeepsOnly, SameBytes, SamePages, WritesByte, WritesNumber};
+ghost use Rattle.sparse_memory.specs.Kept.{byte_at, IsKept, AreKept, KeepsOnly, SameBytes, SamePages, WritesByte, WritesNumber};
 ghost use Rattle.lfi_image.specs.Image.{IsImage};
 ghost use Rattle.lfi_confinement.specs.Slots.{base, permission_at, is_permitted, byte_in};
 ghost use Rattle.lfi_confinement.specs.Moves.{first_denied};
@@ -10,8 +10,8 @@ ghost use Rattle.lfi_machine.specs.Owned.{memory, fault_number, writes_by, IsLoc
 use crate::map::{CODE, ENTRIES, ENTRY, SLOT, TABLE};
 use a64_word::Size;
 use lfi_image::CompleteImage;
-use sparse_memory::SparseMemory;
-use std::alloc::{AllocError, Global};
+use sparse_memory::{MemoryRefused, SparseMemory};
+use std::alloc::Global;
 use std::marker::Model;
 
 /// How bytes are accessed.
@@ -104,7 +104,7 @@ impl Data {
     /// # Errors
     ///
     /// Where memory was refused.
-    pub fn new(alloc: Global, image: CompleteImage) -> Result<Data, AllocError>
+    pub fn new(alloc: Global, image: CompleteImage) -> Result<Data, MemoryRefused>
         ensures image { IfOk result (λ d. d.image ≡ image) }
         ensures zero { IfOk result (λ d. (offset : ℕ) → byte_at d.kept offset ≡ 0) }
     {
@@ -250,13 +250,14 @@ impl Data {
     ///
     /// # Errors
     ///
-    /// Why the byte wasn't written: it may not be, or memory was refused.
+    /// Why the byte wasn't written: it may not be, or memory was refused for its page, which wasn't kept.
     pub fn write(&mut self, at: u64, byte: u8) -> Result<(), DataFault>
         ensures image { self.new.image ≡ self.old.image }
         ensures permitted { OnOk result (is_permitted true (permission_at self.old.image at) ≡ true) }
         ensures written { OnOk result (WritesByte self.old.kept self.new.kept (at - base self.old.image) byte) }
         ensures not_writable { IsErrOf result DataFault.NotWritable → is_permitted true (permission_at self.old.image at) ≡ false }
         ensures no_memory { IsErrOf result DataFault.NoMemory → is_permitted true (permission_at self.old.image at) ≡ true }
+        ensures not_kept { IsErrOf result DataFault.NoMemory → ¬ (IsKept self.old.kept (at - base self.old.image)) }
         ensures unchanged { OnErr result (SameBytes self.old.kept self.new.kept) }
         ensures only { KeepsOnly self.old.kept self.new.kept (at - base self.old.image) 1 }
     {
@@ -311,15 +312,16 @@ impl Data {
     ///
     /// # Errors
     ///
-    /// Where memory was refused; no byte has changed then.
+    /// Where memory was refused, for a page of these bytes that wasn't kept. No byte has changed then.
     #[inline(always)]
-    pub fn keep(&mut self, offset: u32, bytes: u32) -> Result<(), AllocError>
+    pub fn keep(&mut self, offset: u32, bytes: u32) -> Result<(), MemoryRefused>
         requires some { 1 ≤ bytes }
         requires few { bytes ≤ 16 }
         requires within { offset + bytes ≤ 2 ^ 32 }
         ensures ok { OnOk result (AreKept self.new.kept offset bytes) }
         ensures bytes { SameBytes self.old.kept self.new.kept }
         ensures only { KeepsOnly self.old.kept self.new.kept offset bytes }
+        ensures refused { OnErr result (¬ (AreKept self.old.kept offset bytes)) }
         ensures image { self.new.image ≡ self.old.image }
     {
         self.memory.keep(offset, bytes)

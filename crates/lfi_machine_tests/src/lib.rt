@@ -17,3 +17,5 @@ mod ordered;
 mod runs;
 #[cfg(test)]
 mod semantics;
+#[cfg(test)]
+mod whole_slot;

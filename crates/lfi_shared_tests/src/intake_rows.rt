@@ -76,6 +76,22 @@ fn parts_by_turns(rt: HostRuntime) {
     assert!(rt; put == [1, 1, 1] && is_emptied(&intake, &mut takes[0], 3));
 }
 
+/// Of three parts, which hold a1 and a2, b1 and c1, these are taken in the order a1, b1, c1, a2.
+#[test]
+fn three_parts_by_turns(rt: HostRuntime) {
+    let (intake, mut puts, mut takes) = Intake::<u64>::new(rt.alloc(), 3, 1).expect(
+        &rt,
+        "no intake",
+    );
+    let put = [
+        fill(&intake, &mut puts[0], 0, 1),
+        fill(&intake, &mut puts[0], 3, 1),
+        fill(&intake, &mut puts[1], 1, 1),
+        fill(&intake, &mut puts[2], 2, 1),
+    ];
+    assert!(rt; put == [1, 1, 1, 1] && is_emptied(&intake, &mut takes[0], 4));
+}
+
 /// Puts the numbers from 0 on, so many: how many were put, and the pass.
 fn put_all(intake: &Intake<u64>, mut pass: PutPass<u64>, count: u64) -> (u64, PutPass<u64>)
     requires { IsPass intake.now 1 0 pass }

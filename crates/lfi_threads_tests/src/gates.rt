@@ -105,7 +105,7 @@ impl Notices for Counted {
 }
 
 /// How many strays come, at most.
-const TURNS: u32 = 100_000_000;
+const TURNS: u32 = 10_000_000;
 
 /// A text, and then headers that are strays, until a notice has come.
 #[derive(Clone, Copy)]

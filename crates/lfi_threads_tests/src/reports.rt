@@ -6,6 +6,7 @@ mod modules;
 mod plain;
 mod rows;
 mod settled;
+mod spoiled;
 mod stage;
 mod streams;
 mod turned;

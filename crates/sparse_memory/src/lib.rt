@@ -2,8 +2,8 @@
 //!
 //! # How data flows
 //!
-//! A [`SparseMemory`] has an index of all 2^20 pages of 4,096 bytes, and the frames of those that are kept. `keep` makes sure of the
-//! pages of some bytes, and is the only call that takes memory. `put` and its kin write numbers of 1, 2, 4 and 8 bytes to
+//! A [`SparseMemory`] has an index of its pages of 4,096 bytes, and the frames of those that are kept. `keep` makes sure of the
+//! pages of some bytes, and is the only call that takes memory, beside `new`. `put` and its kin write numbers of 1, 2, 4 and 8 bytes to
 //! pages that are kept; `byte` and `word_2` to `word_8` read them. A byte that was never written is 0.
 //!
 //! # What it may not know
@@ -16,11 +16,17 @@
 //!   refused memory changes no byte.
 //! - **Bytes of a number are written through the lent slice of frames.** Through the memory, one by one, each store of a
 //!   byte may change the pointer to the frames, which is then read anew.
-//! - **The index is a table of 2^20 numbers of 32 bits**, written at `new`: 4 MiB. Frames are one `Vec`, which grows by
-//!   doubling.
+//! - **The index has two levels**: a number for each 4 MiB, and 1,024 numbers for the pages of those 4 MiB of which one is kept.
+//!   So `new` writes 8 KiB. All other 4 MiB share a first block of zeros, and a look needs no test. Frames are one `Vec`,
+//!   which grows by doubling.
+//! - **A refusal can't be made up**: only the calls that ask the allocator make a [`MemoryRefused`], and `keep` has a clause that
+//!   one comes only where a page wasn't kept.
 #![tactic(auto)]
 
-mod frames;
 mod memory;
+mod number;
+mod pages;
+mod refused;
 
 pub use memory::SparseMemory;
+pub use refused::MemoryRefused;

@@ -1,8 +1,7 @@
 //! Sparse memory: what was written is read, by single bytes and by words, within pages and across them.
 ghost use Rattle.std.specs.Prelude.{◌≤◌, ◌+◌, ◌^◌};
 
-use sparse_memory::SparseMemory;
-use std::alloc::AllocError;
+use sparse_memory::{MemoryRefused, SparseMemory};
 
 /// Three bytes before the end of a page.
 const SEAM: u32 = 0x5FFD;
@@ -11,7 +10,7 @@ const SEAM: u32 = 0x5FFD;
 const LAST: u32 = 0xFFFF_FFF8;
 
 /// Bytes of 0 where nothing was written, and no page kept.
-fn starts_empty(rt: &HostRuntime) -> Result<bool, AllocError> {
+fn starts_empty(rt: &HostRuntime) -> Result<bool, MemoryRefused> {
     let memory = SparseMemory::new(rt.alloc())?;
     let bytes = [memory.byte(0), memory.byte(0xFFFF_FFFF)];
     let small = [u32::from(memory.word_2(7)), memory.word_4(SEAM)];
@@ -21,7 +20,7 @@ fn starts_empty(rt: &HostRuntime) -> Result<bool, AllocError> {
 }
 
 /// Eight bytes at an offset, read again in each way; the bytes round them stay 0.
-fn writes_8(rt: &HostRuntime, offset: u32) -> Result<bool, AllocError>
+fn writes_8(rt: &HostRuntime, offset: u32) -> Result<bool, MemoryRefused>
     requires low { 8 ≤ offset }
     requires high { offset + 16 ≤ 2 ^ 32 }
 {
@@ -40,7 +39,7 @@ fn writes_8(rt: &HostRuntime, offset: u32) -> Result<bool, AllocError>
 }
 
 /// A number of 4 bytes, of 2 and a single byte.
-fn writes_smaller(rt: &HostRuntime) -> Result<bool, AllocError> {
+fn writes_smaller(rt: &HostRuntime) -> Result<bool, MemoryRefused> {
     let mut memory = SparseMemory::new(rt.alloc())?;
     memory.keep(SEAM, 4)?;
     memory.put_4(SEAM, 0x0102_0304);

@@ -147,3 +147,22 @@ fn places_are_reserved_before_the_module_is_known(rt: HostRuntime) {
     let made = made(&rt, builder, &[(NOP, None, 1024, 1), (RET, None, 1025, 0)]);
     assert!(rt; made == Some(Ok([1025, 1025, 1024, 15, NOP, RET])));
 }
+
+/// The numbers that a builder comes to which was asked for its image before its page came.
+fn made_after(rt: &(impl Abort + AllocGlobal), builder: Builder, last: u32) -> Option<Numbers> {
+    let Err(mut builder) = builder.finish() else {
+        return None;
+    };
+    append(rt, &mut builder, last);
+    made_by(builder).ok()
+}
+
+#[test]
+fn a_builder_that_comes_back_takes_its_page(rt: HostRuntime) {
+    let two_words = Extent::of(WordCount::of(2), 1, Profile::One, PageSize::SMALL);
+    let builder = Builder::new(rt.alloc(), two_words, ModuleNumber::at(3)).expect(
+        &rt,
+        "no builder",
+    );
+    assert!(rt; made_after(&rt, builder, RET) == Some([2, 2, 1, 3, NOP, RET]));
+}

@@ -7,7 +7,7 @@ use std::alloc::{AllocError, Global};
 use std::test::Fail;
 
 /// A word, and its text.
-const TEXTS: [(u32, &str); 107] = [
+const TEXTS: [(u32, &str); 130] = [
     (0x910043FF, "add sp, sp, #16"),
     (0x517FFFFF, "sub wsp, wsp, #4095, lsl #12"),
     (0xB10007FF, "adds xzr, sp, #1"),
@@ -115,6 +115,29 @@ const TEXTS: [(u32, &str); 107] = [
     (0x889FFC41, "stlr w1, [x2]"),
     (0x489FFC83, "stlrh w3, [x4]"),
     (0x089FFCC5, "stlrb w5, [x6]"),
+    (0x54000041, "b.ne .+8"),
+    (0x54000042, "b.cs .+8"),
+    (0x54000043, "b.cc .+8"),
+    (0x54000044, "b.mi .+8"),
+    (0x54000045, "b.pl .+8"),
+    (0x54000046, "b.vs .+8"),
+    (0x54000047, "b.vc .+8"),
+    (0x54000048, "b.hi .+8"),
+    (0x54000049, "b.ls .+8"),
+    (0x5400004A, "b.ge .+8"),
+    (0x5400004B, "b.lt .+8"),
+    (0x5400004C, "b.gt .+8"),
+    (0x5400004D, "b.le .+8"),
+    (0x5400004E, "b.al .+8"),
+    (0x5400004F, "b.nv .+8"),
+    (0x8B230041, "add x1, x2, w3, uxtb"),
+    (0x8B232041, "add x1, x2, w3, uxth"),
+    (0x8B234041, "add x1, x2, w3, uxtw"),
+    (0x8B236041, "add x1, x2, x3, uxtx"),
+    (0x8B238041, "add x1, x2, w3, sxtb"),
+    (0x8B23A041, "add x1, x2, w3, sxth"),
+    (0x8B23C041, "add x1, x2, w3, sxtw"),
+    (0x8B23E041, "add x1, x2, x3, sxtx"),
 ];
 
 /// Whether a word's instruction prints as this text.

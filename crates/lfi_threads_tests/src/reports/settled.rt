@@ -282,12 +282,15 @@ fn parts_that_stop_anywhere(rt: HostRuntime) {
 /// Modules 9, 3 and 12 are opened, and none is closed; of module 3 a page comes.
 const THREE_OPEN: [Sent; 4] = [Open(9, 1), Open(3, 1), Open(12, 1), Page(3, 0, 1, RET)];
 
+/// The same of modules 15, 3 and 0, the last, one between and the first.
+const FROM_THE_LAST: [Sent; 4] = [Open(15, 1), Open(3, 1), Open(0, 1), Page(3, 0, 1, RET)];
+
 /// Seven turns of the verifier work, and then there is no item.
 const SEVEN: Step = Verify(1000, 7, VerifierTurn::Idle);
 
 /// Whether the verifier takes seven items of the three modules, whose numbers are these digits.
-fn are_put_as(rt: &(impl Wait + AllocGlobal), digits: u64) -> bool {
-    match seen_of_sent(rt, &THREE_OPEN, &[], &[PUT_FIRST, SEVEN]) {
+fn are_put_as(rt: &(impl Wait + AllocGlobal), sent: &[Sent], digits: u64) -> bool {
+    match seen_of_sent(rt, sent, &[], &[PUT_FIRST, SEVEN]) {
         Ok(seen) => seen.did && seen.digits == digits,
         Err(_) => false,
     }
@@ -296,5 +299,6 @@ fn are_put_as(rt: &(impl Wait + AllocGlobal), digits: u64) -> bool {
 /// The order in which a connection puts its items, by what a verifier takes of them.
 #[test]
 fn ends_come_in_the_order_of_the_modules(rt: HostRuntime) {
-    assert!(rt; are_put_as(&rt, 0x193C_339C));
+    assert!(rt; are_put_as(&rt, &THREE_OPEN, 0x193C_339C));
+    assert!(rt; are_put_as(&rt, &FROM_THE_LAST, 0x1F30_303F));
 }

@@ -1,11 +1,11 @@
-use Rattle.std.proofs.Common.{[], true, ℕ, ◌+◌, ◌++◌, sym, ◌∙◌, subst}
+use Rattle.std.proofs.Common.{[], true, None, ◌≡◌, ℕ, ◌+◌, ◌++◌, refl, sym, ◌∙◌, subst}
 use Rattle.a64_word.specs.Bytes.{low_bytes}
 use Rattle.sparse_memory.specs.Kept.{AreKept}
 use Rattle.a64_effects.specs.Effects.{pair_bytes}
 use Rattle.a64_semantics.specs.Registers.{x_at}
 use Rattle.a64_semantics.specs.Accesses.{register_bytes}
-use Rattle.lfi_machine.specs.inner.Transfers.{Span, Transferred}
-use Rattle.lfi_machine.proofs.Keeping.{keeps_at, keeps_then}
+use Rattle.lfi_machine.specs.inner.Transfers.{Span, Transferred, denied_in}
+use Rattle.lfi_machine.proofs.Keeping.{keeps_at, keeps_then, unkept_at}
 use Rattle.lfi_machine.proofs.Moved.{pair_kept, second_kept}
 use Rattle.lfi_machine.proofs.pairs.store_pair.Goals as goal
 
@@ -41,3 +41,18 @@ returns-in-Ok-clause-keeps c =
 pub returns-in-Err-clause-keeps : goal.returns-in-Err-clause-keeps
 returns-in-Err-clause-keeps c =
     keeps_at c.args.slot.now c.keep.new.self.kept true (pair_bytes c.args.i.now.width) c.pair_bytes-bytes.result c.args.address c.in_ok-offset.offset c.in_ok-offset.ensures.ok c.pair_bytes-bytes.ensures.value c.keep.ensures.only
+
+pub returns-in-Err-clause-transfers : goal.returns-in-Err-clause-transfers
+returns-in-Err-clause-transfers c =
+    let owned = c.args.slot.now in
+    let at = c.in_ok-offset.ensures.ok in
+    let bytes = c.pair_bytes-bytes.ensures.value in
+    record {
+      why = (
+        refl,
+        subst (λ (n : ℕ). denied_in owned (record { stores = true; bytes = n; address = c.args.address }) ≡ None) bytes at.permitted,
+        unkept_at owned true (pair_bytes c.args.i.now.width) c.pair_bytes-bytes.result c.args.address c.in_ok-offset.offset at bytes c.in-Err.ensures.refused,
+      );
+      registers = refl;
+      bytes = c.keep.ensures.bytes;
+    }

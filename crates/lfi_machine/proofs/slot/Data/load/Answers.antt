@@ -7,6 +7,15 @@ use Rattle.lfi_machine.specs.Owned.{Owned}
 use Rattle.lfi_machine.proofs.Permits.{data_number}
 use Rattle.lfi_machine.proofs.slot.Data.load.Goals as goal
 
+pub returns-in-Half-clause-value : goal.returns-in-Half-clause-value
+returns-in-Half-clause-value c =
+    let inside = c.self.inside in
+    let first = c.self.invariant.2 in
+    let from = c.if-from-self.false in
+    let offset = c.from.ensures in
+    subst (λ (o : Owned). c.from-in-Half.result ≡ number_at (byte_in o.image (byte_at o.kept)) (2 ^ size_code c.args.size) c.args.offset) c.self.view_is
+    (rw c.in-Half.is (c.from-in-Half.ensures ∙ c.word_2.ensures ∙ sym (data_number inside.image (byte_at inside.memory) 2 c.args.offset (omega (arith, first, from, offset)))))
+
 pub returns-in-Word-clause-value : goal.returns-in-Word-clause-value
 returns-in-Word-clause-value c =
     let inside = c.self.inside in

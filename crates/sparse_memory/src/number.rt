@@ -1,28 +1,7 @@
-ghost use Rattle.std.specs.Prelude.{◌≡◌, ℕ, ◌+◌, ◌<◌, ◌≤◌, ◌==◌, if◌then◌else◌, length, OnOk, OnErr, IfOk, slice_index};
+//! Numbers in a slice of bytes, the lowest byte first.
+
+ghost use Rattle.std.specs.Prelude.{◌≡◌, ℕ, ◌+◌, ◌<◌, ◌≤◌, ◌==◌, if◌then◌else◌, length, slice_index};
 ghost use Rattle.a64_word.specs.Bytes.{number_at, low_bytes, written};
-
-use std::alloc::{AllocError, Global};
-
-/// A table of zeros.
-pub(crate) fn zero_table(alloc: Global, count: usize) -> Result<Vec<u32>, AllocError>
-    ensures length { IfOk result (λ v. length v.items ≡ count) }
-    ensures zero { IfOk result (λ v. (k : ℕ) → slice_index v.items k ≡ 0) }
-{
-    vec![in alloc; 0; count]
-}
-
-/// Makes the bytes longer by zeros.
-pub(crate) fn grow(bytes: &mut Vec<u8>, by: usize) -> Result<(), AllocError>
-    ensures length { OnOk result (length bytes.new.items ≡ length bytes.old.items + by) }
-    ensures front { OnOk result ((k : ℕ) → k < length bytes.old.items → slice_index bytes.new.items k ≡ slice_index bytes.old.items k) }
-    ensures zero { OnOk result ((k : ℕ) → length bytes.old.items ≤ k → slice_index bytes.new.items k ≡ 0) }
-    ensures err { OnErr result (bytes.new.items ≡ bytes.old.items) }
-{
-    match bytes.len().checked_add(by) {
-        Some(len) => bytes.resize(len, 0),
-        None => Err(AllocError),
-    }
-}
 
 /// The number that two bytes spell.
 #[inline(always)]
