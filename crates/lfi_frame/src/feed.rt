@@ -2,7 +2,7 @@
 //!
 //! Source of the format: docs/PROFILE.md, "Streams".
 
-ghost use Rattle.std.specs.Prelude.{◌≡◌, ◌≢◌, ℕ, ◌<◌, ◌≤◌, ◌⊎◌, List, [], length, Result, Ok, Err, Option, Some, None, IfSome, IfNone, IfOk, All, is_some};
+ghost use Rattle.std.specs.Prelude.{◌≡◌, ◌≢◌, ℕ, ◌+◌, ◌<◌, ◌≤◌, ◌⊎◌, List, [], ◌++◌, take, drop, length, Result, Ok, Err, Option, Some, None, IfSome, IfNone, IfOk, All, is_some};
 ghost use Rattle.lfi_frame.specs.inner.Positions.{filled_at, left_at, is_between};
 
 use crate::answer::{Got, Step};
@@ -28,6 +28,19 @@ pub struct Feed {
     position: Position,
     ghost header_room: { filled_at position < 12 },
     ghost payload_left: { 0 < left_at position },
+}
+
+/// Puts bytes into a header, from a place on. Mostly they are all of it, and then they are moved as a number of 12 bytes.
+#[inline(always)]
+fn fill(held: &mut [u8; HEADER_BYTES], filled: usize, bytes: &[u8])
+    requires fits { filled + length bytes.now ≤ 12 }
+    ensures after { held.new ≡ take filled held.old ++ (bytes.now ++ drop (filled + length bytes.now) held.old) }
+    ensures len { length held.new ≡ 12 }
+{
+    match <[u8; HEADER_BYTES]>::try_from(bytes) {
+        Ok(whole) => *held = whole,
+        Err(_) => held[filled..filled + bytes.len()].copy_from_slice(bytes),
+    }
 }
 
 impl Feed {
@@ -128,7 +141,7 @@ impl Feed {
         ensures fault { feed_fault self.new ≡ fault_told result }
     {
         let used = piece.len().min(HEADER_BYTES - filled);
-        self.held[filled..filled + used].copy_from_slice(&piece[..used]);
+        fill(&mut self.held, filled, &piece[..used]);
         let filled = filled + used;
         if filled < HEADER_BYTES {
             self.position = Position::Header { filled };
