@@ -55,7 +55,7 @@ sum_in_slot r b distance slot e room first last = omega arith
 
 -- An access near above its base, by a sum in w22.
 pub same_near : (size : Size) (transfer : Transfer) (rn rt imm12 distance : ℕ) → distance ≡ imm12 * 2 ^ size_code size → eqb rn 31 ≡ false → eqb rt 22 ≡ false
-    → DoesTheSame (sum_of_immediate false false distance rn ∷ access_of size transfer 22 rt ∷ [])
+    → DoesTheSame (sum_of_immediate 22 false false distance rn ∷ access_of size transfer 22 rt ∷ [])
     (instructions.UnsignedOffset (record { size = size; transfer = transfer; imm12 = imm12; rn = rn; rt = rt }))
 same_near size transfer rn rt imm12 distance far other data_other s whole slot =
     let lies = rw other at slot in
@@ -63,7 +63,7 @@ same_near size transfer rn rt imm12 distance far other data_other s whole slot =
     let b = x_at r rn in
     let small = whole.fit rn in
     let some = some_bytes size in
-    let between = after (sum_of_immediate false false distance rn) s in
+    let between = after (sum_of_immediate 22 false false distance rn) s in
     let r2 = between.registers in
     let v : ℕ = (b % 4294967296 + distance) % 4294967296 in
     let a : ℕ = (b + imm12 * 2 ^ size_code size) % 18446744073709551616 in

@@ -1,8 +1,9 @@
 -- Instructions that stand after a need.
-use Rattle.std.proofs.Common.{◌≡◌, ◌≢◌, ℕ, ◌<◌, ◌≤◌, eqb, List, [], ◌∷◌, ◌++◌, Bool, true, false, refl, subst, sym, arith, lit≤, true≢false, inl, inr, None}
-use Rattle.std.specs.Prelude.{if◌then◌else◌, ◌||◌, ◌&&◌, not, pos}
-use Rattle.std.proofs.lemmas.Bool.{and_left, and_right, or_right, or_cases, and_parts, or_parts, not-true}
+use Rattle.std.proofs.Common.{◌≡◌, ◌≢◌, ℕ, ◌<◌, ◌≤◌, eqb, List, [], ◌∷◌, ◌++◌, Bool, true, false, refl, ap, ◌∙◌, subst, sym, arith, lit≤, true≢false, inl, inr, None}
+use Rattle.std.specs.Prelude.{if◌then◌else◌, ◌⊎◌, ◌||◌, ◌&&◌, not, pos}
+use Rattle.std.proofs.lemmas.Bool.{and_left, and_right, or_left, or_right, or_cases, and_parts, or_parts, not-true, eqb-true, cases_Bool}
 use Rattle.lfi_module.specs.declared.profile.Profile.{Profile}
+use Rattle.lfi_module.specs.declared.profile.Profile.TheVariants.{Two}
 use Rattle.a64_word.specs.declared.instruction.Instruction.{Instruction}
 use Rattle.a64_word.specs.declared.instruction.Instruction.TheVariants as instructions
 use Rattle.a64_word.specs.declared.operands.Width.TheVariants as widths
@@ -30,14 +31,15 @@ use Rattle.a64_word.specs.Operands.{bit, sf, size_code, transfer_code, branch_co
 use Rattle.a64_word.specs.declared.operands.BranchKind.{BranchKind}
 use Rattle.a64_word.specs.declared.operands.BranchKind.TheVariants as kinds
 use Rattle.lfi_rules.specs.Guard.{is_x}
-use Rattle.a64_effects.specs.Uses.{Use, general}
-use Rattle.a64_effects.specs.Effects.{is_store, data_width, writes_of, address_of}
+use Rattle.a64_effects.specs.Uses.{Use, general, or_sp, width_in}
+use Rattle.a64_effects.specs.Effects.{is_store, is_ands, data_width, ordered_transfer, writes_of, address_of}
 use Rattle.lfi_rules.specs.Rules.{is_confined, is_bounded}
 use Rattle.lfi_rules.specs.Needs.{loads_link, loads_entry, moves_stack, is_load_64}
 use Rattle.lfi_rules.specs.inner.Quiet.{IsUnreserved}
-use Rattle.lfi_rules.proofs.Avoiding.{Spares, spares_none, spares_one, spares_more, spares_free, spares_offset, link_kept, stack_kept}
+use Rattle.lfi_rules.proofs.Avoiding.{Spares, spares_none, spares_one, spares_more, spares_free, spares_offset, link_kept, stack_kept, Avoids, avoids_none, avoids_link, avoids_more, no_stack}
 use Rattle.lfi_mends.specs.Mends.{Stands, Leads, KeepsRules}
-use Rattle.lfi_mends.specs.Registers.{is_reserved, may_move, may_move_two}
+use Rattle.lfi_mends.specs.inner.Computing.{may_compute, is_computing}
+use Rattle.lfi_mends.specs.Registers.{is_reserved, is_free, may_hold, may_move, may_move_two, holds_link}
 
 -- One more instruction at the end.
 pub one_more : (p : Profile) (before between : Need) (is : List Instruction) (i : Instruction) → Leads p before is between → Stands p between i
@@ -251,15 +253,6 @@ link_access_stands p rm index =
     (spelled p (link_access_of rm) refl tt (lit≤ tt, (lit≤ tt, (lit≤ tt, (lit≤ tt, (index, (lit≤ tt, (lit≤ tt, (lit≤ tt, (lit≤ tt, (lit≤ tt, tt)))))))))))
     (link_access_kept rm) refl
 
--- One that loads x30, and the guard of it.
-pub keeps_guarded : (p : Profile) (is one two : List Instruction) (i guard : Instruction) → one ≡ is ++ i ∷ [] → two ≡ one ++ guard ∷ [] → KeepsRules p is → Stands p Nothing i
-    → opens_of p i ≡ Guard → Stands p Guard guard → opens_of p guard ≡ Nothing → KeepsRules p two
-keeps_guarded p is one two i guard e f keeps s opens met closes =
-    subst (λ l. Leads p Nothing l Nothing) (sym f)
-    (subst (λ need. Leads p Nothing (one ++ guard ∷ []) need) closes (one_more p Nothing Guard one guard
-    (subst (λ l. Leads p Nothing l Guard) (sym e) (subst (λ need. Leads p Nothing (is ++ i ∷ []) need) opens (one_more p Nothing Nothing is i keeps s)))
-    met))
-
 -- ---- branches through a register
 abbrev pub branch_of : BranchKind → ℕ → Instruction
 branch_of kind rn = instructions.BranchRegister (record { kind = kind; rn = rn })
@@ -311,25 +304,35 @@ branch_stands p kind rn below h =
     (branch_kept kind rn h) refl
 
 -- ---- sums into w22
-abbrev pub sum_of_immediate : (subtract shifted : Bool) (imm12 rn : ℕ) → Instruction
-sum_of_immediate subtract shifted imm12 rn = instructions.AddSubImmediate (record {
+-- a register in which a sum may be held, as W
+held : (r : ℕ) → may_hold r ≡ true → Spares (or_sp r widths.W [])
+held r h = elim (or_cases (eqb r 22) (is_free r) h) [
+  | inl offset ↦ subst (λ n. Spares (or_sp n widths.W [])) (sym (eqb-true r 22 offset)) spares_offset
+  | inr free ↦
+      let tests = and_parts _ _ free in
+      spares_free r widths.W (record { unreserved = unreserved r (not-true _ tests.0); stack = not-true _ tests.1 })
+]
+
+abbrev pub sum_of_immediate : (into : ℕ) → (subtract shifted : Bool) → (imm12 rn : ℕ) → Instruction
+sum_of_immediate into subtract shifted imm12 rn = instructions.AddSubImmediate (record {
   width = widths.W;
   subtract = subtract;
   set_flags = false;
   shifted = shifted;
   imm12 = imm12;
   rn = rn;
-  rd = 22;
+  rd = into;
 })
 
-pub immediate_stands : (p : Profile) (subtract shifted : Bool) (imm12 rn : ℕ) → imm12 < 4096 → rn < 32 → Stands p Nothing (sum_of_immediate subtract shifted imm12 rn)
-immediate_stands p subtract shifted imm12 rn fits below =
-    stands p Nothing (sum_of_immediate subtract shifted imm12 rn) _
-    (spelled p (sum_of_immediate subtract shifted imm12 rn) refl tt (lit≤ tt, (bit_fits subtract, (lit≤ tt, (lit≤ tt, (bit_fits shifted, (fits, (below, (lit≤ tt, tt)))))))))
-    (kept_sparing (sum_of_immediate subtract shifted imm12 rn) _ refl spares_offset refl refl) refl
+pub immediate_stands : (p : Profile) (into : ℕ) (subtract shifted : Bool) (imm12 rn : ℕ) → imm12 < 4096 → rn < 32 → into < 32 → may_hold into ≡ true
+    → Stands p Nothing (sum_of_immediate into subtract shifted imm12 rn)
+immediate_stands p into subtract shifted imm12 rn fits below to holds =
+    stands p Nothing (sum_of_immediate into subtract shifted imm12 rn) _
+    (spelled p (sum_of_immediate into subtract shifted imm12 rn) refl tt (lit≤ tt, (bit_fits subtract, (lit≤ tt, (lit≤ tt, (bit_fits shifted, (fits, (below, (to, tt)))))))))
+    (kept_sparing (sum_of_immediate into subtract shifted imm12 rn) _ refl (held into holds) refl refl) refl
 
-abbrev pub sum_of_index : (amount rm rn : ℕ) → Instruction
-sum_of_index amount rm rn = instructions.AddSubExtended (record {
+abbrev pub sum_of_index : (into amount rm rn : ℕ) → Instruction
+sum_of_index into amount rm rn = instructions.AddSubExtended (record {
   width = widths.W;
   subtract = false;
   set_flags = false;
@@ -337,14 +340,15 @@ sum_of_index amount rm rn = instructions.AddSubExtended (record {
   amount = amount;
   rm = rm;
   rn = rn;
-  rd = 22;
+  rd = into;
 })
 
-pub index_sum_stands : (p : Profile) (amount rm rn : ℕ) → amount ≤ 4 → rm < 32 → rn < 32 → Stands p Nothing (sum_of_index amount rm rn)
-index_sum_stands p amount rm rn fits index below =
-    stands p Nothing (sum_of_index amount rm rn) _
-    (spelled p (sum_of_index amount rm rn) refl fits (lit≤ tt, (lit≤ tt, (lit≤ tt, (lit≤ tt, (index, (lit≤ tt, (omega arith, (below, (lit≤ tt, tt))))))))))
-    (kept_sparing (sum_of_index amount rm rn) _ refl spares_offset refl refl) refl
+pub index_sum_stands : (p : Profile) (into amount rm rn : ℕ) → amount ≤ 4 → rm < 32 → rn < 32 → into < 32 → may_hold into ≡ true
+    → Stands p Nothing (sum_of_index into amount rm rn)
+index_sum_stands p into amount rm rn fits index below to holds =
+    stands p Nothing (sum_of_index into amount rm rn) _
+    (spelled p (sum_of_index into amount rm rn) refl fits (lit≤ tt, (lit≤ tt, (lit≤ tt, (lit≤ tt, (index, (lit≤ tt, (omega arith, (below, (to, tt))))))))))
+    (kept_sparing (sum_of_index into amount rm rn) _ refl (held into holds) refl refl) refl
 
 -- ---- a base that is changed
 abbrev pub changed_of : (subtract : Bool) (imm12 rn : ℕ) → Instruction
@@ -460,3 +464,196 @@ stack_stands p =
 -- One instruction alone.
 pub leads_alone : (p : Profile) (need : Need) (is : List Instruction) (i : Instruction) → is ≡ i ∷ [] → Stands p need i → opens_of p i ≡ Nothing → Leads p need is Nothing
 leads_alone p need is i e s opens = subst (λ l. Leads p need l Nothing) (sym e) (s, opens)
+
+-- ---- instructions that only compute
+-- a register that they may compute, as an operand of which number 31 is zr
+computes : (r : ℕ) (w : Width) → may_compute w r ≡ true → Spares (general r w [])
+computes r w h = elim (or_cases (not (is_reserved r)) _ h) [
+  | inl free ↦ spares_one r w (unreserved r (not-true _ free))
+  | inr offset ↦ let tests = and_parts _ _ offset in narrow r w (eqb-true r 22 tests.0) tests.1
+]
+  where
+    narrow : (r : ℕ) (w : Width) → r ≡ 22 → not (is_x w) ≡ true → Spares (general r w [])
+    narrow r widths.W e h = subst (λ n. Spares (general n widths.W [])) (sym e) spares_offset
+    narrow r widths.X e h = absurd (true≢false (sym h))
+
+-- and as one of which it would be sp
+computes_other : (r : ℕ) (w : Width) → may_compute w r ≡ true → eqb r 31 ≡ false → Spares (or_sp r w [])
+computes_other r w h other = subst (λ b. Spares (if b then [] else or_sp r w [])) other (computes r w h)
+
+computes_either : (flags : Bool) (r : ℕ) (w : Width) → may_compute w r ≡ true → eqb r 31 ≡ false → Spares (if flags then general r w [] else or_sp r w [])
+computes_either true r w h other = computes r w h
+computes_either false r w h other = computes_other r w h other
+
+by_spares : (p : Profile) (i : Instruction) (uses : List Use) → is_of p i ≡ true → IsLegal i → AllFit (fields i) → writes_of i ≡ uses → Spares uses
+    → is_confined (address_of i) ≡ true → is_bounded i ≡ true → opens_of p i ≡ Nothing → Stands p Nothing i × (opens_of p i ≡ Nothing)
+by_spares p i uses has legal fits e s confined bounded opens = (stands p Nothing i _ (spelled p i has legal fits) (kept_sparing i uses e s confined bounded) refl, opens)
+
+pub computing_stands : (p : Profile) (i : Instruction) → is_computing i ≡ true → IsLegal i → AllFit (fields i) → Stands p Nothing i × (opens_of p i ≡ Nothing)
+computing_stands p (instructions.AddSubImmediate x) h legal fits =
+    let tests = and_parts _ _ h in
+    let other = not-true _ tests.1 in
+    by_spares p (instructions.AddSubImmediate x) _ refl legal fits refl (computes_either x.set_flags x.rd x.width tests.0 other) refl refl
+    (opens_nothing p (instructions.AddSubImmediate x) refl refl (and_left _ _ (and_right _ _ other)))
+computing_stands p (instructions.LogicalImmediate x) h legal fits =
+    let tests = and_parts _ _ h in
+    by_spares p (instructions.LogicalImmediate x) _ refl legal fits refl (computes_either (is_ands x.operation) x.rd x.width tests.0 (not-true _ tests.1)) refl refl
+    (opens_nothing p (instructions.LogicalImmediate x) refl refl refl)
+computing_stands p (instructions.MoveWide x) h legal fits =
+    by_spares p (instructions.MoveWide x) _ refl legal fits refl (computes x.rd x.width h) refl refl (opens_nothing p (instructions.MoveWide x) refl refl refl)
+computing_stands p (instructions.Bitfield x) h legal fits =
+    by_spares p (instructions.Bitfield x) _ refl legal fits refl (computes x.rd x.width h) refl refl (opens_nothing p (instructions.Bitfield x) refl refl refl)
+computing_stands p (instructions.LogicalShifted x) h legal fits =
+    by_spares p (instructions.LogicalShifted x) _ refl legal fits refl (computes x.rd x.width h) refl refl (opens_nothing p (instructions.LogicalShifted x) refl refl refl)
+computing_stands p (instructions.AddSubShifted x) h legal fits =
+    by_spares p (instructions.AddSubShifted x) _ refl legal fits refl (computes x.rd x.width h) refl refl (opens_nothing p (instructions.AddSubShifted x) refl refl refl)
+computing_stands p (instructions.AddSubExtended x) h legal fits =
+    let tests = and_parts _ _ h in
+    by_spares p (instructions.AddSubExtended x) _ refl legal fits refl (computes_either x.set_flags x.rd x.width tests.0 (not-true _ tests.1)) refl refl
+    (opens_nothing p (instructions.AddSubExtended x) refl refl refl)
+computing_stands p (instructions.ConditionalSelect x) h legal fits =
+    by_spares p (instructions.ConditionalSelect x) _ refl legal fits refl (computes x.rd x.width h) refl refl (opens_nothing p (instructions.ConditionalSelect x) refl refl refl)
+computing_stands p (instructions.TwoSource x) h legal fits =
+    by_spares p (instructions.TwoSource x) _ refl legal fits refl (computes x.rd x.width h) refl refl (opens_nothing p (instructions.TwoSource x) refl refl refl)
+computing_stands p (instructions.CountLeadingZeros x) h legal fits =
+    by_spares p (instructions.CountLeadingZeros x) _ refl legal fits refl (computes x.rd x.width h) refl refl (opens_nothing p (instructions.CountLeadingZeros x) refl refl refl)
+computing_stands p (instructions.MultiplyAdd x) h legal fits =
+    by_spares p (instructions.MultiplyAdd x) _ refl legal fits refl (computes x.rd x.width h) refl refl (opens_nothing p (instructions.MultiplyAdd x) refl refl refl)
+computing_stands p (instructions.MultiplyHigh x) h legal fits =
+    by_spares p (instructions.MultiplyHigh x) _ refl legal fits refl (computes x.rd widths.X h) refl refl (opens_nothing p (instructions.MultiplyHigh x) refl refl refl)
+computing_stands p i h legal fits = absurd (true≢false (sym h))
+
+-- ---- two registers at x18, of which one is x30
+abbrev pub link_pair_of : (rt2 rt : ℕ) → Instruction
+link_pair_of rt2 rt = pair_of widths.X true rt2 rt
+
+link_pair_cases : (rt2 rt : ℕ) → holds_link widths.X rt2 rt ≡ true
+    → ((eqb rt 30 && not (is_reserved rt2)) ≡ true) ⊎ ((eqb rt2 30 && not (is_reserved rt)) ≡ true)
+link_pair_cases rt2 rt h = or_cases (eqb rt 30 && not (is_reserved rt2)) (eqb rt2 30 && not (is_reserved rt)) h
+
+link_pair_avoids : (rt2 rt : ℕ) → holds_link widths.X rt2 rt ≡ true → Avoids (general rt widths.X (general rt2 widths.X []))
+link_pair_avoids rt2 rt h = elim (link_pair_cases rt2 rt h) [
+  | inl first ↦
+      let tests = and_parts (eqb rt 30) (not (is_reserved rt2)) first in
+      subst (λ n. Avoids (general n widths.X (general rt2 widths.X []))) (sym (eqb-true rt 30 tests.0))
+      (avoids_link _ (avoids_more rt2 widths.X [] (unreserved rt2 (not-true _ tests.1)) avoids_none))
+  | inr second ↦
+      let tests = and_parts (eqb rt2 30) (not (is_reserved rt)) second in
+      subst (λ n. Avoids (general rt widths.X (general n widths.X []))) (sym (eqb-true rt2 30 tests.0))
+      (avoids_more rt widths.X _ (unreserved rt (not-true _ tests.1)) (avoids_link [] avoids_none))
+]
+
+link_pair_loads : (rt2 rt : ℕ) → holds_link widths.X rt2 rt ≡ true → loads_link (link_pair_of rt2 rt) ≡ true
+link_pair_loads rt2 rt h = elim (link_pair_cases rt2 rt h) [
+  | inl first ↦ or_left (eqb rt 30) (eqb rt2 30) (and_parts (eqb rt 30) (not (is_reserved rt2)) first).0
+  | inr second ↦ or_right (eqb rt 30) (eqb rt2 30) (and_parts (eqb rt2 30) (not (is_reserved rt)) second).0
+]
+
+-- An instruction that loads x30, and else avoids what is reserved.
+kept_loading : (i : Instruction) (uses : List Use) → writes_of i ≡ uses → Avoids uses → width_in uses 31 ≡ None → loads_link i ≡ true
+    → is_confined (address_of i) ≡ true → is_bounded i ≡ true → Kept i
+unfolding written
+kept_loading i uses e avoids stack loads confined bounded =
+    let all = subst Avoids (sym e) avoids in
+    let e18 : written i 18 ≡ None = all.first_address in
+    let e21 : written i 21 ≡ None = all.base in
+    let e23 : written i 23 ≡ None = all.second_address in
+    let e24 : written i 24 ≡ None = all.third_address in
+    record {
+      confined = λ k n. confined;
+      base = λ k n. rw e21 refl;
+      address = λ k n. rw (e18, e23, e24) refl;
+      link = λ k n. or_right _ _ loads;
+      offset = λ k n. all.offset;
+      stack = λ k n. stack_kept i k n (ap (λ u. width_in u 31) e ∙ stack);
+      branch = λ k n. bounded;
+    }
+
+pub link_pair_stands : (p : Profile) (rt2 rt : ℕ) → rt2 < 32 → rt < 32 → holds_link widths.X rt2 rt ≡ true → rt ≢ rt2
+    → Stands p Nothing (link_pair_of rt2 rt) × (opens_of p (link_pair_of rt2 rt) ≡ Guard)
+link_pair_stands p rt2 rt below2 below holds apart =
+    let i = link_pair_of rt2 rt in
+    let loads = link_pair_loads rt2 rt holds in (
+      stands p Nothing i _
+          (spelled p i refl (lit≤ tt, (λ _. apart), (λ other. absurd (other refl))) (lit≤ tt, (lit≤ tt, (lit≤ tt, (lit≤ tt, (lit≤ tt, (below2, (lit≤ tt, (below, tt)))))))))
+          (kept_loading i _ refl (link_pair_avoids rt2 rt holds) (no_stack rt widths.X _ (no_stack rt2 widths.X [] refl)) loads refl refl) refl,
+      rw loads refl,
+    )
+
+-- ---- LDAR and STLR at x18
+abbrev pub ordered_of : Size → (load : Bool) → (rt : ℕ) → Instruction
+ordered_of size load rt = instructions.Ordered (record { size = size; load = load; rn = 18; rt = rt })
+
+pub ordered_stands : (size : Size) (load : Bool) (rt : ℕ) → rt < 32 → may_move (ordered_transfer load) rt ≡ true
+    → Stands Two Nothing (ordered_of size load rt) × (opens_of Two (ordered_of size load rt) ≡ Nothing)
+ordered_stands size load rt below free =
+    let w = writes_moved size (ordered_transfer load) rt free in
+    let i = ordered_of size load rt in (
+      stands Two Nothing i _
+          (spelled Two i refl tt (size_fits size, (lit≤ tt, (bit_fits load, (lit≤ tt, (lit≤ tt, (below, tt)))))))
+          (kept_sparing i _ refl w.spares refl refl) refl,
+      opens_nothing Two i refl w.no_link refl,
+    )
+
+link_ordered_kept : Kept (ordered_of sizes.Double true 30)
+unfolding written
+link_ordered_kept = record {
+  confined = λ k n. refl;
+  base = λ k n. refl;
+  address = λ k n. refl;
+  link = λ k n. refl;
+  offset = λ k n. refl;
+  stack = λ k n. refl;
+  branch = λ k n. refl;
+}
+
+pub link_ordered_stands : Stands Two Nothing (ordered_of sizes.Double true 30)
+link_ordered_stands =
+    stands Two Nothing (ordered_of sizes.Double true 30) _
+    (spelled Two (ordered_of sizes.Double true 30) refl tt (lit≤ tt, (lit≤ tt, (lit≤ tt, (lit≤ tt, (lit≤ tt, (lit≤ tt, tt)))))))
+    link_ordered_kept refl
+
+-- ---- a move of sp
+abbrev pub stack_moved_of : (subtract : Bool) → (imm12 : ℕ) → Instruction
+stack_moved_of subtract imm12 = instructions.AddSubImmediate (record {
+  width = widths.X;
+  subtract = subtract;
+  set_flags = false;
+  shifted = false;
+  imm12 = imm12;
+  rn = 31;
+  rd = 31;
+})
+
+stack_moved_kept : (subtract : Bool) (imm12 : ℕ) → Kept (stack_moved_of subtract imm12)
+unfolding written
+stack_moved_kept subtract imm12 = record {
+  confined = λ k n. refl;
+  base = λ k n. refl;
+  address = λ k n. refl;
+  link = λ k n. refl;
+  offset = λ k n. refl;
+  stack = λ k n. refl;
+  branch = λ k n. refl;
+}
+
+pub stack_moved_stands : (p : Profile) (subtract : Bool) (imm12 : ℕ) → imm12 < 4096 → Stands p Nothing (stack_moved_of subtract imm12)
+stack_moved_stands p subtract imm12 fits =
+    stands p Nothing (stack_moved_of subtract imm12) _
+    (spelled p (stack_moved_of subtract imm12) refl tt (lit≤ tt, (bit_fits subtract, (lit≤ tt, (lit≤ tt, (lit≤ tt, (fits, (lit≤ tt, (lit≤ tt, tt)))))))))
+    (stack_moved_kept subtract imm12) refl
+
+-- One that opens a need, and what meets it.
+pub keeps_closed : (p : Profile) (need : Need) (is one two : List Instruction) (i closing : Instruction) → one ≡ is ++ i ∷ [] → two ≡ one ++ closing ∷ [] → KeepsRules p is
+    → Stands p Nothing i → opens_of p i ≡ need → Stands p need closing → opens_of p closing ≡ Nothing → KeepsRules p two
+keeps_closed p need is one two i closing e f keeps s opens met closes =
+    subst (λ l. Leads p Nothing l Nothing) (sym f)
+    (subst (λ after. Leads p Nothing (one ++ closing ∷ []) after) closes (one_more p Nothing need one closing
+    (subst (λ l. Leads p Nothing l need) (sym e) (subst (λ after. Leads p Nothing (is ++ i ∷ []) after) opens (one_more p Nothing Nothing is i keeps s)))
+    met))
+
+-- What meets a need, before instructions that keep the rules.
+pub leads_behind : (p : Profile) (need : Need) (is all : List Instruction) (first : Instruction) → all ≡ first ∷ is → Stands p need first → opens_of p first ≡ Nothing
+    → KeepsRules p is → Leads p need all Nothing
+leads_behind p need is all first e s opens keeps =
+    subst (λ l. Leads p need l Nothing) (sym e) (s, subst (λ before. Leads p before is Nothing) (sym opens) keeps)

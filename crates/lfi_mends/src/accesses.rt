@@ -1,35 +1,37 @@
-//! What stands in the place of accesses that aren't confined.
+//! What stands in the place of single accesses.
 
-ghost use Rattle.std.specs.Prelude.{◌≡◌, ◌<◌, ◌≤◌, ◌+◌, IfOk, IfSome};
+ghost use Rattle.std.specs.Prelude.{◌≡◌, ◌<◌, ◌≤◌, ◌+◌, IfOk, IsTrue, false, ◌==◌, ◌&&◌, not};
 ghost use Rattle.lfi_module.specs.declared.profile.Profile.{Profile};
-ghost use Rattle.a64_word.specs.Encoding.{IsAccess, IsLegal};
+ghost use Rattle.lfi_module.specs.declared.profile.Profile.TheVariants.{Two};
+ghost use Rattle.a64_word.specs.Encoding.{IsAccess, IsLegal, fields};
+ghost use Rattle.a64_word.specs.Fields.{AllFit};
 ghost use Rattle.a64_word.specs.declared.instruction.Instruction.{Instruction};
 ghost use Rattle.lfi_mends.specs.Mends.{KeepsRules, mended};
+ghost use Rattle.lfi_mends.specs.Obstacles.{refusal, of_access, of_single, is_double};
+ghost use Rattle.lfi_mends.specs.Registers as spec;
+ghost use Rattle.std.specs.Prelude.{None, is_some};
+ghost use Rattle.a64_word.specs.Operands.{IsSigned};
+ghost use Rattle.a64_word.specs.Profiles.{is_of};
 
+use crate::builders::{
+    access, address_guard, changed, copied, copied_to_offset, guard, is_reserved, link_access,
+    link_ordered, may_move, ordered, stack_moved, sum_with_immediate, sum_with_index,
+};
 use crate::mend::Mend;
 use crate::pairs::paired;
-use crate::{
-    access, changed, guard, is_reserved, link_access, may_move, sum_with_immediate, sum_with_index,
-};
+use crate::reason::Reason;
 use a64_word::{
-    IndexMode, Instruction, Register, RegisterOffset, SignedOffset, Size, Transfer, UnsignedOffset,
+    IndexMode, Instruction, Ordered, Register, RegisterOffset, SignedOffset, Size, Transfer,
+    UnsignedOffset,
 };
+use lfi_module::Profile;
 use lfi_rules::registers::{BASE, LINK, OFFSET, STACK};
 
-/// Why there is no mend.
-#[derive(Clone, Copy, PartialEq, Eq)]
-pub enum Reason {
-    /// A register that is loaded is one of those that the profile reserves.
-    Loaded,
-    /// A register that is stored is one that the mend needs.
-    Stored,
-    /// The base is changed, and is one of those that the profile reserves.
-    Base,
-    /// The word has to stand before another one, the load of a table entry.
-    Call,
-    /// Nothing is known for such instructions.
-    Unknown,
-}
+/// A register that a mend may write where w22 and x18 don't suffice.
+pub(crate) const FIRST_SCRATCH: u8 = 16;
+
+/// Another one.
+pub(crate) const SECOND_SCRATCH: u8 = 17;
 
 /// How far an access is from its base, and in which direction.
 #[derive(Clone, Copy)]
@@ -37,6 +39,12 @@ pub(crate) struct Distance {
     pub(crate) below: bool,
     pub(crate) bytes: u16,
 }
+
+/// No distance.
+const NONE: Distance = Distance {
+    below: false,
+    bytes: 0,
+};
 
 /// A single access, by all but its address.
 #[derive(Clone, Copy)]
@@ -46,22 +54,74 @@ pub(crate) struct Single {
     pub(crate) moved: Register,
 }
 
-/// W22 as a base and a distance.
-pub(crate) fn at_distance(base: Register, distance: Distance) -> Mend
-    requires near { distance.bytes < 32768 }
-    ensures keeps { (profile : Profile) → KeepsRules profile (mended result) }
-    ensures count { result.count ≤ 2 }
+/// X16; or x17, where the other register is x16.
+pub(crate) fn scratch_beside(register: Register) -> Register
+    ensures { IsTrue (spec.is_free result) }
 {
+    if register.number() == FIRST_SCRATCH {
+        Register::new(SECOND_SCRATCH)
+    } else {
+        Register::new(FIRST_SCRATCH)
+    }
+}
+
+/// The register that holds the sum for an access: w22, or w16 where x22 is stored.
+fn sum_register(transfer: Transfer, moved: Register) -> Register
+    ensures { IsTrue (spec.may_hold result) }
+{
+    if moved.number() == OFFSET && transfer == Transfer::Store {
+        Register::new(FIRST_SCRATCH)
+    } else {
+        Register::new(OFFSET)
+    }
+}
+
+/// Whether a base alone is the address: not sp, which is no W register of an access.
+fn is_bare(base: Register, bytes: u16) -> bool {
+    bytes == 0 && base.number() != STACK
+}
+
+/// The register that holds the address of a base and a distance: the base, or else the sum's.
+pub(crate) fn index_of(base: Register, bytes: u16, sum: Register) -> Register {
+    if is_bare(base, bytes) { base } else { sum }
+}
+
+/// The sum of a base and a distance, where that isn't the base alone.
+pub(crate) fn with_sum(mend: Mend, base: Register, distance: Distance, sum: Register) -> Mend
+    requires room { mend.count ≤ 6 }
+    requires keeps { (profile : Profile) → KeepsRules profile (mended mend) }
+    requires near { distance.bytes < 32768 }
+    requires holds { IsTrue (spec.may_hold sum) }
+    ensures keeps { (profile : Profile) → KeepsRules profile (mended result) }
+    ensures count { result.count ≤ mend.count + 2 }
+{
+    if is_bare(base, distance.bytes) {
+        return mend;
+    }
     let low = distance.bytes % 4096;
     let high = distance.bytes / 4096;
     if high == 0 {
-        return Mend::new().and(sum_with_immediate(base, distance.below, false, low));
+        return mend.and(sum_with_immediate(sum, base, distance.below, false, low));
     }
-    let first = Mend::new().and(sum_with_immediate(base, distance.below, true, high));
+    let first = mend.and(sum_with_immediate(sum, base, distance.below, true, high));
     if low == 0 {
         return first;
     }
-    first.and(sum_with_immediate(Register::new(OFFSET), distance.below, false, low))
+    first.and(sum_with_immediate(sum, sum, distance.below, false, low))
+}
+
+/// A register that is written from a W register: as w22, or by the guard.
+pub(crate) fn put(mend: Mend, into: Register, from: Register) -> Mend
+    requires room { mend.count ≤ 7 }
+    requires keeps { (profile : Profile) → KeepsRules profile (mended mend) }
+    requires base { (into == 21) ≡ false }
+    ensures keeps { (profile : Profile) → KeepsRules profile (mended result) }
+    ensures count { result.count ≡ mend.count + 1 }
+{
+    if into.number() == OFFSET {
+        return mend.and(copied_to_offset(from));
+    }
+    mend.and(guard(into, from))
 }
 
 /// Whether an access loads 64 bits into x30.
@@ -69,119 +129,65 @@ fn loads_link(size: Size, transfer: Transfer, moved: Register) -> bool {
     size == Size::Double && transfer == Transfer::Load && moved.number() == LINK
 }
 
-/// An access at x21 and a W register, and the guard of x30 where that is loaded.
-fn with_access(mend: Mend, single: Single, index: Register) -> Result<Mend, Reason>
-    requires room { mend.count ≤ 6 }
+/// An access at x21 and a W register. What only few instructions may write is loaded into another register first.
+fn with_access(mend: Mend, single: Single, index: Register, scratch: Register) -> Mend
+    requires room { mend.count ≤ 5 }
     requires keeps { (profile : Profile) → KeepsRules profile (mended mend) }
     requires legal { IsAccess single.size single.transfer }
-    ensures keeps { IfOk result (λ more. (profile : Profile) → KeepsRules profile (mended more)) }
-    ensures count { IfOk result (λ more. more.count ≤ mend.count + 2) }
+    requires free { IsTrue (spec.is_free scratch) }
+    requires base { of_single single.transfer single.moved ≡ None }
+    ensures keeps { (profile : Profile) → KeepsRules profile (mended result) }
+    ensures count { result.count ≤ mend.count + 2 }
 {
     if loads_link(single.size, single.transfer, single.moved) {
-        return Ok(mend.and_guarded(link_access(index)));
+        return mend.and_guarded(link_access(index));
     }
-    if !may_move(single.transfer, single.moved) {
-        return Err(Reason::Loaded);
+    if may_move(single.transfer, single.moved) {
+        return mend.and(access(single.size, single.transfer, single.moved, index));
     }
-    Ok(mend.and(access(single.size, single.transfer, single.moved, index)))
+    let loaded = mend.and(access(single.size, single.transfer, scratch, index));
+    put(loaded, single.moved, scratch)
 }
 
 /// A base that is changed.
-pub(crate) fn with_change(mend: Mend, base: Register, distance: Distance) -> Result<Mend, Reason>
-    requires room { mend.count ≤ 6 }
+pub(crate) fn with_change(mend: Mend, base: Register, distance: Distance, sum: Register) -> Mend
+    requires room { mend.count ≤ 5 }
     requires keeps { (profile : Profile) → KeepsRules profile (mended mend) }
     requires near { distance.bytes < 4096 }
-    ensures keeps { IfOk result (λ more. (profile : Profile) → KeepsRules profile (mended more)) }
-    ensures count { IfOk result (λ more. more.count ≤ mend.count + 2) }
+    requires holds { IsTrue (spec.may_hold sum) }
+    requires base { (base == 21) ≡ false }
+    ensures keeps { (profile : Profile) → KeepsRules profile (mended result) }
+    ensures count { result.count ≤ mend.count + 2 }
 {
     let number = base.number();
-    if number == STACK || number == BASE {
-        return Err(Reason::Base);
+    if number == STACK {
+        return mend.and_probed(stack_moved(distance.below, distance.bytes));
     }
     if number == OFFSET {
-        return Ok(mend.and(sum_with_immediate(base, distance.below, false, distance.bytes)));
+        return mend.and(sum_with_immediate(base, base, distance.below, false, distance.bytes));
     }
     if is_reserved(base) {
-        return Ok(
-            mend.and(sum_with_immediate(base, distance.below, false, distance.bytes))
-                .and(guard(base, Register::new(OFFSET))),
-        );
+        return mend
+            .and(sum_with_immediate(sum, base, distance.below, false, distance.bytes))
+            .and(guard(base, sum));
     }
-    Ok(mend.and(changed(base, distance.below, distance.bytes)))
+    mend.and(changed(base, distance.below, distance.bytes))
 }
 
 /// An access at a base and a distance.
-fn plain(single: Single, base: Register, distance: Distance) -> Result<Mend, Reason>
+fn plain(mend: Mend, single: Single, base: Register, distance: Distance) -> Mend
+    requires room { mend.count ≤ 2 }
+    requires keeps { (profile : Profile) → KeepsRules profile (mended mend) }
     requires near { distance.bytes < 32768 }
     requires legal { IsAccess single.size single.transfer }
-    ensures { IfOk result (λ mend. (profile : Profile) → KeepsRules profile (mended mend)) }
+    requires base { of_single single.transfer single.moved ≡ None }
+    ensures keeps { (profile : Profile) → KeepsRules profile (mended result) }
+    ensures count { result.count ≤ mend.count + 4 }
 {
-    if distance.bytes == 0 && base.number() != STACK {
-        return with_access(Mend::new(), single, base);
-    }
-    if single.moved.number() == OFFSET {
-        return Err(Reason::Stored);
-    }
-    with_access(at_distance(base, distance), single, Register::new(OFFSET))
-}
-
-/// An access at a base, which is changed after it.
-fn before_change(single: Single, base: Register, distance: Distance) -> Result<Mend, Reason>
-    requires near { distance.bytes < 4096 }
-    requires legal { IsAccess single.size single.transfer }
-    ensures { IfOk result (λ mend. (profile : Profile) → KeepsRules profile (mended mend)) }
-{
-    match with_access(Mend::new(), single, base) {
-        Ok(mend) => with_change(mend, base, distance),
-        Err(reason) => Err(reason),
-    }
-}
-
-/// An access at a base, which is changed before it.
-fn after_change(single: Single, base: Register, distance: Distance) -> Result<Mend, Reason>
-    requires near { distance.bytes < 4096 }
-    requires legal { IsAccess single.size single.transfer }
-    ensures { IfOk result (λ mend. (profile : Profile) → KeepsRules profile (mended mend)) }
-{
-    if single.moved.number() == OFFSET && is_reserved(base) {
-        return Err(Reason::Stored);
-    }
-    match with_change(Mend::new(), base, distance) {
-        Ok(mend) => with_access(mend, single, base),
-        Err(reason) => Err(reason),
-    }
-}
-
-/// An access at a base and an index, which is shifted.
-fn by_index(single: Single, base: Register, index: Register, amount: u8) -> Result<Mend, Reason>
-    requires amount { amount ≤ 4 }
-    requires legal { IsAccess single.size single.transfer }
-    ensures { IfOk result (λ mend. (profile : Profile) → KeepsRules profile (mended mend)) }
-{
-    if single.moved.number() == OFFSET {
-        return Err(Reason::Stored);
-    }
-    let mend = Mend::new().and(sum_with_index(base, index, amount));
-    with_access(mend, single, Register::new(OFFSET))
-}
-
-/// A signed offset as a distance, where it is near.
-pub(crate) fn near(offset: i32) -> Option<Distance>
-    ensures { IfSome result (λ distance. distance.bytes < 4096) }
-{
-    if offset < -4095 || offset > 4095 {
-        return None;
-    }
-    if offset < 0 {
-        return Some(Distance {
-            below: true,
-            bytes: (-offset) as u16,
-        });
-    }
-    Some(Distance {
-        below: false,
-        bytes: offset as u16,
-    })
+    let sum = sum_register(single.transfer, single.moved);
+    let index = index_of(base, distance.bytes, sum);
+    let mend = with_sum(mend, base, distance, sum);
+    with_access(mend, single, index, scratch_beside(base))
 }
 
 /// How many bytes an access has, as a power of two.
@@ -208,13 +214,23 @@ fn bytes(size: Size) -> u16
     }
 }
 
+/// Whether an access loads x21.
+fn loads_base(transfer: Transfer, moved: Register) -> bool
+    ensures { result ≡ is_some (of_single transfer moved) }
+{
+    transfer != Transfer::Store && moved.number() == BASE
+}
+
 /// What stands in the place of an access at an unsigned offset.
 fn unsigned(i: &UnsignedOffset) -> Result<Mend, Reason>
-    requires { IsLegal (Instruction.UnsignedOffset i.now) }
-    ensures { IfOk result (λ mend. (profile : Profile) → KeepsRules profile (mended mend)) }
+    requires legal { IsLegal (Instruction.UnsignedOffset i.now) }
+    requires fits { AllFit (fields (Instruction.UnsignedOffset i.now)) }
+    ensures keeps { IfOk result (λ mend. (profile : Profile) → KeepsRules profile (mended mend)) }
+    ensures count { IfOk result (λ mend. mend.count ≤ 7) }
+    ensures told { refusal result ≡ of_access (Instruction.UnsignedOffset i.now) }
 {
-    if i.imm12 > 4095 {
-        return Err(Reason::Unknown);
+    if loads_base(i.transfer, i.rt) {
+        return Err(Reason::Base);
     }
     let single = Single {
         size: i.size,
@@ -225,53 +241,141 @@ fn unsigned(i: &UnsignedOffset) -> Result<Mend, Reason>
         below: false,
         bytes: i.imm12 * bytes(i.size),
     };
-    plain(single, i.rn, distance)
+    Ok(plain(Mend::new(), single, i.rn, distance))
+}
+
+/// A signed offset as a distance.
+pub(crate) fn distance_of(offset: i32) -> Distance
+    requires { IsSigned 11 offset }
+    ensures { result.bytes < 4096 }
+{
+    if offset < 0 {
+        Distance {
+            below: true,
+            bytes: (-offset) as u16,
+        }
+    } else {
+        Distance {
+            below: false,
+            bytes: offset as u16,
+        }
+    }
+}
+
+/// An access at a base, which is changed before it or after it.
+fn changing(single: Single, base: Register, distance: Distance, before: bool) -> Mend
+    requires near { distance.bytes < 4096 }
+    requires legal { IsAccess single.size single.transfer }
+    requires free { of_single single.transfer single.moved ≡ None }
+    requires base { (base == 21) ≡ false }
+    ensures keeps { (profile : Profile) → KeepsRules profile (mended result) }
+    ensures count { result.count ≤ 7 }
+{
+    let sum = sum_register(single.transfer, single.moved);
+    if before {
+        let mend = with_change(Mend::new(), base, distance, sum);
+        return plain(mend, single, base, NONE);
+    }
+    let mend = plain(Mend::new(), single, base, NONE);
+    with_change(mend, base, distance, sum)
 }
 
 /// What stands in the place of an access at a signed offset.
 fn signed(i: &SignedOffset) -> Result<Mend, Reason>
-    requires { IsLegal (Instruction.SignedOffset i.now) }
-    ensures { IfOk result (λ mend. (profile : Profile) → KeepsRules profile (mended mend)) }
+    requires legal { IsLegal (Instruction.SignedOffset i.now) }
+    ensures keeps { IfOk result (λ mend. (profile : Profile) → KeepsRules profile (mended mend)) }
+    ensures count { IfOk result (λ mend. mend.count ≤ 7) }
+    ensures told { refusal result ≡ of_access (Instruction.SignedOffset i.now) }
 {
-    let Some(distance) = near(i.imm9) else {
-        return Err(Reason::Unknown);
-    };
+    if i.mode != IndexMode::Unscaled && i.rn.number() == BASE {
+        return Err(Reason::Base);
+    }
+    if loads_base(i.transfer, i.rt) {
+        return Err(Reason::Base);
+    }
+    let distance = distance_of(i.imm9);
     let single = Single {
         size: i.size,
         transfer: i.transfer,
         moved: i.rt,
     };
-    match i.mode {
-        IndexMode::Unscaled => plain(single, i.rn, distance),
-        IndexMode::PostIndex => before_change(single, i.rn, distance),
-        IndexMode::PreIndex => after_change(single, i.rn, distance),
+    if i.mode == IndexMode::Unscaled {
+        return Ok(plain(Mend::new(), single, i.rn, distance));
     }
+    Ok(changing(single, i.rn, distance, i.mode == IndexMode::PreIndex))
 }
 
 /// What stands in the place of an access at an index.
 fn indexed(i: &RegisterOffset) -> Result<Mend, Reason>
-    requires { IsLegal (Instruction.RegisterOffset i.now) }
-    ensures { IfOk result (λ mend. (profile : Profile) → KeepsRules profile (mended mend)) }
+    requires legal { IsLegal (Instruction.RegisterOffset i.now) }
+    ensures keeps { IfOk result (λ mend. (profile : Profile) → KeepsRules profile (mended mend)) }
+    ensures count { IfOk result (λ mend. mend.count ≤ 7) }
+    ensures told { refusal result ≡ of_access (Instruction.RegisterOffset i.now) }
 {
+    if loads_base(i.transfer, i.rt) {
+        return Err(Reason::Base);
+    }
     let single = Single {
         size: i.size,
         transfer: i.transfer,
         moved: i.rt,
     };
     let amount = if i.scaled { shift(i.size) } else { 0 };
-    by_index(single, i.rn, i.rm, amount)
+    let sum = sum_register(i.transfer, i.rt);
+    let mend = Mend::new().and(sum_with_index(sum, i.rn, i.rm, amount));
+    Ok(with_access(mend, single, sum, scratch_beside(i.rn)))
+}
+
+/// Whether an ordered access loads a register that is reserved, but for x30 as X.
+fn loads_reserved(size: Size, load: bool, moved: Register) -> bool
+    ensures { result ≡ (load && spec.is_reserved moved && not (moved == 30 && is_double size)) }
+{
+    load && is_reserved(moved) && !(moved.number() == LINK && size == Size::Double)
+}
+
+/// What stands in the place of LDAR or STLR, of the second profile.
+fn in_order(i: &Ordered) -> Result<Mend, Reason>
+    ensures keeps { IfOk result (λ mend. KeepsRules Two (mended mend)) }
+    ensures count { IfOk result (λ mend. mend.count ≤ 7) }
+    ensures told { refusal result ≡ of_access (Instruction.Ordered i.now) }
+{
+    if loads_reserved(i.size, i.load, i.rt) {
+        return Err(Reason::Reserved);
+    }
+    let sum = Register::new(OFFSET);
+    let index = index_of(i.rn, 0, sum);
+    let scratch = scratch_beside(i.rn);
+    let mend = Mend::new();
+    let mend = if i.load {
+        mend
+    } else {
+        mend.and(copied(scratch, i.rt))
+    };
+    let mend = with_sum(mend, i.rn, NONE, sum).and(address_guard(index));
+    if !i.load {
+        return Ok(mend.and_ordered(ordered(i.size, false, scratch)));
+    }
+    if is_reserved(i.rt) {
+        return Ok(mend.and_ordered_guarded(link_ordered()));
+    }
+    Ok(mend.and_ordered(ordered(i.size, true, i.rt)))
 }
 
 /// What stands in the place of an access that isn't confined.
-pub(crate) fn confined(instruction: &Instruction) -> Result<Mend, Reason>
-    requires { IsLegal instruction.now }
-    ensures { IfOk result (λ mend. (profile : Profile) → KeepsRules profile (mended mend)) }
+pub(crate) fn confined(profile: Profile, instruction: &Instruction) -> Result<Mend, Reason>
+    requires has { IsTrue (is_of profile instruction.now) }
+    requires legal { IsLegal instruction.now }
+    requires fits { AllFit (fields instruction.now) }
+    ensures keeps { IfOk result (λ mend. KeepsRules profile (mended mend)) }
+    ensures count { IfOk result (λ mend. mend.count ≤ 7) }
+    ensures told { refusal result ≡ of_access instruction.now }
 {
     match instruction {
         Instruction::UnsignedOffset(i) => unsigned(i),
         Instruction::SignedOffset(i) => signed(i),
         Instruction::RegisterOffset(i) => indexed(i),
         Instruction::Pair(i) => paired(i),
-        _ => Err(Reason::Unknown),
+        Instruction::Ordered(i) => in_order(i),
+        _ => Err(Reason::Kept),
     }
 }

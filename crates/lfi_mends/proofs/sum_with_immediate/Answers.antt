@@ -1,6 +1,0 @@
-use Rattle.std.proofs.Common.{rules}
-use Rattle.lfi_mends.proofs.Standing.{immediate_stands}
-use Rattle.lfi_mends.proofs.sum_with_immediate.Goals as goal
-
-pub returns-clause-stands : goal.returns-clause-stands
-returns-clause-stands c = λ profile. rw c.new.ensures (immediate_stands profile c.args.subtract c.args.shifted c.args.imm12 c.args.base c.requires (search rules))

@@ -1,6 +1,0 @@
-use Rattle.std.proofs.Common.{rules}
-use Rattle.lfi_mends.proofs.Standing.{index_sum_stands}
-use Rattle.lfi_mends.proofs.sum_with_index.Goals as goal
-
-pub returns-clause-stands : goal.returns-clause-stands
-returns-clause-stands c = λ profile. rw c.new.ensures (index_sum_stands profile c.args.amount c.args.index c.args.base c.requires (search rules) (search rules))
