@@ -1,6 +1,6 @@
 //! Instructions that only compute a register, and the same into another one.
 
-ghost use Rattle.std.specs.Prelude.{◌≡◌, IsTrue, []};
+ghost use Rattle.std.specs.Prelude.{◌≡◌, ◌<◌, ◌⊎◌, IsTrue, IfSome, true, []};
 ghost use Rattle.a64_effects.specs.Uses.{general};
 ghost use Rattle.a64_word.specs.declared.operands.Width.TheVariants.{W};
 ghost use Rattle.a64_word.specs.Encoding.{IsLegal, fields};
@@ -11,7 +11,7 @@ ghost use Rattle.lfi_mends.specs.inner.Computing.{is_computing};
 
 use a64_word::{
     AddSubExtended, AddSubImmediate, AddSubShifted, Bitfield, BitfieldKind, ConditionalSelect,
-    CountLeadingZeros, Instruction, Logical, LogicalImmediate, LogicalShifted, MoveWide,
+    CountLeadingZeros, Extend, Instruction, Logical, LogicalImmediate, LogicalShifted, MoveWide,
     MoveWideKind, MultiplyAdd, MultiplyHigh, Register, Shift, TwoSource, Width,
 };
 use lfi_rules::registers::{OFFSET, STACK};
@@ -123,5 +123,73 @@ pub(crate) fn into_free(instruction: &Instruction, register: Register) -> Instru
             ..*i
         }),
         other => *other,
+    }
+}
+
+/// Whether a shifted operand's low half is that of the register's low half, shifted.
+fn is_low(width: Width, shift: Shift, amount: u8) -> bool
+    ensures { result ≡ true → amount < 32 ⊎ (width ≡ W) }
+{
+    width == Width::W || (shift == Shift::Lsl && amount < 32)
+}
+
+/// The extension of a W register that has the same low half.
+fn narrow(extend: Extend) -> Extend {
+    match extend {
+        Extend::Uxtx => Extend::Uxtw,
+        Extend::Sxtx => Extend::Sxtw,
+        other => other,
+    }
+}
+
+/// An instruction that computes the low half in w22, where one for W registers does.
+pub(crate) fn into_offset(instruction: &Instruction) -> Option<Instruction>
+    requires legal { IsLegal instruction.now }
+    requires fits { AllFit (fields instruction.now) }
+    ensures legal { IfSome result (λ i. IsLegal i) }
+    ensures fits { IfSome result (λ i. AllFit (fields i)) }
+    ensures computing { IfSome result (λ i. IsTrue (is_computing i)) }
+{
+    let width = Width::W;
+    let rd = Register::new(OFFSET);
+    match instruction {
+        Instruction::AddSubImmediate(i) if !i.set_flags => {
+            Some(Instruction::AddSubImmediate(AddSubImmediate { width, rd, ..*i }))
+        }
+        Instruction::AddSubExtended(i) if !i.set_flags => {
+            Some(Instruction::AddSubExtended(AddSubExtended {
+                width,
+                extend: narrow(i.extend),
+                rd,
+                ..*i
+            }))
+        }
+        Instruction::AddSubShifted(i) if !i.set_flags && is_low(i.width, i.shift, i.amount) => {
+            Some(Instruction::AddSubShifted(AddSubShifted { width, rd, ..*i }))
+        }
+        Instruction::LogicalShifted(i)
+            if i.operation != Logical::Ands && is_low(i.width, i.shift, i.amount) => {
+            Some(Instruction::LogicalShifted(LogicalShifted { width, rd, ..*i }))
+        }
+        Instruction::MultiplyAdd(i) => {
+            Some(Instruction::MultiplyAdd(MultiplyAdd { width, rd, ..*i }))
+        }
+        Instruction::MoveWide(i) if i.kind != MoveWideKind::Movk && i.hw < 2 => {
+            Some(Instruction::MoveWide(MoveWide { width, rd, ..*i }))
+        }
+        _ => None,
+    }
+}
+
+/// The register that an instruction copies, where it does nothing else.
+pub(crate) fn source(instruction: &Instruction) -> Option<Register> {
+    match instruction {
+        Instruction::LogicalShifted(i)
+            if i.operation == Logical::Orr
+                && !i.invert
+                && i.amount == 0
+                && i.rn.number() == STACK => { but_zero(i.rm) }
+        Instruction::AddSubImmediate(i) if !i.set_flags && i.imm12 == 0 => but_zero(i.rn),
+        _ => None,
     }
 }

@@ -22,11 +22,15 @@ mod accesses;
 mod builders;
 mod building;
 mod computing;
+mod formulas;
 mod mend;
 mod mending;
+mod outside;
 mod pairs;
 mod reason;
+mod replacing;
 
 pub use mend::{MOST, Mend};
 pub use mending::mend_of;
+pub use outside::{Outside, outside_of};
 pub use reason::Reason;

@@ -17,9 +17,10 @@ use crate::builders::{
     address_guard, branch, computing, copied, guard, is_reserved, link_guard, probe, ret,
     stack_sum, sum_with_immediate,
 };
-use crate::computing::{computed, into_free, keeps_part};
+use crate::computing::{computed, into_free, into_offset, keeps_part, source};
 use crate::mend::Mend;
 use crate::reason::Reason;
+use crate::replacing::replaced;
 use a64_effects::address_of;
 use a64_word::{AddSubImmediate, BranchKind, BranchRegister, Instruction, Register, decode};
 use lfi_module::Profile;
@@ -95,6 +96,26 @@ fn in_two_steps(instruction: &Instruction, register: Register) -> Mend
     )
 }
 
+/// What computes a register that only few instructions may write: the guard of a copy, a sum in w22, or two steps.
+fn written_elsewhere(instruction: &Instruction, register: Register) -> Mend
+    requires legal { IsLegal instruction.now }
+    requires fits { AllFit (fields instruction.now) }
+    requires computes { IsTrue (obstacles.is_computation instruction.now) }
+    requires base { (register == 21) ≡ false }
+    ensures keeps { (profile : Profile) → KeepsRules profile (mended result) }
+    ensures count { result.count ≤ 7 }
+{
+    if register.number() != OFFSET {
+        if let Some(copied) = source(instruction) {
+            return Mend::new().and(guard(register, copied));
+        }
+    }
+    match into_offset(instruction) {
+        Some(low) => from_offset(Mend::new().and(computing(low)), register),
+        None => in_two_steps(instruction, register),
+    }
+}
+
 /// What stands in the place of an instruction that computes a register which only few may write.
 fn computed_elsewhere(instruction: &Instruction) -> Result<Mend, Reason>
     requires legal { IsLegal instruction.now }
@@ -112,7 +133,7 @@ fn computed_elsewhere(instruction: &Instruction) -> Result<Mend, Reason>
     if !is_reserved(register) && register.number() != STACK {
         return Err(Reason::Kept);
     }
-    Ok(in_two_steps(instruction, register))
+    Ok(written_elsewhere(instruction, register))
 }
 
 /// Whether what an instruction computes depends on where it stands.
@@ -168,14 +189,19 @@ fn alone(profile: Profile, rule: Rule, instruction: &Instruction) -> Result<Mend
 }
 
 /// What stands in the place of a word that breaks a rule by itself.
-fn of_word(profile: Profile, rule: Rule, word: u32) -> Result<Mend, Reason>
+fn of_word(
+    profile: Profile,
+    rule: Rule,
+    word: u32,
+    next: &Option<Instruction>,
+) -> Result<Mend, Reason>
     ensures keeps { IfOk result (λ mend. KeepsRules profile (mended mend)) }
     ensures count { IfOk result (λ mend. mend.count ≤ 7) }
-    ensures told { IsReasonOfWord profile rule word (refusal result) }
+    ensures told { IsReasonOfWord profile rule word next.now (refusal result) }
 {
     match decode(word, profile) {
         Some(instruction) => alone(profile, rule, &instruction),
-        None => Err(Reason::Outside),
+        None => replaced(profile, word, next),
     }
 }
 
@@ -207,15 +233,22 @@ fn behind_need(profile: Profile, need: Need, mend: Mend) -> Mend
 /// What stands in the place of a word of a profile, by the least rule that it breaks and the need that is open before it.
 ///
 /// For rule 10 it stands before the word, which stays; or, where the module's last word leaves the need open, after that.
-/// Else it stands in the word's place, and begins with what meets the need. It keeps the rules wherever it stands: at most
+/// Else it stands in the word's place, and begins with what meets the need. `next` is the instruction after the word, which
+/// tells whether RBIT is there for a count of trailing zeros. The mend keeps the rules wherever it stands: at most
 /// eight instructions, which may write w22, x18, x16 and x17 beside what the word writes.
 ///
 /// # Errors
 ///
 /// The reason why there is no mend.
-pub fn mend_of(profile: Profile, rule: Rule, word: u32, unmet: Need) -> Result<Mend, Reason>
+pub fn mend_of(
+    profile: Profile,
+    rule: Rule,
+    word: u32,
+    unmet: Need,
+    next: &Option<Instruction>,
+) -> Result<Mend, Reason>
     ensures leads { IfOk result (λ mend. Leads profile unmet (mended mend) Nothing) }
-    ensures told { IsReason profile rule word unmet (refusal result) }
+    ensures told { IsReason profile rule word unmet next.now (refusal result) }
 {
     if rule == Rule::NeedMet {
         return needed(profile, unmet);
@@ -223,7 +256,7 @@ pub fn mend_of(profile: Profile, rule: Rule, word: u32, unmet: Need) -> Result<M
     if unmet == Need::Call {
         return Err(Reason::Call);
     }
-    match of_word(profile, rule, word) {
+    match of_word(profile, rule, word, next) {
         Ok(mend) => Ok(behind_need(profile, unmet, mend)),
         Err(reason) => Err(reason),
     }

@@ -175,7 +175,7 @@ fn may_load(i: &Pair) -> bool
 }
 
 /// The distance of a pair from its base.
-fn distance(i: &Pair) -> Distance
+pub(crate) fn distance(i: &Pair) -> Distance
     requires { IsSigned 7 i.now.imm7 }
     ensures { result.bytes < 4096 }
 {
