@@ -3,8 +3,12 @@
 #![tactic(auto)]
 
 #[cfg(test)]
+mod machine;
+#[cfg(test)]
 mod reasons;
 #[cfg(test)]
 mod rows;
+#[cfg(test)]
+mod states;
 #[cfg(test)]
 mod tables;

@@ -38,7 +38,7 @@ fn spells(instructions: &[Instruction], words: &[u32], profile: Profile) -> bool
 }
 
 /// What the row's word gets.
-fn answer(row: &Row) -> Result<Mend, Reason> {
+pub fn answer(row: &Row) -> Result<Mend, Reason> {
     let next = decode(row.next, row.profile);
     mend_of(row.profile, row.rule, row.word, row.unmet, &next)
 }
