@@ -14,7 +14,7 @@ use Rattle.a64_semantics.specs.declared.registers.Registers.{Registers}
 use Rattle.a64_semantics.specs.Registers.{x_at, x_or_sp_at, put_all, to_general}
 use Rattle.lfi_mends.specs.Outcomes.{Agree, DoesTheSame, after}
 use Rattle.lfi_mends.proofs.Same.{at_address, some_bytes}
-use Rattle.lfi_mends.proofs.Standing.{access_of, sum_of_immediate}
+use Rattle.lfi_mends.specs.inner.Rows.{access_of, sum_of_immediate}
 use Rattle.a64_word.specs.declared.instruction.Instruction.TheVariants as instructions
 use Rattle.a64_word.specs.Operands.{size_code}
 

@@ -11,7 +11,7 @@ use Rattle.a64_semantics.specs.Accesses.{stored_by}
 use Rattle.a64_semantics.specs.Writes.{to_loaded}
 use Rattle.a64_semantics.specs.Branches.{following}
 use Rattle.lfi_mends.specs.Outcomes.{State, Agree, DoesTheSame, written_at}
-use Rattle.lfi_mends.proofs.Standing.{access_of}
+use Rattle.lfi_mends.specs.inner.Rows.{access_of}
 use Rattle.lfi_mends.proofs.Addresses.{same_address}
 
 pub agree_same : (s : State) → Agree s s

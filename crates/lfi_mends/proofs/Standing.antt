@@ -38,6 +38,7 @@ use Rattle.lfi_rules.specs.Needs.{loads_link, loads_entry, moves_stack, is_load_
 use Rattle.lfi_rules.specs.inner.Quiet.{IsUnreserved}
 use Rattle.lfi_rules.proofs.Avoiding.{Spares, spares_none, spares_one, spares_more, spares_free, spares_offset, link_kept, stack_kept, Avoids, avoids_none, avoids_link, avoids_more, no_stack}
 use Rattle.lfi_mends.specs.Mends.{Stands, Leads, KeepsRules}
+use Rattle.lfi_mends.specs.inner.Rows.{sum_of_immediate, access_of}
 use Rattle.lfi_mends.specs.inner.Computing.{may_compute, is_computing}
 use Rattle.lfi_mends.specs.Registers.{is_reserved, is_free, may_hold, may_move, may_move_two, holds_link}
 
@@ -313,17 +314,6 @@ held r h = elim (or_cases (eqb r 22) (is_free r) h) [
       spares_free r widths.W (record { unreserved = unreserved r (not-true _ tests.0); stack = not-true _ tests.1 })
 ]
 
-abbrev pub sum_of_immediate : (into : ℕ) → (subtract shifted : Bool) → (imm12 rn : ℕ) → Instruction
-sum_of_immediate into subtract shifted imm12 rn = instructions.AddSubImmediate (record {
-  width = widths.W;
-  subtract = subtract;
-  set_flags = false;
-  shifted = shifted;
-  imm12 = imm12;
-  rn = rn;
-  rd = into;
-})
-
 pub immediate_stands : (p : Profile) (into : ℕ) (subtract shifted : Bool) (imm12 rn : ℕ) → imm12 < 4096 → rn < 32 → into < 32 → may_hold into ≡ true
     → Stands p Nothing (sum_of_immediate into subtract shifted imm12 rn)
 immediate_stands p into subtract shifted imm12 rn fits below to holds =
@@ -372,17 +362,6 @@ changed_stands p subtract imm12 rn fits below free other = (
 )
 
 -- ---- a single access at x21 and a W register
-abbrev pub access_of : Size → Transfer → (rm rt : ℕ) → Instruction
-access_of size transfer rm rt = instructions.RegisterOffset (record {
-  size = size;
-  transfer = transfer;
-  rm = rm;
-  extend = indexes.Uxtw;
-  scaled = false;
-  rn = 21;
-  rt = rt;
-})
-
 pub access_stands : (p : Profile) (size : Size) (transfer : Transfer) (rm rt : ℕ) → IsAccess size transfer → rm < 32 → rt < 32 → may_move transfer rt ≡ true
     → Stands p Nothing (access_of size transfer rm rt) × (opens_of p (access_of size transfer rm rt) ≡ Nothing)
 access_stands p size transfer rm rt legal index below free =

@@ -1,6 +1,6 @@
 //! What stands in the place of single accesses.
 
-ghost use Rattle.std.specs.Prelude.{◌≡◌, ◌<◌, ◌≤◌, ◌+◌, IfOk, IsTrue, false, ◌==◌, ◌&&◌, not};
+ghost use Rattle.std.specs.Prelude.{◌≡◌, ◌<◌, ◌≤◌, ◌+◌, IfOk, IsTrue, false, ◌==◌, ◌&&◌, not, ◌++◌, ◌∷◌, [], ◌^◌};
 ghost use Rattle.lfi_module.specs.declared.profile.Profile.{Profile};
 ghost use Rattle.lfi_module.specs.declared.profile.Profile.TheVariants.{Two};
 ghost use Rattle.a64_word.specs.Encoding.{IsAccess, IsLegal, fields};
@@ -9,8 +9,9 @@ ghost use Rattle.a64_word.specs.declared.instruction.Instruction.{Instruction};
 ghost use Rattle.lfi_mends.specs.Mends.{KeepsRules, mended};
 ghost use Rattle.lfi_mends.specs.Obstacles.{refusal, of_access, of_single, is_double};
 ghost use Rattle.lfi_mends.specs.Registers as spec;
+ghost use Rattle.lfi_mends.specs.inner.Rows as rows;
 ghost use Rattle.std.specs.Prelude.{None, is_some};
-ghost use Rattle.a64_word.specs.Operands.{IsSigned};
+ghost use Rattle.a64_word.specs.Operands.{IsSigned, size_code};
 ghost use Rattle.a64_word.specs.Profiles.{is_of};
 
 use crate::builders::{
@@ -67,7 +68,8 @@ pub(crate) fn scratch_beside(register: Register) -> Register
 
 /// The register that holds the sum for an access: w22, or w16 where x22 is stored.
 fn sum_register(transfer: Transfer, moved: Register) -> Register
-    ensures { IsTrue (spec.may_hold result) }
+    ensures holds { IsTrue (spec.may_hold result) }
+    ensures offset { spec.is_reserved moved ≡ false → result ≡ 22 }
 {
     if moved.number() == OFFSET && transfer == Transfer::Store {
         Register::new(FIRST_SCRATCH)
@@ -77,12 +79,16 @@ fn sum_register(transfer: Transfer, moved: Register) -> Register
 }
 
 /// Whether a base alone is the address: not sp, which is no W register of an access.
-fn is_bare(base: Register, bytes: u16) -> bool {
+fn is_bare(base: Register, bytes: u16) -> bool
+    ensures { result ≡ rows.is_bare base bytes }
+{
     bytes == 0 && base.number() != STACK
 }
 
 /// The register that holds the address of a base and a distance: the base, or else the sum's.
-pub(crate) fn index_of(base: Register, bytes: u16, sum: Register) -> Register {
+pub(crate) fn index_of(base: Register, bytes: u16, sum: Register) -> Register
+    ensures { result ≡ rows.index_of sum base bytes }
+{
     if is_bare(base, bytes) { base } else { sum }
 }
 
@@ -93,6 +99,7 @@ pub(crate) fn with_sum(mend: Mend, base: Register, distance: Distance, sum: Regi
     requires near { distance.bytes < 32768 }
     requires holds { IsTrue (spec.may_hold sum) }
     ensures keeps { (profile : Profile) → KeepsRules profile (mended result) }
+    ensures items { mended result ≡ mended mend ++ rows.sums sum base distance.below distance.bytes }
     ensures count { result.count ≤ mend.count + 2 }
 {
     if is_bare(base, distance.bytes) {
@@ -125,7 +132,9 @@ pub(crate) fn put(mend: Mend, into: Register, from: Register) -> Mend
 }
 
 /// Whether an access loads 64 bits into x30.
-fn loads_link(size: Size, transfer: Transfer, moved: Register) -> bool {
+fn loads_link(size: Size, transfer: Transfer, moved: Register) -> bool
+    ensures { IsTrue result → IsTrue (spec.is_reserved moved) }
+{
     size == Size::Double && transfer == Transfer::Load && moved.number() == LINK
 }
 
@@ -137,6 +146,7 @@ fn with_access(mend: Mend, single: Single, index: Register, scratch: Register) -
     requires free { IsTrue (spec.is_free scratch) }
     requires base { of_single single.transfer single.moved ≡ None }
     ensures keeps { (profile : Profile) → KeepsRules profile (mended result) }
+    ensures items { spec.is_reserved single.moved ≡ false → mended result ≡ mended mend ++ rows.access_of single.size single.transfer index single.moved ∷ [] }
     ensures count { result.count ≤ mend.count + 2 }
 {
     if loads_link(single.size, single.transfer, single.moved) {
@@ -182,6 +192,7 @@ fn plain(mend: Mend, single: Single, base: Register, distance: Distance) -> Mend
     requires legal { IsAccess single.size single.transfer }
     requires base { of_single single.transfer single.moved ≡ None }
     ensures keeps { (profile : Profile) → KeepsRules profile (mended result) }
+    ensures items { spec.is_reserved single.moved ≡ false → mended result ≡ mended mend ++ rows.accessed single.size single.transfer single.moved base distance.below distance.bytes }
     ensures count { result.count ≤ mend.count + 4 }
 {
     let sum = sum_register(single.transfer, single.moved);
@@ -204,7 +215,8 @@ fn shift(size: Size) -> u8
 
 /// How many bytes an access has.
 fn bytes(size: Size) -> u16
-    ensures { result ≤ 8 }
+    ensures few { result ≤ 8 }
+    ensures is { result ≡ 2 ^ size_code size }
 {
     match size {
         Size::Byte => 1,
@@ -247,7 +259,8 @@ fn unsigned(i: &UnsignedOffset) -> Result<Mend, Reason>
 /// A signed offset as a distance.
 pub(crate) fn distance_of(offset: i32) -> Distance
     requires { IsSigned 11 offset }
-    ensures { result.bytes < 4096 }
+    ensures near { result.bytes < 4096 }
+    ensures is { rows.offset_of result.below result.bytes ≡ offset }
 {
     if offset < 0 {
         Distance {

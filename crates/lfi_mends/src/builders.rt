@@ -12,6 +12,7 @@ ghost use Rattle.a64_word.specs.Fields.{AllFit};
 ghost use Rattle.lfi_mends.specs.Mends.{Stands};
 ghost use Rattle.lfi_mends.specs.Registers as spec;
 ghost use Rattle.lfi_mends.specs.inner.Computing.{is_computing};
+ghost use Rattle.lfi_mends.specs.inner.Rows as rows;
 ghost use Rattle.a64_effects.specs.Effects.{ordered_transfer};
 ghost use Rattle.a64_word.specs.declared.operands.Width.TheVariants.{X};
 
@@ -198,6 +199,7 @@ pub(crate) fn sum_with_immediate(
     requires fits { imm12 < 4096 }
     requires holds { IsTrue (spec.may_hold into) }
     ensures stands { (profile : Profile) → Stands profile Nothing result }
+    ensures is { result ≡ rows.sum_of_immediate into subtract shifted imm12 base }
     ensures opens { (profile : Profile) → opens_of profile result ≡ Nothing }
 {
     Instruction::AddSubImmediate(AddSubImmediate {
@@ -264,6 +266,7 @@ pub(crate) fn access(
     requires legal { IsAccess size transfer }
     requires free { IsTrue (spec.may_move transfer moved) }
     ensures stands { (profile : Profile) → Stands profile Nothing result }
+    ensures is { result ≡ rows.access_of size transfer index moved }
     ensures opens { (profile : Profile) → opens_of profile result ≡ Nothing }
 {
     Instruction::RegisterOffset(RegisterOffset {

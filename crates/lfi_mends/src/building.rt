@@ -44,6 +44,7 @@ impl Mend {
         requires stands { (profile : Profile) → Stands profile Nothing instruction }
         requires opens { (profile : Profile) → opens_of profile instruction ≡ Nothing }
         ensures keeps { (profile : Profile) → KeepsRules profile (mended result) }
+        ensures items { mended result ≡ mended self ++ instruction ∷ [] }
         ensures count { result.count ≡ self.count + 1 }
     {
         self.then(instruction)

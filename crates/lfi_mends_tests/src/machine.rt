@@ -3,8 +3,8 @@
 use a64_reference::plain_result;
 use a64_semantics::Registers;
 use a64_word::{
-    AddSubExtended, AddSubImmediate, IndexExtend, IndexMode, Instruction, Logical, PairMode,
-    Register, Size, Transfer, Width,
+    AddSubExtended, AddSubImmediate, IndexExtend, IndexMode, Instruction, Logical, Pair, PairMode,
+    Register, SignedOffset, Size, Transfer, Width,
 };
 
 /// A store: its address, how many bytes, and what is stored.
@@ -68,6 +68,15 @@ fn wide(offset: i32) -> u64 {
         0_u64.wrapping_sub(distance)
     } else {
         distance
+    }
+}
+
+/// A load of zero-extended bytes, or a store.
+fn transfer_of(load: bool) -> Transfer {
+    if load {
+        Transfer::Load
+    } else {
+        Transfer::Store
     }
 }
 
@@ -145,6 +154,42 @@ impl Machine {
         extended.wrapping_mul(factor)
     }
 
+    /// An access at a signed offset, which may change its base.
+    fn signed(&mut self, i: &SignedOffset) {
+        let base = self.registers.x_or_sp(i.rn);
+        let changed = base.wrapping_add(wide(i.imm9));
+        let address = if i.mode == IndexMode::PostIndex {
+            base
+        } else {
+            changed
+        };
+        self.access(i.size, i.transfer, i.rt, address);
+        if i.mode != IndexMode::Unscaled {
+            self.registers.put_or_sp(i.rn, Width::X, changed);
+        }
+    }
+
+    /// An access of a pair.
+    fn pair(&mut self, i: &Pair) {
+        let size = match i.width {
+            Width::W => Size::Word,
+            Width::X => Size::Double,
+        };
+        let transfer = transfer_of(i.load);
+        let base = self.registers.x_or_sp(i.rn);
+        let changed = base.wrapping_add(wide(i.imm7).wrapping_mul(bytes(size)));
+        let address = if i.mode == PairMode::PostIndex {
+            base
+        } else {
+            changed
+        };
+        self.access(size, transfer, i.rt, address);
+        self.access(size, transfer, i.rt2, address.wrapping_add(bytes(size)));
+        if i.mode != PairMode::Offset {
+            self.registers.put_or_sp(i.rn, Width::X, changed);
+        }
+    }
+
     /// A load or store, if it is one.
     fn perform_access(&mut self, instruction: &Instruction) {
         match instruction {
@@ -153,19 +198,7 @@ impl Machine {
                 let address = self.registers.x_or_sp(i.rn).wrapping_add(offset);
                 self.access(i.size, i.transfer, i.rt, address);
             }
-            Instruction::SignedOffset(i) => {
-                let base = self.registers.x_or_sp(i.rn);
-                let changed = base.wrapping_add(wide(i.imm9));
-                let address = if i.mode == IndexMode::PostIndex {
-                    base
-                } else {
-                    changed
-                };
-                self.access(i.size, i.transfer, i.rt, address);
-                if i.mode != IndexMode::Unscaled {
-                    self.registers.put_or_sp(i.rn, Width::X, changed);
-                }
-            }
+            Instruction::SignedOffset(i) => self.signed(i),
             Instruction::RegisterOffset(i) => {
                 let factor = if i.scaled { bytes(i.size) } else { 1 };
                 let index = self.index(i.rm, i.extend, factor);
@@ -173,33 +206,10 @@ impl Machine {
                 self.access(i.size, i.transfer, i.rt, address);
             }
             Instruction::Ordered(i) => {
-                let transfer = if i.load {
-                    Transfer::Load
-                } else {
-                    Transfer::Store
-                };
-                self.access(i.size, transfer, i.rt, self.registers.x_or_sp(i.rn));
+                let address = self.registers.x_or_sp(i.rn);
+                self.access(i.size, transfer_of(i.load), i.rt, address);
             }
-            Instruction::Pair(i) => {
-                let (size, transfer) = match (i.width, i.load) {
-                    (Width::W, true) => (Size::Word, Transfer::Load),
-                    (Width::W, false) => (Size::Word, Transfer::Store),
-                    (Width::X, true) => (Size::Double, Transfer::Load),
-                    (Width::X, false) => (Size::Double, Transfer::Store),
-                };
-                let base = self.registers.x_or_sp(i.rn);
-                let changed = base.wrapping_add(wide(i.imm7).wrapping_mul(bytes(size)));
-                let address = if i.mode == PairMode::PostIndex {
-                    base
-                } else {
-                    changed
-                };
-                self.access(size, transfer, i.rt, address);
-                self.access(size, transfer, i.rt2, address.wrapping_add(bytes(size)));
-                if i.mode != PairMode::Offset {
-                    self.registers.put_or_sp(i.rn, Width::X, changed);
-                }
-            }
+            Instruction::Pair(i) => self.pair(i),
             _ => {}
         }
     }

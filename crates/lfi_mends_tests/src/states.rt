@@ -1,4 +1,7 @@
 //! What mends do to registers and bytes, beside what the refused word does, on random states.
+
+ghost use Rattle.std.specs.Prelude.{◌<◌};
+
 use crate::machine::{Machine, Stored, sign_extended};
 use crate::rows::{OUTSIDE, PAIRS, Row, SINGLES, WRITES};
 use crate::tables::answer;
