@@ -30,7 +30,7 @@ some_bytes sizes.Half = lit≤ tt
 some_bytes sizes.Word = lit≤ tt
 some_bytes sizes.Double = lit≤ tt
 
-agree_at : (size : Size) (transfer : Transfer) (rt : ℕ) (s : State) (a b : ℕ) → a ≡ b → Agree (at_address size transfer rt s a) (at_address size transfer rt s b)
+pub agree_at : (size : Size) (transfer : Transfer) (rt : ℕ) (s : State) (a b : ℕ) → a ≡ b → Agree (at_address size transfer rt s a) (at_address size transfer rt s b)
 agree_at size transfer rt s a b e = subst (λ x. Agree (at_address size transfer rt s a) (at_address size transfer rt s x)) e (agree_same (at_address size transfer rt s a))
 
 -- An access at a base alone.

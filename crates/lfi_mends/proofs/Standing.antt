@@ -134,7 +134,7 @@ sf_fits widths.W = lit≤ tt
 sf_fits widths.X = lit≤ tt
 
 -- what the test of registers says
-unreserved : (r : ℕ) → is_reserved r ≡ false → IsUnreserved r
+pub unreserved : (r : ℕ) → is_reserved r ≡ false → IsUnreserved r
 unreserved r h =
     let a = or_parts _ _ h in
     let b = or_parts _ _ a.1 in

@@ -1,12 +1,14 @@
 //! What stands in the place of single accesses.
 
-ghost use Rattle.std.specs.Prelude.{◌≡◌, ◌<◌, ◌≤◌, ◌+◌, IfOk, IsTrue, false, ◌==◌, ◌&&◌, not, ◌++◌, ◌∷◌, [], ◌^◌};
+ghost use Rattle.std.specs.Prelude.{◌≡◌, ◌<◌, ◌≤◌, ◌+◌, IfOk, IsTrue, true, false, ◌==◌, ◌&&◌, not, ◌++◌, ◌∷◌, [], ◌^◌};
 ghost use Rattle.lfi_module.specs.declared.profile.Profile.{Profile};
 ghost use Rattle.lfi_module.specs.declared.profile.Profile.TheVariants.{Two};
 ghost use Rattle.a64_word.specs.Encoding.{IsAccess, IsLegal, fields};
 ghost use Rattle.a64_word.specs.Fields.{AllFit};
 ghost use Rattle.a64_word.specs.declared.instruction.Instruction.{Instruction};
 ghost use Rattle.lfi_mends.specs.Mends.{KeepsRules, mended};
+ghost use Rattle.lfi_mends.specs.Outcomes.{DoesTheSame, moves_plainly};
+ghost use Rattle.a64_word.specs.declared.operands.IndexMode.TheVariants.{Unscaled};
 ghost use Rattle.lfi_mends.specs.Obstacles.{refusal, of_access, of_single, is_double};
 ghost use Rattle.lfi_mends.specs.Registers as spec;
 ghost use Rattle.lfi_mends.specs.inner.Rows as rows;
@@ -239,6 +241,7 @@ fn unsigned(i: &UnsignedOffset) -> Result<Mend, Reason>
     requires fits { AllFit (fields (Instruction.UnsignedOffset i.now)) }
     ensures keeps { IfOk result (λ mend. (profile : Profile) → KeepsRules profile (mended mend)) }
     ensures count { IfOk result (λ mend. mend.count ≤ 7) }
+    ensures does { IfOk result (λ mend. spec.is_reserved i.now.rt ≡ false → DoesTheSame (mended mend) (Instruction.UnsignedOffset i.now)) }
     ensures told { refusal result ≡ of_access (Instruction.UnsignedOffset i.now) }
 {
     if loads_base(i.transfer, i.rt) {
@@ -261,6 +264,7 @@ pub(crate) fn distance_of(offset: i32) -> Distance
     requires { IsSigned 11 offset }
     ensures near { result.bytes < 4096 }
     ensures is { rows.offset_of result.below result.bytes ≡ offset }
+    ensures some { result.below ≡ true → 1 ≤ result.bytes }
 {
     if offset < 0 {
         Distance {
@@ -298,6 +302,7 @@ fn signed(i: &SignedOffset) -> Result<Mend, Reason>
     requires legal { IsLegal (Instruction.SignedOffset i.now) }
     ensures keeps { IfOk result (λ mend. (profile : Profile) → KeepsRules profile (mended mend)) }
     ensures count { IfOk result (λ mend. mend.count ≤ 7) }
+    ensures does { IfOk result (λ mend. i.now.mode ≡ Unscaled → spec.is_reserved i.now.rt ≡ false → DoesTheSame (mended mend) (Instruction.SignedOffset i.now)) }
     ensures told { refusal result ≡ of_access (Instruction.SignedOffset i.now) }
 {
     if i.mode != IndexMode::Unscaled && i.rn.number() == BASE {
@@ -381,6 +386,7 @@ pub(crate) fn confined(profile: Profile, instruction: &Instruction) -> Result<Me
     requires fits { AllFit (fields instruction.now) }
     ensures keeps { IfOk result (λ mend. KeepsRules profile (mended mend)) }
     ensures count { IfOk result (λ mend. mend.count ≤ 7) }
+    ensures does { IfOk result (λ mend. IsTrue (moves_plainly instruction.now) → DoesTheSame (mended mend) instruction.now) }
     ensures told { refusal result ≡ of_access instruction.now }
 {
     match instruction {

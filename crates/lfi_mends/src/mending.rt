@@ -6,7 +6,9 @@ ghost use Rattle.lfi_rules.specs.declared.needs.Need.TheVariants.{Nothing, Call}
 ghost use Rattle.lfi_rules.specs.Needs.{opens_of};
 ghost use Rattle.a64_word.specs.Encoding.{IsLegal, fields};
 ghost use Rattle.a64_word.specs.Fields.{AllFit};
-ghost use Rattle.a64_word.specs.Profiles.{is_of};
+ghost use Rattle.a64_word.specs.Profiles.{is_of, SpellsIn};
+ghost use Rattle.lfi_rules.specs.declared.rule.Rule.TheVariants.{AccessConfined};
+ghost use Rattle.lfi_mends.specs.Outcomes.{DoesTheSame, moves_plainly};
 ghost use Rattle.a64_word.specs.declared.instruction.Instruction.{Instruction};
 ghost use Rattle.lfi_mends.specs.Mends.{Leads, KeepsRules, Stands, mended};
 ghost use Rattle.lfi_mends.specs.Obstacles as obstacles;
@@ -171,6 +173,7 @@ fn alone(profile: Profile, rule: Rule, instruction: &Instruction) -> Result<Mend
     requires fits { AllFit (fields instruction.now) }
     ensures keeps { IfOk result (λ mend. KeepsRules profile (mended mend)) }
     ensures count { IfOk result (λ mend. mend.count ≤ 7) }
+    ensures does { rule ≡ AccessConfined → IfOk result (λ mend. IsTrue (moves_plainly instruction.now) → DoesTheSame (mended mend) instruction.now) }
     ensures told { refusal result ≡ obstacles.obstacle rule instruction.now }
 {
     match rule {
@@ -197,6 +200,7 @@ fn of_word(
 ) -> Result<Mend, Reason>
     ensures keeps { IfOk result (λ mend. KeepsRules profile (mended mend)) }
     ensures count { IfOk result (λ mend. mend.count ≤ 7) }
+    ensures does { (i : Instruction) → rule ≡ AccessConfined → SpellsIn profile i word → IsTrue (moves_plainly i) → IfOk result (λ mend. DoesTheSame (mended mend) i) }
     ensures told { IsReasonOfWord profile rule word next.now (refusal result) }
 {
     match decode(word, profile) {
@@ -222,6 +226,7 @@ fn behind_need(profile: Profile, need: Need, mend: Mend) -> Mend
     requires room { mend.count ≤ 7 }
     requires keeps { KeepsRules profile (mended mend) }
     requires other { need ≢ Call }
+    ensures items { need ≡ Nothing → mended result ≡ mended mend }
     ensures leads { Leads profile need (mended result) Nothing }
 {
     match meeting(need) {
@@ -248,6 +253,7 @@ pub fn mend_of(
     next: &Option<Instruction>,
 ) -> Result<Mend, Reason>
     ensures leads { IfOk result (λ mend. Leads profile unmet (mended mend) Nothing) }
+    ensures does { (i : Instruction) → rule ≡ AccessConfined → unmet ≡ Nothing → SpellsIn profile i word → IsTrue (moves_plainly i) → IfOk result (λ mend. DoesTheSame (mended mend) i) }
     ensures told { IsReason profile rule word unmet next.now (refusal result) }
 {
     if rule == Rule::NeedMet {
