@@ -38,7 +38,7 @@ use Rattle.lfi_rules.specs.Needs.{loads_link, loads_entry, moves_stack, is_load_
 use Rattle.lfi_rules.specs.inner.Quiet.{IsUnreserved}
 use Rattle.lfi_rules.proofs.Avoiding.{Spares, spares_none, spares_one, spares_more, spares_free, spares_offset, link_kept, stack_kept, Avoids, avoids_none, avoids_link, avoids_more, no_stack}
 use Rattle.lfi_mends.specs.Mends.{Stands, Leads, KeepsRules}
-use Rattle.lfi_mends.specs.inner.Rows.{sum_of_immediate, access_of}
+use Rattle.lfi_mends.specs.inner.Rows.{sum_of_immediate, sum_of_index, access_of}
 use Rattle.lfi_mends.specs.inner.Computing.{may_compute, is_computing}
 use Rattle.lfi_mends.specs.Registers.{is_reserved, is_free, may_hold, may_move, may_move_two, holds_link}
 
@@ -320,18 +320,6 @@ immediate_stands p into subtract shifted imm12 rn fits below to holds =
     stands p Nothing (sum_of_immediate into subtract shifted imm12 rn) _
     (spelled p (sum_of_immediate into subtract shifted imm12 rn) refl tt (lit≤ tt, (bit_fits subtract, (lit≤ tt, (lit≤ tt, (bit_fits shifted, (fits, (below, (to, tt)))))))))
     (kept_sparing (sum_of_immediate into subtract shifted imm12 rn) _ refl (held into holds) refl refl) refl
-
-abbrev pub sum_of_index : (into amount rm rn : ℕ) → Instruction
-sum_of_index into amount rm rn = instructions.AddSubExtended (record {
-  width = widths.W;
-  subtract = false;
-  set_flags = false;
-  extend = extends.Uxtw;
-  amount = amount;
-  rm = rm;
-  rn = rn;
-  rd = into;
-})
 
 pub index_sum_stands : (p : Profile) (into amount rm rn : ℕ) → amount ≤ 4 → rm < 32 → rn < 32 → into < 32 → may_hold into ≡ true
     → Stands p Nothing (sum_of_index into amount rm rn)

@@ -1,6 +1,6 @@
 -- Sums in w22, and accesses by them.
 use Rattle.std.proofs.Common.{◌≡◌, ℕ, ◌+◌, ◌-◌, ◌*◌, ◌/◌, ◌%◌, ◌^◌, ◌<◌, ◌≤◌, eqb, eqb-true, Bool, true, false, List, [], ◌∷◌, ◌++◌, length, Some, refl, ap, sym, subst, ◌∙◌, inl, inr, arith, lit≤}
-use Rattle.std.specs.Prelude.{if◌then◌else◌, ◌&&◌, not, ℤ, pos, negsuc}
+use Rattle.std.specs.Prelude.{if◌then◌else◌, ◌&&◌, not, nat_lt, ℤ, pos, negsuc}
 use Rattle.std.proofs.lemmas.Bool.{cases_Bool, eqb-false, and_parts, or_parts, not-true}
 use Rattle.std.proofs.lemmas.List.{get_or-set_other, length-set}
 use Rattle.std.proofs.lemmas.Grind.{get_or-set_at}
@@ -16,11 +16,14 @@ use Rattle.a64_semantics.specs.Sums.{sum_of, addend}
 use Rattle.a64_word.specs.Operands.{bit}
 use Rattle.a64_word.specs.declared.instruction.Instruction.TheVariants as instructions
 use Rattle.a64_word.specs.declared.operands.IndexMode.TheVariants as modes
-use Rattle.a64_semantics.specs.Accesses.{displaced}
+use Rattle.a64_semantics.specs.Accesses.{displaced, extended_index}
+use Rattle.a64_word.specs.declared.operands.IndexExtend.{IndexExtend}
+use Rattle.a64_word.specs.declared.operands.IndexExtend.TheVariants as indexes
+use Rattle.a64_word.specs.declared.operands.Size.TheVariants as sizes
 use Rattle.lfi_mends.specs.Registers.{is_reserved}
 use Rattle.lfi_mends.proofs.Standing.{unreserved}
 use Rattle.lfi_mends.specs.Outcomes.{State, Agree, IsWhole, InSlot, DoesTheSame, after, after_all}
-use Rattle.lfi_mends.specs.inner.Rows.{sum_of_immediate, access_of, is_bare, index_of, sums, accessed, offset_of}
+use Rattle.lfi_mends.specs.inner.Rows.{sum_of_immediate, access_of, is_bare, index_of, sums, accessed, offset_of, sum_of_index, amount_of, indexed}
 use Rattle.lfi_mends.proofs.Same.{at_address, some_bytes, agree_at}
 use Rattle.lfi_mends.proofs.Beside.{agree_after}
 use Rattle.lfi_mends.proofs.Addresses.{same_address}
@@ -208,3 +211,51 @@ signed_same size transfer imm9 rn rt below bytes is far fits some free e s whole
     displaced_by : (below : Bool) (bytes b : ℕ) → (below ≡ true → 1 ≤ bytes) → reached below bytes b ≡ displaced b (offset_of below bytes)
     displaced_by true bytes b some = ap (λ d. (b + d) % 18446744073709551616) (omega (arith, some refl))
     displaced_by false bytes b some = refl
+
+-- ---- by an index
+summed_index : (amount rm rn : ℕ) (s : State) → length s.registers.x ≡ 31
+    → Summed (after (sum_of_index 22 amount rm rn) s) s
+    (low_bits widths.W (sum_of widths.W (x_or_sp_at s.registers rn % 2 ^ 32) (x_at s.registers rm % 2 ^ 32 * 2 ^ amount % 2 ^ 32) 0))
+summed_index amount rm rn s count = record {
+  general = λ n other. get_or-set_other s.registers.x 22 n _ 0 (eqb-false n 22 other);
+  value = get_or-set_at s.registers.x 22 22 _ 0 refl (subst (λ l. 22 < l) (sym count) (lit≤ tt));
+  stack = refl;
+  flags = refl;
+  count = length-set s.registers.x 22 _ ∙ count;
+  memory = refl;
+}
+
+-- The lowest bits of an index are those of its register, however it is extended.
+index_low : (extend : IndexExtend) (x : ℕ) → extended_index extend x % 4294967296 ≡ x % 4294967296
+index_low indexes.Uxtw x = omega arith
+index_low indexes.Lsl x = refl
+index_low indexes.Sxtx x = refl
+index_low indexes.Sxtw x = elim (cases_Bool (nat_lt (x % 4294967296) 2147483648)) [
+  | inl low ↦ rw low (omega arith)
+  | inr high ↦ rw high (omega arith)
+]
+
+abbrev pub factor_of : Size → (scaled : Bool) → ℕ
+factor_of size scaled = if scaled then 2 ^ size_code size else 1
+
+index_in_slot : (size : Size) (scaled : Bool) (base b e x slot : ℕ) → e % 4294967296 ≡ x % 4294967296 → base ≡ slot * 4294967296 → (slot + 1) * 4294967296 ≤ 18446744073709551616
+    → slot * 4294967296 ≤ (b + e * factor_of size scaled) % 18446744073709551616 → (b + e * factor_of size scaled) % 18446744073709551616 < (slot + 1) * 4294967296
+    → (base + (b % 4294967296 + x % 4294967296 * 2 ^ amount_of size scaled % 4294967296 + 0) % 4294967296 % 4294967296 % 4294967296 * 1) % 18446744073709551616
+    ≡ (b + e * factor_of size scaled) % 18446744073709551616
+index_in_slot size false base b e x slot low at room first last = omega (arith, low, at, room, first, last)
+index_in_slot sizes.Byte true base b e x slot low at room first last = omega (arith, low, at, room, first, last)
+index_in_slot sizes.Half true base b e x slot low at room first last = omega (arith, low, at, room, first, last)
+index_in_slot sizes.Word true base b e x slot low at room first last = omega (arith, low, at, room, first, last)
+index_in_slot sizes.Double true base b e x slot low at room first last = omega (arith, low, at, room, first, last)
+
+pub index_same : (size : Size) (transfer : Transfer) (rm : ℕ) (extend : IndexExtend) (scaled : Bool) (rn rt : ℕ) (is : List Instruction) → is_reserved rt ≡ false
+    → is ≡ indexed 22 size transfer rt rn rm (amount_of size scaled)
+    → DoesTheSame is (instructions.RegisterOffset (record { size = size; transfer = transfer; rm = rm; extend = extend; scaled = scaled; rn = rn; rt = rt }))
+index_same size transfer rm extend scaled rn rt is free e s whole lies =
+    let b = x_or_sp_at s.registers rn in
+    let x = x_at s.registers rm in
+    let some = some_bytes size in
+    let refused = instructions.RegisterOffset (record { size = size; transfer = transfer; rm = rm; extend = extend; scaled = scaled; rn = rn; rt = rt }) in
+    subst (λ l. Agree (after_all l s) (after refused s)) (sym e)
+    (by_sum size transfer rt _ _ s _ (summed_index (amount_of size scaled) rm rn s whole.count) (unreserved rt free).offset whole.count
+    (index_in_slot size scaled _ b (extended_index extend x) x lies.slot (index_low extend x) lies.base lies.room lies.first (omega (arith, lies.last, some))))

@@ -203,10 +203,14 @@ fn plain(mend: Mend, single: Single, base: Register, distance: Distance) -> Mend
     with_access(mend, single, index, scratch_beside(base))
 }
 
-/// How many bytes an access has, as a power of two.
-fn shift(size: Size) -> u8
-    ensures { result ≤ 3 }
+/// By how many places an index is shifted: as many as the number of bytes has as a power of two, where it is scaled.
+fn amount(size: Size, scaled: bool) -> u8
+    ensures few { result ≤ 3 }
+    ensures is { result ≡ rows.amount_of size scaled }
 {
+    if !scaled {
+        return 0;
+    }
     match size {
         Size::Byte => 0,
         Size::Half => 1,
@@ -328,6 +332,7 @@ fn indexed(i: &RegisterOffset) -> Result<Mend, Reason>
     requires legal { IsLegal (Instruction.RegisterOffset i.now) }
     ensures keeps { IfOk result (λ mend. (profile : Profile) → KeepsRules profile (mended mend)) }
     ensures count { IfOk result (λ mend. mend.count ≤ 7) }
+    ensures does { IfOk result (λ mend. spec.is_reserved i.now.rt ≡ false → DoesTheSame (mended mend) (Instruction.RegisterOffset i.now)) }
     ensures told { refusal result ≡ of_access (Instruction.RegisterOffset i.now) }
 {
     if loads_base(i.transfer, i.rt) {
@@ -338,9 +343,8 @@ fn indexed(i: &RegisterOffset) -> Result<Mend, Reason>
         transfer: i.transfer,
         moved: i.rt,
     };
-    let amount = if i.scaled { shift(i.size) } else { 0 };
     let sum = sum_register(i.transfer, i.rt);
-    let mend = Mend::new().and(sum_with_index(sum, i.rn, i.rm, amount));
+    let mend = Mend::new().and(sum_with_index(sum, i.rn, i.rm, amount(i.size, i.scaled)));
     Ok(with_access(mend, single, sum, scratch_beside(i.rn)))
 }
 

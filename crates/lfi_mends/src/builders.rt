@@ -223,6 +223,7 @@ pub(crate) fn sum_with_index(
     requires amount { amount ≤ 4 }
     requires holds { IsTrue (spec.may_hold into) }
     ensures stands { (profile : Profile) → Stands profile Nothing result }
+    ensures is { result ≡ rows.sum_of_index into amount index base }
     ensures opens { (profile : Profile) → opens_of profile result ≡ Nothing }
 {
     Instruction::AddSubExtended(AddSubExtended {

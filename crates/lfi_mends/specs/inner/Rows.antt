@@ -4,6 +4,8 @@ use Rattle.a64_word.specs.declared.instruction.Instruction.{Instruction}
 use Rattle.a64_word.specs.declared.instruction.Instruction.TheVariants as instructions
 use Rattle.a64_word.specs.declared.operands.Width.TheVariants as widths
 use Rattle.a64_word.specs.declared.operands.IndexExtend.TheVariants as indexes
+use Rattle.a64_word.specs.declared.operands.Extend.TheVariants as extends
+use Rattle.a64_word.specs.Operands.{size_code}
 use Rattle.a64_word.specs.declared.operands.Size.{Size}
 use Rattle.a64_word.specs.declared.operands.Transfer.{Transfer}
 
@@ -40,3 +42,16 @@ accessed size transfer rt rn below bytes = sums 22 rn below bytes ++ access_of s
 abbrev pub offset_of : (below : Bool) → (bytes : ℕ) → ℤ
 offset_of true bytes = negsuc (bytes - 1)
 offset_of false bytes = pos bytes
+
+-- ADD Wd, Wn, Wm, UXTW #amount
+abbrev pub sum_of_index : (into amount rm rn : ℕ) → Instruction
+sum_of_index into amount rm rn =
+    instructions.AddSubExtended (record { width = widths.W; subtract = false; set_flags = false; extend = extends.Uxtw; amount = amount; rm = rm; rn = rn; rd = into })
+
+-- by how many places an index is shifted
+abbrev pub amount_of : Size → (scaled : Bool) → ℕ
+amount_of size scaled = if scaled then size_code size else 0
+
+-- an access at a base and an index
+abbrev pub indexed : (sum : ℕ) → Size → Transfer → (rt rn rm amount : ℕ) → List Instruction
+indexed sum size transfer rt rn rm amount = sum_of_index sum amount rm rn ∷ access_of size transfer sum rt ∷ []
