@@ -287,13 +287,13 @@ fn computes_the_same(row: &Row, registers: &Registers, value: u64) -> bool {
 #[test]
 fn what_is_left_out_computes_the_same(rt: HostRuntime) -> Result<(), Fail> {
     let mut draws = Draws { state: 3 };
-    let mut count = 0;
+    let mut count = 0_u32;
     for row in &OUTSIDE {
         for _ in 0..STATES {
             let registers = numbers(&mut draws);
             if let Some(value) = meant(row.word, &registers) {
                 assert!(rt; computes_the_same(row, &registers, value), "{}", row.word);
-                count += 1;
+                count = count.wrapping_add(1);
             }
         }
     }
@@ -335,13 +335,13 @@ fn accesses_the_same(row: &Row, registers: &Registers, plain: u32) -> bool {
 #[test]
 fn what_is_left_out_accesses_the_same(rt: HostRuntime) -> Result<(), Fail> {
     let mut draws = Draws { state: 5 };
-    let mut count = 0;
+    let mut count = 0_u32;
     for row in &OUTSIDE {
         for _ in 0..STATES {
             let registers = addresses(&mut draws);
             if let Some(plain) = plain_word(row.word) {
                 assert!(rt; accesses_the_same(row, &registers, plain), "{}", row.word);
-                count += 1;
+                count = count.wrapping_add(1);
             }
         }
     }
