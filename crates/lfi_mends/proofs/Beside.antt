@@ -18,7 +18,7 @@ use Rattle.lfi_mends.specs.inner.Rows.{access_of, sum_of_immediate}
 use Rattle.a64_word.specs.declared.instruction.Instruction.TheVariants as instructions
 use Rattle.a64_word.specs.Operands.{size_code}
 
-put_same : (b : Bool) (rt n value : ℕ) (width : Width) (one two : Registers) → length one.x ≡ length two.x → n < length one.x → x_at one n ≡ x_at two n
+pub put_same : (b : Bool) (rt n value : ℕ) (width : Width) (one two : Registers) → length one.x ≡ length two.x → n < length one.x → x_at one n ≡ x_at two n
     → x_at (put_all (if b then [] else to_general rt width value []) one) n ≡ x_at (put_all (if b then [] else to_general rt width value []) two) n
 put_same true rt n value width one two lengths below e = e
 put_same false rt n value width one two lengths below e = elim (cases_Bool (eqb rt 31)) [
@@ -29,7 +29,7 @@ put_same false rt n value width one two lengths below e = elim (cases_Bool (eqb 
       (λ there. get_or-set_other one.x rt n _ 0 there ∙ (e ∙ sym (get_or-set_other two.x rt n _ 0 there))))
 ]
 
-put_stack : (b : Bool) (rt value : ℕ) (width : Width) (one two : Registers) → one.sp ≡ two.sp
+pub put_stack : (b : Bool) (rt value : ℕ) (width : Width) (one two : Registers) → one.sp ≡ two.sp
     → (put_all (if b then [] else to_general rt width value []) one).sp ≡ (put_all (if b then [] else to_general rt width value []) two).sp
 put_stack true rt value width one two e = e
 put_stack false rt value width one two e = elim (cases_Bool (eqb rt 31)) [

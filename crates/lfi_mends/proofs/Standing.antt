@@ -38,7 +38,7 @@ use Rattle.lfi_rules.specs.Needs.{loads_link, loads_entry, moves_stack, is_load_
 use Rattle.lfi_rules.specs.inner.Quiet.{IsUnreserved}
 use Rattle.lfi_rules.proofs.Avoiding.{Spares, spares_none, spares_one, spares_more, spares_free, spares_offset, link_kept, stack_kept, Avoids, avoids_none, avoids_link, avoids_more, no_stack}
 use Rattle.lfi_mends.specs.Mends.{Stands, Leads, KeepsRules}
-use Rattle.lfi_mends.specs.inner.Rows.{sum_of_immediate, sum_of_index, access_of}
+use Rattle.lfi_mends.specs.inner.Rows.{sum_of_immediate, sum_of_index, access_of, changed_of}
 use Rattle.lfi_mends.specs.inner.Computing.{may_compute, is_computing}
 use Rattle.lfi_mends.specs.Registers.{is_reserved, is_free, may_hold, may_move, may_move_two, holds_link}
 
@@ -329,17 +329,6 @@ index_sum_stands p into amount rm rn fits index below to holds =
     (kept_sparing (sum_of_index into amount rm rn) _ refl (held into holds) refl refl) refl
 
 -- ---- a base that is changed
-abbrev pub changed_of : (subtract : Bool) (imm12 rn : ℕ) → Instruction
-changed_of subtract imm12 rn = instructions.AddSubImmediate (record {
-  width = widths.X;
-  subtract = subtract;
-  set_flags = false;
-  shifted = false;
-  imm12 = imm12;
-  rn = rn;
-  rd = rn;
-})
-
 pub changed_stands : (p : Profile) (subtract : Bool) (imm12 rn : ℕ) → imm12 < 4096 → rn < 32 → is_reserved rn ≡ false → eqb rn 31 ≡ false
     → Stands p Nothing (changed_of subtract imm12 rn) × (opens_of p (changed_of subtract imm12 rn) ≡ Nothing)
 changed_stands p subtract imm12 rn fits below free other = (

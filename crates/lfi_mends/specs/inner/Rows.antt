@@ -55,3 +55,13 @@ amount_of size scaled = if scaled then size_code size else 0
 -- an access at a base and an index
 abbrev pub indexed : (sum : ℕ) → Size → Transfer → (rt rn rm amount : ℕ) → List Instruction
 indexed sum size transfer rt rn rm amount = sum_of_index sum amount rm rn ∷ access_of size transfer sum rt ∷ []
+
+-- ADD or SUB Xn, Xn, #imm12
+abbrev pub changed_of : (subtract : Bool) → (imm12 rn : ℕ) → Instruction
+changed_of subtract imm12 rn =
+    instructions.AddSubImmediate (record { width = widths.X; subtract = subtract; set_flags = false; shifted = false; imm12 = imm12; rn = rn; rd = rn })
+
+-- an access at a base alone, which is changed before it or after it
+abbrev pub changing : (before : Bool) → Size → Transfer → (rt rn : ℕ) → (below : Bool) → (bytes : ℕ) → List Instruction
+changing true size transfer rt rn below bytes = changed_of below bytes rn ∷ access_of size transfer rn rt ∷ []
+changing false size transfer rt rn below bytes = access_of size transfer rn rt ∷ changed_of below bytes rn ∷ []
