@@ -1,9 +1,11 @@
 -- Accesses that change their base, in two instructions.
-use Rattle.std.proofs.Common.{◌≡◌, ◌≢◌, ℕ, ◌+◌, ◌-◌, ◌*◌, ◌%◌, ◌^◌, ◌<◌, ◌≤◌, eqb, eqb-true, Bool, true, false, List, [], ◌∷◌, ◌++◌, length, Some, refl, ap, sym, subst, ◌∙◌, inl, inr, arith, lit≤}
-use Rattle.std.specs.Prelude.{if◌then◌else◌, ◌&&◌, not, ℤ, pos, negsuc}
+use Rattle.std.proofs.Common.{◌≡◌, ◌≢◌, ℕ, ◌+◌, ◌-◌, ◌*◌, ◌%◌, ◌^◌, ◌<◌, ◌≤◌, eqb, Bool, true, false, List, [], length, Some, refl, ap, sym, subst, ◌∙◌, inl, inr, arith}
+use Rattle.std.specs.Prelude.{if◌then◌else◌, not, ℤ}
 use mathlib.Core.Logic.{dite}
 use native.Mathlib.Decide.{ℕ_discrete}
-use Rattle.std.proofs.lemmas.Bool.{cases_Bool, eqb-false, or_parts}
+use Rattle.std.proofs.lemmas.Bool.{cases_Bool, eqb-false, and_parts, not-true}
+use Rattle.lfi_mends.specs.Registers.{is_reserved, is_free}
+use Rattle.lfi_mends.proofs.Standing.{unreserved}
 use Rattle.std.proofs.lemmas.List.{get_or-set_other, length-set}
 use Rattle.std.proofs.lemmas.Grind.{get_or-set_at}
 use Rattle.a64_word.specs.declared.instruction.Instruction.{Instruction}
@@ -19,12 +21,12 @@ use Rattle.a64_semantics.specs.declared.registers.Registers.{Registers}
 use Rattle.a64_semantics.specs.Registers.{x_at, x_or_sp_at, put_all, to_general, to_or_sp}
 use Rattle.a64_semantics.specs.Accesses.{displaced, loaded, stored_by}
 use Rattle.a64_semantics.specs.Branches.{following}
-use Rattle.lfi_mends.specs.Outcomes.{State, Agree, IsWhole, InSlot, DoesTheSame, after, after_all, written_at}
+use Rattle.lfi_mends.specs.Outcomes.{State, Agree, InSlot, DoesTheSame, after, after_all, written_at}
 use Rattle.lfi_mends.specs.inner.Rows.{access_of, changed_of, changing, offset_of}
 use Rattle.lfi_mends.proofs.Same.{at_address, some_bytes}
 use Rattle.lfi_mends.proofs.Beside.{put_same, put_stack}
 use Rattle.lfi_mends.proofs.Addresses.{same_address}
-use Rattle.lfi_mends.proofs.Summed.{reached, accesses_at}
+use Rattle.lfi_mends.proofs.Summed.{reached}
 
 -- registers of which one holds a value, and that are else others
 record Changed (r1 r : Registers) (rn c : ℕ) : Type 0 where
@@ -219,3 +221,15 @@ post_same size transfer imm9 rn rt below bytes is far fits some other inside32 a
     (subst (λ y. Agree (after (changed_of below bytes rn) (after (access_of size transfer rn rt) s)) (changing_at size transfer rt rn (displaced b imm9) s y)) (sym same)
     (subst (λ d. Agree (after (changed_of below bytes rn) (after (access_of size transfer rn rt) s)) (changing_at size transfer rt rn d s x)) there
     (subst (λ q. Agree (after (changed_of below bytes rn) (at_address size transfer rt s q)) (changing_at size transfer rt rn c s x)) (sym address) core)))
+
+-- what the test of a base and of its data register says
+pub record IsFreeBase (rn rt : ℕ) : Type 0 where
+  pub stack : eqb rn 31 ≡ false
+  pub base : eqb rn 21 ≡ false
+  pub apart : rn ≢ rt
+
+pub free_base : (rn rt : ℕ) → is_free rn ≡ true → (rn ≡ rt → rn ≡ 31) → IsFreeBase rn rt
+free_base rn rt free only =
+    let tests = and_parts (not (is_reserved rn)) (not (eqb rn 31)) free in
+    let stack = not-true (eqb rn 31) tests.1 in
+    record { stack = stack; base = (unreserved rn (not-true (is_reserved rn) tests.0)).base; apart = λ e. eqb-false rn 31 stack (only e) }

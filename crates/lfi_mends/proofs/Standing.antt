@@ -1,7 +1,7 @@
 -- Instructions that stand after a need.
 use Rattle.std.proofs.Common.{◌≡◌, ◌≢◌, ℕ, ◌<◌, ◌≤◌, eqb, List, [], ◌∷◌, ◌++◌, Bool, true, false, refl, ap, ◌∙◌, subst, sym, arith, lit≤, true≢false, inl, inr, None}
 use Rattle.std.specs.Prelude.{if◌then◌else◌, ◌⊎◌, ◌||◌, ◌&&◌, not, pos}
-use Rattle.std.proofs.lemmas.Bool.{and_left, and_right, or_left, or_right, or_cases, and_parts, or_parts, not-true, eqb-true, cases_Bool}
+use Rattle.std.proofs.lemmas.Bool.{and_left, and_right, or_left, or_right, or_cases, and_parts, or_parts, not-true, eqb-true}
 use Rattle.lfi_module.specs.declared.profile.Profile.{Profile}
 use Rattle.lfi_module.specs.declared.profile.Profile.TheVariants.{Two}
 use Rattle.a64_word.specs.declared.instruction.Instruction.{Instruction}

@@ -13,7 +13,7 @@ use Rattle.a64_word.specs.declared.operands.Width.{Width}
 use Rattle.a64_word.specs.declared.operands.Width.TheVariants as widths
 use Rattle.a64_word.specs.Profiles.{SpellsIn}
 use Rattle.a64_effects.specs.Uses.{Use}
-use Rattle.a64_effects.specs.Effects.{is_store, ordered_transfer, changes_base, form_of_mode, form_of_pair_mode, writes_of, address_of}
+use Rattle.a64_effects.specs.Effects.{is_store, changes_base, form_of_mode, form_of_pair_mode, writes_of, address_of}
 use Rattle.lfi_rules.specs.declared.needs.Need.{Need}
 use Rattle.lfi_rules.specs.declared.needs.Need.TheVariants as needs
 use Rattle.lfi_rules.specs.declared.rule.Rule.{Rule}

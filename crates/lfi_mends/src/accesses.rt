@@ -8,7 +8,6 @@ ghost use Rattle.a64_word.specs.Fields.{AllFit};
 ghost use Rattle.a64_word.specs.declared.instruction.Instruction.{Instruction};
 ghost use Rattle.lfi_mends.specs.Mends.{KeepsRules, mended};
 ghost use Rattle.lfi_mends.specs.Outcomes.{DoesTheSame, moves_plainly};
-ghost use Rattle.a64_word.specs.declared.operands.IndexMode.TheVariants.{Unscaled};
 ghost use Rattle.lfi_mends.specs.Obstacles.{refusal, of_access, of_single, is_double};
 ghost use Rattle.lfi_mends.specs.Registers as spec;
 ghost use Rattle.lfi_mends.specs.inner.Rows as rows;
@@ -169,6 +168,7 @@ pub(crate) fn with_change(mend: Mend, base: Register, distance: Distance, sum: R
     requires holds { IsTrue (spec.may_hold sum) }
     requires base { (base == 21) ≡ false }
     ensures keeps { (profile : Profile) → KeepsRules profile (mended result) }
+    ensures items { IsTrue (spec.is_free base) → mended result ≡ mended mend ++ rows.changed_of distance.below distance.bytes base ∷ [] }
     ensures count { result.count ≤ mend.count + 2 }
 {
     let number = base.number();
@@ -290,6 +290,7 @@ fn changing(single: Single, base: Register, distance: Distance, before: bool) ->
     requires free { of_single single.transfer single.moved ≡ None }
     requires base { (base == 21) ≡ false }
     ensures keeps { (profile : Profile) → KeepsRules profile (mended result) }
+    ensures items { spec.is_reserved single.moved ≡ false → IsTrue (spec.is_free base) → mended result ≡ rows.changing before single.size single.transfer single.moved base distance.below distance.bytes }
     ensures count { result.count ≤ 7 }
 {
     let sum = sum_register(single.transfer, single.moved);
@@ -306,7 +307,7 @@ fn signed(i: &SignedOffset) -> Result<Mend, Reason>
     requires legal { IsLegal (Instruction.SignedOffset i.now) }
     ensures keeps { IfOk result (λ mend. (profile : Profile) → KeepsRules profile (mended mend)) }
     ensures count { IfOk result (λ mend. mend.count ≤ 7) }
-    ensures does { IfOk result (λ mend. i.now.mode ≡ Unscaled → spec.is_reserved i.now.rt ≡ false → DoesTheSame (mended mend) (Instruction.SignedOffset i.now)) }
+    ensures does { IfOk result (λ mend. IsTrue (moves_plainly (Instruction.SignedOffset i.now)) → DoesTheSame (mended mend) (Instruction.SignedOffset i.now)) }
     ensures told { refusal result ≡ of_access (Instruction.SignedOffset i.now) }
 {
     if i.mode != IndexMode::Unscaled && i.rn.number() == BASE {
@@ -321,10 +322,11 @@ fn signed(i: &SignedOffset) -> Result<Mend, Reason>
         transfer: i.transfer,
         moved: i.rt,
     };
-    if i.mode == IndexMode::Unscaled {
-        return Ok(plain(Mend::new(), single, i.rn, distance));
+    match i.mode {
+        IndexMode::Unscaled => Ok(plain(Mend::new(), single, i.rn, distance)),
+        IndexMode::PreIndex => Ok(changing(single, i.rn, distance, true)),
+        IndexMode::PostIndex => Ok(changing(single, i.rn, distance, false)),
     }
-    Ok(changing(single, i.rn, distance, i.mode == IndexMode::PreIndex))
 }
 
 /// What stands in the place of an access at an index.

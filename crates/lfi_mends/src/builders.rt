@@ -244,6 +244,7 @@ pub(crate) fn changed(base: Register, subtract: bool, imm12: u16) -> Instruction
     requires free { spec.is_reserved base ≡ false }
     requires no_stack { (base == 31) ≡ false }
     ensures stands { (profile : Profile) → Stands profile Nothing result }
+    ensures is { result ≡ rows.changed_of subtract imm12 base }
     ensures opens { (profile : Profile) → opens_of profile result ≡ Nothing }
 {
     Instruction::AddSubImmediate(AddSubImmediate {
