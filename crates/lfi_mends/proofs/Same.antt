@@ -1,6 +1,5 @@
--- What stands in the place of an access does what it does.
-use Rattle.std.proofs.Common.{◌≡◌, ℕ, ◌+◌, ◌*◌, ◌%◌, ◌^◌, ◌≤◌, eqb, false, [], ◌∷◌, Some, refl, sym, subst, ◌∙◌, arith, lit≤}
-use Rattle.a64_word.specs.declared.instruction.Instruction.TheVariants as instructions
+-- What a single access does that accesses an address.
+use Rattle.std.proofs.Common.{◌≡◌, ℕ, ◌^◌, ◌≤◌, [], Some, refl, subst, lit≤}
 use Rattle.a64_word.specs.declared.operands.Size.{Size}
 use Rattle.a64_word.specs.declared.operands.Size.TheVariants as sizes
 use Rattle.a64_word.specs.declared.operands.Transfer.{Transfer}
@@ -10,9 +9,7 @@ use Rattle.a64_semantics.specs.Registers.{x_at, put_all}
 use Rattle.a64_semantics.specs.Accesses.{stored_by}
 use Rattle.a64_semantics.specs.Writes.{to_loaded}
 use Rattle.a64_semantics.specs.Branches.{following}
-use Rattle.lfi_mends.specs.Outcomes.{State, Agree, DoesTheSame, written_at}
-use Rattle.lfi_mends.specs.inner.Rows.{access_of}
-use Rattle.lfi_mends.proofs.Addresses.{same_address}
+use Rattle.lfi_mends.specs.Outcomes.{State, Agree, written_at}
 
 pub agree_same : (s : State) → Agree s s
 agree_same s = record { general = λ n below kept. refl; stack = refl; flags = refl; memory = λ place. refl }
@@ -32,16 +29,3 @@ some_bytes sizes.Double = lit≤ tt
 
 pub agree_at : (size : Size) (transfer : Transfer) (rt : ℕ) (s : State) (a b : ℕ) → a ≡ b → Agree (at_address size transfer rt s a) (at_address size transfer rt s b)
 agree_at size transfer rt s a b e = subst (λ x. Agree (at_address size transfer rt s a) (at_address size transfer rt s x)) e (agree_same (at_address size transfer rt s a))
-
--- An access at a base alone.
-pub same_plain : (size : Size) (transfer : Transfer) (rn rt : ℕ) → eqb rn 31 ≡ false
-    → DoesTheSame (access_of size transfer rn rt ∷ []) (instructions.UnsignedOffset (record { size = size; transfer = transfer; imm12 = 0; rn = rn; rt = rt }))
-same_plain size transfer rn rt other s whole slot =
-    let lies = rw other at slot in
-    let x = x_at s.registers rn in
-    let small = whole.fit rn in
-    let some = some_bytes size in
-    let whole_sum : (x + 0 * 2 ^ size_code size) % 18446744073709551616 ≡ x = omega arith in
-    rw other
-    (agree_at size transfer rt s _ _
-    (same_address lies.slot (x_at s.registers 21) x lies.base lies.room (omega (arith, lies.first)) (omega (arith, lies.last, some)) ∙ sym whole_sum))

@@ -43,7 +43,7 @@ use Rattle.lfi_mends.specs.inner.Computing.{may_compute, is_computing}
 use Rattle.lfi_mends.specs.Registers.{is_reserved, is_free, may_hold, may_move, may_move_two, holds_link}
 
 -- One more instruction at the end.
-pub one_more : (p : Profile) (before between : Need) (is : List Instruction) (i : Instruction) → Leads p before is between → Stands p between i
+one_more : (p : Profile) (before between : Need) (is : List Instruction) (i : Instruction) → Leads p before is between → Stands p between i
     → Leads p before (is ++ i ∷ []) (opens_of p i)
 one_more p before between [] i same s = (subst (λ need. Stands p need i) (sym same) s, refl)
 one_more p before between (j ∷ rest) i (first, more) s = (first, one_more p (opens_of p j) between rest i more s)
@@ -416,10 +416,6 @@ stack_stands p =
     stands p Nothing stack_of _
     (spelled p stack_of refl (lit≤ tt) (lit≤ tt, (lit≤ tt, (lit≤ tt, (lit≤ tt, (lit≤ tt, (lit≤ tt, (lit≤ tt, (lit≤ tt, (lit≤ tt, tt))))))))))
     stack_set_kept refl
-
--- One instruction alone.
-pub leads_alone : (p : Profile) (need : Need) (is : List Instruction) (i : Instruction) → is ≡ i ∷ [] → Stands p need i → opens_of p i ≡ Nothing → Leads p need is Nothing
-leads_alone p need is i e s opens = subst (λ l. Leads p need l Nothing) (sym e) (s, opens)
 
 -- ---- instructions that only compute
 -- a register that they may compute, as an operand of which number 31 is zr

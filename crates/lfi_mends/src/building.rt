@@ -50,14 +50,6 @@ impl Mend {
         self.then(instruction)
     }
 
-    /// One instruction alone, which opens nothing.
-    pub(crate) fn alone(instruction: Instruction) -> Mend
-        requires { (profile : Profile) → opens_of profile instruction ≡ Nothing }
-        ensures { (profile : Profile) (need : Need) → Stands profile need instruction → Leads profile need (mended result) Nothing }
-    {
-        Mend::new().then(instruction)
-    }
-
     /// One more instruction, which loads x30, and the guard of x30.
     pub(crate) fn and_guarded(self, instruction: Instruction) -> Mend
         requires room { self.count < 7 }
