@@ -369,15 +369,16 @@ fn in_order(i: &Ordered) -> Result<Mend, Reason>
     let sum = Register::new(OFFSET);
     let index = index_of(i.rn, 0, sum);
     let scratch = scratch_beside(i.rn);
-    let mend = Mend::new();
-    let mend = if i.load {
-        mend
+    let copies = !i.load && is_reserved(i.rt);
+    let data = if copies { scratch } else { i.rt };
+    let mend = if copies {
+        Mend::new().and(copied(scratch, i.rt))
     } else {
-        mend.and(copied(scratch, i.rt))
+        Mend::new()
     };
     let mend = with_sum(mend, i.rn, NONE, sum).and(address_guard(index));
     if !i.load {
-        return Ok(mend.and_ordered(ordered(i.size, false, scratch)));
+        return Ok(mend.and_ordered(ordered(i.size, false, data)));
     }
     if is_reserved(i.rt) {
         return Ok(mend.and_ordered_guarded(link_ordered()));

@@ -16,7 +16,7 @@ pub struct Row {
 const NOP: u32 = 0xD503201F;
 
 /// Single loads and stores.
-pub const SINGLES: [Row; 20] = [
+pub const SINGLES: [Row; 21] = [
     // ldr x0, [x1]: ldr x0, [x21, w1, uxtw]
     Row {
         profile: Profile::One,
@@ -178,6 +178,15 @@ pub const SINGLES: [Row; 20] = [
         word: 0x88DFFC20,
         next: NOP,
         mend: &[0x8B2142B2, 0x88DFFE40],
+    },
+    // stlrh w0, [x1]: add x18, x21, w1, uxtw; stlrh w0, [x18]
+    Row {
+        profile: Profile::Two,
+        rule: Rule::AccessConfined,
+        unmet: Need::Nothing,
+        word: 0x489FFC20,
+        next: NOP,
+        mend: &[0x8B2142B2, 0x489FFE40],
     },
     // stlr x18, [x1]: mov x16, x18; add x18, x21, w1, uxtw; stlr x16, [x18]
     Row {
