@@ -1,0 +1,67 @@
+-- The instructions of mends of plain accesses.
+use Rattle.std.specs.Prelude.{ℕ, ℤ, pos, negsuc, ◌-◌, ◌/◌, ◌%◌, ◌==◌, ◌&&◌, not, if◌then◌else◌, Bool, true, false, List, [], ◌∷◌, ◌++◌}
+use Rattle.a64_word.specs.declared.instruction.Instruction.{Instruction}
+use Rattle.a64_word.specs.declared.instruction.Instruction.TheVariants as instructions
+use Rattle.a64_word.specs.declared.operands.Width.TheVariants as widths
+use Rattle.a64_word.specs.declared.operands.IndexExtend.TheVariants as indexes
+use Rattle.a64_word.specs.declared.operands.Extend.TheVariants as extends
+use Rattle.a64_word.specs.Operands.{size_code}
+use Rattle.a64_word.specs.declared.operands.Size.{Size}
+use Rattle.a64_word.specs.declared.operands.Transfer.{Transfer}
+
+-- ADD or SUB Wd, Wn, #imm12
+abbrev pub sum_of_immediate : (into : ℕ) → (subtract shifted : Bool) → (imm12 rn : ℕ) → Instruction
+sum_of_immediate into subtract shifted imm12 rn =
+    instructions.AddSubImmediate (record { width = widths.W; subtract = subtract; set_flags = false; shifted = shifted; imm12 = imm12; rn = rn; rd = into })
+
+-- a single access at x21 and a W register
+abbrev pub access_of : Size → Transfer → (rm rt : ℕ) → Instruction
+access_of size transfer rm rt =
+    instructions.RegisterOffset (record { size = size; transfer = transfer; rm = rm; extend = indexes.Uxtw; scaled = false; rn = 21; rt = rt })
+
+-- a base alone is an address: it isn't sp
+abbrev pub is_bare : (rn bytes : ℕ) → Bool
+is_bare rn bytes = bytes == 0 && not (rn == 31)
+
+-- the register that holds the sum of a base and a distance
+abbrev pub index_of : (sum rn bytes : ℕ) → ℕ
+index_of sum rn bytes = if is_bare rn bytes then rn else sum
+
+-- the sum of a base and a distance, where that isn't the base alone
+abbrev pub sums : (sum rn : ℕ) → (below : Bool) → (bytes : ℕ) → List Instruction
+sums sum rn below bytes =
+    if is_bare rn bytes then [] else (if bytes / 4096 == 0 then sum_of_immediate sum below false (bytes % 4096) rn ∷ []
+    else (if bytes % 4096 == 0 then sum_of_immediate sum below true (bytes / 4096) rn ∷ []
+    else sum_of_immediate sum below true (bytes / 4096) rn ∷ sum_of_immediate sum below false (bytes % 4096) sum ∷ []))
+
+-- an access at a base and a distance
+abbrev pub accessed : Size → Transfer → (rt rn : ℕ) → (below : Bool) → (bytes : ℕ) → List Instruction
+accessed size transfer rt rn below bytes = sums 22 rn below bytes ++ access_of size transfer (index_of 22 rn bytes) rt ∷ []
+
+-- a distance as a number
+abbrev pub offset_of : (below : Bool) → (bytes : ℕ) → ℤ
+offset_of true bytes = negsuc (bytes - 1)
+offset_of false bytes = pos bytes
+
+-- ADD Wd, Wn, Wm, UXTW #amount
+abbrev pub sum_of_index : (into amount rm rn : ℕ) → Instruction
+sum_of_index into amount rm rn =
+    instructions.AddSubExtended (record { width = widths.W; subtract = false; set_flags = false; extend = extends.Uxtw; amount = amount; rm = rm; rn = rn; rd = into })
+
+-- by how many places an index is shifted
+abbrev pub amount_of : Size → (scaled : Bool) → ℕ
+amount_of size scaled = if scaled then size_code size else 0
+
+-- an access at a base and an index
+abbrev pub indexed : (sum : ℕ) → Size → Transfer → (rt rn rm amount : ℕ) → List Instruction
+indexed sum size transfer rt rn rm amount = sum_of_index sum amount rm rn ∷ access_of size transfer sum rt ∷ []
+
+-- ADD or SUB Xn, Xn, #imm12
+abbrev pub changed_of : (subtract : Bool) → (imm12 rn : ℕ) → Instruction
+changed_of subtract imm12 rn =
+    instructions.AddSubImmediate (record { width = widths.X; subtract = subtract; set_flags = false; shifted = false; imm12 = imm12; rn = rn; rd = rn })
+
+-- an access at a base alone, which is changed before it or after it
+abbrev pub changing : (before : Bool) → Size → Transfer → (rt rn : ℕ) → (below : Bool) → (bytes : ℕ) → List Instruction
+changing true size transfer rt rn below bytes = changed_of below bytes rn ∷ access_of size transfer rn rt ∷ []
+changing false size transfer rt rn below bytes = access_of size transfer rn rt ∷ changed_of below bytes rn ∷ []

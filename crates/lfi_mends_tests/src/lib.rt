@@ -1,0 +1,14 @@
+//! Tables of mends: which instructions stand in the place of which word, and of which words there are none. What mends do to
+//! registers and bytes is compared with the refused instruction on random states.
+#![tactic(auto)]
+
+#[cfg(test)]
+mod machine;
+#[cfg(test)]
+mod reasons;
+#[cfg(test)]
+mod rows;
+#[cfg(test)]
+mod states;
+#[cfg(test)]
+mod tables;

@@ -1,0 +1,117 @@
+//! The tables beside `mend_of`, and the mends beside the rules.
+use crate::reasons::REASONS;
+use crate::rows::{OTHERS, OUTSIDE, PAIRS, Row, SINGLES, WRITES};
+use a64_encode::encode;
+use a64_word::{Instruction, Words, decode};
+use lfi_mends::{Mend, Reason, mend_of};
+use lfi_module::Profile;
+use lfi_rules::{Need, Rule, check_all};
+use std::test::Fail;
+
+/// Words that are lent.
+#[derive(Clone, Copy)]
+struct Lent<'a>(&'a [u32]);
+
+impl Words for Lent<'_> {
+    ghost words = { λ row. row.0.now };
+
+    fn count(&self) -> usize {
+        self.0.len()
+    }
+
+    fn word(&self, i: usize) -> u32 {
+        self.0[i]
+    }
+}
+
+/// Whether the words of instructions are these.
+fn spells(instructions: &[Instruction], words: &[u32], profile: Profile) -> bool {
+    if instructions.len() != words.len() {
+        return false;
+    }
+    for (instruction, word) in instructions.iter().zip(words) {
+        if encode(instruction, profile) != Some(*word) {
+            return false;
+        }
+    }
+    true
+}
+
+/// What the row's word gets.
+pub fn answer(row: &Row) -> Result<Mend, Reason> {
+    let next = decode(row.next, row.profile);
+    mend_of(row.profile, row.rule, row.word, row.unmet, &next)
+}
+
+/// Whether the mend of a row is that of the table.
+fn is_as_told(row: &Row) -> bool {
+    match answer(row) {
+        Ok(mend) => spells(mend.instructions(), row.mend, row.profile),
+        Err(_) => false,
+    }
+}
+
+/// Whether a row's mend is a lawful module by itself, where it has a word and no need is open before it.
+fn is_lawful(row: &Row) -> bool {
+    let words = row.mend;
+    if words.is_empty() || words.len() > 8 || row.unmet != Need::Nothing {
+        return true;
+    }
+    check_all(&Lent(words), row.profile).is_none()
+}
+
+/// The first word of a table whose mend is another, or isn't lawful.
+fn first_wrong(rows: &[Row]) -> Option<u32> {
+    for row in rows {
+        if !is_as_told(row) || !is_lawful(row) {
+            return Some(row.word);
+        }
+    }
+    None
+}
+
+#[test]
+fn mends_singles(rt: HostRuntime) -> Result<(), Fail> {
+    assert!(rt; first_wrong(&SINGLES) == None);
+    Ok(())
+}
+
+#[test]
+fn mends_pairs(rt: HostRuntime) -> Result<(), Fail> {
+    assert!(rt; first_wrong(&PAIRS) == None);
+    Ok(())
+}
+
+#[test]
+fn mends_writes(rt: HostRuntime) -> Result<(), Fail> {
+    assert!(rt; first_wrong(&WRITES) == None);
+    Ok(())
+}
+
+#[test]
+fn mends_branches_and_needs(rt: HostRuntime) -> Result<(), Fail> {
+    assert!(rt; first_wrong(&OTHERS) == None);
+    Ok(())
+}
+
+#[test]
+fn mends_what_the_profile_leaves_out(rt: HostRuntime) -> Result<(), Fail> {
+    assert!(rt; first_wrong(&OUTSIDE) == None);
+    Ok(())
+}
+
+/// Whether a word has this reason.
+fn has_reason(rule: Rule, word: u32, reason: Reason) -> bool {
+    match mend_of(Profile::One, rule, word, Need::Nothing, &None) {
+        Ok(_) => false,
+        Err(told) => told == reason,
+    }
+}
+
+#[test]
+fn tells_why_there_is_none(rt: HostRuntime) -> Result<(), Fail> {
+    for (rule, word, reason) in REASONS {
+        assert!(rt; has_reason(rule, word, reason), "{word}");
+    }
+    Ok(())
+}
