@@ -1,10 +1,11 @@
 mod RunEndings
 mod Explained
+mod Checks
 pub mod Failing
 mod Fates
+mod FirstBytes
 mod Inputs
 mod Joined
-mod Kinds
 mod Paths
 mod Streams
 mod Telling

@@ -1,13 +1,11 @@
 -- What `lfiload check` does. Source: this project's profile, docs/COMMANDS.md.
-use Rattle.std.specs.Prelude.{◌≡◌, ◌⊎◌, ℕ, zero, suc, ◌==◌, Bool, nat_lt, List, [], ◌++◌, map, length, slice_get, codes, Option, Some, None, IfSome, if◌then◌else◌}
+use Rattle.std.specs.Prelude.{◌≡◌, ℕ, ◌==◌, Bool, nat_lt, List, [], ◌++◌, codes, Option, Some, None, if◌then◌else◌}
 use Rattle.lfi_module.specs.declared.profile.Profile.{Profile}
-use Rattle.lfi_rules.specs.declared.fault.Fault.{Fault}
-use Rattle.lfi_command_line.specs.declared.line.Explain.{Explain}
 use Rattle.lfi_code.specs.declared.verdict.Verdict.{Verdict}
 use Rattle.lfi_code.specs.declared.verdict.Verdict.TheVariants as verdicts
 use Rattle.lfi_code.specs.Checking.{Checks}
 use Rattle.lfi_file_commands.specs.declared.ending.Ending.{Ending}
-use Rattle.lfi_file_commands.specs.declared.ending.Ending.TheVariants.{Well, NotWell, Failed}
+use Rattle.lfi_file_commands.specs.declared.ending.Ending.TheVariants.{Well, NotWell}
 use Rattle.lfi_file_commands.specs.declared.naming.Naming.{Naming}
 use Rattle.lfi_file_commands.specs.declared.naming.Naming.TheVariants.{Alone, Named}
 use Rattle.lfi_file_commands.specs.declared.no_code.NoCode.{NoCode}

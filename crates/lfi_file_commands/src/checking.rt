@@ -157,7 +157,7 @@ pub(crate) fn write_verdict<W: Write>(
     verdict: Verdict,
     writer: &mut W,
 ) -> Result<(), CommandFault>
-    ensures written { OnOk result (Appends (W.contents writer.old) (W.contents writer.new) (naming_text name ++ verdict_text verdict ++ codes "\n")) }
+    ensures written { OnOk result (Appends (W.contents writer.old) (W.contents writer.new) (naming_text name.entry ++ verdict_text verdict ++ codes "\n")) }
     ensures fault { IfErr result (λ fault. is_of_a_write fault ≡ true) }
 {
     match write_line(alloc, writer, format_args!("{name}{verdict}")) {
@@ -196,7 +196,7 @@ pub fn check_file<R: Read + Drop, W: Write>(
     writer: &mut W,
 ) -> Result<Finding, CommandFault>
     ensures found { IfOk result (λ finding. IfSome (R.remaining reader) (λ bytes. IsFound profile bytes finding)) }
-    ensures written { IfOk result (λ finding. Appends (W.contents writer.old) (W.contents writer.new) (naming_text name ++ verdict_text (verdict_of finding) ++ codes "\n")) }
+    ensures written { IfOk result (λ finding. Appends (W.contents writer.old) (W.contents writer.new) (naming_text name.entry ++ verdict_text (verdict_of finding) ++ codes "\n")) }
     ensures unwritten { IfErr result (λ fault. is_of_a_write fault ≡ false → writer.new ≡ writer.old) }
 {
     let finding = match judge_unkept(alloc, reader, length, profile) {

@@ -6,6 +6,7 @@ ghost use Rattle.a64_word.specs.Words.{words_of};
 ghost use Rattle.lfi_module.specs.Numbers.{most_words};
 ghost use Rattle.lfi_rules.specs.Faults.{FirstFault};
 ghost use Rattle.lfi_rules.specs.Texts.{fault_text};
+ghost use Rattle.lfi_explain.specs.Explanations.{explanation_text};
 ghost use Rattle.lfi_code.specs.declared.verdict.Verdict.TheVariants.{BadLength};
 ghost use Rattle.lfi_code.specs.Checking.{IsCode, verdict_text};
 ghost use Rattle.lfi_file_commands.specs.Checking.{naming_text, IsFound};
@@ -24,7 +25,7 @@ use crate::texts::{write_line, write_text};
 use crate::whole::{Reading, read_code};
 use lfi_code::{Code, Verdict, judge_code};
 use lfi_command_line::Explain;
-use lfi_explain::{explain, write_listing, write_refusals};
+use lfi_explain::{Explanation, explain, write_listing, write_refusals};
 use lfi_module::{ModuleNumber, Profile};
 use lfi_rules::Fault;
 use std::alloc::Global;
@@ -44,6 +45,20 @@ fn slot() -> ModuleNumber
     ModuleNumber::at(0)
 }
 
+/// Writes this explanation, behind the name and before the kind.
+fn write_explained<W: Write>(
+    alloc: Global,
+    around: Around<'_>,
+    explanation: Explanation,
+    writer: &mut W,
+) -> io::Result<()>
+    ensures { OnOk result (Appends (W.contents writer.old) (W.contents writer.new) (naming_text around.entry.name ++ explanation_text explanation ++ codes "\n" ++ kind_line around.entry.kind)) }
+{
+    let name = around.name;
+    let kind = KindLine(around.kind);
+    write_text(alloc, writer, format_args!("{name}{explanation}\n{kind}"))
+}
+
 /// Writes the explanation of the first fault of this code.
 fn write_explanation<W: Write>(
     alloc: Global,
@@ -55,12 +70,10 @@ fn write_explanation<W: Write>(
 ) -> io::Result<()>
     requires fault { FirstFault profile (words_of code.now) (length (words_of code.now)) (Some fault) }
     requires most { length (words_of code.now) ≤ most_words }
-    ensures { OnOk result (ExplainsFault (naming_text around.name) around.kind profile code.now fault (W.contents writer.old) (W.contents writer.new)) }
+    ensures { OnOk result (ExplainsFault (naming_text around.entry.name) around.entry.kind profile code.now fault (W.contents writer.old) (W.contents writer.new)) }
 {
     let explanation = explain(code, slot(), fault, profile);
-    let name = around.name;
-    let kind = KindLine(around.kind);
-    write_text(alloc, writer, format_args!("{name}{explanation}\n{kind}"))
+    write_explained(alloc, around, explanation, writer)
 }
 
 /// Writes what is told of each word of this code that breaks a rule, and how many these are.
@@ -72,7 +85,7 @@ fn write_each_refusal<W: Write>(
     writer: &mut W,
 ) -> io::Result<()>
     requires most { length (words_of code.now) ≤ most_words }
-    ensures { OnOk result (TellsRefusals (naming_text around.name) around.kind profile code.now (W.contents writer.old) (W.contents writer.new)) }
+    ensures { OnOk result (TellsRefusals (naming_text around.entry.name) around.entry.kind profile code.now (W.contents writer.old) (W.contents writer.new)) }
 {
     write_text(alloc, writer, around.name)?;
     write_refusals(alloc, code, slot(), profile, writer)?;
@@ -86,7 +99,7 @@ fn write_fault_line<W: Write>(
     fault: Fault,
     writer: &mut W,
 ) -> io::Result<()>
-    ensures { OnOk result (Appends (W.contents writer.old) (W.contents writer.new) (naming_text name ++ fault_text fault ++ codes "\n")) }
+    ensures { OnOk result (Appends (W.contents writer.old) (W.contents writer.new) (naming_text name.entry ++ fault_text fault ++ codes "\n")) }
 {
     write_line(alloc, writer, format_args!("{name}{fault}"))
 }
@@ -103,7 +116,7 @@ fn write_fault<W: Write>(
 ) -> io::Result<()>
     requires fault { FirstFault profile (words_of code.now) (length (words_of code.now)) (Some fault) }
     requires most { length (words_of code.now) ≤ most_words }
-    ensures { OnOk result (WritesFault (naming_text around.name) around.kind profile how code.now fault (W.contents writer.old) (W.contents writer.new)) }
+    ensures { OnOk result (WritesFault (naming_text around.entry.name) around.entry.kind profile how code.now fault (W.contents writer.old) (W.contents writer.new)) }
 {
     match how {
         Explain::Nothing => write_fault_line(alloc, around.name, fault, writer),
@@ -123,7 +136,7 @@ fn write_judged<W: Write>(
 ) -> Result<Finding, CommandFault>
     requires { IsCode bytes.now }
     ensures found { IfOk result (IsFound profile bytes.now) }
-    ensures written { IfOk result (λ finding. WritesFinding (naming_text name) profile how (Some bytes.now) finding (W.contents writer.old) (W.contents writer.new)) }
+    ensures written { IfOk result (λ finding. WritesFinding (naming_text name.entry) profile how (Some bytes.now) finding (W.contents writer.old) (W.contents writer.new)) }
     ensures fault { IfErr result (λ fault. is_of_a_write fault ≡ true) }
 {
     match judge_code(bytes, profile) {
@@ -152,7 +165,7 @@ fn write_kind<W: Write>(
     name: Naming<'_>,
     writer: &mut W,
 ) -> Result<(), CommandFault>
-    ensures written { OnOk result (Appends (W.contents writer.old) (W.contents writer.new) (naming_text name ++ verdict_text BadLength ++ codes "\n" ++ kind_line no_code.kind)) }
+    ensures written { OnOk result (Appends (W.contents writer.old) (W.contents writer.new) (naming_text name.entry ++ verdict_text BadLength ++ codes "\n" ++ kind_line no_code.kind)) }
     ensures fault { IfErr result (λ fault. is_of_a_write fault ≡ true) }
 {
     let verdict = Verdict::BadLength;
@@ -171,7 +184,7 @@ fn write_other<W: Write>(
     how: Explain,
     writer: &mut W,
 ) -> Result<(), CommandFault>
-    ensures written { (profile : Profile) (bytes : Option (List ℕ)) → OnOk result (WritesFinding (naming_text name) profile how bytes (Finding.NoCode no_code) (W.contents writer.old) (W.contents writer.new)) }
+    ensures written { (profile : Profile) (bytes : Option (List ℕ)) → OnOk result (WritesFinding (naming_text name.entry) profile how bytes (Finding.NoCode no_code) (W.contents writer.old) (W.contents writer.new)) }
     ensures fault { IfErr result (λ fault. is_of_a_write fault ≡ true) }
 {
     match how {
@@ -196,7 +209,7 @@ pub fn check_explained<R: Read + Drop, W: Write>(
     writer: &mut W,
 ) -> Result<Finding, CommandFault>
     ensures found { IfOk result (λ finding. IfSome (R.remaining reader) (λ bytes. IsFound profile bytes finding)) }
-    ensures written { IfOk result (λ finding. WritesFinding (naming_text name) profile how (R.remaining reader) finding (W.contents writer.old) (W.contents writer.new)) }
+    ensures written { IfOk result (λ finding. WritesFinding (naming_text name.entry) profile how (R.remaining reader) finding (W.contents writer.old) (W.contents writer.new)) }
     ensures unwritten { IfErr result (λ fault. is_of_a_write fault ≡ false → writer.new ≡ writer.old) }
 {
     match read_code(alloc, reader) {

@@ -35,7 +35,7 @@ fn judge_file<D: Disk, O: Write>(
     out: &mut O,
 ) -> Result<Finding, CommandFault>
     ensures found { IfOk result (λ finding. IfSome (D.Reader.remaining reader) (λ bytes. IsFound profile bytes finding)) }
-    ensures written { IfOk result (λ finding. WritesFinding (naming_text name) profile how (D.Reader.remaining reader) finding (O.contents out.old) (O.contents out.new)) }
+    ensures written { IfOk result (λ finding. WritesFinding (naming_text name.entry) profile how (D.Reader.remaining reader) finding (O.contents out.old) (O.contents out.new)) }
     ensures unwritten { IfErr result (λ fault. is_of_a_write fault ≡ false → out.new ≡ out.old) }
 {
     match how {
@@ -63,7 +63,7 @@ fn check_one<D: Disk, O: Write, E: Write>(
     out: &mut O,
     errors: &mut Errors<E>,
 ) -> Result<Ending, DeviceCause>
-    ensures found { (put : Option (List (List ℕ × List ℕ))) → IfOk result (ChecksOne (naming_text name) profile how path.now (D.file_at disk.now path.now)
+    ensures found { (put : Option (List (List ℕ × List ℕ))) → IfOk result (ChecksOne (naming_text name.entry) profile how path.now (D.file_at disk.now path.now)
         (left (O.contents out.old) put (is_lost_of errors.old) (E.contents (writer_of errors.old)))
         (left (O.contents out.new) put (is_lost_of errors.new) (E.contents (writer_of errors.new)))) }
     ensures errors { OnErr result (errors.new ≡ errors.old) }

@@ -2,6 +2,8 @@
 
 ghost use Rattle.std.specs.Prelude.{◌≡◌, ℕ, List, Option, [], ◌∷◌, ◌++◌, codes, IfOk, IfErr, OnErr, OnOk, false};
 ghost use Rattle.std.specs.Io.KnownBytes.{Appends};
+ghost use Rattle.a64_word.specs.Words.{words_of};
+ghost use Rattle.page_buf.specs.Page.{IsWhole};
 ghost use Rattle.lfi_image.specs.Built.{words_in};
 ghost use Rattle.lfi_image_file.specs.Files.{code_of};
 ghost use Rattle.lfi_file_commands.specs.Errors.{is_lost_of, writer_of};
@@ -24,12 +26,27 @@ use page_buf::SealedPage;
 use std::alloc::Global;
 use std::io::{self, Write};
 
+/// Writes these bytes.
+fn write_bytes<W: Write>(bytes: &[u8], writer: &mut W) -> io::Result<()>
+    ensures { OnOk result (Appends (W.contents writer.old) (W.contents writer.new) bytes.now) }
+{
+    writer.write_all(bytes)
+}
+
+/// Writes the bytes of a page: those of its words.
+fn write_page<W: Write>(bytes: &[u8], writer: &mut W) -> io::Result<()>
+    requires { IsWhole bytes.now }
+    ensures { OnOk result (Appends (W.contents writer.old) (W.contents writer.new) (code_of (words_of bytes.now))) }
+{
+    write_bytes(bytes, writer)
+}
+
 /// Writes the words of these pages, a page a call.
 fn write_pages<W: Write>(pages: &[SealedPage], writer: &mut W) -> io::Result<()>
     ensures { OnOk result (Appends (W.contents writer.old) (W.contents writer.new) (code_of (words_in pages.now))) }
 {
     for at in 0..pages.len() {
-        writer.write_all(pages[at].bytes())?;
+        write_page(pages[at].bytes(), writer)?;
     }
     Ok(())
 }

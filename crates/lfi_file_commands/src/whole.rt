@@ -38,10 +38,7 @@ pub(crate) enum Reading {
 /// # Errors
 ///
 /// Where a read fails, or there is no memory for it.
-pub(crate) fn read_code<R: Read + Drop>(
-    alloc: Global,
-    reader: R,
-) -> Result<Reading, CommandFault>
+pub(crate) fn read_code<R: Read + Drop>(alloc: Global, reader: R) -> Result<Reading, CommandFault>
     ensures code { IfOk result (IsReadAs (R.remaining reader)) }
     ensures fault { IfErr result (λ fault. is_of_a_write fault ≡ false) }
 {

@@ -8,7 +8,7 @@ returns-in-Ok-disassemble-clause-found g c = λ put. record {
   listed = words_known c.args.marks c.args.profile (g.D.Reader.Read.remaining c.in-Ok.reader) (g.D.Disk.file_at c.args.disk.now c.args.path.now) c.in-Ok-disassemble.other
       (g.O.Write.contents c.args.out.now) (g.O.Write.contents c.disassemble.new.writer) c.in-Ok.ensures.reader c.in-Ok-disassemble.ensures.listed;
   put = refl;
-  told = c.tell_other.ensures;
+  told = c.tell_other.ensures.told;
   ends = c.end_listing.ensures;
 }
 

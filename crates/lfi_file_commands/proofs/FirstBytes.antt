@@ -1,6 +1,6 @@
 -- The first bytes of a file.
-use Rattle.std.proofs.Common.{◌≡◌, ℕ, ◌≤◌, List, [], ◌∷◌, length, slice_get, Some, refl, arith}
-use Rattle.lfi_file_commands.specs.Kinds.{file_kind, kind_by}
+use Rattle.std.proofs.Common.{◌≡◌, ℕ, ◌≤◌, List, [], ◌∷◌, length, refl, arith}
+use Rattle.lfi_file_commands.specs.Kinds.{file_kind}
 use Rattle.lfi_file_commands.specs.declared.kind.FileKind.TheVariants.{Plain}
 
 pub kind_of_few : (bytes : List ℕ) → length bytes ≤ 3 → Plain ≡ file_kind bytes
