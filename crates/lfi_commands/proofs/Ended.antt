@@ -18,7 +18,7 @@ use Rattle.lfi_code.specs.declared.verdict.Verdict.TheVariants.{Lawful, Refused,
 use Rattle.lfi_file_commands.specs.declared.ending.Ending.{Ending}
 use Rattle.lfi_file_commands.specs.declared.ending.Ending.TheVariants.{Well, NotWell, WrongWords, Failed}
 use Rattle.lfi_file_commands.specs.Checking.{ending_of, verdict_of}
-use Rattle.lfi_file_commands.specs.Explaining.{AreChecked, ChecksOne, HasChecked}
+use Rattle.lfi_file_commands.specs.Explaining.{AreChecked, ChecksAll, ChecksOne, StopsAtOutput}
 use Rattle.lfi_file_commands.specs.Listing.{EndsListing}
 use Rattle.lfi_file_commands.specs.Unpacking.{HasUnpacked}
 use Rattle.lfi_file_commands.specs.declared.no_code.NoCode.{NoCode}
@@ -87,7 +87,8 @@ unless_lost : (is_lost : Bool) (told : Ending) → EndsUnlessLost is_lost told W
 unless_lost true told ends not_told = failed_ends ends
 unless_lost false told ends not_told = not_told (sym ends)
 
-by_check : (profile : Profile) (explain : Explain) (paths : List (List ℕ)) (file_at : List ℕ → Option (List ℕ)) (old new : Left) → HasChecked profile explain paths file_at old new WrongWords → ⊥
+by_check : (profile : Profile) (explain : Explain) (paths : List (List ℕ)) (file_at : List ℕ → Option (List ℕ)) (old new : Left)
+    → ChecksAll profile explain paths file_at old new WrongWords ⊎ StopsAtOutput profile explain paths file_at old new WrongWords → ⊥
 by_check profile explain paths file_at old new (inl all) = unless_lost new.is_lost all.0 all.2 (by_checked profile explain paths file_at (length paths) old new all.0 all.1)
 by_check profile explain paths file_at old new (inr stops) = failed_ends stops.7
 
@@ -101,7 +102,7 @@ by_unpack bytes old new (inl written) = well_ends written.6
 by_unpack bytes old new (inr told) = by_run new.is_lost (image_run.Refused told.0) told.5
 
 by_line : (line : Line) (file_at : List ℕ → Option (List ℕ)) (old new : Left) → CarriesOut line file_at old new WrongWords → ⊥
-by_line (Check files explain profile) file_at old new carried = by_check profile explain (map (λ s. s.now) files.items) file_at old new carried
+by_line (Check files explain profile) file_at old new carried = by_check profile explain (map (λ s. s.now) files.items) file_at old new carried.did
 by_line (Load verifiers folder explain streams) file_at old new carried = by_load carried.report true carried.all carried.ends
 by_line (Serve socket connections verifiers seconds folder explain) file_at old new carried = by_load carried.found.report carried.found.all_accepted carried.all carried.ends
 by_line (Run image steps) file_at old new carried = by_run new.is_lost carried.run carried.ends

@@ -184,11 +184,9 @@ fn run_files<'a, D: Disk, O: Write, E: Write>(
     match *line {
         Line::Check {
             ref files,
-            explain,
-            profile,
-        } => Ok(run_check(
-            alloc, disk, files, profile, explain, out, errors,
-        )),
+            ref explain,
+            ref profile,
+        } => Ok(run_check(alloc, disk, files, *profile, *explain, out, errors)),
         Line::Run { image, steps } => run_run(alloc, disk, image, steps, out, errors),
         Line::Disassemble {
             file,

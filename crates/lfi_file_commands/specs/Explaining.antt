@@ -93,6 +93,5 @@ StopsAtOutput profile explain paths file_at old new ending =
     × Told new.is_lost mid.errors new.errors (failure_line (CannotWrite StandardOutput cause)) × (new.put ≡ mid.put) × (ending ≡ Failed)
 
 -- What `lfiload check FILE..` did with the files at these paths.
-abbrev pub HasChecked : Profile → Explain → (paths : List (List ℕ)) → (List ℕ → Option (List ℕ)) → (old new : Left) → Ending → Type 0
-HasChecked profile explain paths file_at old new ending =
-    ChecksAll profile explain paths file_at old new ending ⊎ StopsAtOutput profile explain paths file_at old new ending
+pub record HasChecked (profile : Profile) (explain : Explain) (paths : List (List ℕ)) (file_at : List ℕ → Option (List ℕ)) (old new : Left) (ending : Ending) : Type 0 where
+  pub did : ChecksAll profile explain paths file_at old new ending ⊎ StopsAtOutput profile explain paths file_at old new ending

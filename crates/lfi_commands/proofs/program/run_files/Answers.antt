@@ -14,7 +14,7 @@ use Rattle.lfi_commands.proofs.program.run_files.Goals as goal
 
 pub run_pack-requires-clause-numbers : goal.run_pack-requires-clause-numbers
 run_pack-requires-clause-numbers g c κs within =
-    subst (λ (paths : List (Bor (List ℕ))). c.in-Pack.module + length paths ≤ 16) (sym c.deref.ensures.value) (subst IsForFiles c.in-Pack.is c.requires.line).0
+    subst (λ (paths : List (Bor (List ℕ))). c.in-Pack.module + length paths ≤ 16) (sym c.deref-in-Pack.ensures.value) (subst IsForFiles c.in-Pack.is c.requires.line).0
 
 pub run_pack-requires-clause-pages : goal.run_pack-requires-clause-pages
 run_pack-requires-clause-pages g c κs within = (subst IsForFiles c.in-Pack.is c.requires.line).1
@@ -103,15 +103,15 @@ returns-in-Pack g c =
     let new = g.O.Write.contents did.new.out in
     let lost = is_lost_of did.new.errors in
     let told = g.E.Write.contents (writer_of did.new.errors) in
-    let given = map (λ p. p.now) c.deref.result.now in
+    let given = map (λ p. p.now) c.deref-in-Pack.result.now in
     let packs = HasPacked c.in-Pack.profile c.in-Pack.pages c.in-Pack.module c.in-Pack.entry in
     record {
       found = λ put. subst (λ line. IfOk did.result (CarriesOut line at (left out put was errors) (left new put lost told))) (sym c.in-Pack.is)
-          (subst (λ (paths : List (Bor (List ℕ))). IfOk did.result (packs (map (λ p. p.now) paths) at (left out put was errors) (left new put lost told))) c.deref.ensures.value
+          (subst (λ (paths : List (Bor (List ℕ))). IfOk did.result (packs (map (λ p. p.now) paths) at (left out put was errors) (left new put lost told))) c.deref-in-Pack.ensures.value
           (IfOk-weaker did.result (FindsPacked c.in-Pack.profile c.in-Pack.pages c.in-Pack.module c.in-Pack.entry given at out new lost errors told) (packs given at (left out put was errors) (left new put lost told))
           (λ ending finds. packs_files out new put was lost errors told ending c.in-Pack.profile c.in-Pack.pages c.in-Pack.module c.in-Pack.entry given at finds) did.ensures.found));
       failure = subst (λ line. IfErr did.result (FailsAs line)) (sym c.in-Pack.is)
-          (subst (λ (paths : List (Bor (List ℕ))). IfErr did.result (FailsOn (map (λ p. p.now) paths))) c.deref.ensures.value did.ensures.failure);
+          (subst (λ (paths : List (Bor (List ℕ))). IfErr did.result (FailsOn (map (λ p. p.now) paths))) c.deref-in-Pack.ensures.value did.ensures.failure);
       output = did.ensures.output;
       errors = did.ensures.errors;
     }

@@ -13,11 +13,11 @@ returns-in-Ok g c = λ put.
     (left (g.O.Write.contents c.args.out.now) put (is_lost_of c.args.errors.now) (g.E.Write.contents (writer_of c.args.errors.now)))
     (left (g.O.Write.contents c.check_files.new.out) put (is_lost_of c.check_files.new.errors) (g.E.Write.contents (writer_of c.check_files.new.errors))) c.in-Ok.worst)
     (sym (length-map paths (λ (p : Bor (List ℕ)). p.now))) (c.in-Ok.ensures.all put) in
-    inl (c.in-Ok.worst, all, c.unless_lost.ensures)
+    record { did = inl (c.in-Ok.worst, all, c.unless_lost.ensures) }
 
 pub returns-in-Err : goal.returns-in-Err
 returns-in-Err g c = λ put.
     let part = c.in-Err.ensures.part in
     let told = subst (λ failure. Told (is_lost_of c.tell_failure.new.errors) (g.E.Write.contents (writer_of c.check_files.new.errors)) (g.E.Write.contents (writer_of c.tell_failure.new.errors)) (failure_line failure))
     c.of_output.ensures c.tell_failure.ensures.told in
-    inr (part.0, left part.1 put (is_lost_of c.check_files.new.errors) (g.E.Write.contents (writer_of c.check_files.new.errors)), part.2, c.in-Err.cause, part.3 put, told, refl, c.tell_failure.ensures.failed)
+    record { did = inr (part.0, left part.1 put (is_lost_of c.check_files.new.errors) (g.E.Write.contents (writer_of c.check_files.new.errors)), part.2, c.in-Err.cause, part.3 put, told, refl, c.tell_failure.ensures.failed) }
