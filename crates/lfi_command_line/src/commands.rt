@@ -273,10 +273,7 @@ fn unpack_command<'a>(alloc: Global) -> Result<Command<'a>, AllocError>
     let unpack = Command::new(alloc, "unpack")
         .about("Writes the code of an image")
         .after_help(help::UNPACK);
-    with(
-        Ok(unpack),
-        required_argument(alloc, "IMAGE", help::IMAGE),
-    )
+    with(Ok(unpack), required_argument(alloc, "IMAGE", help::IMAGE))
 }
 
 /// The program's command, without its subcommands.
