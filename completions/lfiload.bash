@@ -3,7 +3,7 @@ _lfiload() {
     local word=${COMP_WORDS[COMP_CWORD]} before=${COMP_WORDS[COMP_CWORD - 1]} offered=
     COMPREPLY=()
     if ((COMP_CWORD == 1)); then
-        offered='check load serve run disassemble pack --help --version'
+        offered='check load serve run disassemble pack unpack --help --version'
         mapfile -t COMPREPLY < <(compgen -W "$offered" -- "$word")
         return
     fi
@@ -78,8 +78,9 @@ _lfiload() {
         load) offered='--verifiers --out --explain --help' ;;
         serve) offered='--socket --connections --verifiers --seconds --out --explain --help' ;;
         run) offered='--steps --help' ;;
-        disassemble) offered='--profile --help' ;;
+        disassemble) offered='--check --profile --help' ;;
         pack) offered='--module --entry --profile --pages --help' ;;
+        unpack) offered='--help' ;;
     esac
     mapfile -t COMPREPLY < <(compgen -W "$offered" -- "$word")
 }

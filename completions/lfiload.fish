@@ -2,7 +2,7 @@
 complete -c lfiload -f
 complete -c lfiload -n '__fish_use_subcommand' -s h -l help -d 'Print help'
 complete -c lfiload -n '__fish_use_subcommand' -s V -l version -d 'Print version'
-complete -c lfiload -n __fish_use_subcommand -a check -d 'Tells whether the code in a file is lawful'
+complete -c lfiload -n __fish_use_subcommand -a check -d 'Tells whether the code in files is lawful'
 complete -c lfiload -n '__fish_seen_subcommand_from check' -l explain -d 'also say what the word at fault does, what its rule asks, and how it is mended'
 complete -c lfiload -n '__fish_seen_subcommand_from check' -l all -d 'say so of each word that breaks a rule, and how many they are'
 complete -c lfiload -n '__fish_seen_subcommand_from check' -l profile -x -a '1 2' -d 'the profile that the code goes by, 1 or 2; 1 where it isn'\''t said'
@@ -27,6 +27,7 @@ complete -c lfiload -n '__fish_seen_subcommand_from run' -l steps -x -d 'how man
 complete -c lfiload -n '__fish_seen_subcommand_from run' -s h -l help -d 'Print help'
 complete -c lfiload -n '__fish_seen_subcommand_from run' -F
 complete -c lfiload -n __fish_use_subcommand -a disassemble -d 'Lists the words of a file, each with its place and its text'
+complete -c lfiload -n '__fish_seen_subcommand_from disassemble' -l check -d 'also judge the code, and mark each word that breaks a rule'
 complete -c lfiload -n '__fish_seen_subcommand_from disassemble' -l profile -x -a '1 2' -d 'the profile that the code goes by, 1 or 2; 1 where it isn'\''t said'
 complete -c lfiload -n '__fish_seen_subcommand_from disassemble' -s h -l help -d 'Print help'
 complete -c lfiload -n '__fish_seen_subcommand_from disassemble' -F
@@ -37,3 +38,6 @@ complete -c lfiload -n '__fish_seen_subcommand_from pack' -l profile -x -a '1 2'
 complete -c lfiload -n '__fish_seen_subcommand_from pack' -l pages -x -a 'small large' -d 'small or large, of 4096 or 16384 bytes; small where it isn'\''t said'
 complete -c lfiload -n '__fish_seen_subcommand_from pack' -s h -l help -d 'Print help'
 complete -c lfiload -n '__fish_seen_subcommand_from pack' -F
+complete -c lfiload -n __fish_use_subcommand -a unpack -d 'Writes the code of an image'
+complete -c lfiload -n '__fish_seen_subcommand_from unpack' -s h -l help -d 'Print help'
+complete -c lfiload -n '__fish_seen_subcommand_from unpack' -F

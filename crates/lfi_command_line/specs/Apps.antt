@@ -37,9 +37,9 @@ flag_rule name = record (new_rule name) { long = Some name; action = Some SetTru
 abbrev pub profile_rule : Rule
 profile_rule = number_rule (codes "profile") (Unsigned 1 2)
 
--- `check [--explain] [--all] [--profile P] FILE`
+-- `check [--explain] [--all] [--profile P] FILE..`
 abbrev pub check_app : App
-check_app = with_rule (with_rule (with_rule (with_rule (new_app (codes "check")) (flag_rule (codes "explain"))) (flag_rule (codes "all"))) profile_rule) (required_rule (codes "FILE"))
+check_app = with_rule (with_rule (with_rule (with_rule (new_app (codes "check")) (flag_rule (codes "explain"))) (flag_rule (codes "all"))) profile_rule) (several_rule (codes "FILE"))
 
 -- `load [--verifiers V] [--out DIR] [--explain] STREAM..`
 abbrev pub load_app : App
@@ -57,14 +57,18 @@ serve_app = with_rule (with_rule (with_rule (with_rule (with_rule (with_rule (ne
 abbrev pub run_app : App
 run_app = with_rule (with_rule (new_app (codes "run")) (needed (number_rule (codes "steps") (Unsigned 0 1000000000)))) (required_rule (codes "IMAGE"))
 
--- `disassemble [--profile P] FILE`
+-- `disassemble [--check] [--profile P] FILE`
 abbrev pub disassemble_app : App
-disassemble_app = with_rule (with_rule (new_app (codes "disassemble")) profile_rule) (required_rule (codes "FILE"))
+disassemble_app = with_rule (with_rule (with_rule (new_app (codes "disassemble")) (flag_rule (codes "check"))) profile_rule) (required_rule (codes "FILE"))
 
 -- `pack [--module M] [--entry WORD] [--profile P] [--pages SIZE] CODE..`
 abbrev pub pack_app : App
 pack_app = with_rule (with_rule (with_rule (with_rule (with_rule (new_app (codes "pack")) (number_rule (codes "module") (Unsigned 0 15))) (number_rule (codes "entry") (Unsigned 0 4194303))) profile_rule)
     (option_rule (codes "pages"))) (several_rule (codes "CODE"))
+
+-- `unpack IMAGE`
+abbrev pub unpack_app : App
+unpack_app = with_rule (new_app (codes "unpack")) (required_rule (codes "IMAGE"))
 
 -- the program without its subcommands: one has to be there, `help` is none, and it has a version
 abbrev pub bare_app : App
@@ -72,8 +76,8 @@ bare_app = on_top (λ s. record s { has_version = true; subcommand_required = tr
 
 -- the program
 abbrev pub lfiload_app : App
-lfiload_app = with_subcommand (with_subcommand (with_subcommand (with_subcommand (with_subcommand (with_subcommand bare_app
-    check_app.top) load_app.top) serve_app.top) run_app.top) disassemble_app.top) pack_app.top
+lfiload_app = with_subcommand (with_subcommand (with_subcommand (with_subcommand (with_subcommand (with_subcommand (with_subcommand bare_app
+    check_app.top) load_app.top) serve_app.top) run_app.top) disassemble_app.top) pack_app.top) unpack_app.top
 
 -- the parser's command is the one described, and none of its arguments is global
 abbrev pub Makes : App → Command → Type 0

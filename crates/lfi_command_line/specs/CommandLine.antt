@@ -11,7 +11,7 @@ use Rattle.lfi_module.specs.Numbers.{small_page, large_page}
 use Rattle.lfi_module.specs.Profiles.{profile_number, is_two}
 use Rattle.lfi_command_line.specs.Apps.{lfiload_app}
 use Rattle.lfi_command_line.specs.declared.line.Line.{Line}
-use Rattle.lfi_command_line.specs.declared.line.Line.TheVariants.{Check, Load, Serve, Run, Disassemble, Pack}
+use Rattle.lfi_command_line.specs.declared.line.Line.TheVariants.{Check, Load, Serve, Run, Disassemble, Pack, Unpack}
 use Rattle.lfi_command_line.specs.declared.line.Explain.{Explain}
 use Rattle.lfi_command_line.specs.declared.line.Explain.TheVariants.{Nothing, First, All}
 use Rattle.lfi_command_line.specs.declared.fault.LineFault.{LineFault}
@@ -60,7 +60,8 @@ pages_named (Some text) profile =
 
 -- a subcommand of this name, with what was given to it, asks for this line
 abbrev pub IsAskedBy : (name : Text) → List Row → Line → Type 0
-IsAskedBy name given (Check file explain profile) = (name ≡ codes "check") × (first_of (codes "FILE") given ≡ Some file.now) × IsExplain given explain × IsProfile given profile
+IsAskedBy name given (Check files explain profile) = (name ≡ codes "check") × (all_of (codes "FILE") given ≡ Some (map (λ s. s.now) files.items)) × (1 ≤ length files.items)
+    × IsExplain given explain × IsProfile given profile
 IsAskedBy name given (Load verifiers out explain streams) = (name ≡ codes "load") × IsFlag (one_of (codes "explain") given) explain × IsNumberOr 2 1 8 (first_of (codes "verifiers") given) verifiers
     × (first_of (codes "out") given ≡ option_map (λ s. s.now) out)
     × (all_of (codes "STREAM") given ≡ Some (map (λ s. s.now) streams.items)) × (1 ≤ length streams.items) × (length streams.items ≤ 8)
@@ -70,10 +71,11 @@ IsAskedBy name given (Serve socket connections verifiers seconds out explain) = 
     × (first_of (codes "out") given ≡ option_map (λ s. s.now) out)
 IsAskedBy name given (Run image steps) = (name ≡ codes "run") × (first_of (codes "IMAGE") given ≡ Some image.now)
     × ((text : Text) × (first_of (codes "steps") given ≡ Some text) × IsNumber 0 1000000000 text steps)
-IsAskedBy name given (Disassemble file profile) = (name ≡ codes "disassemble") × (first_of (codes "FILE") given ≡ Some file.now) × IsProfile given profile
+IsAskedBy name given (Disassemble file marks profile) = (name ≡ codes "disassemble") × (first_of (codes "FILE") given ≡ Some file.now) × IsFlag (one_of (codes "check") given) marks × IsProfile given profile
 IsAskedBy name given (Pack number entry profile pages files) = (name ≡ codes "pack") × IsNumberOr 0 0 15 (first_of (codes "module") given) number
     × IsNumberOr 0 0 4194303 (first_of (codes "entry") given) entry × IsProfile given profile × (pages_named (first_of (codes "pages") given) profile ≡ Some pages) × (all_of (codes "CODE") given ≡ Some (map (λ s. s.now) files.items))
     × (1 ≤ length files.items) × (number + length files.items ≤ 16)
+IsAskedBy name given (Unpack image) = (name ≡ codes "unpack") × (first_of (codes "IMAGE") given ≡ Some image.now)
 
 -- Nothing is wrong with the words for the parser, which takes them for this subcommand, with what is given to it.
 abbrev pub AreTakenFor : List Text → (name : Text) → List Row → Type 0

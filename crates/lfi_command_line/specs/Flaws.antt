@@ -5,7 +5,7 @@ use Rattle.clap.specs.Words.{Text}
 use Rattle.lfi_command_line.specs.declared.flaw.Flaw.{Flaw}
 use Rattle.lfi_command_line.specs.declared.flaw.Flaw.TheVariants.{NoFolder, NoSocket, InputTwice}
 use Rattle.lfi_command_line.specs.declared.line.Line.{Line}
-use Rattle.lfi_command_line.specs.declared.line.Line.TheVariants.{Load, Serve, Pack}
+use Rattle.lfi_command_line.specs.declared.line.Line.TheVariants.{Check, Load, Serve, Pack}
 
 -- a path is there and empty
 abbrev pub is_empty_path : Option Text → Bool
@@ -31,6 +31,7 @@ abbrev pub flaw_of : Line → Option Flaw
 flaw_of (Load verifiers out explain streams) = flaw_of_files (option_map (λ s. s.now) out) (map (λ s. s.now) streams.items)
 flaw_of (Serve socket connections verifiers seconds out explain) = flaw_of_socket (option_map (λ s. s.now) out) socket.now
 flaw_of (Pack number entry profile pages files) = flaw_of_files None (map (λ s. s.now) files.items)
+flaw_of (Check files explain profile) = flaw_of_files None (map (λ s. s.now) files.items)
 flaw_of _ = None
 
 -- in words

@@ -3,7 +3,7 @@
 ghost use Rattle.std.specs.Prelude.{◌≡◌, IfOk, false, codes};
 ghost use Rattle.clap.specs.Words.{App, Rule, rule_of, with_rule, with_subcommand};
 ghost use Rattle.clap.specs.declared.builder.value_parser.ValueParser.TheVariants.{Unsigned};
-ghost use Rattle.lfi_command_line.specs.Apps.{Makes, needed, required_rule, several_rule, option_rule, number_rule, profile_rule, flag_rule, check_app, load_app, serve_app, run_app, disassemble_app, pack_app, bare_app, lfiload_app};
+ghost use Rattle.lfi_command_line.specs.Apps.{Makes, needed, required_rule, several_rule, option_rule, number_rule, profile_rule, flag_rule, check_app, load_app, serve_app, run_app, disassemble_app, pack_app, unpack_app, bare_app, lfiload_app};
 
 use crate::help;
 use clap::builder::ValueParser;
@@ -32,8 +32,8 @@ const LAST_PROFILE: u64 = 2;
 /// The last word of the longest code.
 const LAST_WORD: u64 = 4_194_303;
 
-/// The program's version.
-const VERSION: &str = "0.1.0";
+/// The program's version, and the number of the C library's interface that goes with it.
+const VERSION: &str = "0.1.0, library interface 5";
 
 /// An argument in its place that has to be there.
 fn required_argument<'a>(alloc: Global, name: &'a str, text: &'a str) -> Arg<'a>
@@ -181,12 +181,12 @@ fn check_command<'a>(alloc: Global) -> Result<Command<'a>, AllocError>
     ensures { IfOk result (Makes check_app) }
 {
     let check = Command::new(alloc, "check")
-        .about("Tells whether the code in a file is lawful")
+        .about("Tells whether the code in files is lawful")
         .after_help(help::CHECK);
     let explain = with(Ok(check), flag(alloc, "explain", help::EXPLAIN));
     let all = with(explain, flag(alloc, "all", help::ALL));
     let profile = with(all, profile_argument(alloc));
-    with(profile, required_argument(alloc, "FILE", help::FILE))
+    with(profile, several_arguments(alloc, "FILE", help::FILES))
 }
 
 /// The command `load` and its words.
@@ -238,7 +238,8 @@ fn disassemble_command<'a>(alloc: Global) -> Result<Command<'a>, AllocError>
     let disassemble = Command::new(alloc, "disassemble")
         .about("Lists the words of a file, each with its place and its text")
         .after_help(help::DISASSEMBLE);
-    let profile = with(Ok(disassemble), profile_argument(alloc));
+    let check = with(Ok(disassemble), flag(alloc, "check", help::MARKS));
+    let profile = with(check, profile_argument(alloc));
     with(profile, required_argument(alloc, "FILE", help::FILE))
 }
 
@@ -265,6 +266,16 @@ fn pack_command<'a>(alloc: Global) -> Result<Command<'a>, AllocError>
     with(pages, several_arguments(alloc, "CODE", help::CODE))
 }
 
+/// The command `unpack` and its words.
+fn unpack_command<'a>(alloc: Global) -> Result<Command<'a>, AllocError>
+    ensures { IfOk result (Makes unpack_app) }
+{
+    let unpack = Command::new(alloc, "unpack")
+        .about("Writes the code of an image")
+        .after_help(help::UNPACK);
+    with(Ok(unpack), required_argument(alloc, "IMAGE", help::IMAGE))
+}
+
 /// The program's command, without its subcommands.
 fn bare_command<'a>(alloc: Global) -> Command<'a>
     ensures { Makes bare_app result }
@@ -286,5 +297,6 @@ pub(crate) fn command<'a>(alloc: Global) -> Result<Command<'a>, AllocError>
     let serve = with_subcommand(load, serve_command(alloc));
     let run = with_subcommand(serve, run_command(alloc));
     let disassemble = with_subcommand(run, disassemble_command(alloc));
-    with_subcommand(disassemble, pack_command(alloc))
+    let pack = with_subcommand(disassemble, pack_command(alloc));
+    with_subcommand(pack, unpack_command(alloc))
 }

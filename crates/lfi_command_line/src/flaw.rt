@@ -100,6 +100,7 @@ pub(crate) fn flaw_of(line: &Line<'_>) -> Option<Flaw>
         Line::Load { out, streams, .. } => flaw_of_files(*out, streams),
         Line::Serve { socket, out, .. } => flaw_of_socket(*out, socket),
         Line::Pack { codes, .. } => flaw_of_files(None, codes),
-        Line::Check { .. } | Line::Run { .. } | Line::Disassemble { .. } => None,
+        Line::Check { files, .. } => flaw_of_files(None, files),
+        Line::Run { .. } | Line::Disassemble { .. } | Line::Unpack { .. } => None,
     }
 }

@@ -3,7 +3,7 @@
 ghost use Rattle.std.specs.Prelude.{◌≡◌, ℕ, IfOk, IfErr, true, is_some, codes, option_map};
 ghost use Rattle.clap.specs.Words.{first_of, one_of, rows_of, found_of};
 ghost use Rattle.lfi_command_line.specs.CommandLine.{IsAskedBy, IsFlag, IsProfile, IsNumberIfAny, IsNumberOr, explain_by, pages_named};
-ghost use Rattle.lfi_command_line.specs.inner.Given.{IsNumberGiven, IsFaultOfLoad, IsFaultOfPack};
+ghost use Rattle.lfi_command_line.specs.inner.Given.{IsNumberGiven, IsFaultOfCheck, IsFaultOfLoad, IsFaultOfPack};
 
 use crate::commands::{LAST_MODULE, MOST_CONNECTIONS};
 use crate::fault::LineFault;
@@ -42,16 +42,22 @@ fn explain_by(first: bool, all: bool) -> Explain
 }
 
 /// What `check` asks for.
-pub(crate) fn check_line<'a>(check: &ArgMatches<'a>) -> Line<'a>
+///
+/// # Errors
+///
+/// Where there is no memory to list the files.
+pub(crate) fn check_line<'a>(alloc: Global, check: &ArgMatches<'a>) -> Result<Line<'a>, LineFault>
     requires file { is_some (first_of (codes "FILE") (rows_of (found_of check.now))) ≡ true }
     requires profile { IsNumberGiven 1 2 (codes "profile") (rows_of (found_of check.now)) }
-    ensures { IsAskedBy (codes "check") (rows_of (found_of check.now)) result }
+    ensures line { IfOk result (IsAskedBy (codes "check") (rows_of (found_of check.now))) }
+    ensures fault { IfErr result IsFaultOfCheck }
 {
-    Line::Check {
-        file: check.get_str("FILE").unwrap(),
+    let files = Vec::from_slice(alloc, check.get_strs("FILE").unwrap())?;
+    Ok(Line::Check {
+        files,
         explain: explain_by(is_given(check, "explain"), is_given(check, "all")),
         profile: profile_of(check),
-    }
+    })
 }
 
 /// The number that is given to this argument, or the other where none is.
@@ -146,7 +152,18 @@ pub(crate) fn disassemble_line<'a>(disassemble: &ArgMatches<'a>) -> Line<'a>
 {
     Line::Disassemble {
         file: disassemble.get_str("FILE").unwrap(),
+        marks: is_given(disassemble, "check"),
         profile: profile_of(disassemble),
+    }
+}
+
+/// What `unpack` asks for.
+pub(crate) fn unpack_line<'a>(unpack: &ArgMatches<'a>) -> Line<'a>
+    requires image { is_some (first_of (codes "IMAGE") (rows_of (found_of unpack.now))) ≡ true }
+    ensures { IsAskedBy (codes "unpack") (rows_of (found_of unpack.now)) result }
+{
+    Line::Unpack {
+        image: unpack.get_str("IMAGE").unwrap(),
     }
 }
 

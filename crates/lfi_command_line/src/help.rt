@@ -2,9 +2,9 @@
 
 /// Of the program: the exit statuses.
 pub const PROGRAM: &str = "Exit status:
-  0  check: the code is lawful. load, serve: each module is complete or unused, and no connection
-     has a fault. run: the run ended with a status, at BRK, or when all steps were used.
-     disassemble, pack: all was written.
+  0  check: the code of each file is lawful. load, serve: each module is complete or unused, and no
+     connection has a fault. run: the run ended with a status, at BRK, or when all steps were used.
+     disassemble, pack, unpack: all was written.
   1  It isn't so: the printed lines say why.
   2  The words of the command line are wrong.
   3  A device failed, or memory was refused: a line on the standard error says which, and a second
@@ -17,6 +17,9 @@ Example: lfiload check --explain module.code";
 /// Of a file with code.
 pub const FILE: &str = "plain code words, the lowest byte first";
 
+/// Of several.
+pub const FILES: &str = "one file or more, each with plain code words, the lowest byte first";
+
 /// Of `--explain`.
 pub const EXPLAIN: &str =
     "also say what the word at fault does, what its rule asks, and how it is mended";
@@ -27,6 +30,9 @@ pub const EXPLAIN_MODULES: &str =
 
 /// Of `--all`.
 pub const ALL: &str = "say so of each word that breaks a rule, and how many they are";
+
+/// Of `disassemble --check`.
+pub const MARKS: &str = "also judge the code, and mark each word that breaks a rule";
 
 /// Of `--verifiers`.
 pub const VERIFIERS: &str = "how many verifiers judge pages, 1 to 8; 2 where it isn't said";
@@ -69,11 +75,13 @@ pub const PAGES: &str = "small or large, of 4096 or 16384 bytes; small where it 
 pub const CODE: &str = "1 to 16 files, each with the plain code words of one module";
 
 /// Of `check`: its lines.
-pub const CHECK: &str = "Prints one line:
+pub const CHECK: &str = "Prints one line for each file:
   lawful, N words  The N words are a lawful module (status 0).
   word K rule R    Word K, counted from 0, is the first that breaks a rule, and R is the least rule
                    that it breaks (status 1).
   bad length       The file is empty, no multiple of 4 bytes, or above 16,777,216 bytes (status 1).
+Where several files are named, the path of each and a colon stand before its line. The status is
+the worst of theirs, the largest number. A file that can't be read holds up no other one.
 
 With --explain, these lines follow `word K rule R`:
   0xADDRESS  WORD  TEXT  The word: its address where the module lies in slot 0, its value in
@@ -83,8 +91,11 @@ With --explain, these lines follow `word K rule R`:
   mend: TEXT             What to write instead. A free register is any but x18, x21 to x24 and x30.
 With --all, all of these lines for each word that breaks a rule, in order, and then:
   words refused: N       How many they are.
+With either of the two a line tells of a file that isn't lawful and begins as another kind of file:
+  file: TEXT             What it is, an ELF file, an image or a stream, and what to do with it.
 
 On the standard error:
+  lfiload: bad length PATH   And a second line: which length it is, and which are asked for.
   lfiload: cannot read PATH  The file can't be read (status 3).
   lfiload: no memory         There was no memory for it (status 3).
 
@@ -187,11 +198,14 @@ After the text may stand:
   -> word K             Where a direct branch goes.
   -> outside, word K    The same; the code has no word K.
   ; opens: next is X    Rule 10 asks this of the next word.
-The code isn't judged: `check` does that. A word that no instruction of the profile spells stands
-as `.inst`. Where the file is empty, no multiple of 4 bytes, or above 16,777,216 bytes, one line:
+  ; rule R              With --check: the word breaks rule R, and none with a smaller number.
+Without --check the code isn't judged; with it the status is the same. A word that no instruction
+of the profile spells stands as `.inst`. Where the file is empty, no multiple of 4 bytes, or above
+16,777,216 bytes, one line:
   bad length            It is no code (status 1).
 
 On the standard error:
+  lfiload: bad length PATH   And a second line: which length it is, and which are asked for.
   lfiload: cannot read PATH  The file can't be read (status 3).
   lfiload: no memory         There was no memory for it (status 3).
 
@@ -205,7 +219,7 @@ isn't judged: who receives it does that (status 0). Large pages are of profile 2
 
 On the standard error:
   lfiload: bad length PATH       The file is empty, no multiple of 4 bytes, or above 16,777,216
-                                 bytes (status 1).
+                                 bytes (status 1). A second line says which length it is.
   lfiload: no word WORD in PATH  The file has no such word, at which it could be entered (status 1).
   lfiload: at most 16 modules    The files are more than the modules from M on (status 2).
   lfiload: pages are small, or large with --profile 2
@@ -215,3 +229,18 @@ On the standard error:
 All files are read first: after each of these lines nothing was written.
 
 Example: lfiload pack --module 2 --entry 16 first.code second.code > both.stream";
+
+/// Of `unpack`: what it writes, and its lines.
+pub const UNPACK: &str =
+    "Writes the code of an image to the standard output, so that it can be disassembled: the 4 bytes of
+each of its words, and nothing else (status 0). The image is read as `run` reads it, and its code
+judged anew.
+
+On the standard error:
+  image refused, fault F           There is no image, as `run` tells it. Nothing was written (status
+                                   1, or 3 for the faults 8 and 9).
+  image refused, fault 7, word K rule R  Its code breaks a rule (status 1).
+  lfiload: cannot read PATH        The file can't be opened (status 3).
+  lfiload: no memory               There was no memory for it (status 3).
+
+Example: lfiload unpack module-00.img > module.code";

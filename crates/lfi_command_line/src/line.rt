@@ -9,7 +9,9 @@ ghost use Rattle.lfi_command_line.specs.inner.Given.{AreTakenBy};
 use crate::commands::command;
 use crate::fault::LineFault;
 use crate::flaw::flaw_of;
-use crate::given::{check_line, disassemble_line, load_line, pack_line, run_line, serve_line};
+use crate::given::{
+    check_line, disassemble_line, load_line, pack_line, run_line, serve_line, unpack_line,
+};
 use clap::ArgMatches;
 use lfi_module::{PageSize, Profile};
 use std::alloc::Global;
@@ -28,9 +30,9 @@ pub enum Explain {
 /// What the program is asked for.
 #[derive(Drop)]
 pub enum Line<'a> {
-    /// Whether the code in a file is lawful by a profile, and what is to be explained where it isn't.
+    /// Whether the code in each of these files is lawful by a profile, and what is to be explained where it isn't.
     Check {
-        file: &'a str,
+        files: Vec<&'a str>,
         explain: Explain,
         profile: Profile,
     },
@@ -59,9 +61,10 @@ pub enum Line<'a> {
         image: &'a str,
         steps: u64,
     },
-    /// To list the words of the code in a file, by a profile.
+    /// To list the words of the code in a file, by a profile, and to mark those that break a rule.
     Disassemble {
         file: &'a str,
+        marks: bool,
         profile: Profile,
     },
     /// To write a stream of the code in 1 to 16 files, one module each, from this number on, up to 15 at the most, each of which
@@ -73,6 +76,10 @@ pub enum Line<'a> {
         profile: Profile,
         pages: PageSize,
         codes: Vec<&'a str>,
+    },
+    /// To write the code of the image in a file.
+    Unpack {
+        image: &'a str,
     },
 }
 
@@ -91,7 +98,7 @@ fn line_of<'a>(alloc: Global, matches: &ArgMatches<'a>) -> Result<Line<'a>, Line
     ensures fault { (words : List Text) → AreTakenBy words matches.entry.now → IfErr result (IsLineFault words) }
 {
     if let Some(check) = matches.subcommand_matches("check") {
-        return Ok(check_line(check));
+        return check_line(alloc, check);
     }
     if let Some(load) = matches.subcommand_matches("load") {
         return load_line(alloc, load);
@@ -104,6 +111,9 @@ fn line_of<'a>(alloc: Global, matches: &ArgMatches<'a>) -> Result<Line<'a>, Line
     }
     if let Some(pack) = matches.subcommand_matches("pack") {
         return pack_line(alloc, pack);
+    }
+    if let Some(unpack) = matches.subcommand_matches("unpack") {
+        return Ok(unpack_line(unpack));
     }
     Ok(run_line(matches.subcommand_matches("run").unwrap()))
 }

@@ -2,27 +2,12 @@
 use Rattle.std.proofs.Common.{◌≡◌, ℕ, List, Bool, Option, refl}
 use Rattle.lfi_module.specs.declared.profile.Profile.{Profile}
 use Rattle.lfi_command_line.specs.declared.line.Line.{Line}
-use Rattle.lfi_command_line.specs.declared.line.Line.TheVariants.{Check, Load, Serve, Run, Disassemble, Pack}
-use Rattle.lfi_command_line.specs.declared.line.Explain.{Explain}
-use Rattle.lfi_command_line.specs.declared.line.Explain.TheVariants.{Nothing, First, All}
+use Rattle.lfi_command_line.specs.declared.line.Line.TheVariants.{Check, Load, Serve, Run, Disassemble, Pack, Unpack}
 use Rattle.lfi_file_commands.specs.declared.ending.Ending.{Ending}
-use Rattle.lfi_file_commands.specs.Explaining.{FindsVerdict}
 use Rattle.lfi_file_commands.specs.Left.{left}
-use Rattle.lfi_file_commands.specs.Listing.{FindsListing, HasListed}
 use Rattle.lfi_file_commands.specs.Packing.{FindsPacked, HasPacked}
 use Rattle.lfi_file_commands.specs.Running.{FindsRun, HasRun}
-use Rattle.lfi_commands.specs.Runs.{ChecksFile}
 use Rattle.lfi_commands.specs.inner.Ranges.{IsForFiles, IsInRange}
-
-module _ (out new : Option (List ℕ)) (put : Option (List (List ℕ × List ℕ))) (lost : Bool) (errors : Option (List ℕ)) (ending : Ending) where
-  pub checks_file : (profile : Profile) (explain : Explain) (bytes : Option (List ℕ)) → FindsVerdict profile explain bytes out new ending
-      → ChecksFile profile explain bytes (left out put lost errors) (left new put lost errors) ending
-  checks_file profile Nothing bytes finds = record { verdict = finds.verdict; checks = finds.checks; written = finds.written; put = refl; told = (refl, refl); ends = finds.ends }
-  checks_file profile First bytes finds = record { verdict = finds.verdict; checks = finds.checks; written = finds.written; put = refl; told = (refl, refl); ends = finds.ends }
-  checks_file profile All bytes finds = record { verdict = finds.verdict; checks = finds.checks; written = finds.written; put = refl; told = (refl, refl); ends = finds.ends }
-
-  pub lists_file : (profile : Profile) (bytes : Option (List ℕ)) → FindsListing profile bytes out new ending → HasListed profile bytes (left out put lost errors) (left new put lost errors) ending
-  lists_file profile bytes finds = record { found = finds; put = refl; told = (refl, refl) }
 
 module _ (out new : Option (List ℕ)) (put : Option (List (List ℕ × List ℕ))) (was lost : Bool) (errors told : Option (List ℕ)) (ending : Ending) where
   pub runs_file : (bytes : Option (List ℕ)) (steps : ℕ) → FindsRun bytes steps out new lost errors told ending → HasRun bytes steps (left out put was errors) (left new put lost told) ending
@@ -35,9 +20,10 @@ module _ (out new : Option (List ℕ)) (put : Option (List (List ℕ × List ℕ
 -- what neither loads nor serves needs no threads
 pub for_files : (line : Line) → ((verifiers : ℕ) (folder : _) (explain : Bool) (streams : _) → line ≡ Load verifiers folder explain streams → ⊥)
     → ((socket : _) (connections verifiers : ℕ) (seconds : _) (folder : _) (explain : Bool) → line ≡ Serve socket connections verifiers seconds folder explain → ⊥) → IsInRange line → IsForFiles line
-for_files (Check file explain profile) no_load no_serve within = within
+for_files (Check files explain profile) no_load no_serve within = within
 for_files (Load verifiers folder explain streams) no_load no_serve within = absurd (no_load verifiers folder explain streams refl)
 for_files (Serve socket connections verifiers seconds folder explain) no_load no_serve within = absurd (no_serve socket connections verifiers seconds folder explain refl)
 for_files (Run image steps) no_load no_serve within = within
-for_files (Disassemble file profile) no_load no_serve within = within
+for_files (Disassemble file marks profile) no_load no_serve within = within
 for_files (Pack first entry profile pages files) no_load no_serve within = within
+for_files (Unpack image) no_load no_serve within = within

@@ -1,8 +1,9 @@
 -- A line that is carried out is no wrong words.
-use Rattle.std.proofs.Common.{◌≡◌, ◌⊎◌, ℕ, List, Bool, true, false, Option, Result, Ok, Err, IfOk, IfErr, OnErr, inl, inr, refl, subst, sym}
+use Rattle.std.proofs.Common.{◌≡◌, ◌∙◌, ◌⊎◌, ℕ, zero, suc, List, length, map, nat_lt, cond, Bool, true, false, Option, Some, None, Result, Ok, Err, IfOk, IfErr, OnErr, inl, inr, refl, subst, sym}
 use Rattle.lfi_command_line.specs.declared.line.Line.{Line}
-use Rattle.lfi_command_line.specs.declared.line.Line.TheVariants.{Check, Load, Serve, Run, Disassemble, Pack}
-use Rattle.lfi_command_line.specs.declared.line.Explain.TheVariants.{Nothing, First, All}
+use Rattle.lfi_command_line.specs.declared.line.Line.TheVariants.{Check, Load, Serve, Run, Disassemble, Pack, Unpack}
+use Rattle.lfi_command_line.specs.declared.line.Explain.{Explain}
+use Rattle.lfi_module.specs.declared.profile.Profile.{Profile}
 use Rattle.lfi_command_line.specs.CommandLine.{AreWrong, IsLine}
 use Rattle.lfi_image_file.specs.declared.fault.ImageFault.{ImageFault}
 use Rattle.lfi_image_file.specs.declared.fault.ImageFault.TheVariants as image_fault
@@ -16,8 +17,12 @@ use Rattle.lfi_code.specs.declared.verdict.Verdict.{Verdict}
 use Rattle.lfi_code.specs.declared.verdict.Verdict.TheVariants.{Lawful, Refused, BadLength}
 use Rattle.lfi_file_commands.specs.declared.ending.Ending.{Ending}
 use Rattle.lfi_file_commands.specs.declared.ending.Ending.TheVariants.{Well, NotWell, WrongWords, Failed}
-use Rattle.lfi_file_commands.specs.Checking.{ending_of}
-use Rattle.lfi_file_commands.specs.Endings.{ending_of_halt, ending_of_run, EndsUnlessLost}
+use Rattle.lfi_file_commands.specs.Checking.{ending_of, verdict_of}
+use Rattle.lfi_file_commands.specs.Explaining.{AreChecked, ChecksAll, ChecksOne, StopsAtOutput}
+use Rattle.lfi_file_commands.specs.Listing.{EndsListing}
+use Rattle.lfi_file_commands.specs.Unpacking.{HasUnpacked}
+use Rattle.lfi_file_commands.specs.declared.no_code.NoCode.{NoCode}
+use Rattle.lfi_file_commands.specs.Endings.{ending_of_halt, ending_of_run, number_of, EndsUnlessLost}
 use Rattle.lfi_commands.specs.Endings.{EndsLoad}
 use Rattle.lfi_file_commands.specs.Left.{Left, left}
 use Rattle.lfi_file_commands.specs.Running.{EndsRun}
@@ -26,6 +31,12 @@ use Rattle.lfi_file_commands.specs.declared.failure.Failure.{Failure}
 use Rattle.lfi_commands.proofs.Failing.{fails_by}
 use Rattle.lfi_commands.specs.Runs.{CarriesOut, FailsAs, Runs, TellsFailure, TellsFlaw, TellsNoPages, TellsTooMany, TellsTooManyModules}
 use Rattle.lfi_file_commands.specs.declared.failure.Failure.TheVariants.{NoMemory}
+
+well_ends : WrongWords ≡ Well → ⊥
+well_ends ends = cc
+
+failed_ends : WrongWords ≡ Failed → ⊥
+failed_ends ends = cc
 
 by_verdict : (verdict : Verdict) → WrongWords ≡ ending_of verdict → ⊥
 by_verdict (Lawful words) ends = cc
@@ -56,15 +67,48 @@ by_run true run ends = cc
 by_run false (image_run.Refused fault) ends = by_fault fault ends
 by_run false (image_run.Ended halt steps) ends = by_halt halt ends
 
+-- of two endings that aren't that of wrong words the worse one isn't it either
+chosen : (b : Bool) (before here : Ending) → (before ≡ WrongWords → ⊥) → (here ≡ WrongWords → ⊥) → WrongWords ≡ cond b here before → ⊥
+chosen true before here not_before not_here ends = not_here (sym ends)
+chosen false before here not_before not_here ends = not_before (sym ends)
+
+by_one : (name : List ℕ) (profile : Profile) (explain : Explain) (path : List ℕ) (bytes : Option (List ℕ)) (old new : Left) (ending : Ending) → ChecksOne name profile explain path bytes old new ending → ending ≡ WrongWords → ⊥
+by_one name profile explain path bytes old new ending (inl judged) is = by_verdict (verdict_of judged.finding) (sym is ∙ judged.ends)
+by_one name profile explain path bytes old new ending (inr unread) is = failed_ends (sym is ∙ unread.5)
+
+by_checked : (profile : Profile) (explain : Explain) (paths : List (List ℕ)) (file_at : List ℕ → Option (List ℕ)) (count : ℕ) (old new : Left) (ending : Ending) → AreChecked profile explain paths file_at count old new ending
+    → ending ≡ WrongWords → ⊥
+by_checked profile explain paths file_at zero old new ending checked is = well_ends (sym is ∙ checked.1)
+by_checked profile explain paths file_at (suc k) old new ending checked is =
+    chosen (nat_lt (number_of checked.1) (number_of checked.2)) checked.1 checked.2 (by_checked profile explain paths file_at k old checked.0 checked.1 checked.4)
+    (by_one _ profile explain checked.3 (file_at checked.3) checked.0 new checked.2 checked.6) (sym is ∙ checked.7)
+
+unless_lost : (is_lost : Bool) (told : Ending) → EndsUnlessLost is_lost told WrongWords → (told ≡ WrongWords → ⊥) → ⊥
+unless_lost true told ends not_told = failed_ends ends
+unless_lost false told ends not_told = not_told (sym ends)
+
+by_check : (profile : Profile) (explain : Explain) (paths : List (List ℕ)) (file_at : List ℕ → Option (List ℕ)) (old new : Left)
+    → ChecksAll profile explain paths file_at old new WrongWords ⊎ StopsAtOutput profile explain paths file_at old new WrongWords → ⊥
+by_check profile explain paths file_at old new (inl all) = unless_lost new.is_lost all.0 all.2 (by_checked profile explain paths file_at (length paths) old new all.0 all.1)
+by_check profile explain paths file_at old new (inr stops) = failed_ends stops.7
+
+by_listing : (other : Option NoCode) (is_lost : Bool) → EndsListing other is_lost WrongWords → ⊥
+by_listing None is_lost ends = well_ends ends
+by_listing (Some n) true ends = failed_ends ends
+by_listing (Some n) false ends = cc
+
+by_unpack : (bytes : Option (List ℕ)) (old new : Left) → HasUnpacked bytes old new WrongWords → ⊥
+by_unpack bytes old new (inl written) = well_ends written.6
+by_unpack bytes old new (inr told) = by_run new.is_lost (image_run.Refused told.0) told.5
+
 by_line : (line : Line) (file_at : List ℕ → Option (List ℕ)) (old new : Left) → CarriesOut line file_at old new WrongWords → ⊥
-by_line (Check file Nothing profile) file_at old new carried = by_verdict carried.verdict carried.ends
-by_line (Check file First profile) file_at old new carried = by_verdict carried.verdict carried.ends
-by_line (Check file All profile) file_at old new carried = by_verdict carried.verdict carried.ends
+by_line (Check files explain profile) file_at old new carried = by_check profile explain (map (λ s. s.now) files.items) file_at old new carried.did
 by_line (Load verifiers folder explain streams) file_at old new carried = by_load carried.report true carried.all carried.ends
 by_line (Serve socket connections verifiers seconds folder explain) file_at old new carried = by_load carried.found.report carried.found.all_accepted carried.all carried.ends
 by_line (Run image steps) file_at old new carried = by_run new.is_lost carried.run carried.ends
-by_line (Disassemble file profile) file_at old new carried = carried.found
+by_line (Disassemble file marks profile) file_at old new carried = by_listing carried.other new.is_lost carried.ends
 by_line (Pack first entry profile pages files) file_at old new carried = carried.found
+by_line (Unpack image) file_at old new carried = by_unpack (file_at image.now) old new carried
 
 pub runs_line : (words : List (List ℕ)) (file_at : List ℕ → Option (List ℕ)) (old new : Left) (line : Line) (ending : Ending) → IsLine words line → CarriesOut line file_at old new ending
     → Runs words file_at old new ending

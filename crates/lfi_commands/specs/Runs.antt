@@ -1,50 +1,44 @@
 -- What a run of the program does, by its words and its ending. Source: this project's profile, docs/COMMANDS.md.
 use Rattle.std.specs.Prelude.{◌≡◌, ◌⊎◌, ⊤, ℕ, false, List, [], ◌∷◌, ◌++◌, Option, Some, codes, map, option_map}
-use Rattle.lfi_module.specs.declared.profile.Profile.{Profile}
 use Rattle.lfi_command_line.specs.declared.line.Line.{Line}
-use Rattle.lfi_command_line.specs.declared.line.Line.TheVariants.{Check, Load, Serve, Run, Disassemble, Pack}
+use Rattle.lfi_command_line.specs.declared.line.Line.TheVariants.{Check, Load, Serve, Run, Disassemble, Pack, Unpack}
 use Rattle.lfi_command_line.specs.declared.flaw.Flaw.{Flaw}
 use Rattle.lfi_command_line.specs.Flaws.{flaw_of, flaw_text}
-use Rattle.lfi_command_line.specs.declared.line.Explain.{Explain}
-use Rattle.lfi_command_line.specs.declared.line.Explain.TheVariants.{Nothing}
 use Rattle.lfi_command_line.specs.CommandLine.{IsLine, AsksHelp, AreWrong, NameTooMany, NameTooManyModules, NameNoPages}
 use Rattle.lfi_file_commands.specs.declared.ending.Ending.{Ending}
 use Rattle.lfi_file_commands.specs.declared.ending.Ending.TheVariants.{Well, NotWell, WrongWords, Failed}
 use Rattle.lfi_file_commands.specs.declared.failure.Target.TheVariants.{StandardOutput}
 use Rattle.lfi_file_commands.specs.declared.failure.Failure.{Failure}
 use Rattle.lfi_file_commands.specs.declared.failure.Failure.TheVariants.{CannotWrite, NoMemory}
-use Rattle.lfi_file_commands.specs.Checking.{HasChecked}
-use Rattle.lfi_file_commands.specs.Explaining.{HasExplained}
+use Rattle.lfi_file_commands.specs.Explaining.{HasChecked}
 use Rattle.lfi_file_commands.specs.Failures.{failure_line, is_of_output, FailsOn, FailsServing, IsOfReading, Told}
 use Rattle.lfi_file_commands.specs.Left.{Left}
 use Rattle.lfi_file_commands.specs.Listing.{HasListed}
 use Rattle.lfi_commands.specs.Loading.{HasLoaded}
 use Rattle.lfi_file_commands.specs.Packing.{HasPacked}
 use Rattle.lfi_file_commands.specs.Running.{HasRun}
+use Rattle.lfi_file_commands.specs.Unpacking.{HasUnpacked}
 use Rattle.lfi_commands.specs.Serving.{HasServedAll}
-
--- What `check` did, by what is to be explained.
-abbrev pub ChecksFile : Profile → Explain → (bytes : Option (List ℕ)) → (old new : Left) → Ending → Type 0
-ChecksFile profile Nothing bytes old new ending = HasChecked profile bytes old new ending
-ChecksFile profile explain bytes old new ending = HasExplained profile explain bytes old new ending
 
 -- What the line asks for was carried out, with this ending.
 abbrev pub CarriesOut : Line → (List ℕ → Option (List ℕ)) → (old new : Left) → Ending → Type 0
-CarriesOut (Check file explain profile) file_at = ChecksFile profile explain (file_at file.now)
+CarriesOut (Check files explain profile) file_at = HasChecked profile explain (map (λ s. s.now) files.items) file_at
 CarriesOut (Load verifiers folder explain streams) file_at = HasLoaded verifiers (map (λ s. file_at s.now) streams.items) (option_map (λ s. s.now) folder) explain
 CarriesOut (Serve socket connections verifiers seconds folder explain) file_at = HasServedAll connections verifiers seconds (option_map (λ s. s.now) folder) explain
 CarriesOut (Run image steps) file_at = HasRun (file_at image.now) steps
-CarriesOut (Disassemble file profile) file_at = HasListed profile (file_at file.now)
+CarriesOut (Disassemble file marks profile) file_at = HasListed marks profile file.now (file_at file.now)
 CarriesOut (Pack first entry profile pages files) file_at = HasPacked profile pages first entry (map (λ s. s.now) files.items) file_at
+CarriesOut (Unpack image) file_at = HasUnpacked (file_at image.now)
 
--- it tells of a fault of what the line asks for: of a file that it names, of the output, of the socket
+-- it tells of a fault of what the line asks for: of a file that it names, of the output, of the socket; what `check` tells is part of what it did
 abbrev pub FailsAs : Line → Failure → Type 0
-FailsAs (Check file explain profile) = FailsOn (file.now ∷ [])
+FailsAs (Check files explain profile) = λ failure. ⊥
 FailsAs (Load verifiers folder explain streams) = FailsOn (map (λ s. s.now) streams.items)
 FailsAs (Serve socket connections verifiers seconds folder explain) = FailsServing
 FailsAs (Run image steps) = IsOfReading image.now
-FailsAs (Disassemble file profile) = FailsOn (file.now ∷ [])
+FailsAs (Disassemble file marks profile) = FailsOn (file.now ∷ [])
 FailsAs (Pack first entry profile pages files) = FailsOn (map (λ s. s.now) files.items)
+FailsAs (Unpack image) = FailsOn (image.now ∷ [])
 
 -- The words ask for a line, and it was carried out.
 abbrev pub CarriesOutWords : List (List ℕ) → (List ℕ → Option (List ℕ)) → (old new : Left) → Ending → Type 0

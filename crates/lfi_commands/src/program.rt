@@ -16,7 +16,7 @@ use crate::loading::{load, serve};
 use lfi_command_line::{Line, LineFault, read_line};
 use lfi_file_commands::{
     DeviceCause, Disk, Ending, Errors, Failure, ended, open_all, run_check, run_disassemble,
-    run_pack, run_run, tell_failure, write_asked_images, write_asked_refused,
+    run_pack, run_run, run_unpack, tell_failure, write_asked_images, write_asked_refused,
 };
 use lfi_stage::settle::Report;
 use lfi_threads::Notices;
@@ -183,12 +183,17 @@ fn run_files<'a, D: Disk, O: Write, E: Write>(
 {
     match *line {
         Line::Check {
-            file,
-            explain,
-            profile,
-        } => run_check(alloc, disk, file, profile, explain, out),
+            ref files,
+            ref explain,
+            ref profile,
+        } => Ok(run_check(alloc, disk, files, *profile, *explain, out, errors)),
         Line::Run { image, steps } => run_run(alloc, disk, image, steps, out, errors),
-        Line::Disassemble { file, profile } => run_disassemble(alloc, disk, file, profile, out),
+        Line::Disassemble {
+            file,
+            marks,
+            profile,
+        } => run_disassemble(alloc, disk, file, marks, profile, out, errors),
+        Line::Unpack { image } => run_unpack(alloc, disk, image, out, errors),
         Line::Pack {
             module,
             entry,

@@ -6,7 +6,7 @@ use crate::runs::{FAILED, ONE_RET, ONE_RET_REPORT, RET, begin, run_over, tells};
 use lfi_code::Verdict;
 use lfi_commands::{ending_of_load, load};
 use lfi_file_commands::{
-    CommandFault, DeviceCause, Ending, Errors, Failure, Target, check, check_file,
+    CommandFault, DeviceCause, Ending, Errors, Failure, Naming, Target, check, check_file,
 };
 use lfi_model::Outcome;
 use lfi_module::Profile;
@@ -98,7 +98,10 @@ fn checked(
     written: &str,
 ) -> Option<Result<Verdict, CommandFault>> {
     let mut out = Vec::new(alloc);
-    let answer = check_file(alloc, code, length, Profile::One, &mut out);
+    let answer = match check_file(alloc, code, length, Profile::One, Naming::Alone, &mut out) {
+        Ok(finding) => Ok(finding.verdict()),
+        Err(fault) => Err(fault),
+    };
     if out.as_slice() == written.as_bytes() {
         Some(answer)
     } else {
@@ -256,7 +259,7 @@ struct Answer {
 
 /// What is explained of a word that no instruction spells.
 const UNSPELLED: &str =
-    "word 0 rule 1\n  0x0000000100010000  00000000  .inst 0x00000000\n  an instruction of the profile spells each word; none spells this one\n  mend: put instructions of the profile in its place: docs/PROFILE.md lists them, and what stands in for others\n";
+    "word 0 rule 1\n  0x0000000100010000  00000000  .inst 0x00000000\n  an instruction of the profile spells each word; none spells this one, of the group: reserved words\n  mend: put instructions of the profile in its place: docs/PROFILE.md lists them, and what stands in for others\n";
 
 /// The report on a module with that word.
 const REFUSED: &str = "module 0: refused, word 0 rule 1\nstrays 0\n";

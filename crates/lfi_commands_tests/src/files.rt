@@ -29,7 +29,7 @@ const RUNS: [Run; 7] = [
         line: "lfiload pack files.tmp/three.code",
         status: NOT_WELL,
         out: "",
-        err: "lfiload: bad length files.tmp/three.code\n",
+        err: "lfiload: bad length files.tmp/three.code\n  3 bytes; code has a multiple of 4, from 4 to 16777216\n",
     },
     Run {
         line: "lfiload load --out files.tmp --explain files.tmp/one_ret.stream",

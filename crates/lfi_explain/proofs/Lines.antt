@@ -1,5 +1,5 @@
 -- Lines written one after another.
-use Rattle.std.proofs.Common.{rules, add-one, ◌≡◌, ℕ, zero, suc, ◌+◌, ◌≤◌, List, [], ◌∷◌, ◌++◌, length, Option, Some, None, Result, Ok, Err, refl, sym, ◌∙◌, ap, subst, arith}
+use Rattle.std.proofs.Common.{rules, add-one, ◌≡◌, ℕ, Bool, zero, suc, ◌+◌, ◌≤◌, List, [], ◌∷◌, ◌++◌, length, Option, Some, None, Result, Ok, Err, refl, sym, ◌∙◌, ap, subst, arith}
 use Rattle.std.specs.Prelude.{flat_map, OnOk}
 use Rattle.std.specs.Io.KnownBytes.{Appends, Keeps, append_known}
 use Rattle.std.proofs.KnownBytes.{Appends-kept, Appends-trans, Keeps-refl, append_known-grown}
@@ -21,9 +21,9 @@ pub told_more : (profile : Profile) (ws : List ℕ) (slot k : ℕ) (before : Lis
     → AreTold profile ws slot (k + 1) (before ++ one_or_none here)
 told_more profile ws slot k before here told at = rw add-one (before, here, told, at, refl)
 
-pub listed_more : (profile : Profile) (ws : List ℕ) (slot k : ℕ) (before : List ListedWord) (here : ListedWord) → AreListed profile ws slot k before → IsListed profile ws slot k here
-    → AreListed profile ws slot (k + 1) (before ++ here ∷ [])
-listed_more profile ws slot k before here listed at = rw add-one (before, here, listed, at, refl)
+pub listed_more : (marks : Bool) (profile : Profile) (ws : List ℕ) (slot k : ℕ) (before : List ListedWord) (here : ListedWord) → AreListed marks profile ws slot k before → IsListed marks profile ws slot k here
+    → AreListed marks profile ws slot (k + 1) (before ++ here ∷ [])
+listed_more marks profile ws slot k before here listed at = rw add-one (before, here, listed, at, refl)
 
 pub one_at_most : (here : Option Explanation) → length (one_or_none here) ≤ 1
 one_at_most (Some e) = search rules

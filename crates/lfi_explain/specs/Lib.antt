@@ -1,5 +1,6 @@
 pub mod Openers
 pub mod Spellings
+pub mod Groups
 pub mod Sentences
 pub mod Mendings
 pub mod Explanations

@@ -17,6 +17,7 @@ use Rattle.lfi_rules.specs.declared.rule.Rule.{Rule}
 use Rattle.lfi_rules.specs.declared.rule.Rule.TheVariants as rules
 use Rattle.lfi_explain.specs.declared.explanation.Explanation.{Explanation}
 use Rattle.lfi_explain.specs.declared.opener.Opener.{Opener}
+use Rattle.lfi_explain.specs.Groups.{group_of, group_text}
 use Rattle.lfi_explain.specs.Openers.{asked_if}
 use Rattle.lfi_explain.specs.Spellings.{opened_by, is_met_by, is_calm_by, address_by, target_by, branch_register_by, written_address_by}
 
@@ -122,14 +123,14 @@ ordered_name false Byte = codes "stlrb"
 ordered_name false Half = codes "stlrh"
 ordered_name false size = codes "stlr"
 
--- what is told of a word that no instruction of the profile spells, by what spells it in the second profile
-abbrev pub unspelled_text : Option Instruction → List ℕ
-unspelled_text (Some (Ordered i)) = codes "; " ++ ordered_name i.load i.size ++ codes " is an instruction of profile 2"
-unspelled_text _ = codes "; none spells this one"
+-- what is told of a word that no instruction of the profile spells, by what spells it in the second profile: that, or its group
+abbrev pub unspelled_text : (word : ℕ) → Option Instruction → List ℕ
+unspelled_text word (Some (Ordered i)) = codes "; " ++ ordered_name i.load i.size ++ codes " is an instruction of profile 2"
+unspelled_text word _ = codes "; none spells this one, of the group: " ++ group_text (group_of word)
 
 -- what the word does instead
 abbrev pub does_text : Rule → Explanation → List ℕ
-does_text rules.Spelled e = unspelled_text e.at.in_second
+does_text rules.Spelled e = unspelled_text e.at.word e.at.in_second
 does_text rules.AccessConfined e = through_text (address_by e.at)
 does_text rules.BaseKept e = codes "; this one writes it"
 does_text rules.AddressGuarded e = writes_text (written_address_by e.at)

@@ -29,6 +29,9 @@
 //!   lfi_explain tells it. It decodes the words before anew at each place: explanations are asked for by hand.
 //! - **All refusals are told, not only the first of each cause**: a word after one that opens a need may be told for
 //!   that need alone.
+//! - **A word that no instruction of the profile spells is told with its group** (`Group`), by the manual's own tables, so
+//!   that who meets it knows what to ask of a compiler. No group says that a word is an instruction.
+//! - **A listing marks broken rules where that is asked for**: it looks at each place as `write_refusals` does.
 //! - **The number of refusals is a line of its own form** (`words refused: 1`), which needs no plural.
 //! - **A sentence names registers by wM and xD** where any would do.
 //! - **How a word is mended is a line of its own**, which begins with `mend:` and is chosen by the rule, the word's own
@@ -41,6 +44,7 @@
 
 mod digits;
 mod explanation;
+mod group;
 mod kept;
 mod listing;
 mod located;
@@ -51,6 +55,7 @@ mod sentence;
 mod spelling;
 
 pub use explanation::{Explanation, explain, explain_word};
+pub use group::Group;
 pub use listing::{ListedWord, write_listing};
 pub use located::Located;
 pub use opener::Opener;

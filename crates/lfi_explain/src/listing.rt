@@ -12,7 +12,7 @@ use crate::sentence::Meeting;
 use crate::spelling::Spelling;
 use a64_word::Words;
 use lfi_module::{ModuleNumber, Profile};
-use lfi_rules::Need;
+use lfi_rules::{Need, Rule, broken_at};
 use std::alloc::Global;
 use std::fmt;
 use std::io::{self, Write};
@@ -24,6 +24,8 @@ pub struct ListedWord {
     pub located: Located,
     /// How many words the module has.
     pub words: u32,
+    /// The rule that it is marked with, which it breaks.
+    pub broken: Option<Rule>,
 }
 
 /// Where a direct branch goes, in a module of so many words.
@@ -77,10 +79,26 @@ impl fmt::Display for Opened {
     }
 }
 
+/// With which rule a word is marked.
+#[derive(Clone, Copy)]
+struct Mark(Option<Rule>);
+
+impl fmt::Display for Mark {
+    ghost output = { λ mark. Some (spec.mark_text mark.0) };
+
+    fn fmt<W: fmt::Write>(&self, f: &mut fmt::Formatter<W>) -> fmt::Result {
+        match self.0 {
+            Some(rule) => write!(f, "  ; rule {rule}"),
+            None => Ok(()),
+        }
+    }
+}
+
 impl fmt::Display for ListedWord {
     ghost output = { λ listed. Some (spec.listed_text listed) };
 
-    /// Writes the place, the address, the word, its text, where it branches to and what it asks of the next word.
+    /// Writes the place, the address, the word, its text, where it branches to, what it asks of the next word, and its
+    /// mark.
     fn fmt<W: fmt::Write>(&self, f: &mut fmt::Formatter<W>) -> fmt::Result {
         let place = self.located.place;
         let spelling = &self.located.spelling;
@@ -90,19 +108,39 @@ impl fmt::Display for ListedWord {
         };
         write!(
             f,
-            "{}  {}{arrow}{}",
+            "{}  {}{arrow}{}{}",
             PlaceColumn(place),
             self.located,
-            Opened(spelling.opens())
+            Opened(spelling.opens()),
+            Mark(self.broken)
         )
     }
 }
 
-/// The word at a place of a module in a slot, as it is listed.
-fn listed_at<L: Words>(words: &L, slot: ModuleNumber, place: usize, profile: Profile) -> ListedWord
+/// With which rule the word at a place of a module is marked, where marks are asked for.
+fn mark_at<L: Words>(words: &L, place: usize, marks: bool, profile: Profile) -> Option<Rule>
     requires inside { place < length (L.words words.now) }
     requires most { length (L.words words.now) ≤ most_words }
-    ensures { spec.IsListed profile (L.words words.now) slot place result }
+    ensures { spec.IsMark marks profile (L.words words.now) place result }
+{
+    if marks {
+        broken_at(words, place, profile)
+    } else {
+        None
+    }
+}
+
+/// The word at a place of a module in a slot, as it is listed.
+fn listed_at<L: Words>(
+    words: &L,
+    slot: ModuleNumber,
+    place: usize,
+    marks: bool,
+    profile: Profile,
+) -> ListedWord
+    requires inside { place < length (L.words words.now) }
+    requires most { length (L.words words.now) ≤ most_words }
+    ensures { spec.IsListed marks profile (L.words words.now) slot place result }
 {
     let spelling = Spelling::of(words.word(place), profile);
     let located = Located {
@@ -113,6 +151,7 @@ fn listed_at<L: Words>(words: &L, slot: ModuleNumber, place: usize, profile: Pro
     ListedWord {
         located,
         words: words.count() as u32,
+        broken: mark_at(words, place, marks, profile),
     }
 }
 
@@ -123,7 +162,8 @@ fn write_listed<W: Write>(listed: ListedWord, out: &mut W) -> io::Result<()>
     writeln!(out, "{listed}")
 }
 
-/// Writes a line for each word of a module in a slot, in order.
+/// Writes a line for each word of a module in a slot, in order. Where marks are asked for, each word that breaks a rule is marked
+/// with the least of those that it breaks.
 ///
 /// # Errors
 ///
@@ -132,15 +172,16 @@ pub fn write_listing<L: Words, W: Write>(
     alloc: Global,
     words: &L,
     slot: ModuleNumber,
+    marks: bool,
     profile: Profile,
     out: &mut W,
 ) -> io::Result<()>
     requires most { length (L.words words.now) ≤ most_words }
-    ensures { OnOk result (spec.WritesListing profile (L.words words.now) slot (W.contents out.old) (W.contents out.new)) }
+    ensures { OnOk result (spec.WritesListing marks profile (L.words words.now) slot (W.contents out.old) (W.contents out.new)) }
 {
     let mut kept = no_lines(alloc)?;
     for place in 0..words.count() {
-        write_listed(listed_at(words, slot, place, profile), &mut kept)?;
+        write_listed(listed_at(words, slot, place, marks, profile), &mut kept)?;
         write_many(&mut kept, out)?;
     }
     write_kept(&mut kept, out)

@@ -4,6 +4,7 @@ ghost use Rattle.std.specs.Prelude.{◌≡◌, ◌-◌, ◌&&◌, nat_lt, Some};
 ghost use Rattle.lfi_explain.specs.Sentences as spec;
 
 use crate::explanation::Explanation;
+use crate::group::Group;
 use a64_effects::{Address, Form};
 use a64_text::{Assembly, GeneralRegister, RegisterOrStack};
 use a64_word::{IndexExtend, Instruction, Register, Size, Width};
@@ -348,20 +349,26 @@ fn ordered_name(load: bool, size: Size) -> &'static str
     }
 }
 
-/// A word that no instruction of the profile spells, by what spells it in the second profile.
+/// A word that no instruction of the profile spells, with what spells it in the second profile.
 #[derive(Clone, Copy)]
-struct Unspelled(Option<Instruction>);
+struct Unspelled {
+    word: u32,
+    in_second: Option<Instruction>,
+}
 
 impl fmt::Display for Unspelled {
-    ghost output = { λ unspelled. Some (spec.unspelled_text unspelled.0) };
+    ghost output = { λ unspelled. Some (spec.unspelled_text unspelled.word unspelled.in_second) };
 
     fn fmt<W: fmt::Write>(&self, f: &mut fmt::Formatter<W>) -> fmt::Result {
-        match self.0 {
+        match self.in_second {
             Some(Instruction::Ordered(i)) => {
                 let name = ordered_name(i.load, i.size);
                 write!(f, "; {name} is an instruction of profile 2")
             }
-            _ => f.write_str("; none spells this one"),
+            _ => {
+                let group = Group::of(self.word).text();
+                write!(f, "; none spells this one, of the group: {group}")
+            }
         }
     }
 }
@@ -376,7 +383,13 @@ impl fmt::Display for Does {
     fn fmt<W: fmt::Write>(&self, f: &mut fmt::Formatter<W>) -> fmt::Result {
         let told = &self.0;
         match told.fault.rule {
-            Rule::Spelled => f.write(Unspelled(told.at.in_second)),
+            Rule::Spelled => {
+                let unspelled = Unspelled {
+                    word: told.at.word,
+                    in_second: told.at.in_second,
+                };
+                f.write(unspelled)
+            }
             Rule::AccessConfined => f.write(Through(told.at.address())),
             Rule::BaseKept => f.write_str("; this one writes it"),
             Rule::AddressGuarded => f.write(WritesAddress(told.at.written_address())),

@@ -1,5 +1,5 @@
 -- What is said of bytes that are known, carried to what is left of a file.
-use Rattle.std.proofs.Common.{◌≡◌, ℕ, ◌*◌, ◌<◌, ◌≤◌, List, Option, Some, None, IfSome, ap, arith, length, length-take, option_map, refl, subst, sym, take}
+use Rattle.std.proofs.Common.{◌≡◌, ◌∙◌, ℕ, ◌*◌, ◌<◌, ◌≤◌, ◌++◌, codes, Bool, true≢false, is_some, List, Option, Some, None, IfSome, ap, arith, length, length-take, option_map, refl, subst, sym, take}
 use Rattle.lfi_image_file.specs.Files.{FileOf}
 use Rattle.lfi_image_file.specs.Reading.{IsFault}
 use Rattle.lfi_module.specs.Numbers.{most_words}
@@ -9,15 +9,21 @@ use Rattle.lfi_command_line.specs.declared.line.Explain.{Explain}
 use Rattle.lfi_command_line.specs.declared.line.Explain.TheVariants.{Nothing, First, All}
 use Rattle.lfi_code.specs.declared.verdict.Verdict.{Verdict}
 use Rattle.lfi_code.specs.declared.verdict.Verdict.TheVariants.{Lawful, Refused, BadLength}
-use Rattle.lfi_file_commands.specs.declared.ending.Ending.{Ending}
-use Rattle.lfi_file_commands.specs.declared.ending.Ending.TheVariants.{Well, NotWell, WrongWords, Failed}
-use Rattle.lfi_code.specs.Checking.{Checks, IsCode}
+use Rattle.lfi_code.specs.Checking.{Checks, IsCode, verdict_text}
 use Rattle.lfi_run.specs.declared.image_run.ImageRun.{ImageRun}
 use Rattle.lfi_run.specs.declared.image_run.ImageRun.TheVariants as image_run
 use Rattle.lfi_run.specs.Runs.{CameOf}
 use Rattle.lfi_file_commands.proofs.Joined.{all_taken}
-use Rattle.lfi_file_commands.specs.Explaining.{WritesFault, WritesRefused, WritesVerdict}
-use Rattle.lfi_file_commands.specs.Listing.{FindsListing}
+use Rattle.lfi_file_commands.specs.declared.finding.Finding.{Finding}
+use Rattle.lfi_file_commands.specs.declared.finding.Finding.TheVariants as findings
+use Rattle.lfi_file_commands.specs.declared.no_code.NoCode.{NoCode}
+use Rattle.lfi_file_commands.specs.Checking.{IsFound, other_of, verdict_of}
+use Rattle.lfi_file_commands.specs.Explaining.{WritesFault, WritesFinding, WritesRefused}
+use Rattle.lfi_file_commands.specs.Kinds.{IsNoCode, file_kind, kind_by_first}
+use Rattle.lfi_file_commands.specs.Listing.{WritesWords}
+use Rattle.lfi_file_commands.specs.inner.Whole.{IsFoundOf, IsOther}
+use Rattle.std.specs.Io.KnownBytes.{Appends}
+use Rattle.std.proofs.lemmas.List.{take-take}
 
 -- `more` is known wherever `known` is, and the same there
 abbrev pub Knows : (more known : Option (List ℕ)) → Type 0
@@ -38,30 +44,37 @@ pub known_as : (known : Option (List ℕ)) (code : List ℕ) → IfSome known (�
 known_as None code same = tt
 known_as (Some xs) code same = ap Some (sym same)
 
-refused_known : (profile : Profile) (how : Explain) (more known : Option (List ℕ)) (fault : Fault) (old new : Option (List ℕ)) → Knows more known → WritesRefused profile how more fault old new → WritesRefused profile how known fault old new
-refused_known profile how more known fault old new same writes = (writes.0, carried (λ all. all ≡ writes.0) more known same writes.1, writes.2, writes.3)
+refused_known : (name : List ℕ) (profile : Profile) (how : Explain) (more known : Option (List ℕ)) (fault : Fault) (old new : Option (List ℕ)) → Knows more known
+    → WritesRefused name profile how more fault old new → WritesRefused name profile how known fault old new
+refused_known name profile how more known fault old new same writes = (writes.0, carried (λ all. all ≡ writes.0) more known same writes.1, writes.2, writes.3)
 
-pub verdict_known : (profile : Profile) (how : Explain) (more known : Option (List ℕ)) (verdict : Verdict) (old new : Option (List ℕ)) → Knows more known → WritesVerdict profile how more verdict old new → WritesVerdict profile how known verdict old new
-verdict_known profile Nothing more known verdict old new same writes = writes
-verdict_known profile First more known (Lawful n) old new same writes = writes
-verdict_known profile First more known (Refused fault) old new same writes = refused_known profile First more known fault old new same writes
-verdict_known profile First more known BadLength old new same writes = writes
-verdict_known profile All more known (Lawful n) old new same writes = writes
-verdict_known profile All more known (Refused fault) old new same writes = refused_known profile All more known fault old new same writes
-verdict_known profile All more known BadLength old new same writes = writes
+pub finding_known : (name : List ℕ) (profile : Profile) (how : Explain) (more known : Option (List ℕ)) (finding : Finding) (old new : Option (List ℕ)) → Knows more known
+    → WritesFinding name profile how more finding old new → WritesFinding name profile how known finding old new
+finding_known name profile Nothing more known finding old new same writes = writes
+finding_known name profile First more known (findings.Lawful n) old new same writes = writes
+finding_known name profile First more known (findings.Refused fault) old new same writes = refused_known name profile First more known fault old new same writes
+finding_known name profile First more known (findings.NoCode n) old new same writes = writes
+finding_known name profile All more known (findings.Lawful n) old new same writes = writes
+finding_known name profile All more known (findings.Refused fault) old new same writes = refused_known name profile All more known fault old new same writes
+finding_known name profile All more known (findings.NoCode n) old new same writes = writes
 
-pub listing_known : (profile : Profile) (more known old new : Option (List ℕ)) (ending : Ending) → Knows more known → FindsListing profile more old new ending → FindsListing profile known old new ending
-listing_known profile more known old new Well same finds = (finds.0, carried (λ all. all ≡ finds.0) more known same finds.1, finds.2, finds.3)
-listing_known profile more known old new NotWell same finds = (carried (λ all. ¬ (IsCode all)) more known same finds.0, finds.1)
-listing_known profile more known old new WrongWords same finds = finds
-listing_known profile more known old new Failed same finds = finds
+pub words_known : (marks : Bool) (profile : Profile) (more known : Option (List ℕ)) (other : Option NoCode) (old new : Option (List ℕ)) → Knows more known
+    → WritesWords marks profile more other old new → WritesWords marks profile known other old new
+words_known marks profile more known None old new same finds = (finds.0, carried (λ all. all ≡ finds.0) more known same finds.1, finds.2, finds.3)
+words_known marks profile more known (Some n) old new same finds = (carried (λ all. IsNoCode all n) more known same finds.0, finds.1)
 
--- what is written of a fault is what is written of the verdict
-pub refused_now : (profile : Profile) (how : Explain) (code : List ℕ) (fault : Fault) (old new : Option (List ℕ)) → Checks profile code (Refused fault) → WritesFault profile how code fault old new
-    → WritesVerdict profile how (Some code) (Refused fault) old new
-refused_now profile Nothing code fault old new checks writes = writes
-refused_now profile First code fault old new checks writes = (code, refl, checks, writes)
-refused_now profile All code fault old new checks writes = (code, refl, checks, writes)
+-- what is written of a fault is what is written of the finding
+pub refused_now : (name : List ℕ) (profile : Profile) (how : Explain) (code : List ℕ) (fault : Fault) (old new : Option (List ℕ)) → Checks profile code (Refused fault)
+    → WritesFault name (file_kind code) profile how code fault old new → WritesFinding name profile how (Some code) (findings.Refused fault) old new
+refused_now name profile Nothing code fault old new checks writes = writes
+refused_now name profile First code fault old new checks writes = (code, refl, checks, writes)
+refused_now name profile All code fault old new checks writes = (code, refl, checks, writes)
+
+pub lawful_now : (name : List ℕ) (profile : Profile) (how : Explain) (code : List ℕ) (words : ℕ) (old new : Option (List ℕ)) → Appends old new (name ++ verdict_text (Lawful words) ++ codes "\n")
+    → WritesFinding name profile how (Some code) (findings.Lawful words) old new
+lawful_now name profile Nothing code words old new writes = writes
+lawful_now name profile First code words old new writes = writes
+lawful_now name profile All code words old new writes = writes
 
 -- and so is what came of an image's file
 pub came_known : (more known : Option (List ℕ)) (steps : ℕ) (old new : Option (List ℕ)) (run : ImageRun) → Knows more known → CameOf more steps old new run → CameOf known steps old new run
@@ -78,3 +91,37 @@ pub checks_left : (profile : Profile) (left : Option (List ℕ)) (bytes : List �
     → Checks profile bytes verdict → IfSome left (λ all. Checks profile all verdict)
 checks_left profile None bytes most verdict more same checks = tt
 checks_left profile (Some all) bytes most verdict more same checks = checks_all profile all most verdict more (subst (λ xs. Checks profile xs verdict) same checks)
+
+-- what is known of bytes that are no code, of the first of which this is known
+pub other_all : (all : List ℕ) (n : NoCode) → IsOther (take 16777217 all) n → IsNoCode all n
+other_all all n is = (
+  λ code. is.0 (subst IsCode (sym (all_taken all 16777217 (few_bytes all 16777217 (omega arith) code))) code),
+  is.1 ∙ ap kind_by_first (take-take 4 16777217 all (omega arith)),
+  is.2,
+)
+
+pub other_left : (left : Option (List ℕ)) (bytes : List ℕ) (n : NoCode) → IfSome (option_map (take 16777217) left) (λ all. bytes ≡ all) → IsOther bytes n → IfSome left (λ all. IsNoCode all n)
+other_left None bytes n same is = tt
+other_left (Some all) bytes n same is = other_all all n (subst (λ xs. IsOther xs n) same is)
+
+found_all : (profile : Profile) (all : List ℕ) (finding : Finding) → IsFoundOf profile (take 16777217 all) finding → IsFound profile all finding
+found_all profile all (findings.Lawful n) is = checks_all profile all 16777217 (Lawful n) (omega arith) is
+found_all profile all (findings.Refused fault) is = checks_all profile all 16777217 (Refused fault) (omega arith) is
+found_all profile all (findings.NoCode n) is = other_all all n is
+
+pub found_left : (profile : Profile) (left : Option (List ℕ)) (bytes : List ℕ) (finding : Finding) → IfSome (option_map (take 16777217) left) (λ all. bytes ≡ all) → IsFoundOf profile bytes finding
+    → IfSome left (λ all. IsFound profile all finding)
+found_left profile None bytes finding same is = tt
+found_left profile (Some all) bytes finding same is = found_all profile all finding (subst (λ xs. IsFoundOf profile xs finding) same is)
+
+-- the verdict on code is what is found of it
+pub found_of : (profile : Profile) (bytes : List ℕ) (finding : Finding) → other_of finding ≡ None → Checks profile bytes (verdict_of finding) → IsFoundOf profile bytes finding
+found_of profile bytes (findings.Lawful n) code checks = checks
+found_of profile bytes (findings.Refused fault) code checks = checks
+found_of profile bytes (findings.NoCode n) code checks = absurd (true≢false (ap is_some code))
+
+pub found_by : (profile : Profile) (left : Option (List ℕ)) (finding : Finding) → other_of finding ≡ None → IfSome left (λ bytes. Checks profile bytes (verdict_of finding)) → IfSome left (λ bytes. IsFound profile bytes finding)
+found_by profile None finding code checks = tt
+found_by profile (Some bytes) (findings.Lawful n) code checks = checks
+found_by profile (Some bytes) (findings.Refused fault) code checks = checks
+found_by profile (Some bytes) (findings.NoCode n) code checks = absurd (true≢false (ap is_some code))

@@ -1,7 +1,9 @@
 mod RunEndings
 mod Explained
+mod Checks
 pub mod Failing
 mod Fates
+mod FirstBytes
 mod Inputs
 mod Joined
 mod Paths

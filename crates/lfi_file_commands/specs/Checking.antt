@@ -1,26 +1,57 @@
 -- What `lfiload check` does. Source: this project's profile, docs/COMMANDS.md.
-use Rattle.std.specs.Prelude.{◌≡◌, ℕ, List, ◌++◌, codes, Option, IfSome}
-use Rattle.std.specs.Io.KnownBytes.{Appends}
+use Rattle.std.specs.Prelude.{◌≡◌, ℕ, ◌==◌, Bool, nat_lt, List, [], ◌++◌, codes, Option, Some, None, if◌then◌else◌}
 use Rattle.lfi_module.specs.declared.profile.Profile.{Profile}
 use Rattle.lfi_code.specs.declared.verdict.Verdict.{Verdict}
-use Rattle.lfi_code.specs.declared.verdict.Verdict.TheVariants.{Lawful, Refused, BadLength}
-use Rattle.lfi_code.specs.Checking.{Checks, verdict_text}
+use Rattle.lfi_code.specs.declared.verdict.Verdict.TheVariants as verdicts
+use Rattle.lfi_code.specs.Checking.{Checks}
 use Rattle.lfi_file_commands.specs.declared.ending.Ending.{Ending}
 use Rattle.lfi_file_commands.specs.declared.ending.Ending.TheVariants.{Well, NotWell}
-use Rattle.lfi_file_commands.specs.Left.{Left, TellsNothing}
+use Rattle.lfi_file_commands.specs.declared.naming.Naming.{Naming}
+use Rattle.lfi_file_commands.specs.declared.naming.Naming.TheVariants.{Alone, Named}
+use Rattle.lfi_file_commands.specs.declared.no_code.NoCode.{NoCode}
+use Rattle.lfi_file_commands.specs.declared.finding.Finding.{Finding}
+use Rattle.lfi_file_commands.specs.declared.finding.Finding.TheVariants as findings
+use Rattle.lfi_file_commands.specs.Endings.{number_of}
+use Rattle.lfi_file_commands.specs.Kinds.{IsNoCode, bad_length_line}
+use Rattle.lfi_file_commands.specs.Failures.{Told}
+
+-- the verdict on what is found
+abbrev pub verdict_of : Finding → Verdict
+verdict_of (findings.Lawful words) = verdicts.Lawful words
+verdict_of (findings.Refused fault) = verdicts.Refused fault
+verdict_of (findings.NoCode n) = verdicts.BadLength
+
+-- what is known of a file that is no code
+abbrev pub other_of : Finding → Option NoCode
+other_of (findings.NoCode n) = Some n
+other_of _ = None
+
+-- It is found of these bytes: they are lawful code by a profile, or code with this first fault, or no code.
+abbrev pub IsFound : Profile → List ℕ → Finding → Type 0
+IsFound profile bytes (findings.Lawful words) = Checks profile bytes (verdicts.Lawful words)
+IsFound profile bytes (findings.Refused fault) = Checks profile bytes (verdicts.Refused fault)
+IsFound profile bytes (findings.NoCode n) = IsNoCode bytes n
 
 -- how the program ends, by the verdict
 abbrev pub ending_of : Verdict → Ending
-ending_of (Lawful n) = Well
-ending_of (Refused fault) = NotWell
-ending_of BadLength = NotWell
+ending_of (verdicts.Lawful n) = Well
+ending_of (verdicts.Refused fault) = NotWell
+ending_of verdicts.BadLength = NotWell
 
--- What `lfiload check FILE` did by a profile, where the file has these bytes, as far as they are known, and nothing is to be explained: it found
--- one verdict, wrote its line, and nothing else, and ended by it.
-pub record HasChecked (profile : Profile) (bytes : Option (List ℕ)) (old new : Left) (ending : Ending) : Type 0 where
-  pub verdict : Verdict
-  pub checks : IfSome bytes (λ xs. Checks profile xs verdict)
-  pub written : Appends old.out new.out (verdict_text verdict ++ codes "\n")
-  pub put : new.put ≡ old.put
-  pub told : TellsNothing old new
-  pub ends : ending ≡ ending_of verdict
+-- of two endings the one with the larger number
+abbrev pub worst : Ending → Ending → Ending
+worst a b = if nat_lt (number_of a) (number_of b) then b else a
+
+-- what stands before what is told of a file
+abbrev pub naming_text : Naming → List ℕ
+naming_text Alone = []
+naming_text (Named path) = path.now ++ codes ": "
+
+-- where there are several, its path
+abbrev pub name_before : (count : ℕ) → (path : List ℕ) → List ℕ
+name_before count path = if count == 1 then [] else path ++ codes ": "
+
+-- Of a file that is no code its length was told, unless it is lost; else nothing.
+abbrev pub TellsOf : (path : List ℕ) → Option NoCode → (was is_lost : Bool) → (old new : Option (List ℕ)) → Type 0
+TellsOf path None was is_lost old new = (new ≡ old) × (is_lost ≡ was)
+TellsOf path (Some n) was is_lost old new = Told is_lost old new (bad_length_line path n)

@@ -1,53 +1,97 @@
 -- What is written of code that is judged, with what is explained of it. Source: this project's profile,
 -- docs/COMMANDS.md.
-use Rattle.std.specs.Prelude.{◌≡◌, ℕ, List, ◌++◌, Option, IfSome, codes}
+use Rattle.std.specs.Prelude.{◌≡◌, ◌⊎◌, ℕ, zero, suc, List, ◌++◌, length, slice_get, Option, Some, IfSome, codes}
 use Rattle.std.specs.Io.KnownBytes.{Appends}
 use Rattle.a64_word.specs.Words.{words_of}
 use Rattle.lfi_module.specs.declared.profile.Profile.{Profile}
 use Rattle.lfi_rules.specs.declared.fault.Fault.{Fault}
 use Rattle.lfi_rules.specs.Texts.{fault_text}
 use Rattle.lfi_explain.specs.declared.explanation.Explanation.{Explanation}
-use Rattle.lfi_explain.specs.Explanations.{Explains, WritesRefusals, explanation_line}
+use Rattle.lfi_explain.specs.Explanations.{Explains, WritesRefusals, explanation_text}
 use Rattle.lfi_command_line.specs.declared.line.Explain.{Explain}
 use Rattle.lfi_command_line.specs.declared.line.Explain.TheVariants.{Nothing, First, All}
-use Rattle.lfi_code.specs.declared.verdict.Verdict.{Verdict}
-use Rattle.lfi_code.specs.declared.verdict.Verdict.TheVariants.{Refused}
-use Rattle.lfi_file_commands.specs.declared.ending.Ending.{Ending}
+use Rattle.lfi_code.specs.declared.verdict.Verdict.TheVariants as verdicts
 use Rattle.lfi_code.specs.Checking.{Checks, verdict_text}
-use Rattle.lfi_file_commands.specs.Checking.{ending_of}
-use Rattle.lfi_file_commands.specs.Left.{Left, TellsNothing}
+use Rattle.lfi_file_commands.specs.declared.device_cause.DeviceCause.{DeviceCause}
+use Rattle.lfi_file_commands.specs.declared.ending.Ending.{Ending}
+use Rattle.lfi_file_commands.specs.declared.ending.Ending.TheVariants.{Well, Failed}
+use Rattle.lfi_file_commands.specs.declared.failure.Failure.{Failure}
+use Rattle.lfi_file_commands.specs.declared.failure.Failure.TheVariants.{CannotWrite}
+use Rattle.lfi_file_commands.specs.declared.failure.Target.TheVariants.{StandardOutput}
+use Rattle.lfi_file_commands.specs.declared.finding.Finding.{Finding}
+use Rattle.lfi_file_commands.specs.declared.finding.Finding.TheVariants as findings
+use Rattle.lfi_file_commands.specs.declared.kind.FileKind.{FileKind}
+use Rattle.lfi_file_commands.specs.Checking.{IsFound, TellsOf, ending_of, name_before, other_of, verdict_of, worst}
+use Rattle.lfi_file_commands.specs.Endings.{EndsUnlessLost}
+use Rattle.lfi_file_commands.specs.Failures.{IsOfReading, Told, failure_line}
+use Rattle.lfi_file_commands.specs.Kinds.{file_kind, kind_line}
+use Rattle.lfi_file_commands.specs.Left.{Left}
 
--- Of a fault of this code, told as that of module 0, its line was written; or its explanation; or what is told of all words that break a rule, and how many they are.
-abbrev pub WritesFault : Profile → Explain → (code : List ℕ) → Fault → (old new : Option (List ℕ)) → Type 0
-WritesFault profile Nothing code fault old new = Appends old new (fault_text fault ++ codes "\n")
-WritesFault profile First code fault old new = (e : Explanation) × Explains profile (words_of code) 0 fault e × Appends old new (explanation_line e)
-WritesFault profile All code fault old new = (refused : ℕ) × WritesRefusals profile (words_of code) 0 old new refused
+-- The explanation of a fault of this code, told as that of module 0, was written behind a name, and then the line of the file's kind.
+abbrev pub ExplainsFault : (name : List ℕ) → FileKind → Profile → (code : List ℕ) → Fault → (old new : Option (List ℕ)) → Type 0
+ExplainsFault name kind profile code fault old new =
+    (e : Explanation) × Explains profile (words_of code) 0 fault e × Appends old new (name ++ explanation_text e ++ codes "\n" ++ kind_line kind)
+
+-- A name was written; what is told of all words of this code that break a rule, and how many they are; and the line of the file's kind.
+abbrev pub TellsRefusals : (name : List ℕ) → FileKind → Profile → (code : List ℕ) → (old new : Option (List ℕ)) → Type 0
+TellsRefusals name kind profile code old new =
+    (begun done : Option (List ℕ)) × (refused : ℕ) × Appends old begun name × WritesRefusals profile (words_of code) 0 begun done refused × Appends done new (kind_line kind)
+
+-- Of a fault of this code the line was written; or its explanation; or what is told of all words that break a rule.
+abbrev pub WritesFault : (name : List ℕ) → FileKind → Profile → Explain → (code : List ℕ) → Fault → (old new : Option (List ℕ)) → Type 0
+WritesFault name kind profile Nothing code fault old new = Appends old new (name ++ fault_text fault ++ codes "\n")
+WritesFault name kind profile First code fault old new = ExplainsFault name kind profile code fault old new
+WritesFault name kind profile All code fault old new = TellsRefusals name kind profile code old new
 
 -- The same of the code that was refused for this fault, whose bytes are these, where they are known.
-abbrev pub WritesRefused : Profile → Explain → (bytes : Option (List ℕ)) → Fault → (old new : Option (List ℕ)) → Type 0
-WritesRefused profile explain bytes fault old new =
-    (code : List ℕ) × IfSome bytes (λ all. all ≡ code) × Checks profile code (Refused fault) × WritesFault profile explain code fault old new
+abbrev pub WritesRefused : (name : List ℕ) → Profile → Explain → (bytes : Option (List ℕ)) → Fault → (old new : Option (List ℕ)) → Type 0
+WritesRefused name profile explain bytes fault old new =
+    (code : List ℕ) × IfSome bytes (λ all. all ≡ code) × Checks profile code (verdicts.Refused fault) × WritesFault name (file_kind code) profile explain code fault old new
 
--- What is written of a verdict: its line; where something is to be explained of code that is refused, that.
-abbrev pub WritesVerdict : Profile → Explain → (bytes : Option (List ℕ)) → Verdict → (old new : Option (List ℕ)) → Type 0
-WritesVerdict profile Nothing bytes verdict old new = Appends old new (verdict_text verdict ++ codes "\n")
-WritesVerdict profile First bytes (Refused fault) old new = WritesRefused profile First bytes fault old new
-WritesVerdict profile All bytes (Refused fault) old new = WritesRefused profile All bytes fault old new
-WritesVerdict profile explain bytes verdict old new = Appends old new (verdict_text verdict ++ codes "\n")
+-- What is written of a file, behind its name where there are several: the line of its verdict; where something is to be explained, of code that is refused
+-- that, and of what is no code its kind.
+abbrev pub WritesFinding : (name : List ℕ) → Profile → Explain → (bytes : Option (List ℕ)) → Finding → (old new : Option (List ℕ)) → Type 0
+WritesFinding name profile Nothing bytes finding old new = Appends old new (name ++ verdict_text (verdict_of finding) ++ codes "\n")
+WritesFinding name profile explain bytes (findings.Lawful words) old new = Appends old new (name ++ verdict_text (verdicts.Lawful words) ++ codes "\n")
+WritesFinding name profile explain bytes (findings.Refused fault) old new = WritesRefused name profile explain bytes fault old new
+WritesFinding name profile explain bytes (findings.NoCode n) old new = Appends old new (name ++ verdict_text verdicts.BadLength ++ codes "\n" ++ kind_line n.kind)
 
--- one verdict; it was written, with what is to be explained, and it gives the ending
-pub record FindsVerdict (profile : Profile) (explain : Explain) (bytes old new : Option (List ℕ)) (ending : Ending) : Type 0 where
-  pub verdict : Verdict
-  pub checks : IfSome bytes (λ xs. Checks profile xs verdict)
-  pub written : WritesVerdict profile explain bytes verdict old new
-  pub ends : ending ≡ ending_of verdict
-
--- What `lfiload check --explain FILE`, or `--all`, did, where the file has these bytes, as far as they are known: it found one
--- verdict, wrote its line or what is to be explained, and nothing else, and ended by the verdict.
-pub record HasExplained (profile : Profile) (explain : Explain) (bytes : Option (List ℕ)) (old new : Left) (ending : Ending) : Type 0 where
-  pub verdict : Verdict
-  pub checks : IfSome bytes (λ xs. Checks profile xs verdict)
-  pub written : WritesVerdict profile explain bytes verdict old.out new.out
+-- One finding of the file at a path; it was written, its length told where it is no code, and it gives the ending.
+pub record HasJudged (name : List ℕ) (profile : Profile) (explain : Explain) (path : List ℕ) (bytes : Option (List ℕ)) (old new : Left) (ending : Ending) : Type 0 where
+  pub finding : Finding
+  pub found : IfSome bytes (λ xs. IsFound profile xs finding)
+  pub written : WritesFinding name profile explain bytes finding old.out new.out
+  pub told : TellsOf path (other_of finding) old.is_lost new.is_lost old.errors new.errors
   pub put : new.put ≡ old.put
-  pub told : TellsNothing old new
-  pub ends : ending ≡ ending_of verdict
+  pub ends : ending ≡ ending_of (verdict_of finding)
+
+-- The file at a path can't be read, or there was no memory for it; that was told, unless it is lost, and nothing was written.
+abbrev pub IsUnread : (path : List ℕ) → (old new : Left) → Ending → Type 0
+IsUnread path old new ending =
+    (failure : Failure) × IsOfReading path failure × Told new.is_lost old.errors new.errors (failure_line failure) × (new.out ≡ old.out) × (new.put ≡ old.put) × (ending ≡ Failed)
+
+-- what came of the file at a path, which has these bytes, as far as they are known
+abbrev pub ChecksOne : (name : List ℕ) → Profile → Explain → (path : List ℕ) → (bytes : Option (List ℕ)) → (old new : Left) → Ending → Type 0
+ChecksOne name profile explain path bytes old new ending = HasJudged name profile explain path bytes old new ending ⊎ IsUnread path old new ending
+
+-- what came of the first files at these paths, so many of them, one after another; the ending is the worst of theirs
+abbrev pub AreChecked : Profile → Explain → (paths : List (List ℕ)) → (List ℕ → Option (List ℕ)) → (count : ℕ) → (old new : Left) → Ending → Type 0
+AreChecked profile explain paths file_at zero old new ending = (new ≡ old) × (ending ≡ Well)
+AreChecked profile explain paths file_at (suc k) old new ending =
+    (mid : Left) × (before here : Ending) × (path : List ℕ) × AreChecked profile explain paths file_at k old mid before × (slice_get paths k ≡ Some path)
+    × ChecksOne (name_before (length paths) path) profile explain path (file_at path) mid new here × (ending ≡ worst before here)
+
+-- all of them were
+abbrev pub ChecksAll : Profile → Explain → (paths : List (List ℕ)) → (List ℕ → Option (List ℕ)) → (old new : Left) → Ending → Type 0
+ChecksAll profile explain paths file_at old new ending =
+    (all : Ending) × AreChecked profile explain paths file_at (length paths) old new all × EndsUnlessLost new.is_lost all ending
+
+-- those before one were, of which the output failed; that was told, unless it is lost, and the run has failed
+abbrev pub StopsAtOutput : Profile → Explain → (paths : List (List ℕ)) → (List ℕ → Option (List ℕ)) → (old new : Left) → Ending → Type 0
+StopsAtOutput profile explain paths file_at old new ending =
+    (k : ℕ) × (mid : Left) × (before : Ending) × (cause : DeviceCause) × AreChecked profile explain paths file_at k old mid before
+    × Told new.is_lost mid.errors new.errors (failure_line (CannotWrite StandardOutput cause)) × (new.put ≡ mid.put) × (ending ≡ Failed)
+
+-- What `lfiload check FILE..` did with the files at these paths.
+pub record HasChecked (profile : Profile) (explain : Explain) (paths : List (List ℕ)) (file_at : List ℕ → Option (List ℕ)) (old new : Left) (ending : Ending) : Type 0 where
+  pub did : ChecksAll profile explain paths file_at old new ending ⊎ StopsAtOutput profile explain paths file_at old new ending

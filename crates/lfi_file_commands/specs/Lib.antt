@@ -1,5 +1,6 @@
 pub mod Left
 pub mod Causes
+pub mod Kinds
 pub mod Checking
 pub mod Explaining
 pub mod Listing
@@ -11,4 +12,5 @@ pub mod Images
 pub mod Refused
 pub mod Running
 pub mod Packing
+pub mod Unpacking
 pub mod inner

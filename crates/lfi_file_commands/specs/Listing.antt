@@ -1,24 +1,33 @@
 -- What `lfiload disassemble` writes. Source: this project's profile, docs/COMMANDS.md.
-use Rattle.std.specs.Prelude.{◌≡◌, ℕ, List, Option, IfSome, codes}
+use Rattle.std.specs.Prelude.{◌≡◌, ℕ, Bool, List, Option, Some, None, IfSome, codes}
 use Rattle.std.specs.Io.KnownBytes.{Appends}
 use Rattle.a64_word.specs.Words.{words_of}
 use Rattle.lfi_module.specs.declared.profile.Profile.{Profile}
 use Rattle.lfi_explain.specs.Listings.{WritesListing}
 use Rattle.lfi_file_commands.specs.declared.ending.Ending.{Ending}
-use Rattle.lfi_file_commands.specs.declared.ending.Ending.TheVariants.{Well, NotWell, WrongWords, Failed}
+use Rattle.lfi_file_commands.specs.declared.ending.Ending.TheVariants.{Well, NotWell}
+use Rattle.lfi_file_commands.specs.declared.no_code.NoCode.{NoCode}
 use Rattle.lfi_code.specs.Checking.{IsCode}
-use Rattle.lfi_file_commands.specs.Left.{Left, TellsNothing}
+use Rattle.lfi_file_commands.specs.Checking.{TellsOf}
+use Rattle.lfi_file_commands.specs.Endings.{EndsUnlessLost}
+use Rattle.lfi_file_commands.specs.Kinds.{IsNoCode}
+use Rattle.lfi_file_commands.specs.Left.{Left}
 
--- Of the file that has these bytes, where they are known, all words were listed, as those of module 0; or it isn't code, and its line was written. By the ending.
-abbrev pub FindsListing : Profile → (bytes old new : Option (List ℕ)) → Ending → Type 0
-FindsListing profile bytes old new Well = (code : List ℕ) × IfSome bytes (λ all. all ≡ code) × IsCode code × WritesListing profile (words_of code) 0 old new
-FindsListing profile bytes old new NotWell = IfSome bytes (λ all. ¬ (IsCode all)) × Appends old new (codes "bad length\n")
-FindsListing profile bytes old new WrongWords = ⊥
-FindsListing profile bytes old new Failed = ⊥
+-- Of the file that has these bytes, where they are known, all words were listed, as those of module 0, with marks where they are asked for; or it is no code, and its line was written.
+abbrev pub WritesWords : (marks : Bool) → Profile → (bytes : Option (List ℕ)) → Option NoCode → (old new : Option (List ℕ)) → Type 0
+WritesWords marks profile bytes None old new = (code : List ℕ) × IfSome bytes (λ all. all ≡ code) × IsCode code × WritesListing marks profile (words_of code) 0 old new
+WritesWords marks profile bytes (Some n) old new = IfSome bytes (λ all. IsNoCode all n) × Appends old new (codes "bad length\n")
 
--- What `lfiload disassemble FILE` did, where the file has these bytes, as far as they are known: it listed them or wrote that they
--- aren't code, and nothing else.
-pub record HasListed (profile : Profile) (bytes : Option (List ℕ)) (old new : Left) (ending : Ending) : Type 0 where
-  pub found : FindsListing profile bytes old.out new.out ending
+-- the ending of a listing: well, where there is one
+abbrev pub EndsListing : Option NoCode → (is_lost : Bool) → Ending → Type 0
+EndsListing None is_lost ending = ending ≡ Well
+EndsListing (Some n) is_lost ending = EndsUnlessLost is_lost NotWell ending
+
+-- What `lfiload disassemble FILE` did with the file at a path, which has these bytes, as far as they are known: it listed them, or wrote that they
+-- aren't code and told their length, unless that is lost.
+pub record HasListed (marks : Bool) (profile : Profile) (path : List ℕ) (bytes : Option (List ℕ)) (old new : Left) (ending : Ending) : Type 0 where
+  pub other : Option NoCode
+  pub listed : WritesWords marks profile bytes other old.out new.out
   pub put : new.put ≡ old.put
-  pub told : TellsNothing old new
+  pub told : TellsOf path other old.is_lost new.is_lost old.errors new.errors
+  pub ends : EndsListing other new.is_lost ending

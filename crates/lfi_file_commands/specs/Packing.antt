@@ -10,11 +10,12 @@ use Rattle.lfi_file_commands.specs.declared.ending.Ending.{Ending}
 use Rattle.lfi_file_commands.specs.declared.ending.Ending.TheVariants.{Well, NotWell, WrongWords, Failed}
 use Rattle.lfi_code.specs.Checking.{IsCode}
 use Rattle.lfi_file_commands.specs.Failures.{Told}
+use Rattle.lfi_file_commands.specs.Kinds.{IsNoCode, bad_length_text}
 use Rattle.lfi_file_commands.specs.Left.{Left}
 
 -- why a file is no module, in words
 abbrev pub no_module_text : NoModule → List ℕ
-no_module_text (BadLength path) = codes "bad length " ++ path.now
+no_module_text (BadLength path n) = bad_length_text path.now n
 no_module_text (NoEntry path entry) = codes "no word " ++ decimal entry ++ codes " in " ++ path.now
 
 -- its line
@@ -23,7 +24,7 @@ no_module_line told = codes "lfiload: " ++ no_module_text told ++ codes "\n"
 
 -- It is so of the file at this path, by its bytes, where they are known.
 abbrev pub IsNoModule : (entry : ℕ) → (path : List ℕ) → (List ℕ → Option (List ℕ)) → NoModule → Type 0
-IsNoModule entry path file_at (BadLength named) = (named.now ≡ path) × IfSome (file_at path) (λ bytes. ¬ (IsCode bytes))
+IsNoModule entry path file_at (BadLength named n) = (named.now ≡ path) × IfSome (file_at path) (λ bytes. IsNoCode bytes n)
 IsNoModule entry path file_at (NoEntry named word) =
     (named.now ≡ path) × (word ≡ entry) × IfSome (file_at path) (λ bytes. IsCode bytes × (length (words_of bytes) ≤ entry))
 

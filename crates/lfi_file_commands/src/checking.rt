@@ -1,13 +1,18 @@
 //! Code in a file, judged, and the line of its verdict.
 
-ghost use Rattle.std.specs.Prelude.{◌≡◌, true, false, ◌≤◌, ◌++◌, IfOk, IfErr, IfSome, codes};
+ghost use Rattle.std.specs.Prelude.{◌≡◌, true, false, ◌≤◌, ◌++◌, IfOk, IfErr, IfSome, OnOk, codes};
 ghost use Rattle.lfi_module.specs.Numbers.{most_words};
 ghost use Rattle.std.specs.Io.KnownBytes.{Appends};
 ghost use Rattle.std.specs.IoError.{error_kind};
 ghost use Rattle.lfi_code.specs.Checking.{Checks, verdict_text};
+ghost use Rattle.lfi_file_commands.specs.inner.Whole.{IsFoundOf};
+ghost use Rattle.lfi_file_commands.specs.Checking.{naming_text, verdict_of, IsFound};
 ghost use Rattle.lfi_file_commands.specs.Failures.{fault_of_read, is_of_a_write};
 
 use crate::device_cause::DeviceCause;
+use crate::finding::Finding;
+use crate::naming::Naming;
+use crate::no_code::NoCode;
 use crate::pieces::judge_pieces;
 use crate::texts::write_line;
 use a64_word::WORD_BYTES;
@@ -76,21 +81,87 @@ pub fn check<R: Read + Drop, W: Write>(
         Ok(bytes) => bytes,
         Err(fault) => return Err(fault),
     };
-    write_verdict(alloc, judge_code(&bytes, profile), writer)
+    let verdict = judge_code(&bytes, profile);
+    match write_verdict(alloc, Naming::Alone, verdict, writer) {
+        Ok(()) => Ok(verdict),
+        Err(fault) => Err(fault),
+    }
 }
 
-/// Writes the line of a verdict.
+/// What is found of bytes that were read whole, as far as they can be code, by their verdict.
+fn finding_of(bytes: &[u8], profile: Profile) -> Finding
+    ensures { IsFoundOf profile bytes.now result }
+{
+    match Finding::of(judge_code(bytes, profile)) {
+        Some(finding) => finding,
+        None => Finding::NoCode(NoCode::of(bytes)),
+    }
+}
+
+/// Judges the code that a reader has left, up to its end. No more is read than tells that it is too long.
+fn judge_whole<R: Read + Drop>(
+    alloc: Global,
+    reader: R,
+    profile: Profile,
+) -> Result<Finding, CommandFault>
+    ensures found { IfOk result (λ finding. IfSome (R.remaining reader) (λ bytes. IsFound profile bytes finding)) }
+    ensures fault { IfErr result (λ fault. is_of_a_write fault ≡ false) }
+{
+    match read_all(alloc, reader.take(WordCount::MOST_BYTES as u64 + 1)) {
+        Ok(bytes) => Ok(finding_of(&bytes, profile)),
+        Err(fault) => Err(fault),
+    }
+}
+
+/// Judges the code that a reader has left, up to its end, which is to be so many words, piece by piece.
+fn judge_known<R: Read + Drop>(
+    alloc: Global,
+    reader: R,
+    words: u32,
+    profile: Profile,
+) -> Result<Finding, CommandFault>
+    requires some { 1 ≤ words }
+    requires most { words ≤ most_words }
+    ensures found { IfOk result (λ finding. IfSome (R.remaining reader) (λ bytes. IsFound profile bytes finding)) }
+    ensures fault { IfErr result (λ fault. is_of_a_write fault ≡ false) }
+{
+    match judge_pieces(alloc, reader, words, profile) {
+        Ok(verdict) => match Finding::of(verdict) {
+            Some(finding) => Ok(finding),
+            None => Err(CommandFault::NotRead(DeviceCause::Other)),
+        },
+        Err(fault) => Err(fault),
+    }
+}
+
+/// Judges the code that a reader has left, up to its end, which has so many bytes, where that is known.
+fn judge_unkept<R: Read + Drop>(
+    alloc: Global,
+    reader: R,
+    length: Option<u64>,
+    profile: Profile,
+) -> Result<Finding, CommandFault>
+    ensures found { IfOk result (λ finding. IfSome (R.remaining reader) (λ bytes. IsFound profile bytes finding)) }
+    ensures fault { IfErr result (λ fault. is_of_a_write fault ≡ false) }
+{
+    match words_in(length) {
+        Some(words) => judge_known(alloc, reader, words, profile),
+        None => judge_whole(alloc, reader, profile),
+    }
+}
+
+/// Writes the line of a verdict, behind the name.
 pub(crate) fn write_verdict<W: Write>(
     alloc: Global,
+    name: Naming<'_>,
     verdict: Verdict,
     writer: &mut W,
-) -> Result<Verdict, CommandFault>
-    ensures same { IfOk result (λ written. written ≡ verdict) }
-    ensures written { IfOk result (λ written. Appends (W.contents writer.old) (W.contents writer.new) (verdict_text verdict ++ codes "\n")) }
+) -> Result<(), CommandFault>
+    ensures written { OnOk result (Appends (W.contents writer.old) (W.contents writer.new) (naming_text name.entry ++ verdict_text verdict ++ codes "\n")) }
     ensures fault { IfErr result (λ fault. is_of_a_write fault ≡ true) }
 {
-    match write_line(alloc, writer, verdict) {
-        Ok(()) => Ok(verdict),
+    match write_line(alloc, writer, format_args!("{name}{verdict}")) {
+        Ok(()) => Ok(()),
         Err(error) => Err(CommandFault::NotWritten(DeviceCause::of(&error))),
     }
 }
@@ -110,8 +181,8 @@ fn words_in(length: Option<u64>) -> Option<u32>
     }
 }
 
-/// Judges the code that a reader has left, up to its end, and writes the line of what is found, where it may be known before
-/// how many bytes that is. It is then judged piece by piece as it is read.
+/// Judges the code that a reader has left, up to its end, and writes the line of what is found behind the name, where it may be
+/// known before how many bytes that is. It is then judged piece by piece as it is read.
 ///
 /// # Errors
 ///
@@ -121,20 +192,19 @@ pub fn check_file<R: Read + Drop, W: Write>(
     reader: R,
     length: Option<u64>,
     profile: Profile,
+    name: Naming<'_>,
     writer: &mut W,
-) -> Result<Verdict, CommandFault>
-    ensures verdict { IfOk result (λ verdict. IfSome (R.remaining reader) (λ bytes. Checks profile bytes verdict)) }
-    ensures written { IfOk result (λ verdict. Appends (W.contents writer.old) (W.contents writer.new) (verdict_text verdict ++ codes "\n")) }
+) -> Result<Finding, CommandFault>
+    ensures found { IfOk result (λ finding. IfSome (R.remaining reader) (λ bytes. IsFound profile bytes finding)) }
+    ensures written { IfOk result (λ finding. Appends (W.contents writer.old) (W.contents writer.new) (naming_text name.entry ++ verdict_text (verdict_of finding) ++ codes "\n")) }
     ensures unwritten { IfErr result (λ fault. is_of_a_write fault ≡ false → writer.new ≡ writer.old) }
 {
-    match words_in(length) {
-        Some(words) => {
-            let verdict = match judge_pieces(alloc, reader, words, profile) {
-                Ok(verdict) => verdict,
-                Err(fault) => return Err(fault),
-            };
-            write_verdict(alloc, verdict, writer)
-        }
-        None => check(alloc, reader, profile, writer),
+    let finding = match judge_unkept(alloc, reader, length, profile) {
+        Ok(finding) => finding,
+        Err(fault) => return Err(fault),
+    };
+    match write_verdict(alloc, name, finding.verdict(), writer) {
+        Ok(()) => Ok(finding),
+        Err(fault) => Err(fault),
     }
 }

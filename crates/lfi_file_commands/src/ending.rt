@@ -1,7 +1,7 @@
 //! How a run of the program ends.
 
 ghost use Rattle.std.specs.Prelude.{◌≡◌};
-ghost use Rattle.lfi_file_commands.specs.Checking.{ending_of};
+ghost use Rattle.lfi_file_commands.specs.Checking.{ending_of, worst};
 ghost use Rattle.lfi_file_commands.specs.Endings.{number_of, ending_of_cause, ending_of_run};
 
 use lfi_code::Verdict;
@@ -32,6 +32,17 @@ impl Ending {
             Ending::NotWell => 1,
             Ending::WrongWords => 2,
             Ending::Failed => 3,
+        }
+    }
+
+    /// Of two endings the one with the larger number: the worse one.
+    pub(crate) fn worse(self, other: Ending) -> Ending
+        ensures { result ≡ worst self other }
+    {
+        if self.status() < other.status() {
+            other
+        } else {
+            self
         }
     }
 

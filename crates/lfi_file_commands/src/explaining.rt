@@ -1,29 +1,42 @@
 //! Verdicts that are explained, and listings.
 
-ghost use Rattle.std.specs.Prelude.{◌≡◌, ◌≤◌, ℕ, Some, false, true, codes, length, IfOk, IfErr, IfSome, OnOk};
+ghost use Rattle.std.specs.Prelude.{◌≡◌, ◌≤◌, ◌++◌, ℕ, List, Option, Some, false, true, codes, length, IfOk, IfErr, IfSome, OnOk};
 ghost use Rattle.std.specs.Io.KnownBytes.{Appends};
 ghost use Rattle.a64_word.specs.Words.{words_of};
 ghost use Rattle.lfi_module.specs.Numbers.{most_words};
 ghost use Rattle.lfi_rules.specs.Faults.{FirstFault};
-ghost use Rattle.lfi_explain.specs.declared.explanation.Explanation.{Explanation};
-ghost use Rattle.lfi_explain.specs.Explanations.{explanation_line, Explains, WritesRefusals};
-ghost use Rattle.lfi_code.specs.Checking.{Checks, IsCode};
+ghost use Rattle.lfi_rules.specs.Texts.{fault_text};
+ghost use Rattle.lfi_explain.specs.Explanations.{explanation_text};
+ghost use Rattle.lfi_code.specs.declared.verdict.Verdict.TheVariants.{BadLength};
+ghost use Rattle.lfi_code.specs.Checking.{IsCode, verdict_text};
+ghost use Rattle.lfi_file_commands.specs.Checking.{naming_text, IsFound};
 ghost use Rattle.lfi_file_commands.specs.Failures.{is_of_a_write};
-ghost use Rattle.lfi_file_commands.specs.Explaining.{WritesFault, WritesVerdict};
-ghost use Rattle.lfi_file_commands.specs.Listing.{FindsListing};
+ghost use Rattle.lfi_file_commands.specs.Kinds.{kind_line};
+ghost use Rattle.lfi_file_commands.specs.Explaining.{ExplainsFault, TellsRefusals, WritesFault, WritesFinding};
+ghost use Rattle.lfi_file_commands.specs.Listing.{WritesWords};
 
 use crate::checking::{CommandFault, write_verdict};
 use crate::device_cause::DeviceCause;
-use crate::ending::Ending;
-use crate::texts::write_line;
-use crate::whole::read_code;
+use crate::finding::Finding;
+use crate::kind::{FileKind, KindLine};
+use crate::naming::Naming;
+use crate::no_code::NoCode;
+use crate::texts::{write_line, write_text};
+use crate::whole::{Reading, read_code};
 use lfi_code::{Code, Verdict, judge_code};
 use lfi_command_line::Explain;
-use lfi_explain::{explain, write_listing, write_refusals};
+use lfi_explain::{Explanation, explain, write_listing, write_refusals};
 use lfi_module::{ModuleNumber, Profile};
 use lfi_rules::Fault;
 use std::alloc::Global;
 use std::io::{self, Read, Write};
+
+/// What stands around what is told of code in a file: before it the file's name, after it what the file is.
+#[derive(Clone, Copy)]
+struct Around<'a> {
+    name: Naming<'a>,
+    kind: FileKind,
+}
 
 /// The slot in which code is told to lie: that of module 0, since a code file says none.
 fn slot() -> ModuleNumber
@@ -32,41 +45,70 @@ fn slot() -> ModuleNumber
     ModuleNumber::at(0)
 }
 
+/// Writes this explanation, behind the name and before the kind.
+fn write_explained<W: Write>(
+    alloc: Global,
+    around: Around<'_>,
+    explanation: Explanation,
+    writer: &mut W,
+) -> io::Result<()>
+    ensures { OnOk result (Appends (W.contents writer.old) (W.contents writer.new) (naming_text around.entry.name ++ explanation_text explanation ++ codes "\n" ++ kind_line around.entry.kind)) }
+{
+    let name = around.name;
+    let kind = KindLine(around.kind);
+    write_text(alloc, writer, format_args!("{name}{explanation}\n{kind}"))
+}
+
 /// Writes the explanation of the first fault of this code.
 fn write_explanation<W: Write>(
     alloc: Global,
     code: &Code<'_>,
+    around: Around<'_>,
     fault: Fault,
     profile: Profile,
     writer: &mut W,
 ) -> io::Result<()>
     requires fault { FirstFault profile (words_of code.now) (length (words_of code.now)) (Some fault) }
     requires most { length (words_of code.now) ≤ most_words }
-    ensures { OnOk result ((e : Explanation) × Explains profile (words_of code.now) 0 fault e
-        × Appends (W.contents writer.old) (W.contents writer.new) (explanation_line e)) }
+    ensures { OnOk result (ExplainsFault (naming_text around.entry.name) around.entry.kind profile code.now fault (W.contents writer.old) (W.contents writer.new)) }
 {
     let explanation = explain(code, slot(), fault, profile);
-    write_line(alloc, writer, explanation)
+    write_explained(alloc, around, explanation, writer)
 }
 
 /// Writes what is told of each word of this code that breaks a rule, and how many these are.
 fn write_each_refusal<W: Write>(
     alloc: Global,
     code: &Code<'_>,
+    around: Around<'_>,
     profile: Profile,
     writer: &mut W,
 ) -> io::Result<()>
     requires most { length (words_of code.now) ≤ most_words }
-    ensures { OnOk result ((refused : ℕ) × WritesRefusals profile (words_of code.now) 0 (W.contents writer.old) (W.contents writer.new) refused) }
+    ensures { OnOk result (TellsRefusals (naming_text around.entry.name) around.entry.kind profile code.now (W.contents writer.old) (W.contents writer.new)) }
 {
+    write_text(alloc, writer, around.name)?;
     write_refusals(alloc, code, slot(), profile, writer)?;
-    Ok(())
+    write_text(alloc, writer, KindLine(around.kind))
+}
+
+/// Writes the line of the first fault of code, behind the name.
+fn write_fault_line<W: Write>(
+    alloc: Global,
+    name: Naming<'_>,
+    fault: Fault,
+    writer: &mut W,
+) -> io::Result<()>
+    ensures { OnOk result (Appends (W.contents writer.old) (W.contents writer.new) (naming_text name.entry ++ fault_text fault ++ codes "\n")) }
+{
+    write_line(alloc, writer, format_args!("{name}{fault}"))
 }
 
 /// Writes what is asked of the first fault of this code.
 fn write_fault<W: Write>(
     alloc: Global,
     code: &Code<'_>,
+    around: Around<'_>,
     fault: Fault,
     profile: Profile,
     how: Explain,
@@ -74,12 +116,12 @@ fn write_fault<W: Write>(
 ) -> io::Result<()>
     requires fault { FirstFault profile (words_of code.now) (length (words_of code.now)) (Some fault) }
     requires most { length (words_of code.now) ≤ most_words }
-    ensures { OnOk result (WritesFault profile how code.now fault (W.contents writer.old) (W.contents writer.new)) }
+    ensures { OnOk result (WritesFault (naming_text around.entry.name) around.entry.kind profile how code.now fault (W.contents writer.old) (W.contents writer.new)) }
 {
     match how {
-        Explain::Nothing => write_line(alloc, writer, fault),
-        Explain::First => write_explanation(alloc, code, fault, profile, writer),
-        Explain::All => write_each_refusal(alloc, code, profile, writer),
+        Explain::Nothing => write_fault_line(alloc, around.name, fault, writer),
+        Explain::First => write_explanation(alloc, code, around, fault, profile, writer),
+        Explain::All => write_each_refusal(alloc, code, around, profile, writer),
     }
 }
 
@@ -87,27 +129,73 @@ fn write_fault<W: Write>(
 fn write_judged<W: Write>(
     alloc: Global,
     bytes: &[u8],
+    name: Naming<'_>,
     profile: Profile,
     how: Explain,
     writer: &mut W,
-) -> Result<Verdict, CommandFault>
+) -> Result<Finding, CommandFault>
     requires { IsCode bytes.now }
-    ensures verdict { IfOk result (Checks profile bytes.now) }
-    ensures written { IfOk result (λ verdict. WritesVerdict profile how (Some bytes.now) verdict (W.contents writer.old) (W.contents writer.new)) }
+    ensures found { IfOk result (IsFound profile bytes.now) }
+    ensures written { IfOk result (λ finding. WritesFinding (naming_text name.entry) profile how (Some bytes.now) finding (W.contents writer.old) (W.contents writer.new)) }
     ensures fault { IfErr result (λ fault. is_of_a_write fault ≡ true) }
 {
-    let verdict = judge_code(bytes, profile);
-    let Verdict::Refused(fault) = verdict else {
-        return write_verdict(alloc, verdict, writer);
-    };
-    match write_fault(alloc, &Code::of(bytes), fault, profile, how, writer) {
-        Ok(()) => Ok(verdict),
+    match judge_code(bytes, profile) {
+        Verdict::Lawful { words } => {
+            match write_verdict(alloc, name, Verdict::Lawful { words }, writer) {
+                Ok(()) => Ok(Finding::Lawful { words }),
+                Err(fault) => Err(fault),
+            }
+        }
+        Verdict::Refused(fault) => {
+            let kind = FileKind::of(bytes);
+            let around = Around { name, kind };
+            match write_fault(alloc, &Code::of(bytes), around, fault, profile, how, writer) {
+                Ok(()) => Ok(Finding::Refused(fault)),
+                Err(error) => Err(CommandFault::NotWritten(DeviceCause::of(&error))),
+            }
+        }
+        Verdict::BadLength => unreachable!(),
+    }
+}
+
+/// Writes the line of what isn't code, and what it is.
+fn write_kind<W: Write>(
+    alloc: Global,
+    no_code: NoCode,
+    name: Naming<'_>,
+    writer: &mut W,
+) -> Result<(), CommandFault>
+    ensures written { OnOk result (Appends (W.contents writer.old) (W.contents writer.new) (naming_text name.entry ++ verdict_text BadLength ++ codes "\n" ++ kind_line no_code.kind)) }
+    ensures fault { IfErr result (λ fault. is_of_a_write fault ≡ true) }
+{
+    let verdict = Verdict::BadLength;
+    let kind = KindLine(no_code.kind);
+    match write_text(alloc, writer, format_args!("{name}{verdict}\n{kind}")) {
+        Ok(()) => Ok(()),
         Err(error) => Err(CommandFault::NotWritten(DeviceCause::of(&error))),
     }
 }
 
-/// Judges the code that a reader has left, up to its end, and writes what is found: its line, with the first fault explained,
-/// or each word that breaks a rule, where it is refused. The code is kept in memory meanwhile.
+/// Writes the line of what isn't code, and what it is where something is to be explained.
+fn write_other<W: Write>(
+    alloc: Global,
+    no_code: NoCode,
+    name: Naming<'_>,
+    how: Explain,
+    writer: &mut W,
+) -> Result<(), CommandFault>
+    ensures written { (profile : Profile) (bytes : Option (List ℕ)) → OnOk result (WritesFinding (naming_text name.entry) profile how bytes (Finding.NoCode no_code) (W.contents writer.old) (W.contents writer.new)) }
+    ensures fault { IfErr result (λ fault. is_of_a_write fault ≡ true) }
+{
+    match how {
+        Explain::Nothing => write_verdict(alloc, name, Verdict::BadLength, writer),
+        Explain::First | Explain::All => write_kind(alloc, no_code, name, writer),
+    }
+}
+
+/// Judges the code that a reader has left, up to its end, and writes what is found, behind the name: its line, with the first
+/// fault explained, or each word that breaks a rule, where it is refused; and what the file is, where it isn't lawful and
+/// begins as another one. The code is kept in memory meanwhile.
 ///
 /// # Errors
 ///
@@ -117,49 +205,59 @@ pub fn check_explained<R: Read + Drop, W: Write>(
     reader: R,
     profile: Profile,
     how: Explain,
+    name: Naming<'_>,
     writer: &mut W,
-) -> Result<Verdict, CommandFault>
-    ensures verdict { IfOk result (λ verdict. IfSome (R.remaining reader) (λ bytes. Checks profile bytes verdict)) }
-    ensures written { IfOk result (λ verdict. WritesVerdict profile how (R.remaining reader) verdict (W.contents writer.old) (W.contents writer.new)) }
+) -> Result<Finding, CommandFault>
+    ensures found { IfOk result (λ finding. IfSome (R.remaining reader) (λ bytes. IsFound profile bytes finding)) }
+    ensures written { IfOk result (λ finding. WritesFinding (naming_text name.entry) profile how (R.remaining reader) finding (W.contents writer.old) (W.contents writer.new)) }
     ensures unwritten { IfErr result (λ fault. is_of_a_write fault ≡ false → writer.new ≡ writer.old) }
 {
     match read_code(alloc, reader) {
-        Ok(Some(bytes)) => write_judged(alloc, &bytes, profile, how, writer),
-        Ok(None) => write_verdict(alloc, Verdict::BadLength, writer),
+        Ok(Reading::Code(bytes)) => write_judged(alloc, &bytes, name, profile, how, writer),
+        Ok(Reading::Other(no_code)) => match write_other(alloc, no_code, name, how, writer) {
+            Ok(()) => Ok(Finding::NoCode(no_code)),
+            Err(fault) => Err(fault),
+        },
         Err(fault) => Err(fault),
     }
 }
 
-/// Writes a line for each word of this code.
+/// Writes a line for each word of this code, with marks where they are asked for.
 fn write_words<W: Write>(
     alloc: Global,
     bytes: &[u8],
+    marks: bool,
     profile: Profile,
     writer: &mut W,
-) -> Result<Ending, CommandFault>
+) -> Result<Option<NoCode>, CommandFault>
     requires { IsCode bytes.now }
-    ensures listed { IfOk result (FindsListing profile (Some bytes.now) (W.contents writer.old) (W.contents writer.new)) }
+    ensures listed { IfOk result (λ other. WritesWords marks profile (Some bytes.now) other (W.contents writer.old) (W.contents writer.new)) }
     ensures fault { IfErr result (λ fault. is_of_a_write fault ≡ true) }
 {
-    match write_listing(alloc, &Code::of(bytes), slot(), profile, writer) {
-        Ok(()) => Ok(Ending::Well),
+    match write_listing(alloc, &Code::of(bytes), slot(), marks, profile, writer) {
+        Ok(()) => Ok(None),
         Err(error) => Err(CommandFault::NotWritten(DeviceCause::of(&error))),
     }
 }
 
 /// Writes the line of what isn't code.
-fn write_bad_length<W: Write>(alloc: Global, writer: &mut W) -> Result<Ending, CommandFault>
-    ensures listed { IfOk result (λ ending. (ending ≡ Ending.NotWell) × Appends (W.contents writer.old) (W.contents writer.new) (codes "bad length\n")) }
+fn write_bad_length<W: Write>(
+    alloc: Global,
+    no_code: NoCode,
+    writer: &mut W,
+) -> Result<Option<NoCode>, CommandFault>
+    ensures listed { IfOk result (λ other. (other ≡ Some no_code) × Appends (W.contents writer.old) (W.contents writer.new) (codes "bad length\n")) }
     ensures fault { IfErr result (λ fault. is_of_a_write fault ≡ true) }
 {
-    match write_verdict(alloc, Verdict::BadLength, writer) {
-        Ok(_) => Ok(Ending::NotWell),
-        Err(fault) => Err(fault),
+    match write_text(alloc, writer, "bad length\n") {
+        Ok(()) => Ok(Some(no_code)),
+        Err(error) => Err(CommandFault::NotWritten(DeviceCause::of(&error))),
     }
 }
 
 /// Writes a line for each word of the code that a reader has left, up to its end: its place, address, text, where it branches
-/// to and what it opens; or one line, where that isn't code.
+/// to, what it opens, and a mark where it breaks a rule and marks are asked for; or one line, where that isn't code. It gives
+/// what is known of what isn't code.
 ///
 /// # Errors
 ///
@@ -167,15 +265,16 @@ fn write_bad_length<W: Write>(alloc: Global, writer: &mut W) -> Result<Ending, C
 pub fn disassemble<R: Read + Drop, W: Write>(
     alloc: Global,
     reader: R,
+    marks: bool,
     profile: Profile,
     writer: &mut W,
-) -> Result<Ending, CommandFault>
-    ensures listed { IfOk result (FindsListing profile (R.remaining reader) (W.contents writer.old) (W.contents writer.new)) }
+) -> Result<Option<NoCode>, CommandFault>
+    ensures listed { IfOk result (λ other. WritesWords marks profile (R.remaining reader) other (W.contents writer.old) (W.contents writer.new)) }
     ensures unwritten { IfErr result (λ fault. is_of_a_write fault ≡ false → writer.new ≡ writer.old) }
 {
     match read_code(alloc, reader) {
-        Ok(Some(bytes)) => write_words(alloc, &bytes, profile, writer),
-        Ok(None) => write_bad_length(alloc, writer),
+        Ok(Reading::Code(bytes)) => write_words(alloc, &bytes, marks, profile, writer),
+        Ok(Reading::Other(no_code)) => write_bad_length(alloc, no_code, writer),
         Err(fault) => Err(fault),
     }
 }

@@ -1,5 +1,5 @@
-//! The commands of `lfiload` that start no thread, `check`, `run`, `disassemble` and `pack`, over any reader, writer and
-//! disk; and what all commands share: failures and their texts, where they are told, files and images that are read and
+//! The commands of `lfiload` that start no thread, `check`, `run`, `disassemble`, `pack` and `unpack`, over any reader, writer
+//! and disk; and what all commands share: failures and their texts, where they are told, files and images that are read and
 //! put, and how a run ends.
 //!
 //! # How data flows
@@ -50,6 +50,12 @@
 //! - **A line of a halt that can't be told makes the run Failed** (status 3), as other texts do that can't be written.
 //! - **Explanations and listings tell addresses of module 0**, since a code file says no module. `load` knows the
 //!   module.
+//! - **`check` of several files tells of each by itself**: one that can't be read is told of on the errors and holds up no
+//!   other one. Only an output that fails ends it. So what came of each file is part of what `check` did (`AreChecked`), and no
+//!   failure of the command.
+//! - **What a file is, by its first bytes, is told of one that isn't lawful alone** (`FileKind`): four bytes prove nothing, and
+//!   lawful code may begin so.
+//! - **`unpack` judges the image anew**, as `run` does: what it writes is the code of an image, or nothing.
 //! - **What is explained is read whole**: an explanation has the word before a fault, and `--all` looks at every word.
 //!   `check` without flags still keeps no code.
 //! - **Lines of explanations and listings are kept until they are 8,192 bytes** (`write_many` in lfi_explain), since
@@ -79,13 +85,19 @@ mod ending;
 mod errors;
 mod explaining;
 mod failure;
+mod finding;
 mod images;
+mod judging;
+mod kind;
+mod naming;
+mod no_code;
 mod opening;
 mod packing;
 mod pieces;
 mod refused;
 mod running;
 mod texts;
+mod unpacking;
 mod whole;
 
 pub use checking::{CommandFault, check, check_file};
@@ -95,9 +107,15 @@ pub use ending::Ending;
 pub use errors::{Errors, ended, tell_failure, tell_unread_arguments};
 pub use explaining::{check_explained, disassemble};
 pub use failure::{Failure, Target};
+pub use finding::Finding;
 pub use images::{write_asked_images, write_images};
+pub use judging::run_check;
+pub use kind::FileKind;
+pub use naming::Naming;
+pub use no_code::NoCode;
 pub use opening::open_all;
 pub use packing::NoModule;
 pub use refused::{write_asked_refused, write_refused};
-pub use running::{run_check, run_disassemble, run_pack, run_run};
+pub use running::{run_disassemble, run_pack, run_run};
 pub use texts::write_text;
+pub use unpacking::run_unpack;

@@ -10,8 +10,9 @@ ghost use Rattle.lfi_file_commands.specs.inner.Whole.{StopsAt, StopsAtOne, Write
 use crate::device_cause::DeviceCause;
 use crate::disk::Disk;
 use crate::failure::Failure;
+use crate::no_code::{BadLength, NoCode};
 use crate::opening::{open, path_at};
-use crate::whole::read_code;
+use crate::whole::{Reading, read_code};
 use lfi_code::Code;
 use lfi_module::{Extent, ModuleNumber, PageSize, Profile, WordCount};
 use lfi_pack::{PackFault, pack_module};
@@ -23,7 +24,7 @@ use std::io::Write;
 #[derive(Clone, Copy, PartialEq, Eq)]
 pub enum NoModule<'a> {
     /// The file at this path isn't 1 to 4,194,304 whole words.
-    BadLength { path: &'a str },
+    BadLength { path: &'a str, no_code: NoCode },
     /// The code in the file at this path has no word with this number, at which it is to be entered.
     NoEntry { path: &'a str, entry: u32 },
 }
@@ -33,7 +34,10 @@ impl fmt::Display for NoModule<'_> {
 
     fn fmt<W: fmt::Write>(&self, f: &mut fmt::Formatter<W>) -> fmt::Result {
         match self {
-            NoModule::BadLength { path } => write!(f, "bad length {path}"),
+            NoModule::BadLength { path, no_code } => f.write(BadLength {
+                path,
+                no_code: *no_code,
+            }),
             NoModule::NoEntry { path, entry } => write!(f, "no word {entry} in {path}"),
         }
     }
@@ -64,8 +68,10 @@ fn read_module<'a, D: Disk>(
         Err(failure) => return Err(Stop::Failed(failure)),
     };
     let code = match read_code(alloc, reader) {
-        Ok(Some(code)) => code,
-        Ok(None) => return Err(Stop::NoModule(NoModule::BadLength { path })),
+        Ok(Reading::Code(code)) => code,
+        Ok(Reading::Other(no_code)) => {
+            return Err(Stop::NoModule(NoModule::BadLength { path, no_code }));
+        }
         Err(fault) => return Err(Stop::Failed(Failure::of(fault, path))),
     };
     if entry as usize >= Code::of(&code).len_words() {

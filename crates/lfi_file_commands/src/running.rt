@@ -1,102 +1,78 @@
 //! The commands that read files and need no thread, from the paths to the ending.
 
-ghost use Rattle.std.specs.Prelude.{◌≡◌, ◌≤◌, [], ◌∷◌, IfOk, IfErr, IfSome, OnErr, ◌+◌, false, true, length, map};
-ghost use Rattle.lfi_code.specs.Checking.{Checks};
+ghost use Rattle.std.specs.Prelude.{◌≡◌, ◌≤◌, ℕ, List, Option, [], ◌∷◌, IfOk, IfErr, OnErr, ◌+◌, false, true, length, map};
 ghost use Rattle.lfi_module.specs.Pages.{HasPages};
 ghost use Rattle.lfi_file_commands.specs.Errors.{is_lost_of, writer_of};
-ghost use Rattle.lfi_file_commands.specs.Explaining.{FindsVerdict, WritesVerdict};
-ghost use Rattle.lfi_file_commands.specs.Failures.{is_of_a_write, is_of_output, FailsOn, IsOfReading};
-ghost use Rattle.lfi_file_commands.specs.Listing.{FindsListing};
+ghost use Rattle.lfi_file_commands.specs.Checking.{TellsOf};
+ghost use Rattle.lfi_file_commands.specs.Failures.{is_of_output, FailsOn, IsOfReading};
+ghost use Rattle.lfi_file_commands.specs.Left.{left};
+ghost use Rattle.lfi_file_commands.specs.Listing.{EndsListing, HasListed};
 ghost use Rattle.lfi_file_commands.specs.Packing.{AreModules, FindsPacked, WritesStream};
 ghost use Rattle.lfi_file_commands.specs.Running.{FindsRun};
 
-use crate::checking::{CommandFault, check_file};
 use crate::disk::Disk;
 use crate::ending::Ending;
 use crate::errors::Errors;
-use crate::explaining::{check_explained, disassemble};
+use crate::explaining::disassemble;
 use crate::failure::Failure;
+use crate::no_code::NoCode;
 use crate::opening::open;
-use crate::packing::{Stop, read_modules, write_stream};
-use lfi_code::Verdict;
-use lfi_command_line::Explain;
+use crate::packing::{NoModule, Stop, read_modules, write_stream};
 use lfi_module::{PageSize, Profile};
 use lfi_run::run_image;
 use std::alloc::Global;
 use std::io::Write;
 
-/// Judges the code that the reader of a file has left, and writes what is found of it. Where nothing is to be explained,
-/// the code isn't kept.
-fn judge_file<D: Disk, O: Write>(
-    alloc: Global,
-    disk: &D,
-    reader: D::Reader,
-    profile: Profile,
-    how: Explain,
-    out: &mut O,
-) -> Result<Verdict, CommandFault>
-    ensures verdict { IfOk result (λ verdict. IfSome (D.Reader.remaining reader) (λ bytes. Checks profile bytes verdict)) }
-    ensures written { IfOk result (λ verdict. WritesVerdict profile how (D.Reader.remaining reader) verdict (O.contents out.old) (O.contents out.new)) }
-    ensures unwritten { IfErr result (λ fault. is_of_a_write fault ≡ false → out.new ≡ out.old) }
+/// Tells which length the file at a path has, where it is no code.
+pub(crate) fn tell_other<E: Write>(path: &str, other: Option<NoCode>, errors: &mut Errors<E>)
+    ensures told { TellsOf path.now other (is_lost_of errors.old) (is_lost_of errors.new) (E.contents (writer_of errors.old)) (E.contents (writer_of errors.new)) }
 {
-    match how {
-        Explain::Nothing => {
-            let length = disk.length(&reader);
-            check_file(alloc, reader, length, profile, out)
-        }
-        _ => check_explained(alloc, reader, profile, how, out),
+    match other {
+        Some(no_code) => errors.tell_no_module(NoModule::BadLength { path, no_code }),
+        None => {}
     }
 }
 
-/// Judges the code in a file, and writes what is found of it.
-///
-/// # Errors
-///
-/// Where the file can't be opened or read, the write fails, or there is no memory for the code.
-pub fn run_check<'a, D: Disk, O: Write>(
-    alloc: Global,
-    disk: &D,
-    path: &'a str,
-    profile: Profile,
-    how: Explain,
-    out: &mut O,
-) -> Result<Ending, Failure<'a>>
-    ensures found { IfOk result (FindsVerdict profile how (D.file_at disk.now path.now) (O.contents out.old) (O.contents out.new)) }
-    ensures failure { IfErr result (FailsOn (path.now ∷ [])) }
-    ensures output { IfErr result (λ failure. is_of_output failure ≡ false → out.new ≡ out.old) }
+/// How a listing ends: well, where there is one.
+fn end_listing<E>(other: Option<NoCode>, errors: &Errors<E>) -> Ending
+    ensures { EndsListing other (is_lost_of errors.now) result }
 {
-    let reader = match open(disk, path) {
-        Ok(reader) => reader,
-        Err(failure) => return Err(failure),
-    };
-    match judge_file(alloc, disk, reader, profile, how, out) {
-        Ok(verdict) => Ok(Ending::of_verdict(&verdict)),
-        Err(fault) => Err(Failure::of(fault, path)),
+    match other {
+        Some(_) => errors.unless_lost(Ending::NotWell),
+        None => Ending::Well,
     }
 }
 
-/// Lists the words of the code in a file.
+/// Lists the words of the code in a file, and marks those that break a rule where that is asked for.
 ///
 /// # Errors
 ///
 /// Where the file can't be opened or read, a write fails, or there is no memory for the code.
-pub fn run_disassemble<'a, D: Disk, O: Write>(
+pub fn run_disassemble<'a, D: Disk, O: Write, E: Write>(
     alloc: Global,
     disk: &D,
     path: &'a str,
+    marks: bool,
     profile: Profile,
     out: &mut O,
+    errors: &mut Errors<E>,
 ) -> Result<Ending, Failure<'a>>
-    ensures found { IfOk result (FindsListing profile (D.file_at disk.now path.now) (O.contents out.old) (O.contents out.new)) }
+    ensures found { (put : Option (List (List ℕ × List ℕ))) → IfOk result (HasListed marks profile path.now (D.file_at disk.now path.now)
+        (left (O.contents out.old) put (is_lost_of errors.old) (E.contents (writer_of errors.old)))
+        (left (O.contents out.new) put (is_lost_of errors.new) (E.contents (writer_of errors.new)))) }
     ensures failure { IfErr result (FailsOn (path.now ∷ [])) }
     ensures output { IfErr result (λ failure. is_of_output failure ≡ false → out.new ≡ out.old) }
+    ensures errors { OnErr result (errors.new ≡ errors.old) }
 {
     let reader = match open(disk, path) {
         Ok(reader) => reader,
         Err(failure) => return Err(failure),
     };
-    match disassemble(alloc, reader, profile, out) {
-        Ok(ending) => Ok(ending),
+    match disassemble(alloc, reader, marks, profile, out) {
+        Ok(other) => {
+            tell_other(path, other, errors);
+            Ok(end_listing(other, errors))
+        }
         Err(fault) => Err(Failure::of(fault, path)),
     }
 }

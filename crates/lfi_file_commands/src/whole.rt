@@ -6,6 +6,7 @@ ghost use Rattle.lfi_file_commands.specs.Failures.{is_of_a_write};
 ghost use Rattle.lfi_file_commands.specs.inner.Whole.{IsReadAs};
 
 use crate::checking::{CommandFault, read_all};
+use crate::no_code::NoCode;
 use lfi_code::Code;
 use lfi_module::WordCount;
 use std::alloc::Global;
@@ -22,15 +23,22 @@ fn is_code(bytes: &[u8]) -> bool
     }
 }
 
-/// The code that a reader has left, up to its end; `None` where that isn't code. No more is read than tells that it is too long.
+/// What a reader has left, read as code.
+#[derive(Drop)]
+pub(crate) enum Reading {
+    /// Code.
+    Code(Vec<u8>),
+    /// Bytes that aren't code.
+    Other(NoCode),
+}
+
+/// The code that a reader has left, up to its end; or what is known of it where that isn't code. No more is read than tells
+/// that it is too long.
 ///
 /// # Errors
 ///
 /// Where a read fails, or there is no memory for it.
-pub(crate) fn read_code<R: Read + Drop>(
-    alloc: Global,
-    reader: R,
-) -> Result<Option<Vec<u8>>, CommandFault>
+pub(crate) fn read_code<R: Read + Drop>(alloc: Global, reader: R) -> Result<Reading, CommandFault>
     ensures code { IfOk result (IsReadAs (R.remaining reader)) }
     ensures fault { IfErr result (λ fault. is_of_a_write fault ≡ false) }
 {
@@ -39,8 +47,8 @@ pub(crate) fn read_code<R: Read + Drop>(
         Err(fault) => return Err(fault),
     };
     if is_code(&bytes) {
-        Ok(Some(bytes))
+        Ok(Reading::Code(bytes))
     } else {
-        Ok(None)
+        Ok(Reading::Other(NoCode::of(&bytes)))
     }
 }

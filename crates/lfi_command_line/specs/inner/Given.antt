@@ -22,6 +22,10 @@ IsFaultOfLoad given TooManyModules = ⊥
 IsFaultOfLoad given NoPages = ⊥
 IsFaultOfLoad given (Flawed flaw) = ⊥
 
+-- there is no memory for a list of the files
+abbrev pub IsFaultOfCheck : LineFault → Type 0
+IsFaultOfCheck fault = fault ≡ NoMemory
+
 -- there are more files than modules from the first one's number on, pages of a size that there isn't, or no memory for a list of them
 abbrev pub IsFaultOfPack : List Row → LineFault → Type 0
 IsFaultOfPack given NoMemory = ⊤

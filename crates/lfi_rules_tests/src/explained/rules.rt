@@ -24,7 +24,7 @@ const ROWS: [Told; 24] = [
         words: [0xD4000001, 0xD503201F], // SVC #0
         place: 0,
         rule: Rule::Spelled,
-        told: "word 0 rule 1\n  0x0000000100010000  d4000001  .inst 0xd4000001\n  an instruction of the profile spells each word; none spells this one\n  mend: put instructions of the profile in its place: docs/PROFILE.md lists them, and what stands in for others",
+        told: "word 0 rule 1\n  0x0000000100010000  d4000001  .inst 0xd4000001\n  an instruction of the profile spells each word; none spells this one, of the group: exception generation\n  mend: put instructions of the profile in its place: docs/PROFILE.md lists them, and what stands in for others",
     },
     Told {
         profile: Profile::One,

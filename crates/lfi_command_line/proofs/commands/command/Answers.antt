@@ -7,4 +7,5 @@ returns c =
     let serve = c.with_subcommand-serve.ensures _ _ load c.serve_command.ensures in
     let run' = c.with_subcommand-run.ensures _ _ serve c.run_command.ensures in
     let disassemble = c.with_subcommand-disassemble.ensures _ _ run' c.disassemble_command.ensures in
-    c.with_subcommand.ensures _ _ disassemble c.pack_command.ensures
+    let pack = c.with_subcommand-pack.ensures _ _ disassemble c.pack_command.ensures in
+    c.with_subcommand.ensures _ _ pack c.unpack_command.ensures

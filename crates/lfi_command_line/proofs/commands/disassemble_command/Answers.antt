@@ -6,5 +6,6 @@ use Rattle.lfi_command_line.proofs.commands.disassemble_command.Goals as goal
 pub returns : goal.returns
 returns c =
     let made : Makes (new_app (codes "disassemble")) c.after_help-disassemble.result = search rules in
-    let profile = c.with-profile.ensures _ _ made c.profile_argument.ensures.rule c.profile_argument.ensures.local in
+    let check = c.with-check.ensures _ _ made c.flag.ensures.rule c.flag.ensures.local in
+    let profile = c.with-profile.ensures _ _ check c.profile_argument.ensures.rule c.profile_argument.ensures.local in
     c.with.ensures _ _ profile c.required_argument.ensures.rule c.required_argument.ensures.local

@@ -8,4 +8,4 @@ pub unwrap-requires : goal.unwrap-requires
 unwrap-requires c = some_of_text _ c.get_str.result _ (c.get_str.ensures ∙ first_value-rows (found_of c.args.disassemble.now) (codes "FILE")) c.requires.file
 
 pub returns : goal.returns
-returns c = (refl, sym (first_value-rows (found_of c.args.disassemble.now) (codes "FILE")) ∙ sym c.get_str.ensures ∙ ap (option_map (λ s. s.now)) c.unwrap.ensures, c.profile_of.ensures)
+returns c = (refl, sym (first_value-rows (found_of c.args.disassemble.now) (codes "FILE")) ∙ sym c.get_str.ensures ∙ ap (option_map (λ s. s.now)) c.unwrap.ensures, c.is_given.ensures, c.profile_of.ensures)

@@ -1,7 +1,7 @@
 use Rattle.std.proofs.Common.{◌≡◌, IfSome, List, Some, refl, sym, subst, codes, option_map, true≢false}
 use Rattle.std.proofs.lemmas.Result.{IfOk-weaker, IfErr-weaker}
 use Rattle.clap.specs.Words.{Text, found_of, rows_of, subcommand_rows_of}
-use Rattle.lfi_command_line.proofs.Asked.{given_for, load_fault, pack_fault, run_met, taken_for}
+use Rattle.lfi_command_line.proofs.Asked.{check_fault, given_for, load_fault, pack_fault, run_met, taken_for}
 use Rattle.lfi_command_line.proofs.line.line_of.Goals as goal
 
 pub check_line-requires : goal.check_line-requires
@@ -9,10 +9,13 @@ check_line-requires c =
     let given = given_for c.requires.taken.0 c.args.matches.now (codes "check") _ c.requires.taken.1 (c.in-Some.ensures.found.0 refl) c.in-Some.ensures.rows in
     record { file = given.1.1.1.0.0 refl; profile = given.1.1.0.1 }
 
+pub returns-in-Some-clause-fault : goal.returns-in-Some-clause-fault
+returns-in-Some-clause-fault c = λ words by_words. IfErr-weaker c.check_line.result _ _ (λ fault by. check_fault words fault by) c.check_line.ensures.fault
+
 pub returns-in-Some-clause-line : goal.returns-in-Some-clause-line
 returns-in-Some-clause-line c = λ words by_words.
     let taken = taken_for words c.args.matches.now (codes "check") _ by_words (c.in-Some.ensures.found.0 refl) c.in-Some.ensures.rows in
-    (codes "check", rows_of (found_of c.in-Some.check.now), taken, c.check_line.ensures)
+    IfOk-weaker c.check_line.result _ _ (λ line by. (codes "check", rows_of (found_of c.in-Some.check.now), taken, by)) c.check_line.ensures.line
 
 pub load_line-requires-clause-streams : goal.load_line-requires-clause-streams
 load_line-requires-clause-streams c =
@@ -67,7 +70,7 @@ returns-in-Some-subcommand_matches-2-clause-line c = λ words by_words.
 pub disassemble_line-requires : goal.disassemble_line-requires
 disassemble_line-requires c =
     let given = given_for c.requires.taken.0 c.args.matches.now (codes "disassemble") _ c.requires.taken.1 (c.in-Some-subcommand_matches-3.ensures.found.0 refl) c.in-Some-subcommand_matches-3.ensures.rows in
-    record { file = given.1.0.0 refl; profile = given.0.1 }
+    record { file = given.1.1.0.0 refl; profile = given.1.0.1 }
 
 pub returns-in-Some-subcommand_matches-3-clause-line : goal.returns-in-Some-subcommand_matches-3-clause-line
 returns-in-Some-subcommand_matches-3-clause-line c = λ words by_words.
@@ -104,14 +107,25 @@ returns-in-Some-subcommand_matches-4-clause-fault c = λ words by_words.
     let taken = taken_for words c.args.matches.now (codes "pack") _ by_words (c.in-Some-subcommand_matches-4.ensures.found.0 refl) c.in-Some-subcommand_matches-4.ensures.rows in
     IfErr-weaker c.pack_line.result _ _ (λ fault by. pack_fault words (rows_of (found_of c.in-Some-subcommand_matches-4.pack.now)) fault taken by) c.pack_line.ensures.fault
 
+pub unpack_line-requires : goal.unpack_line-requires
+unpack_line-requires c =
+    let given = given_for c.requires.taken.0 c.args.matches.now (codes "unpack") _ c.requires.taken.1 (c.in-Some-subcommand_matches-5.ensures.found.0 refl) c.in-Some-subcommand_matches-5.ensures.rows in
+    record { image = given.0.0 refl }
+
+pub returns-in-Some-subcommand_matches-5-clause-line : goal.returns-in-Some-subcommand_matches-5-clause-line
+returns-in-Some-subcommand_matches-5-clause-line c = λ words by_words.
+    let taken = taken_for words c.args.matches.now (codes "unpack") _ by_words (c.in-Some-subcommand_matches-5.ensures.found.0 refl) c.in-Some-subcommand_matches-5.ensures.rows in
+    (codes "unpack", rows_of (found_of c.in-Some-subcommand_matches-5.unpack.now), taken, c.unpack_line.ensures)
+
 pub unwrap-requires : goal.unwrap-requires
 unwrap-requires c =
     let words : List Text = c.requires.taken.0 in
     let matches = c.args.matches.now in
     let met = run_met words matches c.requires.taken.1 (λ is. absurd (true≢false (sym (c.in_default.ensures.found.1 is))))
     (λ is. absurd (true≢false (sym (c.in_default-subcommand_matches.ensures.found.1 is)))) (λ is. absurd (true≢false (sym (c.in_default-subcommand_matches-2.ensures.found.1 is))))
-    (λ is. absurd (true≢false (sym (c.in_default-subcommand_matches-3.ensures.found.1 is)))) (λ is. absurd (true≢false (sym (c.in_default-subcommand_matches-4.ensures.found.1 is)))) in
-    c.subcommand_matches-6.ensures.found.1 met
+    (λ is. absurd (true≢false (sym (c.in_default-subcommand_matches-3.ensures.found.1 is)))) (λ is. absurd (true≢false (sym (c.in_default-subcommand_matches-4.ensures.found.1 is))))
+    (λ is. absurd (true≢false (sym (c.in_default-subcommand_matches-5.ensures.found.1 is)))) in
+    c.subcommand_matches-7.ensures.found.1 met
 
 pub run_line-requires-clause-image : goal.run_line-requires-clause-image
 run_line-requires-clause-image c =
@@ -119,9 +133,10 @@ run_line-requires-clause-image c =
     let matches = c.args.matches.now in
     let met = run_met words matches c.requires.taken.1 (λ is. absurd (true≢false (sym (c.in_default.ensures.found.1 is))))
     (λ is. absurd (true≢false (sym (c.in_default-subcommand_matches.ensures.found.1 is)))) (λ is. absurd (true≢false (sym (c.in_default-subcommand_matches-2.ensures.found.1 is))))
-    (λ is. absurd (true≢false (sym (c.in_default-subcommand_matches-3.ensures.found.1 is)))) (λ is. absurd (true≢false (sym (c.in_default-subcommand_matches-4.ensures.found.1 is)))) in
+    (λ is. absurd (true≢false (sym (c.in_default-subcommand_matches-3.ensures.found.1 is)))) (λ is. absurd (true≢false (sym (c.in_default-subcommand_matches-4.ensures.found.1 is))))
+    (λ is. absurd (true≢false (sym (c.in_default-subcommand_matches-5.ensures.found.1 is)))) in
     let rows = rows_of (found_of c.unwrap.result.now) in
-    let at_rows = subst (λ o. IfSome o (λ m. option_map (λ p. p.1) (subcommand_rows_of matches) ≡ Some (rows_of (found_of m.now)))) c.unwrap.ensures c.subcommand_matches-6.ensures.rows in
+    let at_rows = subst (λ o. IfSome o (λ m. option_map (λ p. p.1) (subcommand_rows_of matches) ≡ Some (rows_of (found_of m.now)))) c.unwrap.ensures c.subcommand_matches-7.ensures.rows in
     let given = given_for words matches (codes "run") rows c.requires.taken.1 met at_rows in
     given.1.0.0 refl
 
@@ -131,9 +146,10 @@ run_line-requires-clause-steps c =
     let matches = c.args.matches.now in
     let met = run_met words matches c.requires.taken.1 (λ is. absurd (true≢false (sym (c.in_default.ensures.found.1 is))))
     (λ is. absurd (true≢false (sym (c.in_default-subcommand_matches.ensures.found.1 is)))) (λ is. absurd (true≢false (sym (c.in_default-subcommand_matches-2.ensures.found.1 is))))
-    (λ is. absurd (true≢false (sym (c.in_default-subcommand_matches-3.ensures.found.1 is)))) (λ is. absurd (true≢false (sym (c.in_default-subcommand_matches-4.ensures.found.1 is)))) in
+    (λ is. absurd (true≢false (sym (c.in_default-subcommand_matches-3.ensures.found.1 is)))) (λ is. absurd (true≢false (sym (c.in_default-subcommand_matches-4.ensures.found.1 is))))
+    (λ is. absurd (true≢false (sym (c.in_default-subcommand_matches-5.ensures.found.1 is)))) in
     let rows = rows_of (found_of c.unwrap.result.now) in
-    let at_rows = subst (λ o. IfSome o (λ m. option_map (λ p. p.1) (subcommand_rows_of matches) ≡ Some (rows_of (found_of m.now)))) c.unwrap.ensures c.subcommand_matches-6.ensures.rows in
+    let at_rows = subst (λ o. IfSome o (λ m. option_map (λ p. p.1) (subcommand_rows_of matches) ≡ Some (rows_of (found_of m.now)))) c.unwrap.ensures c.subcommand_matches-7.ensures.rows in
     let given = given_for words matches (codes "run") rows c.requires.taken.1 met at_rows in
     given.0.0 refl
 
@@ -143,9 +159,10 @@ run_line-requires-clause-number c =
     let matches = c.args.matches.now in
     let met = run_met words matches c.requires.taken.1 (λ is. absurd (true≢false (sym (c.in_default.ensures.found.1 is))))
     (λ is. absurd (true≢false (sym (c.in_default-subcommand_matches.ensures.found.1 is)))) (λ is. absurd (true≢false (sym (c.in_default-subcommand_matches-2.ensures.found.1 is))))
-    (λ is. absurd (true≢false (sym (c.in_default-subcommand_matches-3.ensures.found.1 is)))) (λ is. absurd (true≢false (sym (c.in_default-subcommand_matches-4.ensures.found.1 is)))) in
+    (λ is. absurd (true≢false (sym (c.in_default-subcommand_matches-3.ensures.found.1 is)))) (λ is. absurd (true≢false (sym (c.in_default-subcommand_matches-4.ensures.found.1 is))))
+    (λ is. absurd (true≢false (sym (c.in_default-subcommand_matches-5.ensures.found.1 is)))) in
     let rows = rows_of (found_of c.unwrap.result.now) in
-    let at_rows = subst (λ o. IfSome o (λ m. option_map (λ p. p.1) (subcommand_rows_of matches) ≡ Some (rows_of (found_of m.now)))) c.unwrap.ensures c.subcommand_matches-6.ensures.rows in
+    let at_rows = subst (λ o. IfSome o (λ m. option_map (λ p. p.1) (subcommand_rows_of matches) ≡ Some (rows_of (found_of m.now)))) c.unwrap.ensures c.subcommand_matches-7.ensures.rows in
     let given = given_for words matches (codes "run") rows c.requires.taken.1 met at_rows in
     given.0.1
 
@@ -154,8 +171,9 @@ returns-clause-line c = λ words by_words.
     let matches = c.args.matches.now in
     let met = run_met words matches by_words (λ is. absurd (true≢false (sym (c.in_default.ensures.found.1 is))))
     (λ is. absurd (true≢false (sym (c.in_default-subcommand_matches.ensures.found.1 is)))) (λ is. absurd (true≢false (sym (c.in_default-subcommand_matches-2.ensures.found.1 is))))
-    (λ is. absurd (true≢false (sym (c.in_default-subcommand_matches-3.ensures.found.1 is)))) (λ is. absurd (true≢false (sym (c.in_default-subcommand_matches-4.ensures.found.1 is)))) in
+    (λ is. absurd (true≢false (sym (c.in_default-subcommand_matches-3.ensures.found.1 is)))) (λ is. absurd (true≢false (sym (c.in_default-subcommand_matches-4.ensures.found.1 is))))
+    (λ is. absurd (true≢false (sym (c.in_default-subcommand_matches-5.ensures.found.1 is)))) in
     let rows = rows_of (found_of c.unwrap.result.now) in
-    let at_rows = subst (λ o. IfSome o (λ m. option_map (λ p. p.1) (subcommand_rows_of matches) ≡ Some (rows_of (found_of m.now)))) c.unwrap.ensures c.subcommand_matches-6.ensures.rows in
+    let at_rows = subst (λ o. IfSome o (λ m. option_map (λ p. p.1) (subcommand_rows_of matches) ≡ Some (rows_of (found_of m.now)))) c.unwrap.ensures c.subcommand_matches-7.ensures.rows in
     let taken = taken_for words matches (codes "run") rows by_words met at_rows in
     (codes "run", rows, taken, c.run_line.ensures)

@@ -2,20 +2,19 @@ use Rattle.std.proofs.Common.{Bor, List, ℕ, ◌+◌, ◌≡◌, ◌≤◌, [],
 use Rattle.std.specs.Prelude.{IfErr, IfOk}
 use Rattle.std.proofs.lemmas.Result.{IfErr-weaker, IfOk-weaker}
 use Rattle.lfi_file_commands.specs.Errors.{is_lost_of, writer_of}
-use Rattle.lfi_file_commands.specs.Explaining.{FindsVerdict}
+use Rattle.lfi_file_commands.specs.Explaining.{HasChecked}
 use Rattle.lfi_file_commands.specs.Failures.{is_of_output, FailsOn}
 use Rattle.lfi_file_commands.specs.Left.{left}
-use Rattle.lfi_file_commands.specs.Listing.{FindsListing, HasListed}
 use Rattle.lfi_file_commands.specs.Packing.{FindsPacked, HasPacked}
 use Rattle.lfi_file_commands.specs.Running.{FindsRun, HasRun}
-use Rattle.lfi_commands.specs.Runs.{CarriesOut, ChecksFile, FailsAs}
+use Rattle.lfi_commands.specs.Runs.{CarriesOut, FailsAs}
 use Rattle.lfi_commands.specs.inner.Ranges.{IsForFiles}
-use Rattle.lfi_commands.proofs.Carried.{checks_file, lists_file, packs_files, runs_file}
+use Rattle.lfi_commands.proofs.Carried.{packs_files, runs_file}
 use Rattle.lfi_commands.proofs.program.run_files.Goals as goal
 
 pub run_pack-requires-clause-numbers : goal.run_pack-requires-clause-numbers
 run_pack-requires-clause-numbers g c κs within =
-    subst (λ (paths : List (Bor (List ℕ))). c.in-Pack.module + length paths ≤ 16) (sym c.deref.ensures.value) (subst IsForFiles c.in-Pack.is c.requires.line).0
+    subst (λ (paths : List (Bor (List ℕ))). c.in-Pack.module + length paths ≤ 16) (sym c.deref-in-Pack.ensures.value) (subst IsForFiles c.in-Pack.is c.requires.line).0
 
 pub run_pack-requires-clause-pages : goal.run_pack-requires-clause-pages
 run_pack-requires-clause-pages g c κs within = (subst IsForFiles c.in-Pack.is c.requires.line).1
@@ -28,16 +27,15 @@ returns-in-Check g c =
     let out = g.O.Write.contents c.args.out.now in
     let did = c.run_check in
     let new = g.O.Write.contents did.new.out in
-    let profile = c.in-Check.profile in
-    let explain = c.in-Check.explain in
-    let bytes = at c.in-Check.file.now in
+    let lost = is_lost_of did.new.errors in
+    let told = g.E.Write.contents (writer_of did.new.errors) in
     record {
-      found = λ put. subst (λ line. IfOk did.result (CarriesOut line at (left out put was errors) (left new put was errors))) (sym c.in-Check.is)
-          (IfOk-weaker did.result (FindsVerdict profile explain bytes out new) (ChecksFile profile explain bytes (left out put was errors) (left new put was errors))
-          (λ ending finds. checks_file out new put was errors ending profile explain bytes finds) did.ensures.found);
-      failure = subst (λ line. IfErr did.result (FailsAs line)) (sym c.in-Check.is) did.ensures.failure;
-      output = did.ensures.output;
-      errors = IfErr-weaker did.result (FailsOn (c.in-Check.file.now ∷ [])) (λ _. c.args.errors.now ≡ c.args.errors.now) (λ failure is. refl) did.ensures.failure;
+      found = λ put. subst (λ line. CarriesOut line at (left out put was errors) (left new put lost told) did.result) (sym c.in-Check.is)
+          (subst (λ (paths : List (Bor (List ℕ))). HasChecked c.in-Check.profile c.in-Check.explain (map (λ p. p.now) paths) at (left out put was errors) (left new put lost told) did.result) c.deref.ensures.value
+          (did.ensures put));
+      failure = tt;
+      output = tt;
+      errors = tt;
     }
 
 pub returns-in-Disassemble : goal.returns-in-Disassemble
@@ -48,15 +46,30 @@ returns-in-Disassemble g c =
     let out = g.O.Write.contents c.args.out.now in
     let did = c.run_disassemble in
     let new = g.O.Write.contents did.new.out in
-    let profile = c.in-Disassemble.profile in
-    let bytes = at c.in-Disassemble.file.now in
+    let lost = is_lost_of did.new.errors in
+    let told = g.E.Write.contents (writer_of did.new.errors) in
     record {
-      found = λ put. subst (λ line. IfOk did.result (CarriesOut line at (left out put was errors) (left new put was errors))) (sym c.in-Disassemble.is)
-          (IfOk-weaker did.result (FindsListing profile bytes out new) (HasListed profile bytes (left out put was errors) (left new put was errors))
-          (λ ending finds. lists_file out new put was errors ending profile bytes finds) did.ensures.found);
+      found = λ put. subst (λ line. IfOk did.result (CarriesOut line at (left out put was errors) (left new put lost told))) (sym c.in-Disassemble.is) (did.ensures.found put);
       failure = subst (λ line. IfErr did.result (FailsAs line)) (sym c.in-Disassemble.is) did.ensures.failure;
       output = did.ensures.output;
-      errors = IfErr-weaker did.result (FailsOn (c.in-Disassemble.file.now ∷ [])) (λ _. c.args.errors.now ≡ c.args.errors.now) (λ failure is. refl) did.ensures.failure;
+      errors = did.ensures.errors;
+    }
+
+pub returns-in-Unpack : goal.returns-in-Unpack
+returns-in-Unpack g c =
+    let at = g.D.Disk.file_at c.args.disk.now in
+    let was = is_lost_of c.args.errors.now in
+    let errors = g.E.Write.contents (writer_of c.args.errors.now) in
+    let out = g.O.Write.contents c.args.out.now in
+    let did = c.run_unpack in
+    let new = g.O.Write.contents did.new.out in
+    let lost = is_lost_of did.new.errors in
+    let told = g.E.Write.contents (writer_of did.new.errors) in
+    record {
+      found = λ put. subst (λ line. IfOk did.result (CarriesOut line at (left out put was errors) (left new put lost told))) (sym c.in-Unpack.is) (did.ensures.found put);
+      failure = subst (λ line. IfErr did.result (FailsAs line)) (sym c.in-Unpack.is) did.ensures.failure;
+      output = did.ensures.output;
+      errors = did.ensures.errors;
     }
 
 pub returns-in-Run : goal.returns-in-Run
@@ -90,15 +103,15 @@ returns-in-Pack g c =
     let new = g.O.Write.contents did.new.out in
     let lost = is_lost_of did.new.errors in
     let told = g.E.Write.contents (writer_of did.new.errors) in
-    let given = map (λ p. p.now) c.deref.result.now in
+    let given = map (λ p. p.now) c.deref-in-Pack.result.now in
     let packs = HasPacked c.in-Pack.profile c.in-Pack.pages c.in-Pack.module c.in-Pack.entry in
     record {
       found = λ put. subst (λ line. IfOk did.result (CarriesOut line at (left out put was errors) (left new put lost told))) (sym c.in-Pack.is)
-          (subst (λ (paths : List (Bor (List ℕ))). IfOk did.result (packs (map (λ p. p.now) paths) at (left out put was errors) (left new put lost told))) c.deref.ensures.value
+          (subst (λ (paths : List (Bor (List ℕ))). IfOk did.result (packs (map (λ p. p.now) paths) at (left out put was errors) (left new put lost told))) c.deref-in-Pack.ensures.value
           (IfOk-weaker did.result (FindsPacked c.in-Pack.profile c.in-Pack.pages c.in-Pack.module c.in-Pack.entry given at out new lost errors told) (packs given at (left out put was errors) (left new put lost told))
           (λ ending finds. packs_files out new put was lost errors told ending c.in-Pack.profile c.in-Pack.pages c.in-Pack.module c.in-Pack.entry given at finds) did.ensures.found));
       failure = subst (λ line. IfErr did.result (FailsAs line)) (sym c.in-Pack.is)
-          (subst (λ (paths : List (Bor (List ℕ))). IfErr did.result (FailsOn (map (λ p. p.now) paths))) c.deref.ensures.value did.ensures.failure);
+          (subst (λ (paths : List (Bor (List ℕ))). IfErr did.result (FailsOn (map (λ p. p.now) paths))) c.deref-in-Pack.ensures.value did.ensures.failure);
       output = did.ensures.output;
       errors = did.ensures.errors;
     }

@@ -7,5 +7,5 @@ use Rattle.lfi_explain.proofs.listing.write_listing.Given as goal
 
 abbrev pub invariant-loop-place : goal.invariant-loop-place
 invariant-loop-place g l =
-    (all : List ListedWord) × AreListed l.profile (g.L.Words.words l.words) l.slot l.place all
+    (all : List ListedWord) × AreListed l.marks l.profile (g.L.Words.words l.words) l.slot l.place all
     × Appends (g.W.Write.contents l.initial.out) (append_known (g.W.Write.contents l.out) l.kept.items) (flat_map listed_line all)

@@ -15,4 +15,4 @@ pub returns : goal.returns
 returns g c =
     let explanation = c.explain-explanation.result in
     let explains = subst (λ slot. Explains c.args.profile (words_of c.args.code.now) slot c.args.fault explanation) c.slot.ensures c.explain-explanation.ensures in
-    on_ok_weaker c.write_line.result (λ written. (explanation, explains, written)) c.write_line.ensures
+    on_ok_weaker c.write_explained.result (λ written. (explanation, explains, written)) c.write_explained.ensures

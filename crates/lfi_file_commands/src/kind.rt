@@ -1,0 +1,80 @@
+//! What a file is, by its first bytes.
+
+ghost use Rattle.std.specs.Prelude.{◌≡◌, Some};
+ghost use Rattle.lfi_file_commands.specs.Kinds as spec;
+
+use std::fmt;
+
+/// What a file is, by its first four bytes.
+#[derive(Clone, Copy, PartialEq, Eq)]
+pub enum FileKind {
+    /// An ELF file: 7f 45 4c 46.
+    Elf,
+    /// The file of an image: `LFI1`.
+    Image,
+    /// A stream, which begins with an Open.
+    Stream,
+    /// None of these: it may be code.
+    Plain,
+}
+
+/// Whether an Open begins so: with this kind and this second byte.
+fn opens_module(kind: u8, second: u8) -> bool
+    ensures { result ≡ spec.opens_module kind second }
+{
+    kind == 1 && second == 0 || kind == 4 && (second == 0 || second == 2)
+}
+
+/// What a file with these first four bytes is.
+fn kind_by(a: u8, b: u8, c: u8, d: u8) -> FileKind
+    ensures { result ≡ spec.kind_by a b c d }
+{
+    if a == 0x7f && b == 0x45 && c == 0x4c && d == 0x46 {
+        FileKind::Elf
+    } else if a == 0x4c && b == 0x46 && c == 0x49 && d == 0x31 {
+        FileKind::Image
+    } else if opens_module(a, b) && c < 16 && d == 0 {
+        FileKind::Stream
+    } else {
+        FileKind::Plain
+    }
+}
+
+impl FileKind {
+    /// What a file with these bytes is. Its first four say it.
+    pub fn of(bytes: &[u8]) -> FileKind
+        ensures { result ≡ spec.file_kind bytes.now }
+    {
+        if bytes.len() < 4 {
+            return FileKind::Plain;
+        }
+        kind_by(bytes[0], bytes[1], bytes[2], bytes[3])
+    }
+
+    /// What it is, and what to do with it.
+    fn text(self) -> &'static str
+        ensures { result.now ≡ spec.kind_text self }
+    {
+        match self {
+            FileKind::Elf => "an ELF file; objcopy -O binary -j .text FILE CODE writes its code",
+            FileKind::Image => "an image; lfiload run runs it, lfiload unpack writes its code",
+            FileKind::Stream => "a stream; lfiload load loads its modules",
+            FileKind::Plain => "",
+        }
+    }
+}
+
+/// The line of a file's kind; nothing, where it is plain.
+#[derive(Clone, Copy)]
+pub(crate) struct KindLine(pub(crate) FileKind);
+
+impl fmt::Display for KindLine {
+    ghost output = { λ line. Some (spec.kind_line line.0) };
+
+    fn fmt<W: fmt::Write>(&self, f: &mut fmt::Formatter<W>) -> fmt::Result {
+        match self.0 {
+            FileKind::Plain => Ok(()),
+            kind => write!(f, "  file: {}\n", kind.text()),
+        }
+    }
+}
