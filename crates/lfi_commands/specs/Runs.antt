@@ -41,7 +41,7 @@ CarriesOut (Pack first entry profile pages files) file_at = HasPacked profile pa
 abbrev pub FailsAs : Line → Failure → Type 0
 FailsAs (Check file explain profile) = FailsOn (file.now ∷ [])
 FailsAs (Load verifiers folder explain streams) = FailsOn (map (λ s. s.now) streams.items)
-FailsAs (Serve socket connections verifiers seconds folder explain) = FailsServing
+FailsAs (Serve socket connections verifiers seconds folder explain) = FailsServing socket.now
 FailsAs (Run image steps) = IsOfReading image.now
 FailsAs (Disassemble file profile) = FailsOn (file.now ∷ [])
 FailsAs (Pack first entry profile pages files) = FailsOn (map (λ s. s.now) files.items)

@@ -46,6 +46,7 @@
 //!   that lets it trace.
 #![tactic(auto)]
 
+mod clients;
 mod ending;
 mod loading;
 mod notices;

@@ -8,9 +8,10 @@ ghost use Rattle.lfi_file_commands.specs.Left.{left};
 ghost use Rattle.lfi_commands.specs.Loading.{HasLoaded};
 ghost use Rattle.lfi_commands.specs.Serving.{HasServedAll, IsLimit};
 ghost use Rattle.lfi_commands.specs.Runs.{FailsAs, CarriesOut, Runs};
-ghost use Rattle.lfi_commands.specs.inner.Found.{HasEnded};
+ghost use Rattle.lfi_commands.specs.inner.Found.{HasEnded, HasEndedServing};
 ghost use Rattle.lfi_commands.specs.inner.Ranges.{IsForFiles, IsInRange};
 
+use crate::clients::{are_all_taken, ending_of_serve, tell_fates};
 use crate::ending::ending_of_load;
 use crate::loading::{load, serve};
 use lfi_command_line::{Line, LineFault, read_line};
@@ -19,7 +20,7 @@ use lfi_file_commands::{
     run_pack, run_run, tell_failure, write_asked_images, write_asked_refused,
 };
 use lfi_stage::settle::Report;
-use lfi_threads::Notices;
+use lfi_threads::{Notices, Served};
 use std::alloc::Global;
 use std::fs::Files;
 use std::io::Write;
@@ -92,6 +93,42 @@ fn run_load<'a, S: Threads + Wait + Sync, D: Disk, N: Notices + Sync, O: Write, 
     }
 }
 
+/// Does the same of what was served, and tells what became of the clients. It gives how the run ends.
+fn end_serve<'a, D: Disk, O: Write, E: Write>(
+    alloc: Global,
+    disk: &mut D,
+    served: &Served,
+    folder: Option<&str>,
+    explain: bool,
+    out: &mut O,
+    errors: &mut Errors<E>,
+) -> Result<Ending, Failure<'a>>
+    ensures ended { IfOk result (HasEndedServing served.now (option_map (λ s. s.now) folder.entry) explain
+        (left (O.contents out.old) (D.put_files disk.old) (is_lost_of errors.old) (E.contents (writer_of errors.old)))
+        (left (O.contents out.new) (D.put_files disk.new) (is_lost_of errors.new) (E.contents (writer_of errors.new)))) }
+    ensures failure { IfErr result (λ failure. is_of_output failure ≡ true) }
+    ensures disk { OnErr result (disk.new ≡ disk.old) }
+    ensures errors { OnErr result (errors.new ≡ errors.old) }
+{
+    let taken = are_all_taken(&served.fates);
+    match end_load(
+        alloc,
+        disk,
+        &served.report,
+        taken,
+        folder,
+        explain,
+        out,
+        errors,
+    ) {
+        Ok(by_load) => {
+            tell_fates(&served.fates, errors);
+            Ok(ending_of_serve(&served.fates, by_load, errors))
+        }
+        Err(failure) => Err(failure),
+    }
+}
+
 /// The limit of time of so many seconds, where they are said.
 fn limit_of(seconds: Option<u64>) -> Option<Duration>
     ensures { IsLimit seconds result }
@@ -104,8 +141,9 @@ fn limit_of(seconds: Option<u64>) -> Option<Duration>
 
 /// Loads the modules of what so many connections send over a socket at this path, with so many verifiers, for so many
 /// seconds at the most where they are said, writes the report, then what is told of refused modules and of faults where that
-/// is asked for, and writes the whole images to a folder where one is named.
+/// is asked for, writes the whole images to a folder where one is named, and tells what became of the clients.
 fn run_serve<
+    'a,
     S: Threads + Wait + Files + Net + Clock + Sync,
     D: Disk,
     N: Notices + Sync,
@@ -116,7 +154,7 @@ fn run_serve<
     alloc: Global,
     disk: &mut D,
     notices: &N,
-    socket: &str,
+    socket: &'a str,
     connections: usize,
     verifiers: usize,
     seconds: Option<u64>,
@@ -124,20 +162,20 @@ fn run_serve<
     explain: bool,
     out: &mut O,
     errors: &mut Errors<E>,
-) -> Result<Ending, Failure<'static>>
+) -> Result<Ending, Failure<'a>>
     requires verifiers { (1 ≤ verifiers) × (verifiers ≤ 8) }
     requires connections { (1 ≤ connections) × (connections ≤ 8) }
     ensures found { IfOk result (HasServedAll connections verifiers seconds (option_map (λ s. s.now) folder.entry) explain
         (left (O.contents out.old) (D.put_files disk.old) (is_lost_of errors.old) (E.contents (writer_of errors.old)))
         (left (O.contents out.new) (D.put_files disk.new) (is_lost_of errors.new) (E.contents (writer_of errors.new)))) }
-    ensures failure { IfErr result FailsServing }
+    ensures failure { IfErr result (FailsServing socket.now) }
     ensures output { IfErr result (λ failure. is_of_output failure ≡ false → out.new ≡ out.old) }
     ensures disk { OnErr result (disk.new ≡ disk.old) }
     ensures errors { OnErr result (errors.new ≡ errors.old) }
 {
     let listener = match UnixListener::bind(rt, socket) {
         Ok(listener) => listener,
-        Err(error) => return Err(Failure::CannotListen(DeviceCause::of(&error))),
+        Err(error) => return Err(Failure::CannotListen(socket, DeviceCause::of(&error))),
     };
     let served = serve(
         rt,
@@ -151,16 +189,7 @@ fn run_serve<
         out,
     );
     match served {
-        Ok(served) => end_load(
-            alloc,
-            disk,
-            &served.report,
-            served.all_accepted,
-            folder,
-            explain,
-            out,
-            errors,
-        ),
+        Ok(served) => end_serve(alloc, disk, &served, folder, explain, out, errors),
         Err(fault) => Err(Failure::from(fault)),
     }
 }

@@ -1,9 +1,9 @@
 mod RunEndings
 mod Explained
 pub mod Failing
-mod Fates
+pub mod Fates
 mod Inputs
-mod Joined
+pub mod Joined
 mod Paths
 mod Streams
 mod Telling

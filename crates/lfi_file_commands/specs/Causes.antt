@@ -44,3 +44,7 @@ cause_text Other = []
 -- what follows the failure in its line: a line of its own, or nothing
 abbrev pub cause_line : DeviceCause → List ℕ
 cause_line = elim [ Other ↦ [] | cause ↦ codes "\n  " ++ cause_text cause ]
+
+-- what follows the path in the second line: the cause, or nothing
+abbrev pub cause_behind : DeviceCause → List ℕ
+cause_behind = elim [ Other ↦ [] | cause ↦ codes ": " ++ cause_text cause ]

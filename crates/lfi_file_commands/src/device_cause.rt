@@ -60,7 +60,7 @@ impl DeviceCause {
     }
 
     /// In words, as the system has them; nothing for another cause.
-    fn text(self) -> &'static str
+    pub(crate) fn text(self) -> &'static str
         ensures { result.now ≡ cause_text self }
     {
         match self {

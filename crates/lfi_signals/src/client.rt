@@ -1,14 +1,17 @@
 //! The clients of a socket, and their streams.
 
-ghost use Rattle.std.specs.Prelude.{◌≡◌, [], Some, None, true, false};
-ghost use Rattle.lfi_signals.specs.Clients.{sent_by, sent_over_socket};
+ghost use Rattle.std.specs.Prelude.{◌≡◌, None, false};
+ghost use Rattle.lfi_signals.specs.Clients.{sent_at, sent_by, sent_over_socket};
+ghost use Rattle.lfi_signals.specs.Deadlines.{limit_of_door};
+ghost use Rattle.lfi_signals.specs.Fates.{is_out_of_time, fate_of};
 
 use crate::door::Door;
+use crate::fate::{Absence, ClientFate};
 use crate::refusal::LoadError;
 use lfi_module::CONNECTIONS;
 use std::array;
 use std::fs::Files;
-use std::io::{self, Read};
+use std::io::{self, ErrorKind, Read};
 use std::net::Shutdown;
 use std::os::unix::net::UnixStream;
 use std::rt::Clock;
@@ -35,24 +38,33 @@ impl Streams {
         &self,
         door: &Door<'_, S>,
         number: usize,
-    ) -> Client<Connection<'_>> {
+    ) -> Client<Connection<'_>>
+        ensures { limit_of_door door.now ≡ None → is_out_of_time (fate_of result) ≡ false }
+    {
+        match door.accept() {
+            Ok(stream) => self.present(number, stream),
+            Err(why) => Client::Absent(why),
+        }
+    }
+
+    /// The client that sends over this stream, as the connection with this number.
+    fn present(&self, number: usize, stream: UnixStream) -> Client<Connection<'_>>
+        ensures { is_out_of_time (fate_of result) ≡ false }
+    {
         let Some(slot) = self.slots.get(number) else {
-            return Client::Absent;
-        };
-        let Some(stream) = door.accept() else {
-            return Client::Absent;
+            return Client::Absent(Absence::NotTaken(ErrorKind::Other));
         };
         let Ok(_) = slot.try_set(stream) else {
-            return Client::Absent;
+            return Client::Absent(Absence::NotTaken(ErrorKind::Other));
         };
         match slot.get() {
             Some(stream) => Client::Present(Connection { stream }),
-            None => Client::Absent,
+            None => Client::Absent(Absence::NotTaken(ErrorKind::Other)),
         }
     }
 
     /// Ends all connections where not all clients could be taken.
-    pub fn shut_down_unless(&self, taken: Result<bool, LoadError>) {
+    pub fn shut_down_unless<T>(&self, taken: &Result<T, LoadError>) {
         if taken.is_err() {
             self.shut_down();
         }
@@ -93,19 +105,19 @@ impl Read for Connection<'_> {
 pub enum Client<R> {
     /// What it sends is what this reader has left.
     Present(R),
-    /// It wasn't accepted, and so sends nothing.
-    Absent,
+    /// It wasn't accepted, for this, and so sends nothing.
+    Absent(Absence),
 }
 
 impl<R> Client<R> {
-    /// Whether it was accepted.
-    pub fn is_present(&self) -> bool
-        ensures present { result ≡ true → sent_over_socket self.now ≡ None }
-        ensures absent { result ≡ false → sent_over_socket self.now ≡ Some [] }
+    /// What becomes of it, where its time is never over.
+    pub fn fate(&self) -> ClientFate
+        ensures is { result ≡ fate_of self.now }
+        ensures sent { sent_over_socket self.now ≡ sent_at result }
     {
         match self {
-            Client::Present(_) => true,
-            Client::Absent => false,
+            Client::Present(_) => ClientFate::Heard,
+            Client::Absent(why) => ClientFate::Absent(*why),
         }
     }
 }
@@ -116,7 +128,7 @@ impl<R: Read> Read for Client<R> {
     fn read(&mut self, buf: &mut [u8]) -> io::Result<usize> {
         match self {
             Client::Present(reader) => reader.read(buf),
-            Client::Absent => Ok(0),
+            Client::Absent(_) => Ok(0),
         }
     }
 }
