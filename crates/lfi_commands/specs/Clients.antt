@@ -1,5 +1,5 @@
--- What `lfiload serve` tells of the clients of connections, and how it ends by them. Source: this project's profile, docs/COMMANDS.md.
-use Rattle.std.specs.Prelude.{◌≡◌, ℕ, Bool, true, false, List, [], ◌++◌, codes, decimal, nat_eq}
+-- What is told of reads that failed, and by `lfiload serve` of the clients of connections, and how it ends by them. Source: this project's profile, docs/COMMANDS.md.
+use Rattle.std.specs.Prelude.{◌≡◌, ℕ, Bool, true, false, List, [], ◌++◌, Option, Some, None, codes, decimal, get_or, nat_eq}
 use Rattle.std.specs.List.{count_by}
 use Rattle.lfi_model.specs.Texts.{lines_from}
 use Rattle.lfi_signals.specs.declared.fate.Absence.TheVariants.{NotCome, NotTaken}
@@ -7,6 +7,10 @@ use Rattle.lfi_signals.specs.declared.fate.ClientFate.{ClientFate}
 use Rattle.lfi_signals.specs.declared.fate.ClientFate.TheVariants.{Heard, CutOff, Absent}
 use Rattle.lfi_signals.specs.Fates.{is_absent, is_cut_off}
 use Rattle.lfi_file_commands.specs.declared.device_cause.DeviceCause.{DeviceCause}
+use Rattle.std.specs.declared.io.ErrorKind.{ErrorKind}
+use Rattle.lfi_frame.specs.declared.fault.FrameFault.{FrameFault}
+use Rattle.lfi_frame.specs.declared.fault.FrameFault.TheVariants.{ReadFailed}
+use Rattle.lfi_file_commands.specs.declared.device_cause.DeviceCause.TheVariants.{Other}
 use Rattle.lfi_file_commands.specs.declared.ending.Ending.{Ending}
 use Rattle.lfi_file_commands.specs.declared.ending.Ending.TheVariants.{Well, NotWell}
 use Rattle.lfi_file_commands.specs.Causes.{cause_line, cause_of}
@@ -15,6 +19,20 @@ use Rattle.lfi_file_commands.specs.Endings.{EndsUnlessLost}
 -- the line of connection c, which can't be read, for this cause
 abbrev pub unread_line : ℕ → DeviceCause → List ℕ
 unread_line c cause = codes "lfiload: connection " ++ decimal c ++ codes ": cannot read" ++ cause_line cause ++ codes "\n"
+
+-- the cause by an error's kind, where it was told
+abbrev pub cause_told : Option ErrorKind → DeviceCause
+cause_told None = Other
+cause_told (Some kind) = cause_of kind
+
+-- the line of connection c, where a read of it failed, with an error of this kind
+abbrev pub read_line : ℕ → Option FrameFault → Option ErrorKind → List ℕ
+read_line c (Some ReadFailed) kind = unread_line c (cause_told kind)
+read_line c fault kind = []
+
+-- those of all connections with these faults, by their numbers
+abbrev pub read_lines : List (Option FrameFault) → (kinds : List (Option ErrorKind)) → List ℕ
+read_lines faults kinds = lines_from (λ c fault. read_line c fault (get_or kinds c None)) 0 faults
 
 -- the line of connection c, which hadn't come, or hadn't ended, when the time was over
 abbrev pub late_line : ℕ → List ℕ

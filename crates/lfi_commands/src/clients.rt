@@ -1,15 +1,17 @@
-//! What is told of the clients of connections, and how a run ends by them.
+//! What is told of reads that failed and of the clients of connections, and how a run ends by these.
 
 ghost use Rattle.std.specs.Prelude.{◌≡◌, true};
 ghost use Rattle.std.specs.List.{count_by};
 ghost use Rattle.lfi_file_commands.specs.Errors.{is_lost_of, writer_of};
 ghost use Rattle.lfi_file_commands.specs.Failures.{Told};
 ghost use Rattle.lfi_signals.specs.Fates.{is_absent, is_cut_off};
-ghost use Rattle.lfi_commands.specs.Clients.{are_all_in_time, are_all_taken, fate_line, fate_lines, late_line, not_well, unread_line, EndsServing};
+ghost use Rattle.lfi_commands.specs.Clients.{are_all_in_time, are_all_taken, cause_told, fate_line, fate_lines, late_line, not_well, read_line, read_lines, unread_line, EndsServing};
 
 use lfi_file_commands::{DeviceCause, Ending, Errors};
+use lfi_frame::FrameFault;
+use lfi_module::CONNECTIONS;
 use lfi_threads::{Absence, ClientFate};
-use std::io::Write;
+use std::io::{ErrorKind, Write};
 
 /// Tells by a line that a connection can't be read.
 fn tell_unread<E: Write>(number: usize, cause: DeviceCause, errors: &mut Errors<E>)
@@ -25,6 +27,46 @@ fn tell_late<E: Write>(number: usize, errors: &mut Errors<E>)
     ensures lost { is_lost_of errors.old ≡ true → is_lost_of errors.new ≡ true }
 {
     errors.write_line(format_args!("lfiload: time is over: connection {number}"))
+}
+
+/// The cause by the kind of an error, where it was told.
+fn cause_told(kind: Option<ErrorKind>) -> DeviceCause
+    ensures { result ≡ cause_told kind }
+{
+    match kind {
+        Some(kind) => DeviceCause::of_kind(kind),
+        None => DeviceCause::Other,
+    }
+}
+
+/// Tells by a line of a connection of which a read failed, with an error of this kind.
+fn tell_read<E: Write>(
+    number: usize,
+    fault: Option<FrameFault>,
+    kind: Option<ErrorKind>,
+    errors: &mut Errors<E>,
+)
+    ensures told { Told (is_lost_of errors.new) (E.contents (writer_of errors.old)) (E.contents (writer_of errors.new)) (read_line number fault kind) }
+    ensures lost { is_lost_of errors.old ≡ true → is_lost_of errors.new ≡ true }
+{
+    match fault {
+        Some(FrameFault::ReadFailed) => tell_unread(number, cause_told(kind), errors),
+        _ => {}
+    }
+}
+
+/// Tells so of each connection with such a fault, by their numbers.
+pub(crate) fn tell_reads<E: Write>(
+    faults: &[Option<FrameFault>; CONNECTIONS],
+    kinds: &[Option<ErrorKind>; CONNECTIONS],
+    errors: &mut Errors<E>,
+)
+    ensures told { Told (is_lost_of errors.new) (E.contents (writer_of errors.old)) (E.contents (writer_of errors.new)) (read_lines faults.now kinds.now) }
+    ensures lost { is_lost_of errors.old ≡ true → is_lost_of errors.new ≡ true }
+{
+    for (number, fault) in faults.iter().enumerate() {
+        tell_read(number, *fault, kinds[number], errors);
+    }
 }
 
 /// Tells by a line what became of the client of a connection, unless it was heard.

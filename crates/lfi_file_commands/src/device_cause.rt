@@ -20,6 +20,7 @@ pub enum DeviceCause {
     QuotaExceeded,
     FileTooLarge,
     BrokenPipe,
+    ConnectionReset,
     AddressInUse,
     EndedEarly,
     /// Text that isn't UTF-8.
@@ -52,6 +53,7 @@ impl DeviceCause {
             io::ErrorKind::QuotaExceeded => DeviceCause::QuotaExceeded,
             io::ErrorKind::FileTooLarge => DeviceCause::FileTooLarge,
             io::ErrorKind::BrokenPipe => DeviceCause::BrokenPipe,
+            io::ErrorKind::ConnectionReset => DeviceCause::ConnectionReset,
             io::ErrorKind::AddrInUse => DeviceCause::AddressInUse,
             io::ErrorKind::UnexpectedEof => DeviceCause::EndedEarly,
             io::ErrorKind::InvalidData => DeviceCause::InvalidData,
@@ -75,6 +77,7 @@ impl DeviceCause {
             DeviceCause::QuotaExceeded => "Disk quota exceeded",
             DeviceCause::FileTooLarge => "File too large",
             DeviceCause::BrokenPipe => "Broken pipe",
+            DeviceCause::ConnectionReset => "Connection reset by peer",
             DeviceCause::AddressInUse => "Address already in use",
             DeviceCause::EndedEarly => "The file ended early",
             DeviceCause::InvalidData => "Not valid UTF-8",

@@ -1,7 +1,8 @@
--- What is known of what clients send.
+-- What is known of what clients send, and of readers that are watched.
 use Rattle.std.specs.Prelude.{ℕ, List, [], Option, Some, None}
 use Rattle.lfi_signals.specs.declared.client.Client.{Client}
 use Rattle.lfi_signals.specs.declared.client.Client.TheVariants.{Present, Absent}
+use Rattle.lfi_signals.specs.declared.reading.Watched.{Watched}
 use Rattle.lfi_signals.specs.declared.fate.ClientFate.{ClientFate}
 use Rattle.lfi_signals.specs.declared.fate.ClientFate.TheVariants as fate
 
@@ -19,3 +20,10 @@ abbrev pub sent_at : ClientFate → Option (List ℕ)
 sent_at fate.Heard = None
 sent_at fate.CutOff = None
 sent_at (fate.Absent why) = Some []
+
+-- the reader that is watched, and what it has left
+abbrev pub reader_of : {R : Type 0} → Watched R → R
+reader_of watched = watched.reader
+
+abbrev pub read_by : {R : Type 0} → (R → Option (List ℕ)) → Watched R → Option (List ℕ)
+read_by remaining watched = remaining (reader_of watched)

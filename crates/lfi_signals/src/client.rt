@@ -7,6 +7,7 @@ ghost use Rattle.lfi_signals.specs.Fates.{is_out_of_time, fate_of};
 
 use crate::door::Door;
 use crate::fate::{Absence, ClientFate};
+use crate::reading::ReadErrors;
 use crate::refusal::LoadError;
 use lfi_module::CONNECTIONS;
 use std::array;
@@ -22,6 +23,7 @@ use std::sync::{OnceLock, Wait};
 #[derive(Drop)]
 pub struct Streams {
     slots: [OnceLock<UnixStream>; CONNECTIONS],
+    read_errors: ReadErrors,
 }
 
 impl Streams {
@@ -29,6 +31,7 @@ impl Streams {
     pub fn new() -> Streams {
         Streams {
             slots: array::from_fn(|_| OnceLock::new()),
+            read_errors: ReadErrors::new(),
         }
     }
 
@@ -58,9 +61,18 @@ impl Streams {
             return Client::Absent(Absence::NotTaken(ErrorKind::Other));
         };
         match slot.get() {
-            Some(stream) => Client::Present(Connection { stream }),
+            Some(stream) => Client::Present(Connection {
+                stream,
+                number,
+                errors: &self.read_errors,
+            }),
             None => Client::Absent(Absence::NotTaken(ErrorKind::Other)),
         }
+    }
+
+    /// Why reads of them failed.
+    pub fn read_errors(&self) -> &ReadErrors {
+        &self.read_errors
     }
 
     /// Ends all connections where not all clients could be taken.
@@ -81,14 +93,20 @@ impl Streams {
 }
 
 /// The stream of a client, as its receiver reads it. It is shut down when this is dropped: so a client that waits for the
-/// end of its connection is told once its receiver has nothing more to hear.
+/// end of its connection is told once its receiver has nothing more to hear. It tells why a read failed.
 pub struct Connection<'a> {
     stream: &'a UnixStream,
+    number: usize,
+    errors: &'a ReadErrors,
 }
 
 impl Drop for Connection<'_> {
     fn drop(self) {
-        let Connection { stream } = self;
+        let Connection {
+            stream,
+            number: _,
+            errors: _,
+        } = self;
         let _ = stream.shutdown(Shutdown::Both);
     }
 }
@@ -96,7 +114,13 @@ impl Drop for Connection<'_> {
 impl Read for Connection<'_> {
     fn read(&mut self, buf: &mut [u8]) -> io::Result<usize> {
         let mut stream = self.stream;
-        stream.read(buf)
+        match stream.read(buf) {
+            Ok(count) => Ok(count),
+            Err(error) => {
+                self.errors.tell(self.number, &error);
+                Err(error)
+            }
+        }
     }
 }
 

@@ -45,6 +45,9 @@
 //!   over, or there is none, and then why. Without a limit of time none is cut off, and none has come too late: that is
 //!   in the clauses (`endless`, and that of `accept`). Which of them had not ended in time the threads' flags tell
 //!   (`Unheard`), of which no clause knows more.
+//! - **Why a read failed is told beside the reader** (`ReadErrors`), by the connection's number, since a receiver keeps
+//!   that a read failed and no more. It lies in places that are written once, so who reads it after the threads have
+//!   ended sees it. No clause knows it: of a reader a clause knows the bytes that it has left.
 //! - **A client is a reader or nobody** (`Client`), for any reader: so the clause of `read` holds for readers that tell
 //!   their bytes too, and a read that fails can't be told as the end of a socket alone.
 //! - **A limit of time is kept by the thread that accepts, and not by one more** (`Deadline`, `Door`). Where there is
@@ -67,6 +70,7 @@ mod door;
 mod ends;
 mod fate;
 mod joining;
+mod reading;
 mod refusal;
 
 pub use bells::{Bell, Bells, Rest, Teller};
@@ -75,4 +79,5 @@ pub use door::{Closed, Door};
 pub use ends::{Ends, Going, Stopped, Verified};
 pub use fate::{Absence, ClientFate, Unheard};
 pub use joining::{join_all, keep};
+pub use reading::{ReadErrors, Watched};
 pub use refusal::LoadError;

@@ -26,6 +26,7 @@ use lfi_signals::{
 };
 use std::alloc::Global;
 use std::fs::Files;
+use std::io::ErrorKind;
 use std::rt::Clock;
 use std::sync::Wait;
 use std::thread;
@@ -38,6 +39,8 @@ pub struct Back {
     pub parts: Parts,
     /// What became of the clients, by their connections' numbers.
     pub fates: [ClientFate; CONNECTIONS],
+    /// Why reads of connections failed, by their numbers.
+    pub read_errors: [Option<ErrorKind>; CONNECTIONS],
     /// How long clients were waited for and heard at the most.
     pub limit: Option<Duration>,
 }
@@ -106,6 +109,7 @@ fn back_from(
     accepted: Result<[ClientFate; CONNECTIONS], LoadError>,
     unheard: Unheard,
     parts: Result<Parts, LoadError>,
+    read_errors: [Option<ErrorKind>; CONNECTIONS],
     limit: Option<Duration>,
 ) -> Result<Back, LoadError>
     ensures fates { IfOk result (λ back. HaveComeTo accepted unheard back.fates) }
@@ -115,6 +119,7 @@ fn back_from(
     Ok(Back {
         fates: unheard.cut_off(accepted?),
         parts: parts?,
+        read_errors,
         limit,
     })
 }
@@ -152,7 +157,8 @@ fn serve_in<
     let closed = door.close();
     let unheard = closed.wait_in_time(env.rt, env.ends, streams, receiving.len());
     let back = join_parts(env, receiving, verifying, placing);
-    back_from(accepted, unheard, back, closed.limit())
+    let read_errors = streams.read_errors().kinds();
+    back_from(accepted, unheard, back, read_errors, closed.limit())
 }
 
 /// All parts of a stage go through their threads, each receiver with a client of the door, which is

@@ -7,7 +7,9 @@ use Rattle.lfi_file_commands.specs.Errors.{is_lost_of, writer_of}
 use Rattle.lfi_file_commands.specs.Left.{left}
 use Rattle.lfi_threads.specs.Served.{HasServed}
 use Rattle.lfi_commands.specs.Serving.{HasServedAll, IsLimit}
+use Rattle.lfi_commands.specs.Clients.{fate_lines, read_lines}
 use Rattle.lfi_commands.specs.inner.Found.{HasEndedServing}
+use Rattle.lfi_file_commands.proofs.Fates.{told_trans}
 use Rattle.lfi_file_commands.proofs.Failing.{is_no_other}
 use Rattle.lfi_file_commands.specs.Failures.{is_of_output, FailsServing}
 use Rattle.lfi_commands.proofs.Failing.{fails_serving_load, fails_serving_output, is_not_of_the_report}
@@ -54,11 +56,12 @@ returns-in-Ok-served g c =
         written = Appends-trans (g.O.Write.contents c.args.out.now) (g.O.Write.contents c.serve-served.new.writer) (g.O.Write.contents c.end_serve.new.out)
             (summary_text (summary_of served.report)) loaded.explained c.in-Ok-served.ensures.written loaded.written;
         all = loaded.all;
-        errors = ended.errors;
-        is_lost = ended.is_lost;
+        errors = loaded.errors;
+        is_lost = loaded.is_lost;
         images = loaded.images;
-        told = ended.told;
-        lost = ended.lost;
+        told = told_trans ended.is_lost (is_lost_of c.end_serve.new.errors) loaded.errors ended.errors (g.E.Write.contents (writer_of c.end_serve.new.errors))
+            (read_lines served.report.faults served.read_errors) (fate_lines served.fates) ended.lost loaded.told ended.told;
+        lost = λ is. ended.lost (loaded.lost is);
         by_load = ended.by_load;
         loads = loaded.ends;
         ends = ended.ends;
