@@ -2,6 +2,7 @@
 use Rattle.std.specs.Prelude.{◌≡◌, ℕ, Bool, true, false, List, [], ◌++◌, Option, Some, None, codes, decimal, get_or, nat_eq}
 use Rattle.std.specs.List.{count_by}
 use Rattle.lfi_model.specs.Texts.{lines_from}
+use Rattle.lfi_signals.specs.declared.fate.Absence.{Absence}
 use Rattle.lfi_signals.specs.declared.fate.Absence.TheVariants.{NotCome, NotTaken}
 use Rattle.lfi_signals.specs.declared.fate.ClientFate.{ClientFate}
 use Rattle.lfi_signals.specs.declared.fate.ClientFate.TheVariants.{Heard, CutOff, Absent}
@@ -38,12 +39,16 @@ read_lines faults kinds = lines_from (λ c fault. read_line c fault (get_or kind
 abbrev pub late_line : ℕ → List ℕ
 late_line c = codes "lfiload: time is over: connection " ++ decimal c ++ codes "\n"
 
+-- the line of connection c, which has no client, for this
+abbrev pub absent_line : ℕ → Absence → List ℕ
+absent_line c NotCome = late_line c
+absent_line c (NotTaken kind) = unread_line c (cause_of kind)
+
 -- the line of connection c, by what became of its client; of one that was heard there is none
 abbrev pub fate_line : ℕ → ClientFate → List ℕ
 fate_line c Heard = []
 fate_line c CutOff = late_line c
-fate_line c (Absent NotCome) = late_line c
-fate_line c (Absent (NotTaken kind)) = unread_line c (cause_of kind)
+fate_line c (Absent why) = absent_line c why
 
 -- those of all connections, by their numbers
 abbrev pub fate_lines : List ClientFate → List ℕ

@@ -5,8 +5,9 @@ ghost use Rattle.std.specs.List.{count_by};
 ghost use Rattle.lfi_file_commands.specs.Errors.{is_lost_of, writer_of};
 ghost use Rattle.lfi_file_commands.specs.Failures.{Told};
 ghost use Rattle.lfi_signals.specs.Fates.{is_absent, is_cut_off};
-ghost use Rattle.lfi_commands.specs.Clients.{are_all_in_time, are_all_taken, cause_told, fate_line, fate_lines, late_line, not_well, read_line, read_lines, unread_line, EndsServing};
+ghost use Rattle.lfi_commands.specs.Clients.{absent_line, are_all_in_time, are_all_taken, cause_told, fate_line, fate_lines, late_line, not_well, read_line, read_lines, unread_line, EndsServing};
 
+use crate::ending::is_of_a_read;
 use lfi_file_commands::{DeviceCause, Ending, Errors};
 use lfi_frame::FrameFault;
 use lfi_module::CONNECTIONS;
@@ -49,9 +50,9 @@ fn tell_read<E: Write>(
     ensures told { Told (is_lost_of errors.new) (E.contents (writer_of errors.old)) (E.contents (writer_of errors.new)) (read_line number fault kind) }
     ensures lost { is_lost_of errors.old ≡ true → is_lost_of errors.new ≡ true }
 {
-    match fault {
-        Some(FrameFault::ReadFailed) => tell_unread(number, cause_told(kind), errors),
-        _ => {}
+    if is_of_a_read(fault) {
+        tell_unread(number, cause_told(kind), errors);
+        return;
     }
 }
 
@@ -69,6 +70,17 @@ pub(crate) fn tell_reads<E: Write>(
     }
 }
 
+/// Tells by a line why a connection has no client.
+fn tell_absent<E: Write>(number: usize, why: Absence, errors: &mut Errors<E>)
+    ensures told { Told (is_lost_of errors.new) (E.contents (writer_of errors.old)) (E.contents (writer_of errors.new)) (absent_line number why) }
+    ensures lost { is_lost_of errors.old ≡ true → is_lost_of errors.new ≡ true }
+{
+    match why {
+        Absence::NotCome => tell_late(number, errors),
+        Absence::NotTaken(kind) => tell_unread(number, DeviceCause::of_kind(kind), errors),
+    }
+}
+
 /// Tells by a line what became of the client of a connection, unless it was heard.
 fn tell_fate<E: Write>(number: usize, fate: ClientFate, errors: &mut Errors<E>)
     ensures told { Told (is_lost_of errors.new) (E.contents (writer_of errors.old)) (E.contents (writer_of errors.new)) (fate_line number fate) }
@@ -76,10 +88,8 @@ fn tell_fate<E: Write>(number: usize, fate: ClientFate, errors: &mut Errors<E>)
 {
     match fate {
         ClientFate::Heard => {}
-        ClientFate::CutOff | ClientFate::Absent(Absence::NotCome) => tell_late(number, errors),
-        ClientFate::Absent(Absence::NotTaken(kind)) => {
-            tell_unread(number, DeviceCause::of_kind(kind), errors)
-        }
+        ClientFate::CutOff => tell_late(number, errors),
+        ClientFate::Absent(why) => tell_absent(number, why, errors),
     }
 }
 
