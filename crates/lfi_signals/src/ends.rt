@@ -174,7 +174,8 @@ impl Ends {
     /// what it has put, and whether it was the last.
     pub fn tell_heard(&self, number: usize) {
         self.bells.items.call_all();
-        self.heard.fetch_or(u64::from(flag_of(number)), Ordering::SeqCst);
+        self.heard
+            .fetch_or(u64::from(flag_of(number)), Ordering::SeqCst);
         self.heard.wake_all();
     }
 

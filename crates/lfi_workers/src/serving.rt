@@ -17,13 +17,11 @@ use crate::notices::Notices;
 use crate::promises::ReceiverThread;
 use crate::running::{Parts, join_parts};
 use crate::starting::{start_receiver, start_sequencers, start_verifiers};
+use lfi_module::CONNECTIONS;
 use lfi_parts::Shared;
 use lfi_place::Gate;
-use lfi_module::CONNECTIONS;
 use lfi_receive::{Input, Receiver};
-use lfi_signals::{
-    Client, ClientFate, Connection, Door, Ends, LoadError, Streams, Unheard, keep,
-};
+use lfi_signals::{Client, ClientFate, Connection, Door, Ends, LoadError, Streams, Unheard, keep};
 use std::alloc::Global;
 use std::fs::Files;
 use std::io::ErrorKind;

@@ -46,26 +46,26 @@ returns-in-Ok-served g c =
     let folder = option_map (λ s. s.now) c.args.folder in
     record {
       found = IfOk-weaker result (HasEndedServing served folder c.args.explain told after) (HasServedAll c.args.connections c.args.verifiers c.args.seconds folder c.args.explain before after) (λ ending ended.
-      let loaded = ended.loaded in
-      record {
-        found = served;
-        served = subst (λ limit. HasServed c.args.connections c.args.verifiers limit served) (sym is.limited) is;
-        limited = subst (IsLimit c.args.seconds) (sym is.limited) c.limit_of.ensures;
-        explained = loaded.explained;
-        explains = loaded.explains;
-        written = Appends-trans (g.O.Write.contents c.args.out.now) (g.O.Write.contents c.serve-served.new.writer) (g.O.Write.contents c.end_serve.new.out)
-            (summary_text (summary_of served.report)) loaded.explained c.in-Ok-served.ensures.written loaded.written;
-        all = loaded.all;
-        errors = loaded.errors;
-        is_lost = loaded.is_lost;
-        images = loaded.images;
-        told = told_trans ended.is_lost (is_lost_of c.end_serve.new.errors) loaded.errors ended.errors (g.E.Write.contents (writer_of c.end_serve.new.errors))
-            (read_lines served.report.faults served.read_errors) (fate_lines served.fates) ended.lost loaded.told ended.told;
-        lost = λ is. ended.lost (loaded.lost is);
-        by_load = ended.by_load;
-        loads = loaded.ends;
-        ends = ended.ends;
-      }) c.end_serve.ensures.ended;
+          let loaded = ended.loaded in
+          record {
+            found = served;
+            served = subst (λ limit. HasServed c.args.connections c.args.verifiers limit served) (sym is.limited) is;
+            limited = subst (IsLimit c.args.seconds) (sym is.limited) c.limit_of.ensures;
+            explained = loaded.explained;
+            explains = loaded.explains;
+            written = Appends-trans (g.O.Write.contents c.args.out.now) (g.O.Write.contents c.serve-served.new.writer) (g.O.Write.contents c.end_serve.new.out)
+                (summary_text (summary_of served.report)) loaded.explained c.in-Ok-served.ensures.written loaded.written;
+            all = loaded.all;
+            errors = loaded.errors;
+            is_lost = loaded.is_lost;
+            images = loaded.images;
+            told = told_trans ended.is_lost (is_lost_of c.end_serve.new.errors) loaded.errors ended.errors (g.E.Write.contents (writer_of c.end_serve.new.errors))
+                (read_lines served.report.faults served.read_errors) (fate_lines served.fates) ended.lost loaded.told ended.told;
+            lost = λ is. ended.lost (loaded.lost is);
+            by_load = ended.by_load;
+            loads = loaded.ends;
+            ends = ended.ends;
+          }) c.end_serve.ensures.ended;
       failure = IfErr-weaker result (λ failure. is_of_output failure ≡ true) (FailsServing c.args.socket.now) (fails_serving_output c.args.socket.now) c.end_serve.ensures.failure;
       output = IfErr-weaker result (λ failure. is_of_output failure ≡ true) (λ failure. is_of_output failure ≡ false → c.end_serve.new.out ≡ c.args.out.now) (λ failure is other. is_no_other failure is other) c.end_serve.ensures.failure;
       disk = c.end_serve.ensures.disk;
