@@ -31,8 +31,8 @@ returns-in-Err g c = record {
   errors = refl {a = c.args.errors.now};
 }
 
-pub returns-in-Err-load : goal.returns-in-Err-load
-returns-in-Err-load g c =
+pub returns : goal.returns
+returns g c =
     let fault = c.in-Err-load.fault in
     record {
       found = tt;
