@@ -136,6 +136,8 @@ On the standard error:
                               tells why.
   lfiload: cannot read PATH   The first stream that can't be opened; nothing is loaded (status 3).
   lfiload: cannot write PATH  An image can't be written (status 3).
+  lfiload: connection C: cannot read
+                              A read of stream C failed (status 3).
   lfiload: at most 8 streams  More were named (status 2).
   lfiload: no memory          There was no memory to load them, or a thread could not be started
                               (status 3).
@@ -150,7 +152,8 @@ report waits for each connection, also for one that sends nothing. The status is
 well where a connection was not taken: that one has no messages.
 
 With --seconds N it waits for N seconds at the most. A connection that has not come by then has no
-messages (status 3), and one that is open ends where it is, as if its client had closed it.
+messages (status 3), and one that is open ends where it is, as if its client had closed it (status 1
+or 3, also where its modules are complete).
 
 The path is removed after the last connection, and when the time is over. A signal ends the program
 at once and leaves the path; serve can't listen there again before it is removed.
@@ -158,7 +161,11 @@ at once and leaves the path; serve can't listen there again before it is removed
 On the standard error:
   module M refused            A connection's thread has seen that module M is refused; the report
                               tells why.
-  lfiload: cannot listen      It can't listen at the path (status 3).
+  lfiload: cannot listen      It can't listen at the path; the second line names it (status 3).
+  lfiload: connection C: cannot read
+                              It was not taken, or a read of it failed (status 3).
+  lfiload: time is over: connection C
+                              It had not come (status 3), or had not ended (status 1 or 3).
   lfiload: cannot write PATH  An image can't be written (status 3).
   lfiload: no memory          There was no memory, or a thread could not be started (status 3).
 

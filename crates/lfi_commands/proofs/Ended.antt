@@ -23,6 +23,7 @@ use Rattle.lfi_file_commands.specs.Listing.{EndsListing}
 use Rattle.lfi_file_commands.specs.Unpacking.{HasUnpacked}
 use Rattle.lfi_file_commands.specs.declared.no_code.NoCode.{NoCode}
 use Rattle.lfi_file_commands.specs.Endings.{ending_of_halt, ending_of_run, number_of, EndsUnlessLost}
+use Rattle.lfi_commands.specs.Clients.{are_all_in_time, are_all_taken, EndsServing}
 use Rattle.lfi_commands.specs.Endings.{EndsLoad}
 use Rattle.lfi_file_commands.specs.Left.{Left, left}
 use Rattle.lfi_file_commands.specs.Running.{EndsRun}
@@ -47,6 +48,14 @@ by_load : (report : Report) (all_taken all_put : Bool) → EndsLoad report all_t
 by_load report true true ends = ends
 by_load report true false ends = cc
 by_load report false all_put ends = cc
+
+by_serve : (in_time is_lost : Bool) (report : Report) (all_taken all_put : Bool) (loads : Ending) → EndsLoad report all_taken all_put loads → EndsServing in_time is_lost loads WrongWords → ⊥
+by_serve true is_lost report all_taken all_put loads did ends = by_load report all_taken all_put (subst (EndsLoad report all_taken all_put) (sym ends) did)
+by_serve false true report all_taken all_put loads did ends = cc
+by_serve false false report all_taken all_put Well did ends = cc
+by_serve false false report all_taken all_put NotWell did ends = cc
+by_serve false false report all_taken all_put WrongWords did ends = by_load report all_taken all_put did
+by_serve false false report all_taken all_put Failed did ends = cc
 
 by_halt : (halt : Halt) → WrongWords ≡ ending_of_halt halt → ⊥
 by_halt halts.StepsUsed ends = cc
@@ -104,7 +113,7 @@ by_unpack bytes old new (inr told) = by_run new.is_lost (image_run.Refused told.
 by_line : (line : Line) (file_at : List ℕ → Option (List ℕ)) (old new : Left) → CarriesOut line file_at old new WrongWords → ⊥
 by_line (Check files explain profile) file_at old new carried = by_check profile explain (map (λ s. s.now) files.items) file_at old new carried.did
 by_line (Load verifiers folder explain streams) file_at old new carried = by_load carried.report true carried.all carried.ends
-by_line (Serve socket connections verifiers seconds folder explain) file_at old new carried = by_load carried.found.report carried.found.all_accepted carried.all carried.ends
+by_line (Serve socket connections verifiers seconds folder explain) file_at old new carried = by_serve (are_all_in_time carried.found.fates) new.is_lost carried.found.report (are_all_taken carried.found.fates) carried.all carried.by_load carried.loads carried.ends
 by_line (Run image steps) file_at old new carried = by_run new.is_lost carried.run carried.ends
 by_line (Disassemble file marks profile) file_at old new carried = by_listing carried.other new.is_lost carried.ends
 by_line (Pack first entry profile pages files) file_at old new carried = carried.found

@@ -16,22 +16,22 @@ pub fails_by : (words : List (List ℕ)) (line : Line) (failure : Failure) → I
 fails_by words line (CannotRead told cause) is fails = (line, is, fails)
 fails_by words line (CannotWrite StandardOutput cause) is fails = inr (line, is, fails)
 fails_by words line (CannotWrite (File path) cause) is fails = (line, is, fails)
-fails_by words line (CannotListen cause) is fails = (line, is, fails)
+fails_by words line (CannotListen told cause) is fails = (line, is, fails)
 fails_by words line NoMemory is fails = tt
 
-pub fails_serving_output : (failure : Failure) → is_of_output failure ≡ true → FailsServing failure
-fails_serving_output (CannotRead told cause) is = absurd (true≢false (sym is))
-fails_serving_output (CannotWrite StandardOutput cause) is = tt
-fails_serving_output (CannotWrite (File path) cause) is = absurd (true≢false (sym is))
-fails_serving_output (CannotListen cause) is = tt
-fails_serving_output NoMemory is = tt
+pub fails_serving_output : (socket : List ℕ) (failure : Failure) → is_of_output failure ≡ true → FailsServing socket failure
+fails_serving_output socket (CannotRead told cause) is = absurd (true≢false (sym is))
+fails_serving_output socket (CannotWrite StandardOutput cause) is = tt
+fails_serving_output socket (CannotWrite (File path) cause) is = absurd (true≢false (sym is))
+fails_serving_output socket (CannotListen told cause) is = absurd (true≢false (sym is))
+fails_serving_output socket NoMemory is = absurd (true≢false (sym is))
 
 -- a failure of reading one of these files is one of a command whose inputs they are
 pub fails_on_reading : (paths : List (List ℕ)) (failure : Failure) → IsOfReadingOne paths failure → FailsOn paths failure
 fails_on_reading paths (CannotRead told cause) is = is
 fails_on_reading paths (CannotWrite StandardOutput cause) is = tt
 fails_on_reading paths (CannotWrite (File path) cause) is = is
-fails_on_reading paths (CannotListen cause) is = is
+fails_on_reading paths (CannotListen told cause) is = is
 fails_on_reading paths NoMemory is = tt
 
 -- what a load fails with is a failure of `load`, and one of `serve`; where it isn't that of the output, the report isn't what failed
@@ -39,9 +39,9 @@ pub fails_on_load : (paths : List (List ℕ)) (fault : LoadFault) → FailsOn pa
 fails_on_load paths (load_fault.NotWritten cause) = tt
 fails_on_load paths (load_fault.NotLoaded why) = tt
 
-pub fails_serving_load : (fault : LoadFault) → FailsServing (failure_of_load fault)
-fails_serving_load (load_fault.NotWritten cause) = tt
-fails_serving_load (load_fault.NotLoaded why) = tt
+pub fails_serving_load : (socket : List ℕ) (fault : LoadFault) → FailsServing socket (failure_of_load fault)
+fails_serving_load socket (load_fault.NotWritten cause) = tt
+fails_serving_load socket (load_fault.NotLoaded why) = tt
 
 pub is_not_of_the_report : (fault : LoadFault) → is_of_output (failure_of_load fault) ≡ false → is_of_the_report fault ≡ false
 is_not_of_the_report (load_fault.NotWritten cause) other = other

@@ -1,6 +1,7 @@
 pub mod LoadFaults
 pub mod Endings
 pub mod Loading
+pub mod Clients
 pub mod Serving
 pub mod Runs
 pub mod inner

@@ -34,7 +34,7 @@ CarriesOut (Unpack image) file_at = HasUnpacked (file_at image.now)
 abbrev pub FailsAs : Line → Failure → Type 0
 FailsAs (Check files explain profile) = λ failure. ⊥
 FailsAs (Load verifiers folder explain streams) = FailsOn (map (λ s. s.now) streams.items)
-FailsAs (Serve socket connections verifiers seconds folder explain) = FailsServing
+FailsAs (Serve socket connections verifiers seconds folder explain) = FailsServing socket.now
 FailsAs (Run image steps) = IsOfReading image.now
 FailsAs (Disassemble file marks profile) = FailsOn (file.now ∷ [])
 FailsAs (Pack first entry profile pages files) = FailsOn (map (λ s. s.now) files.items)

@@ -9,7 +9,7 @@ use lfi_frame::FrameFault;
 use lfi_stage::settle::Report;
 
 /// Whether a fault is that of a read that failed.
-fn is_of_a_read(fault: Option<FrameFault>) -> bool
+pub(crate) fn is_of_a_read(fault: Option<FrameFault>) -> bool
     ensures read { IsTrue result → fault ≡ Some ReadFailed }
     ensures other { result ≡ false → fault ≢ Some ReadFailed }
 {

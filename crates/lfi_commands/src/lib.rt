@@ -28,7 +28,10 @@
 //! - **`module M refused` is written by what `run_words` is handed for notices**, while threads run; its contract says
 //!   nothing of these lines, and the writer for errors has none of them.
 //! - **A stream that can be opened and then not read is no failure of its own**: the read that fails is the
-//!   connection's fault 10, what had come is told, and the status is 3.
+//!   connection's fault 10, what had come is told, and the status is 3. Why it failed has a line on the errors, as each
+//!   other status 3 has.
+//! - **A client that was cut off makes a run not well**, though its report may be: a stream that was cut between two
+//!   messages looks complete. What became of clients is told after the images were put, by a line each.
 //! - **What the words ask for is said by the parser's own definitions** of this program's command (`AreTakenFor`), not
 //!   by a second grammar. Its texts, as that of `--help`, are in no contract, and neither is that they are written:
 //!   tests look.
@@ -46,6 +49,7 @@
 //!   that lets it trace.
 #![tactic(auto)]
 
+mod clients;
 mod ending;
 mod loading;
 mod notices;

@@ -105,7 +105,7 @@ pub fn load<S: Threads + Wait + Sync, R: Read + Send + Drop, N: Notices + Sync, 
 /// Takes so many connections of a listener at this path, loads the modules of their streams as
 /// `load` does, each from when its connection was taken, and writes the report. After the last was
 /// taken the path is removed. Where the time is limited, a connection that hasn't come when it is over
-/// isn't taken, and all others end where they are.
+/// isn't taken, and all others end where they are. What became of each client comes with the report.
 ///
 /// # Errors
 ///
@@ -124,8 +124,7 @@ pub fn serve<S: Threads + Wait + Files + Clock + Sync, N: Notices + Sync, W: Wri
 ) -> Result<Served, LoadFault>
     requires connections { (1 ≤ connections) × (connections ≤ 8) }
     requires verifiers { (1 ≤ verifiers) × (verifiers ≤ 8) }
-    ensures report { IfOk result (HasServed connections verifiers) }
-    ensures limit { IfOk result (λ served. served.limit ≡ limit) }
+    ensures report { IfOk result (HasServed connections verifiers limit) }
     ensures written { IfOk result (λ served. Appends (W.contents writer.old) (W.contents writer.new) (summary_text (summary_of served.report))) }
     ensures unwritten { IfErr result (λ fault. is_of_the_report fault ≡ false → writer.new ≡ writer.old) }
 {

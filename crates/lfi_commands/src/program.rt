@@ -8,9 +8,10 @@ ghost use Rattle.lfi_file_commands.specs.Left.{left};
 ghost use Rattle.lfi_commands.specs.Loading.{HasLoaded};
 ghost use Rattle.lfi_commands.specs.Serving.{HasServedAll, IsLimit};
 ghost use Rattle.lfi_commands.specs.Runs.{FailsAs, CarriesOut, Runs};
-ghost use Rattle.lfi_commands.specs.inner.Found.{HasEnded};
+ghost use Rattle.lfi_commands.specs.inner.Found.{HasEnded, HasEndedServing};
 ghost use Rattle.lfi_commands.specs.inner.Ranges.{IsForFiles, IsInRange};
 
+use crate::clients::{are_all_taken, ending_of_serve, tell_fates, tell_reads};
 use crate::ending::ending_of_load;
 use crate::loading::{load, serve};
 use lfi_command_line::{Line, LineFault, read_line};
@@ -18,11 +19,13 @@ use lfi_file_commands::{
     DeviceCause, Disk, Ending, Errors, Failure, ended, open_all, run_check, run_disassemble,
     run_pack, run_run, run_unpack, tell_failure, write_asked_images, write_asked_refused,
 };
+use lfi_module::CONNECTIONS;
+use lfi_signals::ReadErrors;
 use lfi_stage::settle::Report;
-use lfi_threads::Notices;
+use lfi_threads::{Notices, Served};
 use std::alloc::Global;
 use std::fs::Files;
-use std::io::Write;
+use std::io::{ErrorKind, Write};
 use std::net::Net;
 use std::os::unix::net::UnixListener;
 use std::rt::Clock;
@@ -31,18 +34,20 @@ use std::thread::Threads;
 use std::time::Duration;
 
 /// Writes what is asked for beside the text of a report: what is told of refused modules and of faults, and the whole images to
-/// a folder where one is named. It gives how the load ends, of which all connections were taken or not.
+/// a folder where one is named. It tells of reads that failed, with errors of these kinds. It gives how the load ends, of
+/// which all connections were taken or not.
 fn end_load<'a, D: Disk, O: Write, E: Write>(
     alloc: Global,
     disk: &mut D,
     report: &Report,
+    kinds: &[Option<ErrorKind>; CONNECTIONS],
     all_taken: bool,
     folder: Option<&str>,
     explain: bool,
     out: &mut O,
     errors: &mut Errors<E>,
 ) -> Result<Ending, Failure<'a>>
-    ensures ended { IfOk result (HasEnded report.now all_taken (option_map (λ s. s.now) folder.entry) explain
+    ensures ended { IfOk result (HasEnded report.now kinds.now all_taken (option_map (λ s. s.now) folder.entry) explain
         (left (O.contents out.old) (D.put_files disk.old) (is_lost_of errors.old) (E.contents (writer_of errors.old)))
         (left (O.contents out.new) (D.put_files disk.new) (is_lost_of errors.new) (E.contents (writer_of errors.new)))) }
     ensures failure { IfErr result (λ failure. is_of_output failure ≡ true) }
@@ -52,6 +57,7 @@ fn end_load<'a, D: Disk, O: Write, E: Write>(
     match write_asked_refused(alloc, explain, &report.modules, &report.faults, out) {
         Ok(()) => {
             let all = write_asked_images(alloc, disk, folder, &report.modules, errors);
+            tell_reads(&report.faults, kinds, errors);
             Ok(ending_of_load(report, all_taken, all))
         }
         Err(error) => Err(Failure::of_output(DeviceCause::of(&error))),
@@ -82,13 +88,56 @@ fn run_load<'a, S: Threads + Wait + Sync, D: Disk, N: Notices + Sync, O: Write, 
     ensures disk { OnErr result (disk.new ≡ disk.old) }
     ensures errors { OnErr result (errors.new ≡ errors.old) }
 {
-    let inputs = match open_all(alloc, disk, paths) {
+    let read_errors = ReadErrors::new();
+    let inputs = match open_all(alloc, disk, paths, &read_errors) {
         Ok(inputs) => inputs,
         Err(failure) => return Err(failure),
     };
     match load(rt, alloc, inputs, verifiers, notices, out) {
-        Ok(report) => end_load(alloc, disk, &report, true, folder, explain, out, errors),
+        Ok(report) => {
+            let kinds = read_errors.kinds();
+            end_load(
+                alloc, disk, &report, &kinds, true, folder, explain, out, errors,
+            )
+        }
         Err(fault) => Err(Failure::from(fault)),
+    }
+}
+
+/// Does the same of what was served, and tells what became of the clients. It gives how the run ends.
+fn end_serve<'a, D: Disk, O: Write, E: Write>(
+    alloc: Global,
+    disk: &mut D,
+    served: &Served,
+    folder: Option<&str>,
+    explain: bool,
+    out: &mut O,
+    errors: &mut Errors<E>,
+) -> Result<Ending, Failure<'a>>
+    ensures ended { IfOk result (HasEndedServing served.now (option_map (λ s. s.now) folder.entry) explain
+        (left (O.contents out.old) (D.put_files disk.old) (is_lost_of errors.old) (E.contents (writer_of errors.old)))
+        (left (O.contents out.new) (D.put_files disk.new) (is_lost_of errors.new) (E.contents (writer_of errors.new)))) }
+    ensures failure { IfErr result (λ failure. is_of_output failure ≡ true) }
+    ensures disk { OnErr result (disk.new ≡ disk.old) }
+    ensures errors { OnErr result (errors.new ≡ errors.old) }
+{
+    let taken = are_all_taken(&served.fates);
+    match end_load(
+        alloc,
+        disk,
+        &served.report,
+        &served.read_errors,
+        taken,
+        folder,
+        explain,
+        out,
+        errors,
+    ) {
+        Ok(by_load) => {
+            tell_fates(&served.fates, errors);
+            Ok(ending_of_serve(&served.fates, by_load, errors))
+        }
+        Err(failure) => Err(failure),
     }
 }
 
@@ -104,8 +153,9 @@ fn limit_of(seconds: Option<u64>) -> Option<Duration>
 
 /// Loads the modules of what so many connections send over a socket at this path, with so many verifiers, for so many
 /// seconds at the most where they are said, writes the report, then what is told of refused modules and of faults where that
-/// is asked for, and writes the whole images to a folder where one is named.
+/// is asked for, writes the whole images to a folder where one is named, and tells what became of the clients.
 fn run_serve<
+    'a,
     S: Threads + Wait + Files + Net + Clock + Sync,
     D: Disk,
     N: Notices + Sync,
@@ -116,7 +166,7 @@ fn run_serve<
     alloc: Global,
     disk: &mut D,
     notices: &N,
-    socket: &str,
+    socket: &'a str,
     connections: usize,
     verifiers: usize,
     seconds: Option<u64>,
@@ -124,20 +174,20 @@ fn run_serve<
     explain: bool,
     out: &mut O,
     errors: &mut Errors<E>,
-) -> Result<Ending, Failure<'static>>
+) -> Result<Ending, Failure<'a>>
     requires verifiers { (1 ≤ verifiers) × (verifiers ≤ 8) }
     requires connections { (1 ≤ connections) × (connections ≤ 8) }
     ensures found { IfOk result (HasServedAll connections verifiers seconds (option_map (λ s. s.now) folder.entry) explain
         (left (O.contents out.old) (D.put_files disk.old) (is_lost_of errors.old) (E.contents (writer_of errors.old)))
         (left (O.contents out.new) (D.put_files disk.new) (is_lost_of errors.new) (E.contents (writer_of errors.new)))) }
-    ensures failure { IfErr result FailsServing }
+    ensures failure { IfErr result (FailsServing socket.now) }
     ensures output { IfErr result (λ failure. is_of_output failure ≡ false → out.new ≡ out.old) }
     ensures disk { OnErr result (disk.new ≡ disk.old) }
     ensures errors { OnErr result (errors.new ≡ errors.old) }
 {
     let listener = match UnixListener::bind(rt, socket) {
         Ok(listener) => listener,
-        Err(error) => return Err(Failure::CannotListen(DeviceCause::of(&error))),
+        Err(error) => return Err(Failure::CannotListen(socket, DeviceCause::of(&error))),
     };
     let served = serve(
         rt,
@@ -151,16 +201,7 @@ fn run_serve<
         out,
     );
     match served {
-        Ok(served) => end_load(
-            alloc,
-            disk,
-            &served.report,
-            served.all_accepted,
-            folder,
-            explain,
-            out,
-            errors,
-        ),
+        Ok(served) => end_serve(alloc, disk, &served, folder, explain, out, errors),
         Err(fault) => Err(Failure::from(fault)),
     }
 }

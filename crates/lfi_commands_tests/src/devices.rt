@@ -358,8 +358,8 @@ fn told(alloc: Global) -> Result<[bool; 6], AllocError> {
     let output = is_told(alloc, output, text);
     let closed = Failure::CannotWrite(Target::StandardOutput, DeviceCause::BrokenPipe);
     let closed = is_told(alloc, closed, "");
-    let socket = Failure::CannotListen(DeviceCause::AddressInUse);
-    let text = "lfiload: cannot listen\n  Address already in use\n";
+    let socket = Failure::CannotListen("a/socket", DeviceCause::AddressInUse);
+    let text = "lfiload: cannot listen\n  a/socket: Address already in use\n";
     let socket = is_told(alloc, socket, text);
     let memory = is_told(alloc, Failure::NoMemory, "lfiload: no memory\n");
     Ok([read, output, closed, image, socket, memory])

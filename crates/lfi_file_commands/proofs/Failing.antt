@@ -10,7 +10,7 @@ pub fails_on_output : (paths : List (List ℕ)) (failure : Failure) → is_of_ou
 fails_on_output paths (CannotRead told cause) is = absurd (true≢false (sym is))
 fails_on_output paths (CannotWrite StandardOutput cause) is = tt
 fails_on_output paths (CannotWrite (File path) cause) is = absurd (true≢false (sym is))
-fails_on_output paths (CannotListen cause) is = absurd (true≢false (sym is))
+fails_on_output paths (CannotListen told cause) is = absurd (true≢false (sym is))
 fails_on_output paths NoMemory is = tt
 
 -- and no other

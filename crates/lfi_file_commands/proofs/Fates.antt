@@ -29,7 +29,7 @@ pub told_nil : (lost : Bool) (e : Option (List ℕ)) → Told lost e e []
 told_nil true e = tt
 told_nil false e = Appends-nil e
 
-told_trans : (l m : Bool) (a b c : Option (List ℕ)) (s t : List ℕ) → (l ≡ true → m ≡ true) → Told l a b s → Told m b c t → Told m a c (s ++ t)
+pub told_trans : (l m : Bool) (a b c : Option (List ℕ)) (s t : List ℕ) → (l ≡ true → m ≡ true) → Told l a b s → Told m b c t → Told m a c (s ++ t)
 told_trans l true a b c s t grows p q = tt
 told_trans false false a b c s t grows p q = Appends-trans a b c s t p q
 told_trans true false a b c s t grows p q = absurd (true≢false (sym (grows refl)))

@@ -46,5 +46,5 @@ map_all f xs k enough = ap (map f) (all_taken xs k enough)
 pub tells_one : {A : Type 0} (f : A → List ℕ) (xs : List A) (k : ℕ) (x : A) (failure : Failure) → slice_get xs k ≡ Some x → IsOfReading (f x) failure → IsOfReadingOne (map f xs) failure
 tells_one f xs k x (CannotRead told cause) at tells = (k, slice_get-map f xs k ∙ ap (option_map f) at ∙ ap Some (sym tells))
 tells_one f xs k x (CannotWrite target cause) at tells = absurd tells
-tells_one f xs k x (CannotListen cause) at tells = absurd tells
+tells_one f xs k x (CannotListen told cause) at tells = absurd tells
 tells_one f xs k x NoMemory at tells = tt

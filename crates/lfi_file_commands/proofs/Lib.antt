@@ -2,10 +2,10 @@ mod RunEndings
 mod Explained
 mod Checks
 pub mod Failing
-mod Fates
+pub mod Fates
 mod FirstBytes
 mod Inputs
-mod Joined
+pub mod Joined
 mod Paths
 mod Streams
 mod Telling

@@ -3,7 +3,7 @@ use Rattle.std.specs.Prelude.{ℕ, List, [], ◌++◌, codes}
 use Rattle.std.specs.declared.io.ErrorKind.{ErrorKind}
 use Rattle.std.specs.declared.io.ErrorKind.TheVariants as kind
 use Rattle.lfi_file_commands.specs.declared.device_cause.DeviceCause.{DeviceCause}
-use Rattle.lfi_file_commands.specs.declared.device_cause.DeviceCause.TheVariants.{NotFound, PermissionDenied, IsADirectory, NotADirectory, TooManyLinks, NameTooLong, ReadOnly, StorageFull, QuotaExceeded, FileTooLarge, BrokenPipe, AddressInUse, EndedEarly, InvalidData, Other}
+use Rattle.lfi_file_commands.specs.declared.device_cause.DeviceCause.TheVariants.{NotFound, PermissionDenied, IsADirectory, NotADirectory, TooManyLinks, NameTooLong, ReadOnly, StorageFull, QuotaExceeded, FileTooLarge, BrokenPipe, ConnectionReset, AddressInUse, EndedEarly, InvalidData, Other}
 
 -- by the kind of the system's error
 abbrev pub cause_of : ErrorKind → DeviceCause
@@ -18,6 +18,7 @@ cause_of kind.StorageFull = StorageFull
 cause_of kind.QuotaExceeded = QuotaExceeded
 cause_of kind.FileTooLarge = FileTooLarge
 cause_of kind.BrokenPipe = BrokenPipe
+cause_of kind.ConnectionReset = ConnectionReset
 cause_of kind.AddrInUse = AddressInUse
 cause_of kind.UnexpectedEof = EndedEarly
 cause_of kind.InvalidData = InvalidData
@@ -36,6 +37,7 @@ cause_text StorageFull = codes "No space left on device"
 cause_text QuotaExceeded = codes "Disk quota exceeded"
 cause_text FileTooLarge = codes "File too large"
 cause_text BrokenPipe = codes "Broken pipe"
+cause_text ConnectionReset = codes "Connection reset by peer"
 cause_text AddressInUse = codes "Address already in use"
 cause_text EndedEarly = codes "The file ended early"
 cause_text InvalidData = codes "Not valid UTF-8"
@@ -44,3 +46,7 @@ cause_text Other = []
 -- what follows the failure in its line: a line of its own, or nothing
 abbrev pub cause_line : DeviceCause → List ℕ
 cause_line = elim [ Other ↦ [] | cause ↦ codes "\n  " ++ cause_text cause ]
+
+-- what follows the path in the second line: the cause, or nothing
+abbrev pub cause_behind : DeviceCause → List ℕ
+cause_behind = elim [ Other ↦ [] | cause ↦ codes ": " ++ cause_text cause ]

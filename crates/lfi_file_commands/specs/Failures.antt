@@ -12,7 +12,7 @@ use Rattle.lfi_file_commands.specs.declared.failure.Target.{Target}
 use Rattle.lfi_file_commands.specs.declared.failure.Target.TheVariants.{StandardOutput, File}
 use Rattle.lfi_file_commands.specs.declared.failure.Failure.{Failure}
 use Rattle.lfi_file_commands.specs.declared.failure.Failure.TheVariants.{CannotRead, CannotWrite, CannotListen, NoMemory}
-use Rattle.lfi_file_commands.specs.Causes.{cause_line, cause_of}
+use Rattle.lfi_file_commands.specs.Causes.{cause_behind, cause_line, cause_of}
 
 -- what can't be written, in words
 abbrev pub target_text : Target → List ℕ
@@ -23,7 +23,7 @@ target_text (File path) = string_bytes path
 abbrev pub failure_text : Failure → List ℕ
 failure_text (CannotRead path cause) = codes "cannot read " ++ path.now ++ cause_line cause
 failure_text (CannotWrite target cause) = codes "cannot write " ++ target_text target ++ cause_line cause
-failure_text (CannotListen cause) = codes "cannot listen" ++ cause_line cause
+failure_text (CannotListen path cause) = codes "cannot listen\n  " ++ path.now ++ cause_behind cause
 failure_text NoMemory = codes "no memory"
 
 -- its line; of an output that nobody reads any longer nothing is told
@@ -85,12 +85,12 @@ FailsOn paths (CannotWrite StandardOutput cause) = ⊤
 FailsOn paths NoMemory = ⊤
 FailsOn paths _ = ⊥
 
--- it tells of a fault of a command that listens at a socket
-abbrev pub FailsServing : Failure → Type 0
-FailsServing (CannotListen cause) = ⊤
-FailsServing (CannotWrite StandardOutput cause) = ⊤
-FailsServing NoMemory = ⊤
-FailsServing _ = ⊥
+-- it tells of a fault of a command that listens at a socket at this path
+abbrev pub FailsServing : List ℕ → Failure → Type 0
+FailsServing socket (CannotListen told cause) = told.now ≡ socket
+FailsServing socket (CannotWrite StandardOutput cause) = ⊤
+FailsServing socket NoMemory = ⊤
+FailsServing socket _ = ⊥
 
 -- These lines were written to the errors, unless something is lost.
 abbrev pub Told : Bool → (old new : Option (List ℕ)) → List ℕ → Type 0

@@ -20,6 +20,7 @@ pub enum DeviceCause {
     QuotaExceeded,
     FileTooLarge,
     BrokenPipe,
+    ConnectionReset,
     AddressInUse,
     EndedEarly,
     /// Text that isn't UTF-8.
@@ -52,6 +53,7 @@ impl DeviceCause {
             io::ErrorKind::QuotaExceeded => DeviceCause::QuotaExceeded,
             io::ErrorKind::FileTooLarge => DeviceCause::FileTooLarge,
             io::ErrorKind::BrokenPipe => DeviceCause::BrokenPipe,
+            io::ErrorKind::ConnectionReset => DeviceCause::ConnectionReset,
             io::ErrorKind::AddrInUse => DeviceCause::AddressInUse,
             io::ErrorKind::UnexpectedEof => DeviceCause::EndedEarly,
             io::ErrorKind::InvalidData => DeviceCause::InvalidData,
@@ -60,7 +62,7 @@ impl DeviceCause {
     }
 
     /// In words, as the system has them; nothing for another cause.
-    fn text(self) -> &'static str
+    pub(crate) fn text(self) -> &'static str
         ensures { result.now ≡ cause_text self }
     {
         match self {
@@ -75,6 +77,7 @@ impl DeviceCause {
             DeviceCause::QuotaExceeded => "Disk quota exceeded",
             DeviceCause::FileTooLarge => "File too large",
             DeviceCause::BrokenPipe => "Broken pipe",
+            DeviceCause::ConnectionReset => "Connection reset by peer",
             DeviceCause::AddressInUse => "Address already in use",
             DeviceCause::EndedEarly => "The file ended early",
             DeviceCause::InvalidData => "Not valid UTF-8",

@@ -26,8 +26,8 @@ pub enum Failure<'a> {
     CannotRead(&'a str, DeviceCause),
     /// This can't be written.
     CannotWrite(Target, DeviceCause),
-    /// It can't be listened at the path of a socket.
-    CannotListen(DeviceCause),
+    /// It can't be listened at this path of a socket.
+    CannotListen(&'a str, DeviceCause),
     /// There was no memory, or a thread can't be started.
     NoMemory,
 }
@@ -50,7 +50,12 @@ impl fmt::Display for Failure<'_> {
         match self {
             Failure::CannotRead(path, cause) => write!(f, "cannot read {path}{cause}"),
             Failure::CannotWrite(target, cause) => write!(f, "cannot write {target}{cause}"),
-            Failure::CannotListen(cause) => write!(f, "cannot listen{cause}"),
+            Failure::CannotListen(path, DeviceCause::Other) => {
+                write!(f, "cannot listen\n  {path}")
+            }
+            Failure::CannotListen(path, cause) => {
+                write!(f, "cannot listen\n  {path}: {}", cause.text())
+            }
             Failure::NoMemory => write!(f, "no memory"),
         }
     }

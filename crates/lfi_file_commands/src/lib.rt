@@ -71,7 +71,7 @@
 //!   multiple of 4, or above 16 MiB is read whole, as other inputs are.
 //! - A failed write of the report is told as `lfiload: cannot write standard output`, with status 3, and no image is
 //!   then written.
-//! - **Why a device failed is told by the kind of the system's error**, in the system's words for fourteen kinds and
+//! - **Why a device failed is told by the kind of the system's error**, in the system's words for fifteen kinds and
 //!   not at all for others: the text of an error of the library is in no contract, and it would then be unknown what
 //!   was written to the standard error. The line that says which file it was is what it was before; the cause has a
 //!   line of its own.

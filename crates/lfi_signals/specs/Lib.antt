@@ -1,3 +1,4 @@
 pub mod Clients
 pub mod Deadlines
+pub mod Fates
 pub mod Stops

@@ -1,14 +1,18 @@
 //! The clients of a socket, and their streams.
 
-ghost use Rattle.std.specs.Prelude.{◌≡◌, [], Some, None, true, false};
-ghost use Rattle.lfi_signals.specs.Clients.{sent_by, sent_over_socket};
+ghost use Rattle.std.specs.Prelude.{◌≡◌, None, false};
+ghost use Rattle.lfi_signals.specs.Clients.{sent_at, sent_by, sent_over_socket};
+ghost use Rattle.lfi_signals.specs.Deadlines.{limit_of_door};
+ghost use Rattle.lfi_signals.specs.Fates.{is_out_of_time, fate_of};
 
 use crate::door::Door;
+use crate::fate::{Absence, ClientFate};
+use crate::reading::ReadErrors;
 use crate::refusal::LoadError;
 use lfi_module::CONNECTIONS;
 use std::array;
 use std::fs::Files;
-use std::io::{self, Read};
+use std::io::{self, ErrorKind, Read};
 use std::net::Shutdown;
 use std::os::unix::net::UnixStream;
 use std::rt::Clock;
@@ -19,6 +23,7 @@ use std::sync::{OnceLock, Wait};
 #[derive(Drop)]
 pub struct Streams {
     slots: [OnceLock<UnixStream>; CONNECTIONS],
+    read_errors: ReadErrors,
 }
 
 impl Streams {
@@ -26,6 +31,7 @@ impl Streams {
     pub fn new() -> Streams {
         Streams {
             slots: array::from_fn(|_| OnceLock::new()),
+            read_errors: ReadErrors::new(),
         }
     }
 
@@ -35,24 +41,42 @@ impl Streams {
         &self,
         door: &Door<'_, S>,
         number: usize,
-    ) -> Client<Connection<'_>> {
-        let Some(slot) = self.slots.get(number) else {
-            return Client::Absent;
-        };
-        let Some(stream) = door.accept() else {
-            return Client::Absent;
-        };
-        let Ok(_) = slot.try_set(stream) else {
-            return Client::Absent;
-        };
-        match slot.get() {
-            Some(stream) => Client::Present(Connection { stream }),
-            None => Client::Absent,
+    ) -> Client<Connection<'_>>
+        ensures { limit_of_door door.now ≡ None → is_out_of_time (fate_of result) ≡ false }
+    {
+        match door.accept() {
+            Ok(stream) => self.present(number, stream),
+            Err(why) => Client::Absent(why),
         }
     }
 
+    /// The client that sends over this stream, as the connection with this number.
+    fn present(&self, number: usize, stream: UnixStream) -> Client<Connection<'_>>
+        ensures { is_out_of_time (fate_of result) ≡ false }
+    {
+        let Some(slot) = self.slots.get(number) else {
+            return Client::Absent(Absence::NotTaken(ErrorKind::Other));
+        };
+        let Ok(_) = slot.try_set(stream) else {
+            return Client::Absent(Absence::NotTaken(ErrorKind::Other));
+        };
+        match slot.get() {
+            Some(stream) => Client::Present(Connection {
+                stream,
+                number,
+                errors: &self.read_errors,
+            }),
+            None => Client::Absent(Absence::NotTaken(ErrorKind::Other)),
+        }
+    }
+
+    /// Why reads of them failed.
+    pub fn read_errors(&self) -> &ReadErrors {
+        &self.read_errors
+    }
+
     /// Ends all connections where not all clients could be taken.
-    pub fn shut_down_unless(&self, taken: Result<bool, LoadError>) {
+    pub fn shut_down_unless<T>(&self, taken: &Result<T, LoadError>) {
         if taken.is_err() {
             self.shut_down();
         }
@@ -69,14 +93,20 @@ impl Streams {
 }
 
 /// The stream of a client, as its receiver reads it. It is shut down when this is dropped: so a client that waits for the
-/// end of its connection is told once its receiver has nothing more to hear.
+/// end of its connection is told once its receiver has nothing more to hear. It tells why a read failed.
 pub struct Connection<'a> {
     stream: &'a UnixStream,
+    number: usize,
+    errors: &'a ReadErrors,
 }
 
 impl Drop for Connection<'_> {
     fn drop(self) {
-        let Connection { stream } = self;
+        let Connection {
+            stream,
+            number: _,
+            errors: _,
+        } = self;
         let _ = stream.shutdown(Shutdown::Both);
     }
 }
@@ -84,7 +114,13 @@ impl Drop for Connection<'_> {
 impl Read for Connection<'_> {
     fn read(&mut self, buf: &mut [u8]) -> io::Result<usize> {
         let mut stream = self.stream;
-        stream.read(buf)
+        match stream.read(buf) {
+            Ok(count) => Ok(count),
+            Err(error) => {
+                self.errors.tell(self.number, &error);
+                Err(error)
+            }
+        }
     }
 }
 
@@ -93,19 +129,19 @@ impl Read for Connection<'_> {
 pub enum Client<R> {
     /// What it sends is what this reader has left.
     Present(R),
-    /// It wasn't accepted, and so sends nothing.
-    Absent,
+    /// It wasn't accepted, for this, and so sends nothing.
+    Absent(Absence),
 }
 
 impl<R> Client<R> {
-    /// Whether it was accepted.
-    pub fn is_present(&self) -> bool
-        ensures present { result ≡ true → sent_over_socket self.now ≡ None }
-        ensures absent { result ≡ false → sent_over_socket self.now ≡ Some [] }
+    /// What becomes of it, where its time is never over.
+    pub fn fate(&self) -> ClientFate
+        ensures is { result ≡ fate_of self.now }
+        ensures sent { sent_over_socket self.now ≡ sent_at result }
     {
         match self {
-            Client::Present(_) => true,
-            Client::Absent => false,
+            Client::Present(_) => ClientFate::Heard,
+            Client::Absent(why) => ClientFate::Absent(*why),
         }
     }
 }
@@ -116,7 +152,7 @@ impl<R: Read> Read for Client<R> {
     fn read(&mut self, buf: &mut [u8]) -> io::Result<usize> {
         match self {
             Client::Present(reader) => reader.read(buf),
-            Client::Absent => Ok(0),
+            Client::Absent(_) => Ok(0),
         }
     }
 }

@@ -1,11 +1,13 @@
 //! Where clients come in.
 
-ghost use Rattle.std.specs.Prelude.{◌≡◌};
+ghost use Rattle.std.specs.Prelude.{◌≡◌, ◌≤◌, ℕ, None, IfErr, false};
 ghost use Rattle.lfi_signals.specs.Deadlines.{limit_of_door, limit_of_closed};
+ghost use Rattle.lfi_signals.specs.Fates.{is_late, is_unheard};
 
 use crate::client::Streams;
 use crate::deadline::{Deadline, Span};
-use crate::ends::{Ends, Waited};
+use crate::ends::Ends;
+use crate::fate::{Absence, Unheard};
 use std::fs::Files;
 use std::os::unix::fs::MetadataExt;
 use std::os::unix::net::{UnixListener, UnixStream};
@@ -18,7 +20,7 @@ use std::{fs, io, thread};
 const PAUSE: u64 = 5;
 
 /// Whether a listener that doesn't wait told by this that nobody has come.
-fn is_early(error: io::Error) -> bool {
+fn is_early(error: &io::Error) -> bool {
     error.kind() == io::ErrorKind::WouldBlock
 }
 
@@ -87,39 +89,46 @@ impl<'a, S: Files> Door<'a, S> {
         }
     }
 
-    /// Waits for a client. There is none where it can't be accepted, or doesn't come in time.
-    pub(crate) fn accept(&self) -> Option<UnixStream>
+    /// Waits for a client.
+    ///
+    /// # Errors
+    ///
+    /// Why there is none: it can't be accepted, or doesn't come in time.
+    pub(crate) fn accept(&self) -> Result<UnixStream, Absence>
     where
         S: Wait + Clock,
+        ensures { limit_of_door self.now ≡ None → IfErr result (λ why. is_late why ≡ false) }
     {
         match &self.deadline {
-            Deadline::Never => {
-                let (stream, _) = self.listener.accept().ok()?;
-                Some(stream)
-            }
+            Deadline::Never => match self.listener.accept() {
+                Ok((stream, _)) => Ok(stream),
+                Err(error) => Err(Absence::NotTaken(error.kind())),
+            },
             Deadline::After(span) => self.accept_within(span),
         }
     }
 
     /// Takes a client that has come before this time is over. The listener doesn't wait from then on.
-    fn accept_within(&self, span: &Span) -> Option<UnixStream>
+    fn accept_within(&self, span: &Span) -> Result<UnixStream, Absence>
     where
         S: Wait + Clock,
     {
-        self.listener.set_nonblocking(true).ok()?;
+        if let Err(error) = self.listener.set_nonblocking(true) {
+            return Err(Absence::NotTaken(error.kind()));
+        }
         for _ in self.rt.forever() {
             // Before it looks: who came in time is taken.
             let left = span.left(self.rt);
             match self.listener.accept() {
-                Ok((stream, _)) => return Some(stream),
+                Ok((stream, _)) => return Ok(stream),
                 Err(error) => {
-                    if !is_early(error) {
-                        return None;
+                    if !is_early(&error) {
+                        return Err(Absence::NotTaken(error.kind()));
                     }
                 }
             }
             if left.is_zero() {
-                return None;
+                return Err(Absence::NotCome);
             }
             thread::sleep(self.rt, left.min(Duration::from_millis(PAUSE)));
         }
@@ -144,22 +153,27 @@ pub struct Closed {
 }
 
 impl Closed {
-    /// Waits until so many receivers' threads have nothing more to hear, where the time is limited.
-    /// When it is over all connections are ended.
+    /// Waits until the threads of the first so many receivers have nothing more to hear, where the time
+    /// is limited. When it is over all connections are ended. The answer is which of them had not ended
+    /// by themselves.
     pub fn wait_in_time<S: Wait + Clock>(
         &self,
         rt: &S,
         ends: &Ends,
         streams: &Streams,
         count: usize,
-    ) {
+    ) -> Unheard
+        ensures beyond { (c : ℕ) → count ≤ c → is_unheard result c ≡ false }
+        ensures endless { limit_of_closed self.now ≡ None → (c : ℕ) → is_unheard result c ≡ false }
+    {
         let Deadline::After(span) = &self.deadline else {
-            return;
+            return Unheard::none();
         };
-        match ends.wait_for_heard(rt, count, span) {
-            Waited::AllHeard => {}
-            Waited::OutOfTime => streams.shut_down(),
+        let unheard = ends.wait_for_heard(rt, count, span);
+        if !unheard.is_none() {
+            streams.shut_down();
         }
+        unheard
     }
 
     /// How long the time was that the door began with.

@@ -1,10 +1,12 @@
 //! How far the threads of a stage are to go.
 
-ghost use Rattle.std.specs.Prelude.{◌≡◌, ◌≤◌, ◌<◌, None, Some};
+ghost use Rattle.std.specs.Prelude.{◌≡◌, ◌≤◌, ◌<◌, ℕ, None, Some, false};
+ghost use Rattle.lfi_signals.specs.Fates.{is_unheard};
 ghost use Rattle.lfi_signals.specs.Stops.{why_of};
 
 use crate::bells::Bells;
 use crate::deadline::Span;
+use crate::fate::{Unheard, flag_of};
 use crate::refusal::LoadError;
 use std::rt::Clock;
 use std::sync::Wait;
@@ -103,11 +105,12 @@ impl<'a> Going<'a> {
     }
 }
 
-/// One word that all threads of a stage watch, how many receivers' threads have nothing more to hear,
+/// One word that all threads of a stage watch, which receivers' threads have nothing more to hear,
 /// and where the threads wait for one another.
 #[derive(Drop)]
 pub struct Ends {
     word: AtomicU64,
+    /// A flag for each receiver's thread that has nothing more to hear.
     heard: AtomicU64,
     bells: Bells,
 }
@@ -167,29 +170,31 @@ impl Ends {
         Stopped::of(self.word.load(Ordering::SeqCst))
     }
 
-    /// One more receiver's thread has nothing more to hear. All verifiers look for what it has put,
-    /// and whether it was the last.
-    pub fn tell_heard(&self) {
+    /// The thread of the receiver with this number has nothing more to hear. All verifiers look for
+    /// what it has put, and whether it was the last.
+    pub fn tell_heard(&self, number: usize) {
         self.bells.items.call_all();
-        self.heard.fetch_add(1, Ordering::SeqCst);
+        self.heard
+            .fetch_or(u64::from(flag_of(number)), Ordering::SeqCst);
         self.heard.wake_all();
     }
 
-    /// Waits until so many receivers' threads have nothing more to hear, or this time is over.
+    /// Waits until the threads of the first so many receivers have nothing more to hear, or this time
+    /// is over. The answer is which of them still had something to hear then.
     pub(crate) fn wait_for_heard<S: Wait + Clock>(
         &self,
         rt: &S,
         count: usize,
         span: &Span,
-    ) -> Waited {
+    ) -> Unheard
+        ensures { (c : ℕ) → count ≤ c → is_unheard result c ≡ false }
+    {
         for _ in rt.forever() {
             let heard = u32::try_from(self.heard.load(Ordering::SeqCst)).unwrap_or(u32::MAX);
-            if heard as usize >= count {
-                return Waited::AllHeard;
-            }
+            let unheard = Unheard::of(heard, count);
             let left = span.left(rt);
-            if left.is_zero() {
-                return Waited::OutOfTime;
+            if unheard.is_none() || left.is_zero() {
+                return unheard;
             }
             self.heard.park_timeout(rt, heard, left);
         }
@@ -209,12 +214,4 @@ impl Ends {
         self.word.wake_all();
         self.bells.call_all();
     }
-}
-
-/// Why it was no longer waited for the receivers' threads.
-#[derive(Clone, Copy)]
-pub(crate) enum Waited {
-    /// All of them have nothing more to hear.
-    AllHeard,
-    OutOfTime,
 }

@@ -9,7 +9,8 @@
 //! what they gave back, with what each promised of it. Where memory or a thread is refused, all are told to stop, and
 //! `LoadError` says which of both it was.
 //!
-//! What `Door` says of its limit is told by Deadlines, what is known of what a client sends by Clients.
+//! What `Door` says of its limit is told by Deadlines, what is known of what a client sends by Clients, and what becomes
+//! of it by Fates.
 //!
 //! # What it may not know
 //!
@@ -40,6 +41,13 @@
 //!   (`Closed`).
 //! - **A connection is shut down where its reader is dropped** (`Connection`), so once its receiver has nothing more to
 //!   hear, after a fault too: a client that waits for the end isn't kept until the last one has come.
+//! - **What becomes of a client is told by its connection** (`ClientFate`): it was heard, it was cut off when the time was
+//!   over, or there is none, and then why. Without a limit of time none is cut off, and none has come too late: that is
+//!   in the clauses (`endless`, and that of `accept`). Which of them had not ended in time the threads' flags tell
+//!   (`Unheard`), of which no clause knows more.
+//! - **Why a read failed is told beside the reader** (`ReadErrors`), by the connection's number, since a receiver keeps
+//!   that a read failed and no more. It lies in places that are written once, so who reads it after the threads have
+//!   ended sees it. No clause knows it: of a reader a clause knows the bytes that it has left.
 //! - **A client is a reader or nobody** (`Client`), for any reader: so the clause of `read` holds for readers that tell
 //!   their bytes too, and a read that fails can't be told as the end of a socket alone.
 //! - **A limit of time is kept by the thread that accepts, and not by one more** (`Deadline`, `Door`). Where there is
@@ -60,12 +68,16 @@ mod client;
 mod deadline;
 mod door;
 mod ends;
+mod fate;
 mod joining;
+mod reading;
 mod refusal;
 
 pub use bells::{Bell, Bells, Rest, Teller};
 pub use client::{Client, Connection, Streams};
 pub use door::{Closed, Door};
 pub use ends::{Ends, Going, Stopped, Verified};
+pub use fate::{Absence, ClientFate, Unheard};
 pub use joining::{join_all, keep};
+pub use reading::{ReadErrors, Watched};
 pub use refusal::LoadError;

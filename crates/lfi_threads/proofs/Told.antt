@@ -1,9 +1,13 @@
 -- What is known of each receiver, and where nothing was sent.
-use Rattle.std.proofs.Common.{◌≡◌, ℕ, zero, suc, Bool, List, [], ◌∷◌, ◌++◌, Option, Some, None, slice_get, refl, sym, ◌∙◌, subst}
+use Rattle.std.proofs.Common.{◌≡◌, ℕ, zero, suc, Bool, true, List, [], ◌∷◌, ◌++◌, Option, Some, None, slice_get, refl, sym, ◌∙◌, subst}
 use Rattle.lfi_model.specs.declared.connection.Cause.{Cause}
 use Rattle.lfi_model.specs.declared.connection.Cause.TheVariants as cause_kind
 use Rattle.lfi_receive.specs.declared.receiver.Receiver.{Receiver}
 use Rattle.lfi_parts.proofs.Each.{some_same}
+use Rattle.lfi_signals.specs.declared.fate.ClientFate.{ClientFate}
+use Rattle.lfi_signals.specs.declared.fate.ClientFate.TheVariants.{Heard, CutOff, Absent}
+use Rattle.lfi_signals.specs.Clients.{sent_at}
+use Rattle.lfi_signals.specs.Fates.{is_absent}
 use Rattle.lfi_workers.specs.Heard.{IsHeardOf}
 
 -- what is known of each, by their numbers
@@ -34,3 +38,9 @@ none_heard claimed None heard (Some text) hears is = hears ∙ some_same text []
 none_heard claimed (Some cause_kind.End) heard (Some text) hears is = hears ∙ some_same text [] is
 none_heard claimed (Some cause_kind.Failed) heard (Some text) hears is = empty_front heard hears.0 (sym (some_same text [] is) ∙ hears.1)
 none_heard claimed (Some cause_kind.Starved) heard (Some text) hears is = empty_front heard hears.1 (sym (some_same text [] is) ∙ hears.2)
+
+-- nothing was sent where there is no client
+pub none_sent : (fate : ClientFate) → is_absent fate ≡ true → sent_at fate ≡ Some []
+none_sent Heard is = absurd cc
+none_sent CutOff is = absurd cc
+none_sent (Absent why) is = refl

@@ -5,7 +5,7 @@ use crate::build::{MODULE_0, MODULE_3, MODULE_5, NOP, eight, is_text, piece, pus
 use crate::inputs::{YIELDS, comes_to};
 use lfi_model::{Item, Judged, Summary};
 use lfi_place::{Gate, OpenGate};
-use lfi_threads::{LoadError, NoNotices, serve_on};
+use lfi_threads::{ClientFate, LoadError, NoNotices, serve_on};
 use std::alloc::{AllocError, Global};
 use std::fs;
 use std::fs::Files;
@@ -40,6 +40,15 @@ pub(crate) fn are_told(
     }
 }
 
+/// Whether each connection has a client.
+fn are_all_taken(fates: &[ClientFate]) -> bool {
+    let mut taken = true;
+    for fate in fates {
+        taken &= !fate.is_absent();
+    }
+    taken
+}
+
 /// What is told of so many connections, 1 to 8.
 pub(crate) fn served<S: Threads + Wait + Files + Clock + Sync + AllocGlobal, G: Gate + Sync>(
     rt: &S,
@@ -63,7 +72,7 @@ pub(crate) fn served<S: Threads + Wait + Files + Clock + Sync + AllocGlobal, G: 
     )?;
     Ok(Told {
         summary: served.report.summary(),
-        all_accepted: served.all_accepted,
+        all_accepted: are_all_taken(&served.fates),
     })
 }
 

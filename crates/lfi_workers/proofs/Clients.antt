@@ -1,69 +1,74 @@
--- Connections that weren't accepted.
-use Rattle.std.proofs.Common.{◌≡◌, ◌∙◌, ◌⊎◌, ◌<◌, ◌&&◌, ℕ, zero, suc, Bool, true, false, List, [], ◌∷◌, ◌++◌, Option, Some, None, length, slice_get, refl, sym, subst, inl, inr, arith}
+-- What became of the clients of connections, and what these have sent.
+use Rattle.std.proofs.Common.{◌≡◌, ◌∙◌, ◌<◌, ◌≤◌, ℕ, Bool, true, false, List, [], ◌∷◌, ◌++◌, Option, Some, None, Result, Ok, length, slice_get, refl, sym, ap, subst, inl, inr, arith}
+use Rattle.std.proofs.Math.ListN.{set}
+use Rattle.std.proofs.lemmas.Bool.{cases_lt}
+use Rattle.std.proofs.lemmas.List.{get_or-set_same, get_or-set_other}
 use Rattle.std.proofs.lemmas.Option.{slice_get_within}
 use Rattle.lfi_parts.proofs.Each.{some_at}
-use Rattle.lfi_parts.proofs.Filling.{push_each}
-use Rattle.lfi_workers.specs.inner.Clients.{AreTaken}
+use Rattle.lfi_parts.proofs.Filling.{push_each, one_more}
+use Rattle.lfi_receive.specs.declared.receiver.Receiver.{Receiver}
+use Rattle.lfi_signals.specs.declared.fate.ClientFate.{ClientFate}
+use Rattle.lfi_signals.specs.declared.fate.ClientFate.TheVariants.{Heard, CutOff, Absent}
+use Rattle.lfi_signals.specs.declared.fate.Unheard.{Unheard}
+use Rattle.lfi_signals.specs.declared.refusal.LoadError.{LoadError}
+use Rattle.lfi_signals.specs.Clients.{sent_at}
+use Rattle.lfi_signals.specs.Fates.{fate_after, fate_at, is_out_of_time, is_unheard}
 use Rattle.lfi_signals.proofs.Begun.{each_of_none}
+use Rattle.lfi_workers.specs.Heard.{HasHeard}
+use Rattle.lfi_workers.specs.inner.Clients.{AreTaken, HaveComeTo}
 use Rattle.lfi_workers.proofs.Through.{had_of, had_of_is}
 
-stays : {A : Type 0} (xs : List A) (x y : A) (k : ℕ) → slice_get xs k ≡ Some y → slice_get (xs ++ x ∷ []) k ≡ Some y
-stays [] x y k at = absurd cc
-stays (z ∷ xs) x y zero at = at
-stays (z ∷ xs) x y (suc k) at = stays xs x y k at
-
-last_at : {A : Type 0} (xs : List A) (x : A) → slice_get (xs ++ x ∷ []) (length xs) ≡ Some x
-last_at [] x = refl
-last_at (z ∷ xs) x = last_at xs x
-
--- one of a list is so, where not all were accepted, also after one more
-one_absent : {A : Type 0} (P : A → Type 0) (xs ys : List A) (x : A) (before present after : Bool) → ys ≡ xs ++ x ∷ [] → after ≡ (before && present) → (before ≡ false → (k : ℕ) × (y : A) × (slice_get xs k ≡ Some y) × P y) → (present ≡ false → P x)
-    → after ≡ false → (k : ℕ) × (y : A) × (slice_get ys k ≡ Some y) × P y
-one_absent P xs ys x false present after grown is old new gone = (let o = old refl in (o.0, o.1, subst (λ l. slice_get l o.0 ≡ Some o.1) (sym grown) (stays xs x o.1 o.0 o.2), o.3))
-one_absent P xs ys x true present after grown is old new gone = (length xs, x, subst (λ l. slice_get l (length xs) ≡ Some x) (sym grown) (last_at xs x), new (sym is ∙ gone))
-
--- each of a list is so, where all were accepted, also after one more
-each_present : {A : Type 0} (P : A → Type 0) (xs ys : List A) (x : A) (before present after : Bool) → ys ≡ xs ++ x ∷ [] → after ≡ (before && present) → (before ≡ true → (k : ℕ) (y : A) → slice_get xs k ≡ Some y → P y) → (present ≡ true → P x)
-    → after ≡ true → (k : ℕ) (y : A) → slice_get ys k ≡ Some y → P y
-each_present P xs ys x false present after grown is old new all = absurd cc
-each_present P xs ys x true false after grown is old new all = absurd cc
-each_present P xs ys x true true after grown is old new all = push_each (λ k y. P y) xs ys x grown (old refl) (new refl)
-
--- a client was accepted, or it has sent nothing
-known_of : (present : Bool) (sent : Option (List ℕ)) → (present ≡ true → sent ≡ None) → (present ≡ false → sent ≡ Some []) → (sent ≡ None) ⊎ (sent ≡ Some [])
-known_of true sent there gone = inl (there refl)
-known_of false sent there gone = inr (gone refl)
-
--- what is told of those that were taken, where none is yet
-pub none_taken : {H : Type 0} (sent_of : H → Option (List ℕ)) (hs : List H) → hs ≡ [] → AreTaken true hs sent_of
-none_taken sent_of hs none = record {
-  known = each_of_none (λ k h. (sent_of h ≡ None) ⊎ (sent_of h ≡ Some [])) hs none;
-  each = λ yes. each_of_none (λ k h. sent_of h ≡ None) hs none;
-  absent = λ no. absurd cc;
+-- of no client that was taken
+pub none_taken : {H : Type 0} (fates : List ClientFate) (sent_of : H → Option (List ℕ)) (hs : List H) → hs ≡ [] → ((c : ℕ) → fate_at fates c ≡ Heard) → AreTaken fates hs sent_of
+none_taken fates sent_of hs none all = record {
+  known = each_of_none (λ k h. sent_of h ≡ sent_at (fate_at fates k)) hs none;
+  no_other = λ c past. all c;
 }
 
--- what is told of those that were taken, after one more
-pub one_more_taken : {H : Type 0} (sent_of : H → Option (List ℕ)) (hs gs : List H) (h : H) (before present after : Bool) → gs ≡ hs ++ h ∷ [] → after ≡ (before && present) → AreTaken before hs sent_of → (present ≡ true → sent_of h ≡ None) → (present ≡ false → sent_of h ≡ Some []) → AreTaken after gs sent_of
-one_more_taken sent_of hs gs h before present after grown is old there gone = record {
-  known = push_each (λ k g. (sent_of g ≡ None) ⊎ (sent_of g ≡ Some [])) hs gs h grown old.known (known_of present (sent_of h) there gone);
-  each = each_present (λ g. sent_of g ≡ None) hs gs h before present after grown is old.each there;
-  absent = one_absent (λ g. sent_of g ≡ Some []) hs gs h before present after grown is old.absent gone;
+-- of one more
+pub one_more_taken : {H : Type 0} (fates : List ClientFate) (sent_of : H → Option (List ℕ)) (hs gs : List H) (h : H) (k : ℕ) (fate : ClientFate) → k ≡ length hs → k < length fates → gs ≡ hs ++ h ∷ [] → AreTaken fates hs sent_of
+    → sent_of h ≡ sent_at fate → AreTaken (set fates k fate) gs sent_of
+one_more_taken {H} fates sent_of hs gs h k fate at room grown old sent = record {
+  known = push_each P hs gs h grown
+      (λ j g here. old.known j g here ∙ ap sent_at (sym (get_or-set_other fates k j fate Heard (λ e. let low = slice_get_within hs j g here in omega arith))))
+      (subst (λ j. P j h) at (sent ∙ ap sent_at (sym (get_or-set_same fates k fate Heard room))));
+  no_other = λ c past. (let more = one_more hs gs h grown in get_or-set_other fates k c fate Heard (λ e. omega arith) ∙ old.no_other c (omega arith));
 }
+  where
+    P : ℕ → H → Type 0
+    P j g = sent_of g ≡ sent_at (fate_at (set fates k fate) j)
 
--- what each has sent, once all are taken, by their numbers
-module _ {H : Type 0} {all_accepted : Bool} {count : ℕ} (sent_of : H → Option (List ℕ)) (hs : List H) (long : length hs ≡ count) (taken : AreTaken all_accepted hs sent_of) where
-  pub sent_known : (c : ℕ) → c < count → (had_of sent_of hs c ≡ None) ⊎ (had_of sent_of hs c ≡ Some [])
-  sent_known c within =
-      let h = some_at hs c (omega (arith, long, within)) in
-      subst (λ o. (o ≡ None) ⊎ (o ≡ Some [])) (sym (had_of_is sent_of hs c h.0 h.1)) (taken.known c h.0 h.1)
+-- time that is over changes nothing of what is known
+sent_after : (unheard : Bool) (fate : ClientFate) → sent_at (fate_after unheard fate) ≡ sent_at fate
+sent_after true Heard = refl
+sent_after true CutOff = refl
+sent_after true (Absent why) = refl
+sent_after false fate = refl
 
-  pub sent_each : all_accepted ≡ true → (c : ℕ) → c < count → had_of sent_of hs c ≡ None
-  sent_each all c within =
-      let h = some_at hs c (omega (arith, long, within)) in
-      had_of_is sent_of hs c h.0 h.1 ∙ taken.each all c h.0 h.1
+in_time : (unheard : Bool) (fate : ClientFate) → unheard ≡ false → fate_after unheard fate ≡ fate
+in_time true fate is = absurd cc
+in_time false fate is = refl
 
-  pub sent_absent : all_accepted ≡ false → (c : ℕ) × (c < count) × (had_of sent_of hs c ≡ Some [])
-  sent_absent gone =
-      let one = taken.absent gone in
-      let low = slice_get_within hs one.0 one.1 one.2 in
-      (one.0, omega (arith, long, low), had_of_is sent_of hs one.0 one.1 one.2 ∙ one.3)
+-- what became of them, once the time may be over
+module _ {H : Type 0} (before fates : List ClientFate) (unheard : Unheard) (count : ℕ) (sent_of : H → Option (List ℕ)) (hs : List H)
+    (each : (c : ℕ) → c < 8 → fate_at fates c ≡ fate_after (is_unheard unheard c) (fate_at before c)) (others : (c : ℕ) → 8 ≤ c → fate_at fates c ≡ Heard)
+    (long : length hs ≡ count) (few : count ≤ 8) (taken : AreTaken before hs sent_of) where
+  pub heard_after : (rs : List Receiver) → length rs ≡ count → ((k : ℕ) (r : Receiver) → slice_get rs k ≡ Some r → HasHeard (had_of sent_of hs k) r) → (k : ℕ) (r : Receiver) → slice_get rs k ≡ Some r → HasHeard (sent_at (fate_at fates k)) r
+  heard_after rs same heard k r at =
+      let low = slice_get_within rs k r at in
+      let h = some_at hs k (omega arith) in
+      let known : had_of sent_of hs k ≡ sent_at (fate_at fates k) =
+      had_of_is sent_of hs k h.0 h.1 ∙ taken.known k h.0 h.1 ∙ sym (ap sent_at (each k (omega arith)) ∙ sent_after (is_unheard unheard k) (fate_at before k)) in
+      subst (λ o. HasHeard o r) known (heard k r at)
+
+  pub no_other_after : ((c : ℕ) → length hs ≤ c → is_unheard unheard c ≡ false) → (c : ℕ) → count ≤ c → fate_at fates c ≡ Heard
+  no_other_after beyond c past = elim (cases_lt c 8) [
+    | inl less ↦ each c less ∙ in_time (is_unheard unheard c) (fate_at before c) (beyond c (omega arith)) ∙ taken.no_other c (omega arith)
+    | inr more ↦ others c more
+  ]
+
+  pub endless_after : ((c : ℕ) → is_unheard unheard c ≡ false) → ((c : ℕ) → is_out_of_time (fate_at before c) ≡ false) → (c : ℕ) → is_out_of_time (fate_at fates c) ≡ false
+  endless_after none endless c = elim (cases_lt c 8) [
+    | inl less ↦ ap is_out_of_time (each c less ∙ in_time (is_unheard unheard c) (fate_at before c) (none c)) ∙ endless c
+    | inr more ↦ ap is_out_of_time (others c more)
+  ]

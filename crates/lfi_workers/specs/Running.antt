@@ -1,7 +1,10 @@
 -- All parts of a stage, before and after their threads.
-use Rattle.std.specs.Prelude.{◌≡◌, ◌<◌, ◌⊎◌, ℕ, true, false, List, [], Option, length, Some, None, slice_get}
+use Rattle.std.specs.Prelude.{◌≡◌, ◌≤◌, ℕ, false, List, Option, length, Some, None, slice_get}
 use Rattle.std.specs.Option.{option_map_or}
 use Rattle.std.specs.declared.time.Duration.{Duration}
+use Rattle.lfi_signals.specs.declared.fate.ClientFate.TheVariants.{Heard}
+use Rattle.lfi_signals.specs.Clients.{sent_at}
+use Rattle.lfi_signals.specs.Fates.{fate_at, is_out_of_time}
 use Rattle.lfi_receive.specs.declared.receiver.Receiver.{Receiver}
 use Rattle.lfi_receive.specs.declared.input.Input.{Input}
 use Rattle.lfi_place.specs.declared.verifier.Verifier.{Verifier}
@@ -37,11 +40,10 @@ pub record AreBack (shared : Shared) (count verifiers : ℕ) (had : ℕ → Opti
 abbrev pub had_by : {R : Type 0} → (remaining : R → Option (List ℕ)) → List (Input R) → ℕ → Option (List ℕ)
 had_by remaining inputs c = option_map_or (left_of remaining) (slice_get inputs c) None
 
--- The parts are back, each receiver from its client. A client that was accepted sent what isn't known, and one that wasn't nothing; all were accepted, or not, as is told. This is the limit of time.
+-- The parts are back, each receiver from its client, of which this became: one that isn't there has sent nothing, and what another one has sent isn't known. Where there is no limit of
+-- time, it was over for none. This is the limit.
 pub record HaveServed (shared : Shared) (count verifiers : ℕ) (limit : Option Duration) (back : Back) : Type 0 where
-  pub sent : ℕ → Option (List ℕ)
-  pub parts : AreBack shared count verifiers sent back.parts
-  pub known : (c : ℕ) → c < count → (sent c ≡ None) ⊎ (sent c ≡ Some [])
-  pub each : back.all_accepted ≡ true → (c : ℕ) → c < count → sent c ≡ None
-  pub absent : back.all_accepted ≡ false → (c : ℕ) × (c < count) × (sent c ≡ Some [])
+  pub parts : AreBack shared count verifiers (λ c. sent_at (fate_at back.fates c)) back.parts
+  pub no_other : (c : ℕ) → count ≤ c → fate_at back.fates c ≡ Heard
+  pub endless : limit ≡ None → (c : ℕ) → is_out_of_time (fate_at back.fates c) ≡ false
   pub limited : back.limit ≡ limit

@@ -194,7 +194,7 @@ pub(crate) fn hear<S: Wait, R: Read + Drop, N: Notices>(
     let going = ends.wait_for_go(rt);
     let leaving = hear_on(rt, place, going, notices, &mut receiver, &mut input);
     drop(input);
-    ends.tell_heard();
+    ends.tell_heard(place.number);
     match leaving {
         Leaving::Finished => Heard::Finished(receiver),
         Leaving::Stopped(stopped) => {

@@ -46,9 +46,9 @@
 //!   report, but why it was told to. The sequencers' thread gives back what it was told, too (`Placed`). So a thread that
 //!   ends by itself doesn't compile.
 //! - **A connection that wasn't accepted has a receiver and a thread as the others**, with a reader that is at its end
-//!   at once. Of that reader alone a clause knows what is left, which is nothing. Where `all_accepted` is true, all of
-//!   them were: that stands in `HaveServed` and in private clauses alone (`each`), since of a client that was accepted
-//!   nothing is known that a public clause of what is served could name. That an accept failed is in no clause.
+//!   at once. Of that reader alone a clause knows what is left, which is nothing: so a connection that is told to have no
+//!   client has sent nothing (`HaveServed`), and one that is told to be heard or cut off had one. That an accept failed,
+//!   and that a client had not ended when the time was over, is in no clause.
 //! - **A receiver's thread looks at the modules' phases in every 64th turn, where its item was refused, and when it has
 //!   finished.** A module that is refused while the thread waits in a read is told of when that read comes back, and
 //!   one that is refused after the receiver has finished isn't told of.

@@ -1,14 +1,15 @@
 //! All parts of a stage go through their threads, each receiver with a client of a socket.
 
-ghost use Rattle.std.specs.Prelude.{◌≡◌, ℕ, [], Ok, Some, IsOk, IfOk, OnOk, length, slice_get};
+ghost use Rattle.std.specs.Prelude.{◌≡◌, ◌≤◌, ℕ, [], Ok, Some, None, false, IsOk, IfOk, OnOk, length, slice_get};
 ghost use Rattle.lfi_receive.specs.Inputs.{left_of};
 ghost use Rattle.lfi_receive.specs.declared.receiver.Receiver.{Receiver};
 ghost use Rattle.lfi_parts.specs.Parts.{IsReceiver};
 ghost use Rattle.lfi_parts.specs.Fresh.{IsFresh};
 ghost use Rattle.lfi_signals.specs.Clients.{sent_over_socket};
 ghost use Rattle.lfi_signals.specs.Deadlines.{limit_of_door};
+ghost use Rattle.lfi_signals.specs.Fates.{fate_at, is_out_of_time};
 ghost use Rattle.lfi_workers.specs.Running.{AreReady, HaveServed};
-ghost use Rattle.lfi_workers.specs.inner.Clients.{AreTaken};
+ghost use Rattle.lfi_workers.specs.inner.Clients.{AreTaken, HaveComeTo};
 ghost use Rattle.lfi_workers.specs.inner.Places.{AreAt};
 
 use crate::env::Env;
@@ -16,12 +17,14 @@ use crate::notices::Notices;
 use crate::promises::ReceiverThread;
 use crate::running::{Parts, join_parts};
 use crate::starting::{start_receiver, start_sequencers, start_verifiers};
+use lfi_module::CONNECTIONS;
 use lfi_parts::Shared;
 use lfi_place::Gate;
 use lfi_receive::{Input, Receiver};
-use lfi_signals::{Client, Connection, Door, Ends, LoadError, Streams, keep};
+use lfi_signals::{Client, ClientFate, Connection, Door, Ends, LoadError, Streams, Unheard, keep};
 use std::alloc::Global;
 use std::fs::Files;
+use std::io::ErrorKind;
 use std::rt::Clock;
 use std::sync::Wait;
 use std::thread;
@@ -32,8 +35,10 @@ use std::time::Duration;
 #[derive(Drop)]
 pub struct Back {
     pub parts: Parts,
-    /// Whether each connection was accepted.
-    pub all_accepted: bool,
+    /// What became of the clients, by their connections' numbers.
+    pub fates: [ClientFate; CONNECTIONS],
+    /// Why reads of connections failed, by their numbers.
+    pub read_errors: [Option<ErrorKind>; CONNECTIONS],
     /// How long clients were waited for and heard at the most.
     pub limit: Option<Duration>,
 }
@@ -63,8 +68,8 @@ fn start_client<'s, 'e: 's, S: Wait + Sync, G, N: Notices + Sync>(
 }
 
 /// Takes a client for each receiver, where the verifiers' threads were started, and starts the
-/// receiver's thread at once. The answer is whether all clients were accepted. Where memory or a
-/// thread is refused, all are told to stop.
+/// receiver's thread at once. The answer is what becomes of the clients, as far as it is known then.
+/// Where memory or a thread is refused, all are told to stop.
 fn accept_all<'s, 'e: 's, S: Threads + Wait + Files + Clock + Sync, G, N: Notices + Sync>(
     scope: &Scope<'s, &'e ()>,
     env: &Env<'e, S, G, N>,
@@ -73,39 +78,46 @@ fn accept_all<'s, 'e: 's, S: Threads + Wait + Files + Clock + Sync, G, N: Notice
     streams: &'e Streams,
     receivers: Vec<Receiver>,
     handles: &mut Vec<ClientThread<'e>>,
-) -> Result<bool, LoadError>
+) -> Result<[ClientFate; CONNECTIONS], LoadError>
     requires is { (k : ℕ) (r : Receiver) → slice_get receivers.items k ≡ Some r → IsReceiver env.now.shared.now k r × IsFresh r }
+    requires few { length receivers.items ≤ 8 }
     requires none { handles.old.items ≡ [] }
     ensures places { AreAt env.entry.now.shared.now handles.new.items (λ h. h.promise.place) }
-    ensures all { IfOk result (λ accepted. length handles.new.items ≡ length receivers.items) }
-    ensures taken { IfOk result (λ accepted. AreTaken accepted handles.new.items (λ h. left_of sent_over_socket h.promise.input.value)) }
+    ensures all { IfOk result (λ fates. length handles.new.items ≡ length receivers.items) }
+    ensures taken { IfOk result (λ fates. AreTaken fates handles.new.items (λ h. left_of sent_over_socket h.promise.input.value)) }
+    ensures endless { IfOk result (λ fates. limit_of_door door.now ≡ None → (c : ℕ) → is_out_of_time (fate_at fates c) ≡ false) }
     ensures verifying { OnOk result (IsOk verifying) }
 {
     verifying?;
-    let mut all_accepted = true;
+    let mut fates = [ClientFate::Heard; CONNECTIONS];
     for receiver in receivers {
         let number = handles.len();
         let client = streams.accept(door, number);
-        all_accepted = all_accepted & client.is_present();
+        let fate = client.fate();
         let handle = start_client(scope, env, number, receiver, client);
         keep(env.rt, env.ends, handles, handle)?;
+        fates[number] = fate;
     }
-    Ok(all_accepted)
+    Ok(fates)
 }
 
-/// What comes back, where all clients could be taken and all parts are there.
+/// What comes back, where all clients could be waited for and all parts are there. These of them had not
+/// ended when the time was over.
 fn back_from(
-    accepted: Result<bool, LoadError>,
+    accepted: Result<[ClientFate; CONNECTIONS], LoadError>,
+    unheard: Unheard,
     parts: Result<Parts, LoadError>,
+    read_errors: [Option<ErrorKind>; CONNECTIONS],
     limit: Option<Duration>,
 ) -> Result<Back, LoadError>
-    ensures accepted { IfOk result (λ back. accepted ≡ Ok back.all_accepted) }
+    ensures fates { IfOk result (λ back. HaveComeTo accepted unheard back.fates) }
     ensures parts { IfOk result (λ back. parts ≡ Ok back.parts) }
     ensures limit { IfOk result (λ back. back.limit ≡ limit) }
 {
     Ok(Back {
-        all_accepted: accepted?,
+        fates: unheard.cut_off(accepted?),
         parts: parts?,
+        read_errors,
         limit,
     })
 }
@@ -139,11 +151,12 @@ fn serve_in<
     let begun = start_verifiers(scope, env, verifiers, &mut verifying);
     env.ends.go();
     let accepted = accept_all(scope, env, begun, &door, streams, receivers, &mut receiving);
-    streams.shut_down_unless(accepted);
+    streams.shut_down_unless(&accepted);
     let closed = door.close();
-    closed.wait_in_time(env.rt, env.ends, streams, receiving.len());
+    let unheard = closed.wait_in_time(env.rt, env.ends, streams, receiving.len());
     let back = join_parts(env, receiving, verifying, placing);
-    back_from(accepted, back, closed.limit())
+    let read_errors = streams.read_errors().kinds();
+    back_from(accepted, unheard, back, read_errors, closed.limit())
 }
 
 /// All parts of a stage go through their threads, each receiver with a client of the door, which is

@@ -9,8 +9,7 @@ serve_on-served-requires-clause-verifiers g c κs within = c.requires.verifiers
 
 pub returns-in-Ok-write_report : goal.returns-in-Ok-write_report
 returns-in-Ok-write_report g c = record {
-  report = c.in-Ok.ensures.served;
-  limit = c.in-Ok.ensures.limit;
+  report = c.in-Ok.ensures;
   written = c.in-Ok-write_report.ensures.written;
   unwritten = tt;
 }
@@ -18,7 +17,6 @@ returns-in-Ok-write_report g c = record {
 pub returns-in-Err-write_report : goal.returns-in-Err-write_report
 returns-in-Err-write_report g c = record {
   report = tt;
-  limit = tt;
   written = tt;
   unwritten = λ other. absurd (true≢false (sym c.in-Err-write_report.ensures.fault ∙ other));
 }
@@ -26,7 +24,6 @@ returns-in-Err-write_report g c = record {
 pub returns-in-Err : goal.returns-in-Err
 returns-in-Err g c = record {
   report = tt;
-  limit = tt;
   written = tt;
   unwritten = λ other. refl {a = c.args.writer.now};
 }

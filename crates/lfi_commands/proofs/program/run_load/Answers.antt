@@ -31,8 +31,8 @@ returns-in-Err g c = record {
   errors = refl {a = c.args.errors.now};
 }
 
-pub returns-in-Err-load : goal.returns-in-Err-load
-returns-in-Err-load g c =
+pub returns : goal.returns
+returns g c =
     let fault = c.in-Err-load.fault in
     record {
       found = tt;
@@ -55,7 +55,7 @@ returns-in-Ok-load g c =
     let paths = map (λ path. path.now) c.args.paths.now in
     let streams = map (λ path. g.D.Disk.file_at c.args.disk.now path.now) c.args.paths.now in
     record {
-      found = IfOk-weaker result (HasEnded report true folder c.args.explain told after) (HasLoaded c.args.verifiers streams folder c.args.explain before after) (λ ending ended. record {
+      found = IfOk-weaker result (HasEnded report c.kinds-kinds.result true folder c.args.explain told after) (HasLoaded c.args.verifiers streams folder c.args.explain before after) (λ ending ended. record {
         report = report;
         loaded = λ bytes known. subst (λ n. IsLoaded n c.args.verifiers bytes report) are.all (c.in-Ok-load.ensures.report bytes (known_left _ inputs bytes are known));
         explained = ended.explained;
@@ -63,7 +63,12 @@ returns-in-Ok-load g c =
         written = Appends-trans (g.O.Write.contents c.args.out.now) (g.O.Write.contents c.load.new.writer) (g.O.Write.contents c.end_load.new.out)
             (summary_text (summary_of report)) ended.explained c.in-Ok-load.ensures.written ended.written;
         all = ended.all;
+        errors = ended.errors;
+        is_lost = ended.is_lost;
         images = ended.images;
+        kinds = c.kinds-kinds.result;
+        told = ended.told;
+        lost = ended.lost;
         ends = ended.ends;
       }) c.end_load.ensures.ended;
       failure = IfErr-weaker result (λ failure. is_of_output failure ≡ true) (FailsOn paths) (fails_on_output paths) c.end_load.ensures.failure;

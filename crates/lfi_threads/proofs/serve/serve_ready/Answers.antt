@@ -1,23 +1,26 @@
 use Rattle.std.proofs.Common.{◌≡◌, ◌∙◌, ◌<◌, [], ℕ, List, Option, Some, sym, subst}
 use Rattle.lfi_receive.specs.declared.receiver.Receiver.{Receiver}
 use Rattle.lfi_receive.specs.Receivers.{StandsFor, IsFinished, cause_of, claimed_by}
+use Rattle.lfi_signals.specs.Clients.{sent_at}
+use Rattle.lfi_signals.specs.Fates.{fate_at}
 use Rattle.lfi_stage.specs.Reports.{Reports, cause_at, claimed_at}
 use Rattle.lfi_parts.proofs.Each.{some_at}
-use Rattle.lfi_threads.proofs.Told.{told_by, none_heard}
+use Rattle.lfi_threads.proofs.Told.{told_by, none_heard, none_sent}
 use Rattle.lfi_threads.proofs.serve.serve_ready.Goals as goal
 
 -- what is known of a receiver: what it has heard, which is nothing where nothing was sent
 abbrev Knows : (ℕ → Option (List ℕ)) → ℕ → Receiver → List ℕ → Type 0
 Knows sent k r told = StandsFor r told × (sent k ≡ Some [] → told ≡ []) × IsFinished r
 
-pub returns-in-Ok-clause-served : goal.returns-in-Ok-clause-served
-returns-in-Ok-clause-served g c =
+pub returns-in-Ok : goal.returns-in-Ok
+returns-in-Ok g c =
     let served = c.in-Ok.ensures in
     let back = served.parts in
     let rs = c.in-Ok.back.parts.receivers.items in
-    let told = told_by [] rs (Knows served.sent) (λ k r at.
+    let fates = c.in-Ok.back.fates in
+    let told = told_by [] rs (Knows (λ k. sent_at (fate_at fates k))) (λ k r at.
     let h = back.heard k r at in
-    (h.heard, (h.stands, none_heard (claimed_by r) (cause_of r) h.heard (served.sent k) h.hears, h.finished))) in
+    (h.heard, (h.stands, none_heard (claimed_by r) (cause_of r) h.heard (sent_at (fate_at fates k)) h.hears, h.finished))) in
     record {
       is = record {
         texts = told.0;
@@ -26,8 +29,10 @@ returns-in-Ok-clause-served g c =
         reports = subst (λ n. Reports n told.0 (cause_at rs) (claimed_at rs) c.settle-report.result) back.counted (c.settle-report.ensures.reports told.0 (λ k r at. (told.1 k r at).0));
         verified = c.settle-report.ensures.verifiers ∙ back.verifiers_counted;
       };
-      absent = λ gone.
-          let one = served.absent gone in
-          let r = some_at rs one.0 (subst (λ m. one.0 < m) (sym back.counted) one.1) in
-          (one.0, one.1, (told.1 one.0 r.0 r.1).1 one.2);
+      absent = λ k within gone.
+          let r = some_at rs k (subst (λ m. k < m) (sym back.counted) within) in
+          (told.1 k r.0 r.1).1 (none_sent (fate_at fates k) gone);
+      no_other = served.no_other;
+      endless = served.endless;
+      limited = served.limited;
     }

@@ -1,7 +1,9 @@
-use Rattle.std.proofs.Common.{◌≡◌, ℕ, ◌+◌, Some, length, slice_get}
+use Rattle.std.proofs.Common.{◌≡◌, ℕ, ◌+◌, Some, None, false, length, slice_get}
 use Rattle.std.specs.Vec.Iter.{into_iter_items, into_iter_len}
 use Rattle.lfi_receive.specs.Inputs.{left_of}
 use Rattle.lfi_signals.specs.Clients.{sent_over_socket}
+use Rattle.lfi_signals.specs.Deadlines.{limit_of_door}
+use Rattle.lfi_signals.specs.Fates.{fate_at, is_out_of_time}
 use Rattle.lfi_workers.specs.inner.Clients.{AreTaken}
 use Rattle.lfi_workers.proofs.serving.accept_all.Given as goal
 
@@ -9,6 +11,8 @@ abbrev pub invariant-loop-receiver : goal.invariant-loop-receiver
 invariant-loop-receiver g l = record {
   count : length l.handles.items + into_iter_len l.receiver-iterator ≡ length l.fn.receivers.items;
   rest : (k : ℕ) → slice_get (into_iter_items l.receiver-iterator) k ≡ slice_get l.fn.receivers.items (length l.handles.items + k);
-  taken : AreTaken l.all_accepted l.handles.items (λ h. left_of sent_over_socket h.promise.input.value);
+  long : length l.fates ≡ 8;
+  taken : AreTaken l.fates l.handles.items (λ h. left_of sent_over_socket h.promise.input.value);
+  endless : limit_of_door l.door ≡ None → (c : ℕ) → is_out_of_time (fate_at l.fates c) ≡ false;
   places : (k : ℕ) (h : _) → slice_get l.handles.items k ≡ Some h → (h.promise.place.shared.now ≡ l.env.shared.now) × (h.promise.place.number ≡ k);
 }

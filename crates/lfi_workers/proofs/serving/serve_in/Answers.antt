@@ -1,8 +1,8 @@
-use Rattle.std.proofs.Common.{◌∙◌}
+use Rattle.std.proofs.Common.{◌≡◌, ◌∙◌, length, arith}
 use Rattle.std.proofs.lemmas.Result.{IfOk-at_ok, IfOk-from_err}
 use Rattle.lfi_receive.specs.Inputs.{left_of}
 use Rattle.lfi_signals.specs.Clients.{sent_over_socket}
-use Rattle.lfi_workers.proofs.Clients.{sent_known, sent_each, sent_absent}
+use Rattle.lfi_workers.proofs.Clients.{heard_after, no_other_after, endless_after}
 use Rattle.lfi_workers.proofs.Through.{back_of, sequencers_of, receivers_of, had_of, heard_by, on_ok, of_three}
 use Rattle.lfi_workers.proofs.serving.serve_in.Goals as goal
 
@@ -15,11 +15,15 @@ start_verifiers-begun-requires-clause-are g c = λ κs within. c.requires.ready.
 pub accept_all-accepted-requires-clause-is : goal.accept_all-accepted-requires-clause-is
 accept_all-accepted-requires-clause-is g c = λ κs within. λ k r at. receivers_of c.args.env.now.shared.now c.requires.ready.0 c.args.ready c.requires.ready.1 k r at
 
+pub accept_all-accepted-requires-clause-few : goal.accept_all-accepted-requires-clause-few
+accept_all-accepted-requires-clause-few g c = λ κs within. c.requires.ready.1.all.receivers_are.few
+
 pub returns : goal.returns
-returns g c = of_three c.back_from.result _ _ _ _ c.back_from.ensures.accepted c.back_from.ensures.parts c.back_from.ensures.limit (λ back told are limit.
+returns g c = of_three c.back_from.result _ _ _ _ c.back_from.ensures.fates c.back_from.ensures.parts c.back_from.ensures.limit (λ back come are limit.
     let on = c.join_parts-back.ensures in
     let ready = c.requires.ready.1 in
     let accepted = c.accept_all-accepted.ensures in
+    let told = come.accepts in
     let count = IfOk-at_ok _ told accepted.all in
     let verifiers = on_ok c.start_verifiers-begun.result _ (IfOk-at_ok _ told accepted.verifying) c.start_verifiers-begun.ensures.all in
     let taken = IfOk-at_ok _ told accepted.taken in
@@ -27,18 +31,21 @@ returns g c = of_three c.back_from.result _ _ _ _ c.back_from.ensures.accepted c
     let new = back.parts in
     let receiver_count = IfOk-at_ok _ are on.receiver_count in
     let verifier_count = IfOk-at_ok _ are on.verifier_count in
+    let few = ready.all.receivers_are.few in
+    let before = come.before in
+    let unheard = c.wait_in_time-unheard in
+    let long : c.len.result ≡ length hs = c.len.ensures ∙ c.accept_all-accepted.new.handles.ok.0 in
     record {
-      sent = λ k. had_of (λ h. left_of sent_over_socket h.promise.input.value) hs k;
       parts = record {
         all = back_of c.args.env.now.shared.now c.requires.ready.0 c.args.ready new ready (receiver_count ∙ count) (IfOk-at_ok _ are on.receivers) (verifier_count ∙ verifiers) (IfOk-at_ok _ are on.verifiers) (IfOk-at_ok _ are on.sequencers);
         counted = receiver_count ∙ count;
         verifiers_counted = verifier_count ∙ verifiers;
-        heard = heard_by (λ h. left_of sent_over_socket h.promise.input.value) hs new.receivers.items receiver_count (IfOk-at_ok _ are on.heard);
+        heard = heard_after before back.fates unheard.result _ (λ h. left_of sent_over_socket h.promise.input.value) hs come.each come.no_other count few taken new.receivers.items (receiver_count ∙ count)
+            (heard_by (λ h. left_of sent_over_socket h.promise.input.value) hs new.receivers.items receiver_count (IfOk-at_ok _ are on.heard));
         ended = IfOk-at_ok _ are on.ended;
       };
-      known = sent_known (λ h. left_of sent_over_socket h.promise.input.value) hs count taken;
-      each = sent_each (λ h. left_of sent_over_socket h.promise.input.value) hs count taken;
-      absent = sent_absent (λ h. left_of sent_over_socket h.promise.input.value) hs count taken;
+      no_other = no_other_after before back.fates unheard.result _ (λ h. left_of sent_over_socket h.promise.input.value) hs come.each come.no_other count few taken (λ n past. unheard.ensures.beyond n (omega arith));
+      endless = λ never. endless_after before back.fates unheard.result _ (λ h. left_of sent_over_socket h.promise.input.value) hs come.each come.no_other count few taken (unheard.ensures.endless (c.close-closed.ensures ∙ never)) (IfOk-at_ok _ told accepted.endless never);
       limited = limit ∙ c.limit.ensures ∙ c.close-closed.ensures;
     })
 

@@ -1,0 +1,11 @@
+use Rattle.std.proofs.Common.{◌≡◌, true, take}
+use Rattle.lfi_file_commands.specs.Errors.{is_lost_of, writer_of}
+use Rattle.lfi_file_commands.specs.Failures.{Told}
+use Rattle.lfi_commands.specs.Clients.{fate_lines}
+use Rattle.lfi_commands.proofs.clients.tell_fates.Given as goal
+
+abbrev pub invariant-loop-number : goal.invariant-loop-number
+invariant-loop-number g l = record {
+  told : Told (is_lost_of l.errors) (g.E.Write.contents (writer_of l.initial.errors)) (g.E.Write.contents (writer_of l.errors)) (fate_lines (take l.number l.fates));
+  lost : is_lost_of l.initial.errors ≡ true → is_lost_of l.errors ≡ true;
+}
