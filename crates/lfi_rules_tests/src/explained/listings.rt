@@ -42,7 +42,14 @@ pub fn listed(alloc: Global, words: &[u32], profile: Profile) -> Result<Vec<u8>,
     if words.len() > 4_194_304 {
         return Err(Fail::new("the module is too long"));
     }
-    write_listing(alloc, &Row(words), ModuleNumber::at(0), profile, &mut out)?;
+    write_listing(
+        alloc,
+        &Row(words),
+        ModuleNumber::at(0),
+        false,
+        profile,
+        &mut out,
+    )?;
     Ok(out)
 }
 
