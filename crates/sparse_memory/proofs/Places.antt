@@ -3,63 +3,45 @@ use Rattle.std.proofs.Common.{◌≡◌, ℕ, zero, suc, ◌+◌, ◌-◌, ◌*�
 use Rattle.std.proofs.lemmas.Bool.{cases_eq, eq-eqb, eqb-true, eqb-false, cond_both, cond-true, cond-false}
 use Rattle.a64_word.specs.Bytes.{number_at, low_bytes, written}
 use Rattle.sparse_memory.proofs.Numbers.{same_numbers}
-use Rattle.sparse_memory.specs.Kept.{Kept, byte_at, frame_of, page_place, frame_place, IsKept, IsWellKept, WritesNumber}
-
--- No frame belongs to two pages.
-pub pages_apart : (kept : Kept) (i j : ℕ) → IsWellKept kept → 0 < frame_of kept i → frame_of kept i ≡ frame_of kept j → i ≡ j
-unfolding frame_of
-pages_apart kept i j well some same =
-    let place : get_or kept.regions (i / 1024) 0 + i % 1024 ≡ get_or kept.regions (j / 1024) 0 + j % 1024 = well.apart (page_place kept i) (page_place kept j) some same in
-    let at_i = well.begins (i / 1024) in
-    let at_j = well.begins (j / 1024) in
-    let begin : get_or kept.regions (i / 1024) 0 ≡ get_or kept.regions (j / 1024) 0 = omega (arith, place, at_i, at_j) in
-    elim (cases_eq (get_or kept.regions (i / 1024) 0) 0) [
-      | inl none ↦ (
-          let first : page_place kept i < 1024 = omega (arith, none) in
-          let nothing = well.empty (page_place kept i) first in
-          absurd (omega (arith, some, nothing)))
-      | inr not_none ↦ (
-          let region : i / 1024 ≡ j / 1024 = well.own (i / 1024) (j / 1024) (omega (arith, not_none)) begin in
-          omega (arith, place, begin, region))
-    ]
+use Rattle.sparse_memory.specs.Kept.{Kept, byte_at, frame_place, IsKept, IsWellKept, WritesNumber}
 
 -- a byte near another one of a page that is kept
-pub byte_near : (kept : Kept) (frame offset at room k : ℕ) → frame ≡ frame_of kept (offset / 4096) → 0 < frame → offset % 4096 + room ≤ 4096 → at ≡ (frame - 1) * 4096 + offset % 4096 → k < room
+pub byte_near : (kept : Kept) (frame offset at room k : ℕ) → frame ≡ get_or kept.table (offset / 65536) 0 → 0 < frame → offset % 65536 + room ≤ 65536 → at ≡ (frame - 1) * 65536 + offset % 65536 → k < room
     → get_or kept.frames (at + k) 0 ≡ byte_at kept (offset + k)
 byte_near kept frame offset at room k is some fits place near =
-    let page : (offset + k) / 4096 ≡ offset / 4096 = omega arith in
-    let within : (offset + k) % 4096 ≡ offset % 4096 + k = omega arith in
-    let kept_here : eqb (frame_of kept (offset / 4096)) 0 ≡ false = ne_eqb (frame_of kept (offset / 4096)) 0 (omega (arith, is, some)) in
-    let e : at + k ≡ (frame_of kept (offset / 4096) - 1) * 4096 + (offset % 4096 + k) = ap (λ p. p + k) (place ∙ ap (λ f. (f - 1) * 4096 + offset % 4096) is) ∙ omega arith in
+    let page : (offset + k) / 65536 ≡ offset / 65536 = omega arith in
+    let within : (offset + k) % 65536 ≡ offset % 65536 + k = omega arith in
+    let kept_here : eqb (get_or kept.table (offset / 65536) 0) 0 ≡ false = ne_eqb (get_or kept.table (offset / 65536) 0) 0 (omega (arith, is, some)) in
+    let e : at + k ≡ (get_or kept.table (offset / 65536) 0 - 1) * 65536 + (offset % 65536 + k) = ap (λ p. p + k) (place ∙ ap (λ f. (f - 1) * 65536 + offset % 65536) is) ∙ omega arith in
     rw (page, within, kept_here) (ap (λ p. get_or kept.frames p 0) e)
 
 -- the number that bytes of one page spell
-pub number_near : (kept : Kept) (bytes : List ℕ) (frame offset at room : ℕ) → bytes ≡ kept.frames → frame ≡ frame_of kept (offset / 4096) → 0 < frame → offset % 4096 + room ≤ 4096
-    → at ≡ (frame - 1) * 4096 + offset % 4096 → number_at (λ k. get_or bytes k 0) room at ≡ number_at (byte_at kept) room offset
+pub number_near : (kept : Kept) (bytes : List ℕ) (frame offset at room : ℕ) → bytes ≡ kept.frames → frame ≡ get_or kept.table (offset / 65536) 0 → 0 < frame → offset % 65536 + room ≤ 65536
+    → at ≡ (frame - 1) * 65536 + offset % 65536 → number_at (λ k. get_or bytes k 0) room at ≡ number_at (byte_at kept) room offset
 number_near kept bytes frame offset at room same is some fits place =
     same_numbers (λ k. get_or bytes k 0) (byte_at kept) room at offset
     (λ k h. ap (λ b. get_or b (at + k) 0) same ∙ byte_near kept frame offset at room k is some fits place h)
 
 -- Among pages that are kept, a place has one offset.
-same_place : (kept : Kept) (start j o : ℕ) → IsWellKept kept → IsKept kept start → IsKept kept o → start % 4096 + j < 4096
+same_place : (kept : Kept) (start j o : ℕ) → IsWellKept kept → IsKept kept start → IsKept kept o → start % 65536 + j < 65536
     → eqb (frame_place kept o) (frame_place kept start + j) ≡ eqb o (start + j)
 same_place kept start j o well here there within = elim (cases_eq o (start + j)) [
   | inl e ↦ (
-      let page : (start + j) / 4096 ≡ start / 4096 = omega arith in
-      let rest : (start + j) % 4096 ≡ start % 4096 + j = omega arith in
+      let page : (start + j) / 65536 ≡ start / 65536 = omega arith in
+      let rest : (start + j) % 65536 ≡ start % 65536 + j = omega arith in
       let place : frame_place kept (start + j) ≡ frame_place kept start + j = rw (page, rest) (omega arith) in
       rw e (eq-eqb (frame_place kept (start + j)) (frame_place kept start + j) place ∙ sym (eq-eqb (start + j) (start + j) refl)))
   | inr ne ↦ (
       let other : frame_place kept o ≡ frame_place kept start + j → ⊥ = λ same.
-      let frame : frame_of kept (start / 4096) ≡ frame_of kept (o / 4096) = omega (arith, same, here, there, within) in
-      let rest : o % 4096 ≡ start % 4096 + j = omega (arith, same, here, there, within) in
-      let page : start / 4096 ≡ o / 4096 = pages_apart kept (start / 4096) (o / 4096) well here frame in
+      let frame : get_or kept.table (start / 65536) 0 ≡ get_or kept.table (o / 65536) 0 = omega (arith, same, here, there, within) in
+      let rest : o % 65536 ≡ start % 65536 + j = omega (arith, same, here, there, within) in
+      let page : start / 65536 ≡ o / 65536 = well.apart (start / 65536) (o / 65536) here frame in
       ne (omega (arith, page, rest)) in
       ne_eqb (frame_place kept o) (frame_place kept start + j) other ∙ sym (ne_eqb o (start + j) ne))
 ]
 
 -- What is written among the frames is written at the offsets of their page.
-placed : (kept : Kept) (f g : ℕ → ℕ) (start j : ℕ) (bytes : List ℕ) (o : ℕ) → IsWellKept kept → IsKept kept start → IsKept kept o → start % 4096 + j + length bytes ≤ 4096
+placed : (kept : Kept) (f g : ℕ → ℕ) (start j : ℕ) (bytes : List ℕ) (o : ℕ) → IsWellKept kept → IsKept kept start → IsKept kept o → start % 65536 + j + length bytes ≤ 65536
     → f (frame_place kept o) ≡ g o → written f (frame_place kept start + j) bytes (frame_place kept o) ≡ written g (start + j) bytes o
 placed kept f g start j [] o well here there within same = same
 placed kept f g start j (b ∷ bs) o well here there within same =
@@ -84,23 +66,22 @@ length-low_bytes zero value = refl
 length-low_bytes (suc bytes) value = ap suc (length-low_bytes bytes (value / 256))
 
 -- a number that was written in one page
-pub written_near : (kept : Kept) (frames : List ℕ) (offset at bytes value : ℕ) → IsWellKept kept → IsKept kept offset → offset % 4096 + bytes ≤ 4096 → at ≡ frame_place kept offset
+pub written_near : (kept : Kept) (frames : List ℕ) (offset at bytes value : ℕ) → IsWellKept kept → IsKept kept offset → offset % 65536 + bytes ≤ 65536 → at ≡ frame_place kept offset
     → ((k : ℕ) → get_or frames k 0 ≡ written (λ q. get_or kept.frames q 0) at (low_bytes bytes value) k)
-    → WritesNumber kept (record { regions = kept.regions; table = kept.table; frames = frames }) offset bytes value
-unfolding frame_of
+    → WritesNumber kept (record { table = kept.table; frames = frames }) offset bytes value
 written_near kept frames offset at bytes value well here fits is wrote o =
-    cond_both (eqb (frame_of kept (o / 4096)) 0) 0 (get_or frames (frame_place kept o) 0) (λ b. b ≡ written (byte_at kept) offset (low_bytes bytes value) o)
+    cond_both (eqb (get_or kept.table (o / 65536) 0) 0) 0 (get_or frames (frame_place kept o) 0) (λ b. b ≡ written (byte_at kept) offset (low_bytes bytes value) o)
     (λ none.
-    let old : byte_at kept o ≡ 0 = cond-true (eqb (frame_of kept (o / 4096)) 0) 0 (get_or kept.frames (frame_place kept o) 0) none in
-    let nothing : frame_of kept (o / 4096) ≡ 0 = eqb-true (frame_of kept (o / 4096)) 0 none in
+    let old : byte_at kept o ≡ 0 = cond-true (eqb (get_or kept.table (o / 65536) 0) 0) 0 (get_or kept.frames (frame_place kept o) 0) none in
+    let nothing : get_or kept.table (o / 65536) 0 ≡ 0 = eqb-true (get_or kept.table (o / 65536) 0) 0 none in
     let size = length-low_bytes bytes value in
     sym (elsewhere (byte_at kept) offset (low_bytes bytes value) o (λ j l e.
-    let page : o / 4096 ≡ offset / 4096 = omega (arith, size, l, e) in
-    let same : frame_of kept (o / 4096) ≡ frame_of kept (offset / 4096) = ap (λ p. frame_of kept p) page in
+    let page : o / 65536 ≡ offset / 65536 = omega (arith, size, l, e) in
+    let same : get_or kept.table (o / 65536) 0 ≡ get_or kept.table (offset / 65536) 0 = ap (λ p. get_or kept.table p 0) page in
     absurd (omega (arith, same, nothing, here))) ∙ old))
     (λ some.
-    let there : IsKept kept o = (let n = eqb-false (frame_of kept (o / 4096)) 0 some in omega (arith, n)) in
-    let old : get_or kept.frames (frame_place kept o) 0 ≡ byte_at kept o = sym (cond-false (eqb (frame_of kept (o / 4096)) 0) 0 (get_or kept.frames (frame_place kept o) 0) some) in
+    let there : IsKept kept o = (let n = eqb-false (get_or kept.table (o / 65536) 0) 0 some in omega (arith, n)) in
+    let old : get_or kept.frames (frame_place kept o) 0 ≡ byte_at kept o = sym (cond-false (eqb (get_or kept.table (o / 65536) 0) 0) 0 (get_or kept.frames (frame_place kept o) 0) some) in
     let start : at ≡ frame_place kept offset + 0 = is ∙ omega arith in
     let start' : offset + 0 ≡ offset = omega arith in
     wrote (frame_place kept o) ∙ ap (λ a. written (λ q. get_or kept.frames q 0) a (low_bytes bytes value) (frame_place kept o)) start

@@ -1,41 +1,27 @@
 -- What memory that is kept in pages stands for.
-use Rattle.std.specs.Prelude.{◌≡◌, ℕ, ◌+◌, ◌-◌, ◌*◌, ◌/◌, ◌%◌, ◌<◌, ◌≤◌, ◌↔◌, ◌⊎◌, if◌then◌else◌, ◌==◌, List, length, slice_index}
+use Rattle.std.specs.Prelude.{◌≡◌, ℕ, ◌+◌, ◌-◌, ◌*◌, ◌/◌, ◌%◌, ◌^◌, ◌<◌, ◌≤◌, ◌↔◌, ◌⊎◌, if◌then◌else◌, ◌==◌, List, length, slice_index}
 use Rattle.a64_word.specs.Bytes.{low_bytes, written}
 
--- Pages of 4,096 bytes, and regions of 1,024 pages. At each region's number there is the place at which its pages begin in the table. There,
--- at each page's place, the table has 0, or one more than the page's place among the frames.
+-- Pages of 65,536 bytes. At each page's number the table has 0, or one more than the page's place among the frames.
 pub record Kept : Type 0 where
-  pub regions : List ℕ
   pub table : List ℕ
   pub frames : List ℕ
 
 -- the bytes of a page that is kept
 abbrev pub page_size : ℕ
-page_size = 4096
-
--- the pages of a region
-abbrev pub region_size : ℕ
-region_size = 1024
-
--- the place of a page in the table
-abbrev pub page_place : Kept → (page : ℕ) → ℕ
-page_place kept page = slice_index kept.regions (page / region_size) + page % region_size
-
--- one more than the place among the frames of a page that is kept, and 0 of another
-unfoldable pub frame_of : Kept → (page : ℕ) → ℕ
-frame_of kept page = slice_index kept.table (page_place kept page)
+page_size = 65536
 
 -- the place of the byte at an offset, of a page that is kept
 abbrev pub frame_place : Kept → ℕ → ℕ
-frame_place kept offset = (frame_of kept (offset / page_size) - 1) * page_size + offset % page_size
+frame_place kept offset = (slice_index kept.table (offset / page_size) - 1) * page_size + offset % page_size
 
 -- the byte at an offset: what was written there last, and 0 where nothing was
 abbrev pub byte_at : Kept → ℕ → ℕ
-byte_at kept offset = if frame_of kept (offset / page_size) == 0 then 0 else slice_index kept.frames (frame_place kept offset)
+byte_at kept offset = if slice_index kept.table (offset / page_size) == 0 then 0 else slice_index kept.frames (frame_place kept offset)
 
 -- the page of an offset is kept
 abbrev pub IsKept : Kept → ℕ → Type 0
-IsKept kept offset = 0 < frame_of kept (offset / page_size)
+IsKept kept offset = 0 < slice_index kept.table (offset / page_size)
 
 -- each page of so many bytes from an offset on is kept
 abbrev pub AreKept : Kept → (offset bytes : ℕ) → Type 0
@@ -66,17 +52,10 @@ WritesNumber old new offset bytes value = (at : ℕ) → byte_at new at ≡ writ
 abbrev pub WritesByte : Kept → Kept → (offset byte : ℕ) → Type 0
 WritesByte old new at byte = (offset : ℕ) → byte_at new offset ≡ (if offset == at then byte else byte_at old offset)
 
--- what holds of each index and its frames
+-- what holds of each table and its frames
 pub record IsWellKept (kept : Kept) : Type 0 where
-  pub whole : length kept.regions ≡ 1024
-  pub blocks : length kept.table % region_size ≡ 0
+  pub whole : length kept.table ≡ 2 ^ 16
   pub frames : length kept.frames % page_size ≡ 0
-  -- each region's pages lie in the table, in a block of their own, or in the first one
-  pub begins : (region : ℕ) → slice_index kept.regions region % region_size ≡ 0
-  pub lies : (region : ℕ) → slice_index kept.regions region + region_size ≤ length kept.table
-  pub own : (i j : ℕ) → 0 < slice_index kept.regions i → slice_index kept.regions i ≡ slice_index kept.regions j → i ≡ j
-  -- the first block is that of all regions of which no page is kept
-  pub empty : (place : ℕ) → place < region_size → slice_index kept.table place ≡ 0
-  pub within : (place : ℕ) → slice_index kept.table place * page_size ≤ length kept.frames
+  pub within : (page : ℕ) → slice_index kept.table page * page_size ≤ length kept.frames
   -- no frame belongs to two pages
   pub apart : (i j : ℕ) → 0 < slice_index kept.table i → slice_index kept.table i ≡ slice_index kept.table j → i ≡ j

@@ -2,7 +2,7 @@
 //!
 //! # How data flows
 //!
-//! A [`SparseMemory`] has an index of its pages of 4,096 bytes, and the frames of those that are kept. `keep` makes sure of the
+//! A [`SparseMemory`] has an index of its pages of 65,536 bytes, and the frames of those that are kept. `keep` makes sure of the
 //! pages of some bytes, and is the only call that takes memory, beside `new`. `put` and its kin write numbers of 1, 2, 4 and 8 bytes to
 //! pages that are kept; `byte` and `word_2` to `word_8` read them. A byte that was never written is 0.
 //!
@@ -16,9 +16,8 @@
 //!   refused memory changes no byte.
 //! - **Bytes of a number are written through the lent slice of frames.** Through the memory, one by one, each store of a
 //!   byte may change the pointer to the frames, which is then read anew.
-//! - **The index has two levels**: a number for each 4 MiB, and 1,024 numbers for the pages of those 4 MiB of which one is kept.
-//!   So `new` writes 8 KiB. All other 4 MiB share a first block of zeros, and a look needs no test. Frames are one `Vec`,
-//!   which grows by doubling.
+//! - **The index is a table of 2^16 numbers of 32 bits**, written at `new`: 256 KiB. Of pages of 65,536 bytes it would be 4 MiB, most
+//!   of what a short run takes; an index of two levels makes each access slower. Frames are one `Vec`, which grows by doubling.
 //! - **A refusal can't be made up**: only the calls that ask the allocator make a [`MemoryRefused`], and `keep` has a clause that
 //!   one comes only where a page wasn't kept.
 #![tactic(auto)]

@@ -1,18 +1,17 @@
-ghost use Rattle.std.specs.Prelude.{◌≡◌, ℕ, ◌+◌, ◌-◌, ◌*◌, ◌/◌, ◌^◌, ◌<◌, ◌≤◌, ◌↔◌, ◌⊎◌, length, slice_index, OnOk, OnErr, IfOk, IsTrue};
+ghost use Rattle.std.specs.Prelude.{◌≡◌, ℕ, ◌+◌, ◌-◌, ◌/◌, ◌^◌, ◌<◌, ◌≤◌, ◌↔◌, ◌⊎◌, OnOk, OnErr, IfOk, IsTrue};
 ghost use Rattle.a64_word.specs.Bytes.{number_at};
-ghost use Rattle.sparse_memory.specs.Kept.{byte_at, page_place, frame_of, IsKept, AreKept, SameBytes, KeepsAll, KeepsOnly, SamePages, WritesByte, WritesNumber};
+ghost use Rattle.sparse_memory.specs.Kept.{byte_at, IsKept, AreKept, SameBytes, KeepsAll, KeepsOnly, SamePages, WritesByte, WritesNumber};
 
 use crate::number::{read_2, read_4, read_8, write_2, write_4, write_8};
-use crate::pages::{PAGE, REGION, REGIONS};
-use crate::refused::{MemoryRefused, add_block, add_frame, zero_table};
+use crate::pages::{PAGE, PAGES};
+use crate::refused::{MemoryRefused, add_frame, zero_table};
 use std::alloc::Global;
 use std::marker::Model;
 
-/// 4 GiB of bytes, all 0 at first. A page of 4,096 bytes is kept where it was asked for by `keep`, and a byte is written
-/// only where its page is kept. A page that is kept takes its 4,096 bytes, and the first of its 4 MiB as many for their index.
+/// 4 GiB of bytes, all 0 at first. A page of 65,536 bytes is kept where it was asked for by `keep`, and a byte is written
+/// only where its page is kept. The table takes 256 KiB, and each page that is kept takes its 65,536 bytes.
 #[derive(Drop)]
 pub struct SparseMemory {
-    regions: Vec<u32>,
     table: Vec<u32>,
     frames: Vec<u8>,
 }
@@ -22,9 +21,9 @@ impl Model for SparseMemory {
 
     ghost Value = { Kept };
 
-    ghost view = { λ m. record { regions = m.regions.items; table = m.table.items; frames = m.frames.items } };
+    ghost view = { λ m. record { table = m.table.items; frames = m.frames.items } };
 
-    ghost invariant = { λ m. IsWellKept (record { regions = m.regions.items; table = m.table.items; frames = m.frames.items }) };
+    ghost invariant = { λ m. IsWellKept (record { table = m.table.items; frames = m.frames.items }) };
 }
 
 impl SparseMemory {
@@ -33,36 +32,14 @@ impl SparseMemory {
     /// # Errors
     ///
     /// Where memory was refused.
-    #[tactic(auto, unfolding(crate::specs::Kept::frame_of))]
     pub fn new(alloc: Global) -> Result<SparseMemory, MemoryRefused>
         ensures zero { IfOk result (λ m. (offset : ℕ) → byte_at m offset ≡ 0) }
     {
-        let regions = zero_table(alloc, REGIONS)?;
-        let table = zero_table(alloc, REGION)?;
+        let table = zero_table(alloc, PAGES)?;
         Ok(SparseMemory {
-            regions,
             table,
             frames: Vec::new(alloc),
         })
-    }
-
-    /// Where the page of an offset is in the table.
-    #[inline(always)]
-    fn page_place(&self, offset: u32) -> usize
-        ensures value { result ≡ page_place self.now (offset / 4096) }
-    {
-        let page = offset as usize / PAGE;
-        self.regions[page / REGION] as usize + page % REGION
-    }
-
-    /// One more than the place among the frames of an offset's page, or 0 where it isn't kept.
-    #[tactic(auto, unfolding(crate::specs::Kept::frame_of))]
-    #[inline(always)]
-    fn frame(&self, offset: u32) -> usize
-        ensures value { result ≡ frame_of self.now (offset / 4096) }
-        ensures within { result * 4096 ≤ length self.now.frames }
-    {
-        self.table[self.page_place(offset)] as usize
     }
 
     /// The byte at an offset.
@@ -70,11 +47,11 @@ impl SparseMemory {
     pub fn byte(&self, offset: u32) -> u8
         ensures { result ≡ byte_at self.now offset }
     {
-        let frame = self.frame(offset);
+        let frame = self.table[offset as usize / PAGE];
         if frame == 0 {
             0
         } else {
-            self.frames[(frame - 1) * PAGE + offset as usize % PAGE]
+            self.frames[(frame as usize - 1) * PAGE + offset as usize % PAGE]
         }
     }
 
@@ -101,11 +78,11 @@ impl SparseMemory {
         ensures { result ≡ number_at (byte_at self.now) 2 offset }
     {
         let within = offset as usize % PAGE;
-        let frame = self.frame(offset);
+        let frame = self.table[offset as usize / PAGE];
         if frame == 0 || within > PAGE - 2 {
             return self.number(u64::from(offset), 2) as u16;
         }
-        read_2(&self.frames, (frame - 1) * PAGE + within)
+        read_2(&self.frames, (frame as usize - 1) * PAGE + within)
     }
 
     /// The number that 4 bytes from an offset on spell, the lowest first.
@@ -115,11 +92,11 @@ impl SparseMemory {
         ensures { result ≡ number_at (byte_at self.now) 4 offset }
     {
         let within = offset as usize % PAGE;
-        let frame = self.frame(offset);
+        let frame = self.table[offset as usize / PAGE];
         if frame == 0 || within > PAGE - 4 {
             return self.number(u64::from(offset), 4) as u32;
         }
-        read_4(&self.frames, (frame - 1) * PAGE + within)
+        read_4(&self.frames, (frame as usize - 1) * PAGE + within)
     }
 
     /// The number that 8 bytes from an offset on spell, the lowest first.
@@ -129,11 +106,11 @@ impl SparseMemory {
         ensures { result ≡ number_at (byte_at self.now) 8 offset }
     {
         let within = offset as usize % PAGE;
-        let frame = self.frame(offset);
+        let frame = self.table[offset as usize / PAGE];
         if frame == 0 || within > PAGE - 8 {
             return self.number(u64::from(offset), 8);
         }
-        read_8(&self.frames, (frame - 1) * PAGE + within)
+        read_8(&self.frames, (frame as usize - 1) * PAGE + within)
     }
 
     /// Whether the page of an offset is kept.
@@ -141,36 +118,7 @@ impl SparseMemory {
     pub fn is_kept(&self, offset: u32) -> bool
         ensures { IsTrue result ↔ IsKept self.now offset }
     {
-        self.frame(offset) != 0
-    }
-
-    /// Makes room in the table for the region of an offset.
-    #[tactic(auto, unfolding(crate::specs::Kept::frame_of))]
-    fn keep_region(&mut self, offset: u32) -> Result<(), MemoryRefused>
-        ensures ok { OnOk result (0 < slice_index self.new.regions (offset / 4096 / 1024)) }
-        ensures bytes { SameBytes self.old self.new }
-        ensures pages { SamePages self.old self.new }
-    {
-        let region = offset as usize / PAGE / REGION;
-        if self.regions[region] == 0 {
-            self.regions[region] = add_block(&mut self.table, REGION)?;
-        }
-        Ok(())
-    }
-
-    /// Adds the page of an offset, which isn't kept, in a region that has its place in the table.
-    #[tactic(auto, unfolding(crate::specs::Kept::frame_of))]
-    fn add_page(&mut self, offset: u32) -> Result<(), MemoryRefused>
-        requires region { 0 < slice_index self.old.regions (offset / 4096 / 1024) }
-        requires new { frame_of self.old (offset / 4096) ≡ 0 }
-        ensures ok { OnOk result (IsKept self.new offset) }
-        ensures bytes { SameBytes self.old self.new }
-        ensures all { KeepsAll self.old self.new }
-        ensures only { KeepsOnly self.old self.new offset 1 }
-    {
-        let place = self.page_place(offset);
-        self.table[place] = add_frame(&mut self.frames)?;
-        Ok(())
+        self.table[offset as usize / PAGE] != 0
     }
 
     /// Makes room for the page of an offset.
@@ -181,11 +129,11 @@ impl SparseMemory {
         ensures only { KeepsOnly self.old self.new offset 1 }
         ensures refused { OnErr result (¬ (IsKept self.old offset)) }
     {
-        if self.is_kept(offset) {
-            return Ok(());
+        let page = offset as usize / PAGE;
+        if self.table[page] == 0 {
+            self.table[page] = add_frame(&mut self.frames)?;
         }
-        self.keep_region(offset)?;
-        self.add_page(offset)
+        Ok(())
     }
 
     /// Makes room for the pages of two offsets.
@@ -197,7 +145,7 @@ impl SparseMemory {
         ensures refused { OnErr result (IsKept self.old first → ¬ (IsKept self.old last)) }
         ensures bytes { SameBytes self.old self.new }
         ensures all { KeepsAll self.old self.new }
-        ensures only { (other : ℕ) → IsKept self.new other → IsKept self.old other ⊎ ((other / 4096 ≡ first / 4096) ⊎ (other / 4096 ≡ last / 4096)) }
+        ensures only { (other : ℕ) → IsKept self.new other → IsKept self.old other ⊎ ((other / 65536 ≡ first / 65536) ⊎ (other / 65536 ≡ last / 65536)) }
     {
         self.keep_page(first)?;
         self.keep_page(last)
@@ -208,7 +156,6 @@ impl SparseMemory {
     /// # Errors
     ///
     /// Where memory was refused, for a page of them that wasn't kept. Some of the pages may then be kept, and no byte is changed.
-    #[tactic(auto, unfolding(crate::specs::Kept::frame_of))]
     #[inline(always)]
     pub fn keep(&mut self, offset: u32, bytes: u32) -> Result<(), MemoryRefused>
         requires some { 1 ≤ bytes }
@@ -228,15 +175,14 @@ impl SparseMemory {
     }
 
     /// Writes a byte of a page that is kept.
-    #[tactic(auto, unfolding(crate::specs::Kept::frame_of))]
     #[inline(always)]
     pub fn put(&mut self, offset: u32, byte: u8)
         requires { IsKept self.old offset }
         ensures bytes { WritesByte self.old self.new offset byte }
         ensures pages { SamePages self.old self.new }
     {
-        let frame = self.frame(offset);
-        self.frames[(frame - 1) * PAGE + offset as usize % PAGE] = byte;
+        let frame = self.table[offset as usize / PAGE];
+        self.frames[(frame as usize - 1) * PAGE + offset as usize % PAGE] = byte;
     }
 
     /// Writes the lowest bytes of a value from an offset on, one by one.
@@ -255,7 +201,6 @@ impl SparseMemory {
     }
 
     /// Writes a value of 2 bytes from an offset on, the lowest first, in pages that are kept.
-    #[tactic(auto, unfolding(crate::specs::Kept::frame_of))]
     #[inline(always)]
     pub fn put_2(&mut self, offset: u32, value: u16)
         requires within { offset + 2 ≤ 2 ^ 32 }
@@ -264,15 +209,18 @@ impl SparseMemory {
         ensures pages { SamePages self.old self.new }
     {
         let within = offset as usize % PAGE;
-        let frame = self.frame(offset);
+        let frame = self.table[offset as usize / PAGE];
         if within > PAGE - 2 {
             return self.put_bytes(u64::from(offset), 2, u64::from(value));
         }
-        write_2(&mut self.frames, (frame - 1) * PAGE + within, value);
+        write_2(
+            &mut self.frames,
+            (frame as usize - 1) * PAGE + within,
+            value,
+        );
     }
 
     /// Writes a value of 4 bytes from an offset on, the lowest first, in pages that are kept.
-    #[tactic(auto, unfolding(crate::specs::Kept::frame_of))]
     #[inline(always)]
     pub fn put_4(&mut self, offset: u32, value: u32)
         requires within { offset + 4 ≤ 2 ^ 32 }
@@ -281,15 +229,18 @@ impl SparseMemory {
         ensures pages { SamePages self.old self.new }
     {
         let within = offset as usize % PAGE;
-        let frame = self.frame(offset);
+        let frame = self.table[offset as usize / PAGE];
         if within > PAGE - 4 {
             return self.put_bytes(u64::from(offset), 4, u64::from(value));
         }
-        write_4(&mut self.frames, (frame - 1) * PAGE + within, value);
+        write_4(
+            &mut self.frames,
+            (frame as usize - 1) * PAGE + within,
+            value,
+        );
     }
 
     /// Writes a value of 8 bytes from an offset on, the lowest first, in pages that are kept.
-    #[tactic(auto, unfolding(crate::specs::Kept::frame_of))]
     #[inline(always)]
     pub fn put_8(&mut self, offset: u32, value: u64)
         requires within { offset + 8 ≤ 2 ^ 32 }
@@ -298,10 +249,14 @@ impl SparseMemory {
         ensures pages { SamePages self.old self.new }
     {
         let within = offset as usize % PAGE;
-        let frame = self.frame(offset);
+        let frame = self.table[offset as usize / PAGE];
         if within > PAGE - 8 {
             return self.put_bytes(u64::from(offset), 8, value);
         }
-        write_8(&mut self.frames, (frame - 1) * PAGE + within, value);
+        write_8(
+            &mut self.frames,
+            (frame as usize - 1) * PAGE + within,
+            value,
+        );
     }
 }

@@ -1,10 +1,7 @@
-//! Pages, and regions of them.
+//! Pages of the 4 GiB.
 
 /// The bytes of a page.
-pub(crate) const PAGE: usize = 4096;
+pub(crate) const PAGE: usize = 1 << 16;
 
-/// The pages of a region.
-pub(crate) const REGION: usize = 1024;
-
-/// The regions of 4 GiB.
-pub(crate) const REGIONS: usize = 1024;
+/// The pages of 4 GiB.
+pub(crate) const PAGES: usize = 1 << 16;

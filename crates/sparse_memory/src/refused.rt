@@ -29,28 +29,10 @@ pub(crate) fn zero_table(alloc: Global, count: usize) -> Result<Vec<u32>, Memory
     }
 }
 
-/// Makes a table longer by a block of zeros: the place at which this begins.
-pub(crate) fn add_block(table: &mut Vec<u32>, size: usize) -> Result<u32, MemoryRefused>
-    ensures place { IfOk result (λ place. place ≡ length table.old.items) }
-    ensures length { OnOk result (length table.new.items ≡ length table.old.items + size) }
-    ensures front { OnOk result ((k : ℕ) → k < length table.old.items → slice_index table.new.items k ≡ slice_index table.old.items k) }
-    ensures zero { OnOk result ((k : ℕ) → length table.old.items ≤ k → slice_index table.new.items k ≡ 0) }
-    ensures err { OnErr result (table.new.items ≡ table.old.items) }
-{
-    let place = table.len();
-    match (u32::try_from(place), place.checked_add(size)) {
-        (Ok(begin), Some(len)) => match table.resize(len, 0) {
-            Ok(()) => Ok(begin),
-            Err(error) => Err(MemoryRefused::of(error)),
-        },
-        _ => Err(MemoryRefused::of(AllocError)),
-    }
-}
-
 /// Makes frames longer by one page of zeros: one more than its place.
 pub(crate) fn add_frame(frames: &mut Vec<u8>) -> Result<u32, MemoryRefused>
-    ensures frame { IfOk result (λ frame. frame ≡ length frames.old.items / 4096 + 1) }
-    ensures length { OnOk result (length frames.new.items ≡ length frames.old.items + 4096) }
+    ensures frame { IfOk result (λ frame. frame ≡ length frames.old.items / 65536 + 1) }
+    ensures length { OnOk result (length frames.new.items ≡ length frames.old.items + 65536) }
     ensures front { OnOk result ((k : ℕ) → k < length frames.old.items → slice_index frames.new.items k ≡ slice_index frames.old.items k) }
     ensures zero { OnOk result ((k : ℕ) → length frames.old.items ≤ k → slice_index frames.new.items k ≡ 0) }
     ensures err { OnErr result (frames.new.items ≡ frames.old.items) }
