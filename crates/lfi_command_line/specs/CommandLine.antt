@@ -44,6 +44,7 @@ explain_by first true = All
 explain_by true false = First
 explain_by false false = Nothing
 
+-- how much is to be explained, by the two flags that were given
 abbrev pub IsExplain : List Row → Explain → Type 0
 IsExplain given explain =
     (first all : Bool) × IsFlag (one_of (codes "explain") given) first × IsFlag (one_of (codes "all") given) all × (explain ≡ explain_by first all)
@@ -119,6 +120,7 @@ fault_by kind.DisplayHelp error = Help error
 fault_by kind.DisplayVersion error = Help error
 fault_by _ error = Wrong error
 
+-- what is wrong with a line of which clap tells this error
 abbrev pub fault_from : Error → LineFault
 fault_from error = fault_by (kind_of error) error
 

@@ -8,6 +8,7 @@ pub record Left : Type 0 where
   pub is_lost : Bool
   pub errors : Option (List ℕ)
 
+-- what is left in outputs, of its four parts
 abbrev pub left : Option (List ℕ) → Option (List (List ℕ × List ℕ)) → Bool → Option (List ℕ) → Left
 left out put is_lost errors = record { out = out; put = put; is_lost = is_lost; errors = errors }
 

@@ -25,5 +25,6 @@ sent_at (fate.Absent why) = Some []
 abbrev pub reader_of : {R : Type 0} → Watched R → R
 reader_of watched = watched.reader
 
+-- what the reader that is watched has left
 abbrev pub read_by : {R : Type 0} → (R → Option (List ℕ)) → Watched R → Option (List ℕ)
 read_by remaining watched = remaining (reader_of watched)

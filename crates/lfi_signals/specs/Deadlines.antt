@@ -15,5 +15,6 @@ limit_of (After span) = Some span.length
 abbrev pub limit_of_door : {S File Dir : Type 0} → Door S File Dir → Option Duration
 limit_of_door door = limit_of door.deadline
 
+-- the time that a door that was closed began with
 abbrev pub limit_of_closed : Closed → Option Duration
 limit_of_closed closed = limit_of closed.deadline
