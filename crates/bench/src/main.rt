@@ -5,12 +5,14 @@
 //! |---|---|
 //! | `image WORDS [ROUNDS]` | an image of so many words, built, written to a file and read back, the least time of each part in so many rounds, and the most memory |
 //! | `pages ROUNDS [time]` | 256 pages, written in each round |
+//! | `closes COUNT [ROUNDS]` | so many Closes that a receiver passes over |
 //! | `queues ITEMS [ROUNDS]` | so many items, put and taken, by one thread and by four |
 //!
 //! The third word asks for times. Without words each is run once, by small counts and without times.
 #![tactic(auto)]
 
 mod carriers;
+mod closes;
 mod faults;
 mod image;
 mod pages;
@@ -27,11 +29,12 @@ enum Mode {
     Image,
     Pages,
     Queues,
+    Closes,
 }
 
 impl Mode {
     /// All that there are.
-    const ALL: [Mode; 3] = [Mode::Image, Mode::Pages, Mode::Queues];
+    const ALL: [Mode; 4] = [Mode::Image, Mode::Pages, Mode::Queues, Mode::Closes];
 
     /// How much is measured where no word says it.
     fn count(self) -> u64 {
@@ -39,6 +42,7 @@ impl Mode {
             Mode::Image => 2049,
             Mode::Pages => 2,
             Mode::Queues => 1000,
+            Mode::Closes => 1000,
         }
     }
 }
@@ -68,7 +72,8 @@ fn mode_of(word: Option<String>) -> Result<Option<Mode>, Fault> {
             "image" => Ok(Some(Mode::Image)),
             "pages" => Ok(Some(Mode::Pages)),
             "queues" => Ok(Some(Mode::Queues)),
-            _ => Err(Fault::Is("the modes are image, pages and queues")),
+            "closes" => Ok(Some(Mode::Closes)),
+            _ => Err(Fault::Is("the modes are image, pages, queues and closes")),
         },
         None => Ok(None),
     }
@@ -121,6 +126,7 @@ fn main(rt: HostRuntime) -> ExitCode {
                 Mode::Image => image::run(&rt, count, asked.rounds),
                 Mode::Pages => pages::run(&rt, count, asked.rounds),
                 Mode::Queues => queues::run(&rt, count, asked.rounds),
+                Mode::Closes => closes::run(&rt, count, asked.rounds),
             };
         }
     }

@@ -20,6 +20,7 @@ pub struct DuePage {
 
 impl DuePage {
     /// How many of its bytes are to come; none where its module has no such page.
+    #[inline(always)]
     pub fn left(&self) -> u32
         ensures { result ≡ bytes_of self.now - self.now.come }
     {
@@ -37,6 +38,7 @@ impl DuePage {
     }
 
     /// Whether some of it is to come, and so many bytes more end it, or leave some of it to come.
+    #[inline(always)]
     pub(crate) fn goes_on(&self, count: usize, ended: bool) -> bool
         ensures { result ≡ true ↔ GoesOn self.now count «ended» }
     {

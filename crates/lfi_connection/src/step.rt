@@ -19,6 +19,7 @@ use lfi_model::{Progress, Reason};
 use lfi_module::{Extent, ModuleNumber, PageSize};
 
 /// An Open: it opens its module, where that wasn't opened before and this connection may claim it; else it is passed over.
+#[inline(always)]
 fn open<P: ProgressTable>(
     table: &mut P,
     module: ModuleNumber,
@@ -44,6 +45,7 @@ fn open<P: ProgressTable>(
 }
 
 /// A Close: it ends its module, where that is open; else it is passed over.
+#[inline(always)]
 fn close<P: ProgressTable>(table: &mut P, module: ModuleNumber) -> Event
     ensures holds { (coming : Option DuePage) (claimed : ℕ → Bool) (messages : List Message) (payload : List ℕ) → Holds (P.progress_at table.old) coming claimed messages [] →
         let now = messages ++ close_message «module» ∷ [] in Holds (P.progress_at table.new) coming claimed now [] × Grows result claimed messages [] now [] payload }
@@ -66,6 +68,7 @@ fn close<P: ProgressTable>(table: &mut P, module: ModuleNumber) -> Event
 }
 
 /// Whether page `index` of this size, with `len` payload bytes, is the one due of an open module of which so many came.
+#[inline(always)]
 fn is_next(extent: Extent, pages: u32, size: PageSize, index: u32, len: u32) -> bool
     ensures { result ≡ (size == extent.pages && is_due extent.pages extent.words pages index len) }
 {
@@ -77,6 +80,7 @@ fn is_next(extent: Extent, pages: u32, size: PageSize, index: u32, len: u32) -> 
 
 /// The header of page `index` of this size with `len` payload bytes: it is the one due of an open module, and is coming; or
 /// it ends its module; or it is passed over.
+#[inline(always)]
 fn page<P: ProgressTable>(
     table: &mut P,
     module: ModuleNumber,
@@ -111,6 +115,7 @@ fn page<P: ProgressTable>(
 
 /// Payload bytes: they are code of the page that is coming, and where that has ended its module has one page more; or they
 /// are passed over.
+#[inline(always)]
 fn payload<P: ProgressTable>(
     table: &mut P,
     coming: Option<DuePage>,
@@ -149,6 +154,7 @@ fn payload<P: ProgressTable>(
 /// What is told of what so many bytes brought, which a feed has told, where this page is coming. Where a module opens,
 /// `is_free` answers whether this connection may claim it; it is asked for nothing else. Code is told of the page that is
 /// coming alone, and as far as that has bytes to come, whatever the numbers are.
+#[inline(always)]
 pub fn advance<P: ProgressTable>(
     table: &mut P,
     coming: &Option<DuePage>,

@@ -120,6 +120,7 @@ impl Receiver {
     }
 
     /// Counts a stray.
+    #[inline(always)]
     fn stray(&mut self)
         ensures { self.new ≡ record self.old { strays = min (self.old.strays + 1) (2 ^ 64 - 1) } }
     {
@@ -127,6 +128,7 @@ impl Receiver {
     }
 
     /// The End of an open module, of which so many pages came, comes into the hand.
+    #[inline(always)]
     fn end_module(&mut self, module: ModuleNumber, extent: Extent, pages: u32, reason: Reason)
         requires free { self.old.hand ≡ None }
         requires possible { IsPossible (Going extent pages) }
@@ -141,6 +143,7 @@ impl Receiver {
     }
 
     /// The Open of a module comes into the hand.
+    #[inline(always)]
     fn open_module(&mut self, module: ModuleNumber, extent: Extent)
         requires free { self.old.hand ≡ None }
         ensures { self.new ≡ record self.old { hand = Some (item_of «module» 0 extent Open) } }
@@ -186,6 +189,7 @@ impl Receiver {
     }
 
     /// The page whose payload is coming.
+    #[inline(always)]
     fn coming(&self) -> Option<DuePage>
         ensures { result ≡ coming_of self.now.page }
     {
@@ -196,6 +200,7 @@ impl Receiver {
     }
 
     /// What an event brings comes into the hand, or into the page that is coming. It answers whether it is a stray.
+    #[inline(always)]
     fn tell(&mut self, event: Event, bytes: &[u8]) -> bool
         requires free { self.old.hand ≡ None }
         requires running { self.old.cause ≡ None }
@@ -228,6 +233,7 @@ impl Receiver {
     }
 
     /// What these bytes brought, which the feed has told. At an Open the board is asked. It answers whether it is a stray.
+    #[inline(always)]
     fn take(&mut self, board: &Board, got: Got, bytes: &[u8]) -> bool
         requires free { self.old.hand ≡ None }
         requires running { self.old.cause ≡ None }
@@ -250,6 +256,7 @@ impl Receiver {
 
     /// Goes on in the bytes, up to the end of a header or a payload: how many it used, and
     /// whether they are a stray.
+    #[inline(always)]
     fn read(&mut self, board: &Board, piece: &[u8]) -> (usize, bool)
         requires free { self.old.hand ≡ None }
         requires running { self.old.cause ≡ None }
