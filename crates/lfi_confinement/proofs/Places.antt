@@ -5,7 +5,8 @@ use Rattle.a64_word.specs.declared.instruction.Instruction.{Instruction}
 use Rattle.a64_word.specs.Profiles.{SpellsIn}
 use Rattle.a64_word.specs.Bytes.{number_at}
 use Rattle.a64_semantics.specs.Accesses.{displaced}
-use Rattle.lfi_confinement.specs.Slots.{base, slot_size, guard_size, code_offset, table_bytes, InSlot, is_in_slot, is_guarded, word_address, word_place, entry_address, entry_count, entry_at, Permission, NoAccess, data_offset, permission_in, permission_at, is_permitted, byte_in, memory_of}
+use Rattle.lfi_rules.specs.Map.{code_offset, entry_count, guard_size, slot_size, table_bytes}
+use Rattle.lfi_confinement.specs.Slots.{base, InSlot, is_in_slot, is_guarded, word_address, word_place, entry_address, entry_at, Permission, NoAccess, data_offset, permission_in, permission_at, is_permitted, byte_in, memory_of}
 use Rattle.lfi_module.specs.Numbers.{module_count, base_of}
 use Rattle.lfi_confinement.specs.Moves.{Fetches, first_denied}
 use Rattle.lfi_image.specs.Image.{Image, IsImage}

@@ -34,7 +34,8 @@ use Rattle.lfi_rules.specs.declared.needs.Need.{Need}
 use Rattle.lfi_rules.specs.declared.needs.Need.TheVariants.{Nothing, Probe}
 use Rattle.lfi_rules.specs.Guard.{is_x, is_uxtw, is_uxtx, adds_to_base, is_guard, sets_stack}
 use Rattle.lfi_rules.specs.Rules.{is_base, is_confined}
-use Rattle.lfi_confinement.specs.Slots.{InSlot, slot_size, guard_size}
+use Rattle.lfi_rules.specs.Map.{guard_size, slot_size}
+use Rattle.lfi_confinement.specs.Slots.{InSlot}
 use Rattle.lfi_confinement.specs.inner.Invariant.{IsStackFor, HeldFor}
 use Rattle.lfi_confinement.proofs.Places.{displaced_near}
 use Rattle.lfi_confinement.proofs.Uses.{either}

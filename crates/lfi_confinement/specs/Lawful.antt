@@ -3,11 +3,8 @@ use Rattle.std.specs.Prelude.{◌≡◌, ℕ, ◌+◌, ◌^◌, ◌<◌, ◌≤�
 use Rattle.lfi_rules.specs.Registers as registers
 use Rattle.a64_semantics.specs.declared.registers.Registers.{Registers}
 use Rattle.a64_semantics.specs.Registers.{x_at}
-use Rattle.lfi_confinement.specs.Slots.{InSlot, slot_size}
-
--- how far sp may be from the slot
-abbrev pub stack_reach : ℕ
-stack_reach = 512
+use Rattle.lfi_rules.specs.Map.{slot_size, stack_reach}
+use Rattle.lfi_confinement.specs.Slots.{InSlot}
 
 -- The registers are lawful in the slot that begins at `from`.
 pub record Held (from : ℕ) (r : Registers) : Type 0 where

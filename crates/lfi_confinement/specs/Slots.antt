@@ -2,19 +2,12 @@
 -- changes. Source: this project's profile, docs/PROFILE.md.
 use Rattle.std.specs.Prelude.{ℕ, ◌+◌, ◌-◌, ◌*◌, ◌/◌, ◌%◌, ◌^◌, ◌<◌, ◌≤◌, Bool, true, false, not, ◌&&◌, nat_lt, nat_le, ◌==◌, if◌then◌else◌, length, Option, Some, None, slice_index}
 use Rattle.lfi_module.specs.Numbers.{base_of}
+use Rattle.lfi_rules.specs.Map.{slot_size, guard_size, table_bytes, code_offset, first_entry, entry_step, entry_count}
 use Rattle.lfi_image.specs.Image.{Image}
 
 -- where an image's slot begins
 abbrev pub base : Image → ℕ
 base c = base_of c.slot
-
--- the bytes of a slot
-abbrev pub slot_size : ℕ
-slot_size = 2 ^ 32
-
--- the bytes of each of its guards, one directly below the slot and one directly above
-abbrev pub guard_size : ℕ
-guard_size = 65536
 
 -- an address in the slot that begins at `from`
 pub record InSlot (from address : ℕ) : Type 0 where
@@ -31,29 +24,17 @@ is_guarded from address bytes = nat_le from (address + guard_size) && nat_le (ad
 
 -- ---- the runtime's entries
 
--- how many there are
-abbrev pub entry_count : ℕ
-entry_count = 512
-
 -- where entry j is called: outside of all slots and guards
 abbrev pub entry_address : ℕ → ℕ
-entry_address j = 2 ^ 40 + 16 * j
+entry_address j = first_entry + entry_step * j
 
 -- the entry that is called at an address, if one is
 abbrev pub entry_at : (address : ℕ) → Option ℕ
 entry_at address =
-    if nat_le (2 ^ 40) address && nat_lt address (entry_address entry_count) && (address - 2 ^ 40) % 16 == 0
-    then Some ((address - 2 ^ 40) / 16) else None
+    if nat_le first_entry address && nat_lt address (entry_address entry_count) && (address - first_entry) % entry_step == 0
+    then Some ((address - first_entry) / entry_step) else None
 
 -- ---- what lies where in the slot
-
--- where the code begins
-abbrev pub code_offset : ℕ
-code_offset = 65536
-
--- the bytes of the table of entries, at the slot's beginning
-abbrev pub table_bytes : ℕ
-table_bytes = 4096
 
 -- where the bytes begin that may be written, in the slot of a module of n words: the code's end, rounded up to 4,096 bytes
 abbrev pub data_offset : (n : ℕ) → ℕ

@@ -7,7 +7,8 @@ ghost use Rattle.a64_word.specs.declared.operands.BranchKind.TheVariants.{Br, Bl
 ghost use Rattle.a64_word.specs.Bytes.{number_at};
 ghost use Rattle.a64_semantics.specs.Registers.{x_at};
 ghost use Rattle.lfi_module.specs.Numbers.{base_of, module_count, most_words};
-ghost use Rattle.lfi_confinement.specs.Slots.{base, is_guarded, entry_count, entry_address, entry_at, word_place, data_offset, Readable, Writable, NoAccess, permission_in, byte_in, memory_of};
+ghost use Rattle.lfi_rules.specs.Map.{entry_count};
+ghost use Rattle.lfi_confinement.specs.Slots.{base, is_guarded, entry_address, entry_at, word_place, data_offset, Readable, Writable, NoAccess, permission_in, byte_in, memory_of};
 ghost use Rattle.lfi_confinement.specs.Moves.{word_at, performed, given, stop, ask, escape};
 ghost use Rattle.lfi_confinement.specs.declared.cause.Cause.TheVariants as cause;
 ghost use Rattle.lfi_confinement.specs.Edges.{edge_image, with_x0, loads_at_x0, loads_pair_at_x0, with_x30, goes_to};

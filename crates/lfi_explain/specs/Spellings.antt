@@ -15,6 +15,7 @@ use Rattle.lfi_rules.specs.declared.needs.Need.TheVariants.{Nothing}
 use Rattle.lfi_rules.specs.Needs.{opens_of, meets_of}
 use Rattle.lfi_rules.specs.Calm.{is_calm}
 use Rattle.lfi_rules.specs.Rules.{writes}
+use Rattle.lfi_rules.specs.Map.{code_offset}
 use Rattle.lfi_rules.specs.Registers.{first_address, second_address, third_address}
 use Rattle.lfi_explain.specs.declared.spelling.Spelling.{Spelling}
 
@@ -104,7 +105,7 @@ spelling_text spelling = instruction_text spelling.word spelling.instruction
 
 -- where the word at a place lies. Source: this project's profile, docs/PROFILE.md.
 abbrev pub address_at : (slot place : ℕ) → ℕ
-address_at slot place = base_of slot + 65536 + 4 * place
+address_at slot place = base_of slot + code_offset + 4 * place
 
 -- a word at its address
 abbrev pub located_text : (slot place : ℕ) → Spelling → List ℕ

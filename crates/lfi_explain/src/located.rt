@@ -6,10 +6,8 @@ ghost use Rattle.lfi_explain.specs.Spellings as spec;
 use crate::digits::{AddressDigits, WordDigits};
 use crate::spelling::Spelling;
 use lfi_module::ModuleNumber;
+use lfi_rules::map::CODE_OFFSET;
 use std::fmt;
-
-/// Where a module's code begins in its slot, in bytes from the slot's base.
-const CODE_OFFSET: u64 = 65_536;
 
 /// A word of a module, at its place.
 #[derive(Clone, Copy)]

@@ -3,8 +3,9 @@ use Rattle.std.proofs.Common.{◌≡◌, ℕ, ◌+◌, ◌^◌, Bool, true, fals
 use Rattle.std.proofs.lemmas.Bool.{and_parts, and_from}
 use Rattle.a64_semantics.specs.declared.registers.Registers.{Registers}
 use Rattle.a64_semantics.specs.Registers.{x_at}
-use Rattle.lfi_confinement.specs.Slots.{InSlot, slot_size, is_in_slot}
-use Rattle.lfi_confinement.specs.Lawful.{Held, stack_reach}
+use Rattle.lfi_rules.specs.Map.{slot_size, stack_reach}
+use Rattle.lfi_confinement.specs.Slots.{InSlot, is_in_slot}
+use Rattle.lfi_confinement.specs.Lawful.{Held}
 use Rattle.lfi_confinement.proofs.Places.{in_slot_test}
 use Rattle.lfi_machine.specs.declared.start.StartFault.{StartFault}
 use Rattle.lfi_machine.specs.Starts.{addresses_held, stack_held, refusal_of}

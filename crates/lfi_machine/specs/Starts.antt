@@ -5,8 +5,8 @@ use Rattle.lfi_image.specs.Image.{Image}
 use Rattle.lfi_rules.specs.Registers as registers
 use Rattle.a64_semantics.specs.declared.registers.Registers.{Registers}
 use Rattle.a64_semantics.specs.Registers.{x_at}
-use Rattle.lfi_confinement.specs.Slots.{slot_size, is_in_slot, word_address}
-use Rattle.lfi_confinement.specs.Lawful.{stack_reach}
+use Rattle.lfi_rules.specs.Map.{slot_size, stack_reach}
+use Rattle.lfi_confinement.specs.Slots.{is_in_slot, word_address}
 use Rattle.lfi_machine.specs.declared.start.StartFault.{StartFault}
 use Rattle.lfi_machine.specs.declared.start.StartFault.TheVariants as faults
 

@@ -6,7 +6,7 @@
 //! decodes the image's words once, as far as the run comes (`decoded`), and goes along words that follow one another up
 //! to the first branch (`step_along`). A step carries out the instruction at pc: by a64_semantics where it accesses no
 //! memory, else by `singles` or `pairs` over `Data`. `Data` is the slot: the table of entries and the code, which are
-//! computed from the image's words, and the written bytes, each at its place by `map`. A branch to an entry of the table
+//! computed from the image's words, and the written bytes, each at its place by `lfi_rules::map`. A branch to an entry of the table
 //! calls the `Runtime`, whose answer the run goes on with, or which ends it. Why a run stopped is a `Halt`.
 //!
 //! Owned of specs/ has an image with its written bytes, Halting which halt has which cause, Starts the registers of a
@@ -26,7 +26,7 @@
 //! - **The machine decodes a word once, as far as a run has come.** `new` reserves 16 bytes a word, which cost nothing until
 //!   they are touched. A step at a place that isn't decoded yet first decodes all before it, to the end of its 1,024 words.
 //!   The places are reserved, so no step can fail for want of memory here.
-//! - **The map's numbers stand in `map`**, and the reserved registers in lfi_rules::registers. What begins a function with a
+//! - **The map's numbers stand in lfi_rules::map**, and the reserved registers in lfi_rules::registers. What begins a function with a
 //!   base of its own (`base < 2^40`) is private.
 //! - **Memory grows in `keep` alone**, which is asked for all bytes of an access at once, before anything is written. So an
 //!   access of several bytes, or of a pair, that is refused memory changes no byte.
@@ -40,7 +40,6 @@ mod decoded;
 mod halt;
 mod laws;
 mod machine;
-pub mod map;
 pub mod pairs;
 mod runtime;
 pub mod singles;

@@ -14,9 +14,9 @@ pub enum Answer {
 
 /// What serves the calls of the code.
 pub trait Runtime {
+    ghost use Rattle.lfi_rules.specs.Map.{entry_count};
     ghost use Rattle.std.specs.Prelude.{◌≡◌, ℕ, ◌<◌};
     ghost use Rattle.a64_semantics.specs.declared.registers.Registers.{Registers};
-    ghost use Rattle.lfi_confinement.specs.Slots.{entry_count};
     ghost use Rattle.lfi_machine.specs.Owned.{Owned};
     ghost use Rattle.lfi_machine.specs.declared.runtime.Answer.{Answer};
 

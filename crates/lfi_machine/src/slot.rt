@@ -7,7 +7,7 @@ ghost use Rattle.lfi_confinement.specs.Slots.{base, permission_at, is_permitted,
 ghost use Rattle.lfi_confinement.specs.Moves.{first_denied};
 ghost use Rattle.lfi_machine.specs.Owned.{memory, fault_number, writes_by, IsLocated};
 
-use crate::map::{CODE, ENTRIES, ENTRY, SLOT, TABLE};
+use lfi_rules::map::{CODE_OFFSET, FIRST_ENTRY, ENTRY_STEP, SLOT_BYTES, TABLE_BYTES};
 use a64_word::Size;
 use lfi_image::CompleteImage;
 use sparse_memory::{MemoryRefused, SparseMemory};
@@ -115,7 +115,7 @@ impl Data {
             image,
             memory,
             base,
-            first: (CODE + 4 * words + 4095) / 4096 * 4096,
+            first: (CODE_OFFSET + 4 * words + 4095) / 4096 * 4096,
         })
     }
 
@@ -143,14 +143,14 @@ impl Data {
             return false;
         }
         let offset = address - self.base;
-        if offset < TABLE {
+        if offset < TABLE_BYTES {
             access.is_load()
-        } else if offset < CODE {
+        } else if offset < CODE_OFFSET {
             false
         } else if offset < self.first {
             access.is_load()
         } else {
-            offset < SLOT
+            offset < SLOT_BYTES
         }
     }
 
@@ -162,7 +162,7 @@ impl Data {
     {
         // Of an address below the slot the difference wraps to an offset above it, so that no test of its own is needed.
         let offset = address.wrapping_sub(self.base);
-        self.first <= offset && offset <= SLOT - u64::from(bytes)
+        self.first <= offset && offset <= SLOT_BYTES - u64::from(bytes)
     }
 
     /// The least address of so many from one on whose byte may not be accessed so, looked for one by one.
@@ -219,12 +219,12 @@ impl Data {
         ensures { result ≡ byte_in self.now.image (byte_at self.now.kept) offset }
     {
         let at = u64::from(offset);
-        if at < TABLE {
-            let entry = ENTRIES + ENTRY * (at / 8);
+        if at < TABLE_BYTES {
+            let entry = FIRST_ENTRY + ENTRY_STEP * (at / 8);
             ((entry >> (8 * (at % 8))) & 0xFF) as u8
         } else if at < self.first {
-            let place = at.saturating_sub(CODE) / 4;
-            let shift = 8 * (at.saturating_sub(CODE) % 4);
+            let place = at.saturating_sub(CODE_OFFSET) / 4;
+            let shift = 8 * (at.saturating_sub(CODE_OFFSET) % 4);
             if place < u64::from(self.image.words().number()) {
                 ((self.image.word(place as u32) >> shift) & 0xFF) as u8
             } else {

@@ -6,7 +6,7 @@ ghost use Rattle.lfi_module.specs.Numbers.{base_of, most_words};
 ghost use Rattle.lfi_confinement.specs.Slots.{is_in_slot};
 ghost use Rattle.lfi_confinement.specs.Lawful.{Held};
 
-use crate::map::{CODE, SLOT};
+use lfi_rules::map::{CODE_OFFSET, SLOT_BYTES, STACK_REACH};
 use a64_semantics::Registers;
 use lfi_image::CompleteImage;
 use lfi_rules::registers::{BASE, FIRST_ADDRESS, LINK, OFFSET, SECOND_ADDRESS, THIRD_ADDRESS};
@@ -47,15 +47,12 @@ impl StartFault {
     }
 }
 
-/// How far sp may be from the slot.
-const REACH: u64 = 512;
-
 /// Whether an address lies in the slot that begins at a base.
 fn is_in_slot(base: u64, address: u64) -> bool
     requires { base < 2 ^ 40 }
     ensures { result ≡ is_in_slot base address }
 {
-    base <= address && address < base + SLOT
+    base <= address && address < base + SLOT_BYTES
 }
 
 fn addresses_held(base: u64, registers: &Registers) -> bool
@@ -72,10 +69,10 @@ fn stack_held(base: u64, registers: &Registers) -> bool
     requires { base < 2 ^ 40 }
     ensures { result ≡ stack_held base registers.now }
 {
-    if registers.sp >= base + SLOT + REACH {
+    if registers.sp >= base + SLOT_BYTES + STACK_REACH {
         return false;
     }
-    base <= registers.sp + REACH
+    base <= registers.sp + STACK_REACH
 }
 
 /// Why registers aren't lawful in the slot that begins at a base: the first reason.
@@ -137,8 +134,8 @@ pub fn start_registers(image: &CompleteImage) -> Registers
     x[LINK as usize] = base;
     Registers {
         x,
-        sp: base + SLOT,
-        pc: base + CODE + 4 * u64::from(entry_of(image)),
+        sp: base + SLOT_BYTES,
+        pc: base + CODE_OFFSET + 4 * u64::from(entry_of(image)),
         nzcv: 0,
     }
 }

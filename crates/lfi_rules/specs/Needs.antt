@@ -14,6 +14,7 @@ use Rattle.a64_effects.specs.Effects.{is_blr, ordered_transfer}
 use Rattle.lfi_rules.specs.declared.needs.Need.{Need}
 use Rattle.lfi_rules.specs.declared.needs.Need.TheVariants.{Nothing, Call, Guard, Probe}
 use Rattle.lfi_rules.specs.Guard.{is_x, guards_link}
+use Rattle.lfi_rules.specs.Map.{entry_count}
 use Rattle.lfi_rules.specs.Registers.{base, link, stack}
 
 -- a single load of 64 bits
@@ -38,9 +39,9 @@ loads_link (Pair i) = i.load && is_x i.width && (i.rt == link || i.rt2 == link)
 loads_link (Ordered i) = is_load_64 i.size (ordered_transfer i.load) && i.rt == link
 loads_link _ = false
 
--- The load of a table entry into x30: one of the 512 from x21 up, of 8 bytes each.
+-- The load of a table entry into x30: one of those from x21 up, of 8 bytes each.
 abbrev pub loads_entry : Instruction → Bool
-loads_entry = elim [ UnsignedOffset i ↦ is_load_64 i.size i.transfer && i.rt == link && i.rn == base && nat_lt i.imm12 512 | _ ↦ false ]
+loads_entry = elim [ UnsignedOffset i ↦ is_load_64 i.size i.transfer && i.rt == link && i.rn == base && nat_lt i.imm12 entry_count | _ ↦ false ]
 
 -- ADD or SUB of an immediate, from sp to sp.
 abbrev pub moves_stack : Instruction → Bool

@@ -4,6 +4,7 @@ ghost use Rattle.std.specs.Prelude.{◌≡◌, nat_lt};
 ghost use Rattle.lfi_rules.specs.Needs as spec;
 
 use crate::guard::guards_link;
+use crate::map::ENTRY_COUNT;
 use crate::registers::{BASE, LINK, STACK};
 use a64_effects::ordered_transfer;
 use a64_word::{BranchKind, Instruction, PairMode, Size, Transfer, Width};
@@ -31,9 +32,6 @@ pub fn window(profile: Profile) -> u8
         Profile::Two => 4,
     }
 }
-
-/// The entries of the table from x21 up, of 8 bytes each, through which code calls its runtime.
-pub const TABLE_ENTRIES: u16 = 512;
 
 /// Whether a single access loads 64 bits.
 pub fn is_load_64(size: Size, transfer: Transfer) -> bool
@@ -69,7 +67,7 @@ fn loads_entry(instruction: &Instruction) -> bool
             is_load_64(i.size, i.transfer)
                 && i.rt.number() == LINK
                 && i.rn.number() == BASE
-                && i.imm12 < TABLE_ENTRIES
+                && u64::from(i.imm12) < ENTRY_COUNT
         }
         _ => false,
     }

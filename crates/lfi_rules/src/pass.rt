@@ -18,6 +18,7 @@ use crate::inspect::inspect;
 use crate::late::{fault_behind, is_told_late, probes_late};
 use crate::met::is_met;
 use crate::needs::Need;
+use crate::region::Region;
 use a64_word::Words;
 use lfi_classes::{Reach, classes_of};
 use lfi_module::Profile;
@@ -63,35 +64,29 @@ fn reach_between(start: u32, stop: u32, n: u32, profile: Profile) -> Reach
 }
 
 /// Marks the places of so many words from one on, those of words that aren't quiet, behind `marked` places that are marked: writes
-/// them down in order, and answers how many are marked then. Without a branch by what a word is. `least` is the number of the
-/// reach.
+/// them down in order, and answers how many are marked then. Without a branch by what a word is.
 #[inline(always)]
 fn mark_loud<W: Words>(
-    words: &W,
+    region: Region<'_, W>,
     from: usize,
     count: usize,
     reach: Reach,
-    least: u64,
-    first: u32,
-    n: u32,
     places: &mut [u32],
     marked: usize,
 ) -> usize
-    requires within { from + count ≤ length (W.words words.now) }
-    requires room { first + length (W.words words.now) ≤ n }
-    requires most { n ≤ most_words }
+    requires within { from + count ≤ length (W.words region.words.now) }
     requires space { marked + count ≤ length places.old }
-    requires least { least ≡ least_of reach }
-    requires far { reach ≢ Quiet → AreFarFromEnds (first + from) (first + from + count) n }
+    requires far { reach ≢ Quiet → AreFarFromEnds (region.first + from) (region.first + from + count) region.n }
     ensures count { result ≤ marked + count }
     ensures marked { (profile : Profile) (start : ℕ) → (reach ≡ Ordered → profile ≡ Two) → start ≤ from
-        → AreMarked profile (W.words words.now) first n start from places.old marked
-        → AreMarked profile (W.words words.now) first n start (from + count) places.new result }
+        → AreMarked profile (W.words region.entry.words.now) region.entry.first region.entry.n start from places.old marked
+        → AreMarked profile (W.words region.entry.words.now) region.entry.first region.entry.n start (from + count) places.new result }
 {
+    let least = reach.least();
     let mut all = marked;
     for k in 0..count {
         places[all] = (from + k) as u32;
-        if !classes_of(words.word(from + k)).is_quiet_from(least) {
+        if !classes_of(region.words.word(from + k)).is_quiet_from(least) {
             all += 1;
         }
     }
@@ -101,32 +96,27 @@ fn mark_loud<W: Words>(
 /// Marks the places from `start` on, up to `stop`, whose words aren't quiet, eight words a turn; answers how many they are.
 #[inline(always)]
 fn mark_span<W: Words>(
-    words: &W,
+    region: Region<'_, W>,
     start: usize,
     stop: usize,
     reach: Reach,
-    first: u32,
-    n: u32,
     places: &mut [u32],
 ) -> usize
     requires start { start ≤ stop }
-    requires stop { stop ≤ length (W.words words.now) }
-    requires room { first + length (W.words words.now) ≤ n }
-    requires most { n ≤ most_words }
+    requires stop { stop ≤ length (W.words region.words.now) }
     requires space { stop ≤ start + length places.old }
-    requires far { reach ≢ Quiet → AreFarFromEnds (first + start) (first + stop) n }
+    requires far { reach ≢ Quiet → AreFarFromEnds (region.first + start) (region.first + stop) region.n }
     ensures count { result ≤ length places.new }
     ensures marked { (profile : Profile) → (reach ≡ Ordered → profile ≡ Two)
-        → AreMarked profile (W.words words.now) first n start stop places.new result }
+        → AreMarked profile (W.words region.entry.words.now) region.entry.first region.entry.n start stop places.new result }
 {
-    let least = reach.least();
     let mut count = 0;
     let mut i = start;
     while stop - i >= 8 {
-        count = mark_loud(words, i, 8, reach, least, first, n, places, count);
+        count = mark_loud(region, i, 8, reach, places, count);
         i += 8;
     }
-    mark_loud(words, i, stop - i, reach, least, first, n, places, count)
+    mark_loud(region, i, stop - i, reach, places, count)
 }
 
 /// Which needs a word meets.
@@ -178,17 +168,16 @@ fn is_told_alone(word: u32, place: u32, n: u32, profile: Profile) -> bool
 
 /// Whether the word at a place is told by its class, its own fields and the word after it: it is fine.
 #[inline(always)]
-fn is_told<W: Words>(words: &W, i: usize, first: u32, n: u32, profile: Profile) -> bool
-    requires within { i < length (W.words words.now) }
-    requires room { first + length (W.words words.now) ≤ n }
-    requires most { n ≤ most_words }
-    ensures { IsTrue result → IsFine profile (W.words words.now) first n i }
+fn is_told<W: Words>(region: Region<'_, W>, i: usize) -> bool
+    requires within { i < length (W.words region.words.now) }
+    ensures { IsTrue result → IsFine region.entry.profile (W.words region.entry.words.now) region.entry.first region.entry.n i }
 {
-    let word = words.word(i);
+    let word = region.words.word(i);
     let classes = classes_of(word);
-    let met = met_after(words, i);
-    let guards = classes.opens_guard() | classes.opens_guard_ordered() & has_ordered(profile);
-    is_told_alone(word, first + i as u32, n, profile)
+    let met = met_after(region.words, i);
+    let guards = classes.opens_guard()
+        | classes.opens_guard_ordered() & has_ordered(region.profile);
+    is_told_alone(word, region.first + i as u32, region.n, region.profile)
         | guards & met.guard
         | classes.opens_call() & met.call
         | classes.opens_probe() & met.probe
@@ -197,27 +186,18 @@ fn is_told<W: Words>(words: &W, i: usize, first: u32, n: u32, profile: Profile) 
 /// Keeps those of the first `count` places whose words aren't told, in order and before all others; answers how many they are.
 /// Without a branch by what a word is.
 #[inline(never)]
-fn keep_untold<W: Words>(
-    words: &W,
-    places: &mut [u32],
-    count: usize,
-    first: u32,
-    n: u32,
-    profile: Profile,
-) -> usize
+fn keep_untold<W: Words>(region: Region<'_, W>, places: &mut [u32], count: usize) -> usize
     requires count { count ≤ length places.old }
-    requires within { (p : ℕ) → p < count → slice_index places.old p < length (W.words words.now) }
-    requires room { first + length (W.words words.now) ≤ n }
-    requires most { n ≤ most_words }
+    requires within { (p : ℕ) → p < count → slice_index places.old p < length (W.words region.words.now) }
     ensures count { result ≤ count }
-    ensures marked { (start stop : ℕ) → AreMarked profile (W.words words.now) first n start stop places.old count
-        → AreMarked profile (W.words words.now) first n start stop places.new result }
+    ensures marked { (start stop : ℕ) → AreMarked region.entry.profile (W.words region.entry.words.now) region.entry.first region.entry.n start stop places.old count
+        → AreMarked region.entry.profile (W.words region.entry.words.now) region.entry.first region.entry.n start stop places.new result }
 {
     let mut kept = 0;
     for at in 0..count {
         let place = places[at];
         places[kept] = place;
-        if !is_told(words, place as usize, first, n, profile) {
+        if !is_told(region, place as usize) {
             kept += 1;
         }
     }
@@ -226,27 +206,18 @@ fn keep_untold<W: Words>(
 
 /// Of the first `count` places keeps those whose words aren't told by a probe two to four words behind, as `keep_untold` does.
 #[inline(never)]
-fn keep_unprobed<W: Words>(
-    words: &W,
-    places: &mut [u32],
-    count: usize,
-    first: u32,
-    n: u32,
-    profile: Profile,
-) -> usize
+fn keep_unprobed<W: Words>(region: Region<'_, W>, places: &mut [u32], count: usize) -> usize
     requires count { count ≤ length places.old }
-    requires within { (p : ℕ) → p < count → slice_index places.old p < length (W.words words.now) }
-    requires room { first + length (W.words words.now) ≤ n }
-    requires most { n ≤ most_words }
+    requires within { (p : ℕ) → p < count → slice_index places.old p < length (W.words region.words.now) }
     ensures count { result ≤ count }
-    ensures marked { (start stop : ℕ) → AreMarked profile (W.words words.now) first n start stop places.old count
-        → AreMarked profile (W.words words.now) first n start stop places.new result }
+    ensures marked { (start stop : ℕ) → AreMarked region.entry.profile (W.words region.entry.words.now) region.entry.first region.entry.n start stop places.old count
+        → AreMarked region.entry.profile (W.words region.entry.words.now) region.entry.first region.entry.n start stop places.new result }
 {
     let mut left = 0;
     for at in 0..count {
         let place = places[at];
         places[left] = place;
-        if !probes_late(words, place as usize, first, n, profile) {
+        if !probes_late(region, place as usize) {
             left += 1;
         }
     }
@@ -255,43 +226,39 @@ fn keep_unprobed<W: Words>(
 
 /// The first fault of the words from the place `first + i` on, up to the one that meets what the first opens: what that breaks
 /// by itself; else what those after it break.
-fn fault_at<W: Words>(words: &W, i: usize, first: u32, n: u32, profile: Profile) -> Option<Fault>
-    requires within { i < length (W.words words.now) }
-    requires room { first + length (W.words words.now) ≤ n }
-    requires most { n ≤ most_words }
-    ensures some { IfSome result (λ fault. AreFine profile (W.words words.now) first n 0 i → IsFirstInside profile (W.words words.now) first n (Some fault)) }
-    ensures none { IfNone result (IsFine profile (W.words words.now) first n i) }
+fn fault_at<W: Words>(region: Region<'_, W>, i: usize) -> Option<Fault>
+    requires within { i < length (W.words region.words.now) }
+    ensures some { IfSome result (λ fault. AreFine region.entry.profile (W.words region.entry.words.now) region.entry.first region.entry.n 0 i → IsFirstInside region.entry.profile (W.words region.entry.words.now) region.entry.first region.entry.n (Some fault)) }
+    ensures none { IfNone result (IsFine region.entry.profile (W.words region.entry.words.now) region.entry.first region.entry.n i) }
 {
-    let place = first + i as u32;
-    let (rule, opened) = inspect(words.word(i), Need::Nothing, place, n, profile);
+    let place = region.first + i as u32;
+    let (rule, opened) = inspect(
+        region.words.word(i),
+        Need::Nothing,
+        place,
+        region.n,
+        region.profile,
+    );
     if let Some(rule) = rule {
         return Some(Fault { word: place, rule });
     }
     if opened == Need::Nothing {
         return None;
     }
-    fault_behind(words, i, opened, first, n, profile)
+    fault_behind(region, i, opened)
 }
 
 /// The first fault that a closer look at words finds that aren't told.
 #[inline(never)]
-fn first_by_look<W: Words>(
-    words: &W,
-    marked: &[u32],
-    first: u32,
-    n: u32,
-    profile: Profile,
-) -> Option<Fault>
-    requires within { AreWithin marked.now (length (W.words words.now)) }
-    requires room { first + length (W.words words.now) ≤ n }
-    requires most { n ≤ most_words }
-    ensures some { IfSome result (λ fault. IsFoundIn profile (W.words words.now) first n marked.now fault) }
-    ensures none { IfNone result (AreMarkedFine profile (W.words words.now) first n marked.now (length marked.now)) }
+fn first_by_look<W: Words>(region: Region<'_, W>, marked: &[u32]) -> Option<Fault>
+    requires within { AreWithin marked.now (length (W.words region.words.now)) }
+    ensures some { IfSome result (λ fault. IsFoundIn region.entry.profile (W.words region.entry.words.now) region.entry.first region.entry.n marked.now fault) }
+    ensures none { IfNone result (AreMarkedFine region.entry.profile (W.words region.entry.words.now) region.entry.first region.entry.n marked.now (length marked.now)) }
 {
     for place in marked {
         let i = *place as usize;
-        if !is_told_late(words, i, first, n, profile) {
-            let fault = fault_at(words, i, first, n, profile);
+        if !is_told_late(region, i) {
+            let fault = fault_at(region, i);
             if fault.is_some() {
                 return fault;
             }
@@ -304,71 +271,58 @@ fn first_by_look<W: Words>(
 /// how many they are.
 #[inline(always)]
 fn mark_untold<W: Words>(
-    words: &W,
+    region: Region<'_, W>,
     start: usize,
     stop: usize,
-    first: u32,
-    n: u32,
-    profile: Profile,
     places: &mut [u32],
 ) -> usize
     requires start { start ≤ stop }
-    requires stop { stop ≤ length (W.words words.now) }
-    requires room { first + length (W.words words.now) ≤ n }
-    requires most { n ≤ most_words }
+    requires stop { stop ≤ length (W.words region.words.now) }
     requires space { stop ≤ start + length places.old }
     ensures count { result ≤ length places.new }
-    ensures marked { AreMarked profile (W.words words.now) first n start stop places.new result }
+    ensures marked { AreMarked region.entry.profile (W.words region.entry.words.now) region.entry.first region.entry.n start stop places.new result }
 {
-    let reach = reach_between(first + start as u32, first + stop as u32, n, profile);
-    let count = mark_span(words, start, stop, reach, first, n, places);
-    let kept = keep_untold(words, places, count, first, n, profile);
-    keep_unprobed(words, places, kept, first, n, profile)
+    let reach = reach_between(
+        region.first + start as u32,
+        region.first + stop as u32,
+        region.n,
+        region.profile,
+    );
+    let count = mark_span(region, start, stop, reach, places);
+    let kept = keep_untold(region, places, count);
+    keep_unprobed(region, places, kept)
 }
 
 /// The first fault of the words from `start` on, up to `stop`, where none before has one.
 #[inline(always)]
 fn first_in_span<W: Words>(
-    words: &W,
+    region: Region<'_, W>,
     start: usize,
     stop: usize,
-    first: u32,
-    n: u32,
-    profile: Profile,
     places: &mut [u32],
 ) -> Option<Fault>
     requires start { start ≤ stop }
-    requires stop { stop ≤ length (W.words words.now) }
-    requires room { first + length (W.words words.now) ≤ n }
-    requires most { n ≤ most_words }
+    requires stop { stop ≤ length (W.words region.words.now) }
     requires space { stop ≤ start + length places.old }
-    ensures some { IfSome result (λ fault. AreFine profile (W.words words.now) first n 0 start → IsFirstInside profile (W.words words.now) first n (Some fault)) }
-    ensures none { IfNone result (AreFine profile (W.words words.now) first n start stop) }
+    ensures some { IfSome result (λ fault. AreFine region.entry.profile (W.words region.entry.words.now) region.entry.first region.entry.n 0 start → IsFirstInside region.entry.profile (W.words region.entry.words.now) region.entry.first region.entry.n (Some fault)) }
+    ensures none { IfNone result (AreFine region.entry.profile (W.words region.entry.words.now) region.entry.first region.entry.n start stop) }
 {
-    let left = mark_untold(words, start, stop, first, n, profile, places);
-    first_by_look(words, &places[..left], first, n, profile)
+    let left = mark_untold(region, start, stop, places);
+    first_by_look(region, &places[..left])
 }
 
 /// The first fault of words, as many of them at once as there are places to mark.
 #[inline(always)]
-fn first_in_spans<W: Words>(
-    words: &W,
-    first: u32,
-    n: u32,
-    profile: Profile,
-    places: &mut [u32],
-) -> Option<Fault>
-    requires room { first + length (W.words words.now) ≤ n }
-    requires most { n ≤ most_words }
+fn first_in_spans<W: Words>(region: Region<'_, W>, places: &mut [u32]) -> Option<Fault>
     requires space { 1 ≤ length places.old }
     requires size { length places.old ≤ most_words }
-    ensures { IsFirstInside profile (W.words words.now) first n result }
+    ensures { IsFirstInside region.entry.profile (W.words region.entry.words.now) region.entry.first region.entry.n result }
 {
-    let count = words.count();
+    let count = region.words.count();
     let mut start = 0;
     while start < count {
         let stop = count.min(start + places.len());
-        let fault = first_in_span(words, start, stop, first, n, profile, places);
+        let fault = first_in_span(region, start, stop, places);
         if fault.is_some() {
             return fault;
         }
@@ -379,11 +333,9 @@ fn first_in_spans<W: Words>(
 
 /// The first fault of words that stand in a module of n words from `first` on.
 #[inline(never)]
-pub fn first_inside<W: Words>(words: &W, first: u32, n: u32, profile: Profile) -> Option<Fault>
-    requires room { first + length (W.words words.now) ≤ n }
-    requires most { n ≤ most_words }
-    ensures { IsFirstInside profile (W.words words.now) first n result }
+pub fn first_inside<W: Words>(region: Region<'_, W>) -> Option<Fault>
+    ensures { IsFirstInside region.entry.profile (W.words region.entry.words.now) region.entry.first region.entry.n result }
 {
     let mut places = [0u32; SPAN];
-    first_in_spans(words, first, n, profile, &mut places)
+    first_in_spans(region, &mut places)
 }

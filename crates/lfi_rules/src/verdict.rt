@@ -9,6 +9,7 @@ use crate::left::open_before;
 use crate::met::is_met;
 use crate::needs::{Need, meets};
 use crate::pass::first_inside;
+use crate::region::Region;
 use crate::rule::Rule;
 use a64_word::{Words, decode};
 use lfi_module::Profile;
@@ -119,7 +120,12 @@ pub fn judge<W: Words>(words: &W, first: u32, n: u32, profile: Profile) -> PageV
 {
     PageVerdict {
         first,
-        inner: first_inside(words, first, n, profile),
+        inner: first_inside(Region {
+            words,
+            first,
+            n,
+            profile,
+        }),
         head: head_of(words, profile),
         tail: open_before(words, words.count(), profile),
     }
@@ -254,7 +260,12 @@ pub fn check_all<W: Words>(words: &W, profile: Profile) -> Option<Fault>
     ensures { FirstFault profile (W.words words.now) (length (W.words words.now)) result }
 {
     let n = words.count() as u32;
-    let inner = first_inside(words, 0, n, profile);
+    let inner = first_inside(Region {
+        words,
+        first: 0,
+        n,
+        profile,
+    });
     if inner.is_some() {
         return inner;
     }

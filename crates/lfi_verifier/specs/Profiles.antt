@@ -2,9 +2,9 @@
 use Rattle.std.specs.Prelude.{◌≡◌, ◌≢◌, ℕ, ◌+◌}
 use Rattle.lfi_module.specs.declared.profile.Profile.{Profile}
 use Rattle.lfi_module.specs.Profiles.{profile_number}
+use Rattle.lfi_rules.specs.Map as the_map
 use Rattle.lfi_rules.specs.Registers as registers
 use Rattle.lfi_confinement.specs.Slots as slot
-use Rattle.lfi_confinement.specs.Lawful.{stack_reach}
 use Rattle.lfi_verifier.specs.declared.profile.LfiMap.{LfiMap}
 use Rattle.lfi_verifier.specs.declared.profile.LfiRegisters.{LfiRegisters}
 
@@ -15,13 +15,13 @@ IsUnknown number = (profile : Profile) → profile_number profile ≢ number
 -- The map tells where the parts of the slot lie that begins at `from`, as code that was found lawful is confined to it.
 pub record IsMapOf (from : ℕ) (map : LfiMap) : Type 0 where
   pub base : map.base ≡ from
-  pub size : map.size ≡ slot.slot_size
-  pub guard : map.guard ≡ slot.guard_size
-  pub table : map.table ≡ slot.table_bytes
-  pub code : map.code ≡ slot.code_offset
+  pub size : map.size ≡ the_map.slot_size
+  pub guard : map.guard ≡ the_map.guard_size
+  pub table : map.table ≡ the_map.table_bytes
+  pub code : map.code ≡ the_map.code_offset
   pub entry : map.entry ≡ slot.entry_address 0
   pub next : map.entry + map.entry_step ≡ slot.entry_address 1
-  pub entries : map.entries ≡ slot.entry_count
+  pub entries : map.entries ≡ the_map.entry_count
 
 -- The numbers are those of the registers that are to be lawful.
 pub record AreRegisters (told : LfiRegisters) : Type 0 where
@@ -31,4 +31,4 @@ pub record AreRegisters (told : LfiRegisters) : Type 0 where
   pub second_address : told.second_address ≡ registers.second_address
   pub third_address : told.third_address ≡ registers.third_address
   pub link : told.link ≡ registers.link
-  pub stack_reach : told.stack_reach ≡ stack_reach
+  pub stack_reach : told.stack_reach ≡ the_map.stack_reach

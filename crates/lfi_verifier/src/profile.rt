@@ -10,6 +10,9 @@ ghost use Rattle.lfi_verifier.specs.Statuses.{status_number};
 
 use crate::status::Status;
 use lfi_module::{ModuleNumber, Profile};
+use lfi_rules::map::{
+    CODE_OFFSET, ENTRY_COUNT, ENTRY_STEP, FIRST_ENTRY, GUARD_BYTES, SLOT_BYTES, STACK_REACH, TABLE_BYTES,
+};
 use lfi_rules::registers::{BASE, FIRST_ADDRESS, LINK, OFFSET, SECOND_ADDRESS, THIRD_ADDRESS};
 
 /// The number of this interface, which grows with each change of it.
@@ -69,13 +72,13 @@ fn map_at(base: u64) -> LfiMap
 {
     LfiMap {
         base,
-        size: 1 << 32,
-        guard: 65_536,
-        table: 4096,
-        code: 65_536,
-        entry: 1 << 40,
-        entry_step: 16,
-        entries: 512,
+        size: SLOT_BYTES,
+        guard: GUARD_BYTES,
+        table: TABLE_BYTES,
+        code: CODE_OFFSET,
+        entry: FIRST_ENTRY,
+        entry_step: ENTRY_STEP,
+        entries: ENTRY_COUNT,
     }
 }
 
@@ -114,7 +117,7 @@ pub extern "C" fn lfi_profile_registers(profile: u32, registers: &mut LfiRegiste
         second_address: u32::from(SECOND_ADDRESS),
         third_address: u32::from(THIRD_ADDRESS),
         link: u32::from(LINK),
-        stack_reach: 512,
+        stack_reach: STACK_REACH as u32,
     };
     Status::Lawful.number()
 }

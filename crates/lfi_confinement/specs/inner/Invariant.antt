@@ -9,8 +9,8 @@ use Rattle.lfi_rules.specs.Calm.{is_calm}
 use Rattle.lfi_rules.specs.Registers as registers
 use Rattle.a64_semantics.specs.declared.registers.Registers.{Registers}
 use Rattle.a64_semantics.specs.Registers.{x_at}
-use Rattle.lfi_confinement.specs.Slots.{base, InSlot, slot_size, entry_address, entry_count}
-use Rattle.lfi_confinement.specs.Lawful.{stack_reach}
+use Rattle.lfi_rules.specs.Map.{entry_count, slot_size, stack_reach}
+use Rattle.lfi_confinement.specs.Slots.{base, InSlot, entry_address}
 use Rattle.lfi_confinement.specs.Moves.{Fetches}
 use Rattle.lfi_image.specs.Image.{Image}
 

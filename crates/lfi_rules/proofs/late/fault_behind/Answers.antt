@@ -11,22 +11,22 @@ use Rattle.lfi_rules.proofs.late.fault_behind.Goals.{then-eq-via-then-eq, then-e
 use Rattle.lfi_rules.proofs.late.fault_behind.Goals as goal
 
 pub loop-gone-init : goal.loop-gone-init
-loop-gone-init g c = begun c.args.profile (g.W.Words.words c.args.words.now) c.args.first c.args.n c.args.i c.args.opened c.requires.opens c.requires.some
+loop-gone-init g c = begun c.args.region.profile (g.W.Words.words c.args.region.words.now) c.args.region.first c.args.region.n c.args.i c.args.opened c.requires.opens c.requires.some
 
 pub returns-then-eq-clause-none : goal.returns-then-eq-clause-none
 returns-then-eq-clause-none g c =
-    let ws : List ℕ = g.W.Words.words c.args.words.now in
+    let ws : List ℕ = g.W.Words.words c.args.region.words.now in
     elim c.then-eq.branch [
-      | then-eq-via-then-eq w ↦ fine_closed c.args.profile ws c.args.first c.args.n c.args.i c.loop-gone.gone c.args.opened c.loop-gone.need c.requires.opens c.loop-gone.invariant (search rules)
-      | then-eq-via-else-eq+then-at-count w ↦ fine_at_end c.args.profile ws c.args.first c.args.n c.args.i c.loop-gone.gone c.args.opened c.loop-gone.need c.requires.opens c.loop-gone.invariant (omega arith)
+      | then-eq-via-then-eq w ↦ fine_closed c.args.region.profile ws c.args.region.first c.args.region.n c.args.i c.loop-gone.gone c.args.opened c.loop-gone.need c.requires.opens c.loop-gone.invariant (search rules)
+      | then-eq-via-else-eq+then-at-count w ↦ fine_at_end c.args.region.profile ws c.args.region.first c.args.region.n c.args.i c.loop-gone.gone c.args.opened c.loop-gone.need c.requires.opens c.loop-gone.invariant (omega arith)
     ]
 
 pub returns-in-Some-clause-some : goal.returns-in-Some-clause-some
 returns-in-Some-clause-some g c = λ fine.
-    let p = c.args.profile in
-    let ws : List ℕ = g.W.Words.words c.args.words.now in
-    let first : ℕ = c.args.first in
-    let n : ℕ = c.args.n in
+    let p = c.args.region.profile in
+    let ws : List ℕ = g.W.Words.words c.args.region.words.now in
+    let first : ℕ = c.args.region.first in
+    let n : ℕ = c.args.region.n in
     let j : ℕ = c.args.i + c.loop-gone.gone + 1 in
     let need : Need = c.loop-gone.need in
     let room : j < length ws = omega arith in
@@ -39,10 +39,10 @@ returns-in-Some-clause-some g c = λ fine.
 
 pub loop-gone-preserved : goal.loop-gone-preserved
 loop-gone-preserved g c =
-    let p = c.args.profile in
-    let ws : List ℕ = g.W.Words.words c.args.words.now in
-    let first : ℕ = c.args.first in
-    let n : ℕ = c.args.n in
+    let p = c.args.region.profile in
+    let ws : List ℕ = g.W.Words.words c.args.region.words.now in
+    let first : ℕ = c.args.region.first in
+    let n : ℕ = c.args.region.n in
     let j : ℕ = c.args.i + c.loop-gone.gone + 1 in
     let need : Need = c.loop-gone.need in
     let room : j < length ws = omega arith in
@@ -55,6 +55,6 @@ loop-gone-preserved g c =
 
 pub returns-clause-none : goal.returns-clause-none
 returns-clause-none g c =
-    let ws : List ℕ = g.W.Words.words c.args.words.now in
-    let all : window c.args.profile ≤ c.loop-gone.gone = omega (arith, c.window-gone-end.ensures) in
-    fine_over c.args.profile ws c.args.first c.args.n c.args.i c.loop-gone.gone c.args.opened c.loop-gone.need c.requires.opens c.loop-gone.invariant all
+    let ws : List ℕ = g.W.Words.words c.args.region.words.now in
+    let all : window c.args.region.profile ≤ c.loop-gone.gone = omega (arith, c.window-gone-end.ensures) in
+    fine_over c.args.region.profile ws c.args.region.first c.args.region.n c.args.i c.loop-gone.gone c.args.opened c.loop-gone.need c.requires.opens c.loop-gone.invariant all

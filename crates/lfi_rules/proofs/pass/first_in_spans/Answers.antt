@@ -6,16 +6,16 @@ use Rattle.lfi_rules.proofs.pass.first_in_spans.Goals as goal
 
 pub loop-start-preserved : goal.loop-start-preserved
 loop-start-preserved g c =
-    let ws : List ℕ = g.W.Words.words c.args.words.now in
-    let more : AreFine c.args.profile ws c.args.first c.args.n c.loop-start.start c.min-stop.result =
+    let ws : List ℕ = g.W.Words.words c.args.region.words.now in
+    let more : AreFine c.args.region.profile ws c.args.region.first c.args.region.n c.loop-start.start c.min-stop.result =
     by_none c.first_in_span-fault.result _ (sym c.is_some.ensures ∙ c.if-is_some.false) c.first_in_span-fault.ensures.none in
     record {
       within = omega arith;
-      fine = joined_fine c.args.profile ws c.args.first c.args.n 0 c.loop-start.start c.min-stop.result c.loop-start.invariant.fine more;
+      fine = joined_fine c.args.region.profile ws c.args.region.first c.args.region.n 0 c.loop-start.start c.min-stop.result c.loop-start.invariant.fine more;
     }
 
 pub returns : goal.returns
 returns g c =
-    let ws : List ℕ = g.W.Words.words c.args.words.now in
+    let ws : List ℕ = g.W.Words.words c.args.region.words.now in
     let whole : c.loop-start.start ≡ length ws = omega arith in
-    none_of_all c.args.profile ws c.args.first c.args.n (subst (λ i. AreFine c.args.profile ws c.args.first c.args.n 0 i) whole c.loop-start.invariant.fine)
+    none_of_all c.args.region.profile ws c.args.region.first c.args.region.n (subst (λ i. AreFine c.args.region.profile ws c.args.region.first c.args.region.n 0 i) whole c.loop-start.invariant.fine)

@@ -4,8 +4,8 @@ use Rattle.lfi_rules.proofs.pass.first_in_spans.Given as goal
 
 abbrev pub invariant-loop-start : goal.invariant-loop-start
 invariant-loop-start g l = record {
-  within : l.start ≤ length (g.W.Words.words l.words);
-  fine : AreFine l.profile (g.W.Words.words l.words) l.first l.n 0 l.start;
+  within : l.start ≤ length (g.W.Words.words l.region.words.now);
+  fine : AreFine l.region.profile (g.W.Words.words l.region.words.now) l.region.first l.region.n 0 l.start;
 }
 
 abbrev pub decreases-loop-start : goal.decreases-loop-start

@@ -12,12 +12,12 @@ use Rattle.lfi_rules.proofs.pass.is_told.Goals as goal
 
 pub returns : goal.returns
 returns g c = λ h.
-    let p = c.args.profile in
-    let ws : List ℕ = g.W.Words.words c.args.words.now in
+    let p = c.args.region.profile in
+    let ws : List ℕ = g.W.Words.words c.args.region.words.now in
     let w : ℕ = c.word-word.result in
     let i : ℕ = c.args.i in
-    let first : ℕ = c.args.first in
-    let n : ℕ = c.args.n in
+    let first : ℕ = c.args.region.first in
+    let n : ℕ = c.args.region.n in
     let k : ℕ = first + i in
     let fits : w < 2 ^ 32 = search rules in
     let at : slice_get ws i ≡ Some w = slice_get-get_or ws i 0 c.requires.within ∙ ap Some (sym c.word-word.ensures) in

@@ -12,9 +12,9 @@ use Rattle.lfi_rules.proofs.pass.mark_loud.Goals as goal
 
 pub loop-k-preserved : goal.loop-k-preserved
 loop-k-preserved g c =
-    let ws : List ℕ = g.W.Words.words c.args.words.now in
-    let first : ℕ = c.args.first in
-    let n : ℕ = c.args.n in
+    let ws : List ℕ = g.W.Words.words c.args.region.words.now in
+    let first : ℕ = c.args.region.first in
+    let n : ℕ = c.args.region.n in
     let from : ℕ = c.args.from in
     let k : ℕ = c.loop-k.k in
     let i : ℕ = from + k in
@@ -42,7 +42,7 @@ loop-k-preserved g c =
           }
       | else-not-is_quiet_from b ↦
           let same : c.if-not-is_quiet_from.all ≡ all = b.all-is in
-          let here : IsQuietHere c.args.reach w = c.is_quiet_from.ensures w c.args.reach c.classes_of.ensures c.requires.least (search rules) in
+          let here : IsQuietHere c.args.reach w = c.is_quiet_from.ensures w c.args.reach c.classes_of.ensures c.least-least.ensures (search rules) in
           let far : c.args.reach ≢ Quiet → IsFarFromEnds (first + i) n =
           λ e. let f = c.requires.far e in let least : 2048 ≤ first + from = f.from_start in let to : first + from + c.args.count + 2048 ≤ n = f.to_end in record { start = omega arith; end = omega arith } in
           record {
@@ -50,7 +50,7 @@ loop-k-preserved g c =
             marked = λ p start two early m. subst (λ x. AreMarked p ws first n start x (slice_set places all i) c.if-not-is_quiet_from.all) step
                 (subst (λ x. AreMarked p ws first n start (i + 1) (slice_set places all i) x) (sym same)
                 (fine_more p ws first n start i places all i (c.loop-k.invariant.marked p start two early m)
-                (fine_quiet p ws first n i w at (told_here p w (first + i) n c.args.reach fits far (λ e. two (c.requires.least ∙ ap least_of e)) here))));
+                (fine_quiet p ws first n i w at (told_here p w (first + i) n c.args.reach fits far (λ e. two (c.least-least.ensures ∙ ap least_of e)) here))));
           }
     ]
 
@@ -59,5 +59,5 @@ returns-clause-marked g c = λ p start of early m.
     let end : c.loop-k.k ≤ c.args.count = c.loop-k.auto.k-end in
     let done : c.args.count ≤ c.loop-k.k = c.loop-k-test.false in
     let e : c.loop-k.k ≡ c.args.count = omega arith in
-    subst (λ x. AreMarked p (g.W.Words.words c.args.words.now) c.args.first c.args.n start (c.args.from + x) c.loop-k.places c.loop-k.all) e
-    (c.loop-k.invariant.marked p start (λ number. of (ordered_by_least c.args.reach (sym c.requires.least ∙ number))) early m)
+    subst (λ x. AreMarked p (g.W.Words.words c.args.region.words.now) c.args.region.first c.args.region.n start (c.args.from + x) c.loop-k.places c.loop-k.all) e
+    (c.loop-k.invariant.marked p start (λ number. of (ordered_by_least c.args.reach (sym c.least-least.ensures ∙ number))) early m)

@@ -9,6 +9,6 @@ use Rattle.lfi_rules.proofs.pass.mark_loud.Given as goal
 abbrev pub invariant-loop-k : goal.invariant-loop-k
 invariant-loop-k g l = record {
   count : l.all ≤ l.marked + l.k;
-  marked : (profile : Profile) (start : ℕ) → (l.least ≡ least_of Ordered → profile ≡ Two) → start ≤ l.from → AreMarked profile (g.W.Words.words l.words) l.first l.n start l.from l.initial.places l.marked
-      → AreMarked profile (g.W.Words.words l.words) l.first l.n start (l.from + l.k) l.places l.all;
+  marked : (profile : Profile) (start : ℕ) → (l.least ≡ least_of Ordered → profile ≡ Two) → start ≤ l.from → AreMarked profile (g.W.Words.words l.region.words.now) l.region.first l.region.n start l.from l.initial.places l.marked
+      → AreMarked profile (g.W.Words.words l.region.words.now) l.region.first l.region.n start (l.from + l.k) l.places l.all;
 }

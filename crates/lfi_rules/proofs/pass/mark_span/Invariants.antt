@@ -10,7 +10,7 @@ invariant-loop-i g l = record {
   low : l.start ≤ l.i;
   high : l.i ≤ l.stop;
   count : l.start + l.count ≤ l.i;
-  marked : (profile : Profile) → (l.reach ≡ Ordered → profile ≡ Two) → AreMarked profile (g.W.Words.words l.words) l.first l.n l.start l.i l.places l.count;
+  marked : (profile : Profile) → (l.reach ≡ Ordered → profile ≡ Two) → AreMarked profile (g.W.Words.words l.region.words.now) l.region.first l.region.n l.start l.i l.places l.count;
 }
 
 abbrev pub decreases-loop-i : goal.decreases-loop-i
