@@ -10,7 +10,7 @@ use crate::board::Board;
 use crate::hand::{Asks, First, Push, Sit, View, Whole};
 use crate::seats::ReceiverSeat;
 use atomic_table::Seat;
-use lfi_module::ModuleNumber;
+use lfi_module::{CONNECTIONS, ModuleNumber};
 
 impl Board {
     // Loads the phase while `all` has the hands of the seats from `at` on too, and hands them back.
@@ -51,7 +51,7 @@ impl Board {
     /// for it. `None` where the module is free. All seats are as before.
     pub fn holder(
         &self,
-        seats: &mut [Option<ReceiverSeat>; 8],
+        seats: &mut [Option<ReceiverSeat>; CONNECTIONS],
         number: ModuleNumber,
     ) -> Option<usize>
         requires all { AllReceivers self.now seats.old }

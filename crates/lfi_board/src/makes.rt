@@ -10,8 +10,9 @@ use crate::board::Board;
 use crate::hand::{First, Hand, Phases, Sit, View};
 use crate::seats::{ReceiverSeat, Seats, SequencerSeat, WatchSeat};
 use atomic_table::{Seat, Shared, Table};
-use lfi_module::ModuleNumber;
+use lfi_module::{CONNECTIONS, ModuleNumber};
 use std::alloc::{AllocError, Global};
+use std::array;
 use std::collections::LinkedList;
 
 type Top = Shared<(), LinkedList<Hand>, u64, Phases>;
@@ -27,12 +28,16 @@ fn receiver(seat: Seat<(), View>) -> ReceiverSeat
 }
 
 // The seats of so many receivers, of which `first` has all hands.
-fn receiver_seats(top: &Top, mut first: Seat<(), View>, count: usize) -> [Option<ReceiverSeat>; 8]
+fn receiver_seats(
+    top: &Top,
+    mut first: Seat<(), View>,
+    count: usize,
+) -> [Option<ReceiverSeat>; CONNECTIONS]
     requires first { (first.table_id ≡ top.now.table_id) × (0 < top.now.table_id.words) × (first.me ≡ (replicate count (receiver_hand top.now.key), [])) }
     requires few { count ≤ 8 }
     ensures { NewReceivers top.now.table_id top.now.key count result }
 {
-    let mut seats: [Option<ReceiverSeat>; 8] = [None, None, None, None, None, None, None, None];
+    let mut seats = array::from_fn(|_| None);
     for place in 0..count {
         let seat = top.split_seat::<First>(&mut first);
         seats[place] = Some(receiver(seat));

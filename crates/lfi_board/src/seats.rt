@@ -5,7 +5,7 @@ ghost use Rattle.lfi_board.specs.Hands.{hand_of, times};
 
 use crate::hand::View;
 use atomic_table::Seat;
-use lfi_module::ModuleNumber;
+use lfi_module::{CONNECTIONS, ModuleNumber};
 
 /// What a claim was answered.
 #[derive(Clone, Copy, PartialEq, Eq)]
@@ -66,7 +66,7 @@ pub struct WatchSeat {
 #[derive(Drop)]
 pub struct Seats {
     /// The receivers', from the first place on; the other places have none.
-    pub receivers: [Option<ReceiverSeat>; 8],
+    pub receivers: [Option<ReceiverSeat>; CONNECTIONS],
     /// One a module, in the modules' order.
     pub sequencers: Vec<SequencerSeat>,
     pub watchers: Vec<WatchSeat>,
