@@ -12,8 +12,8 @@ words_in (page ∷ pages) = words_of page.bytes ++ words_in pages
 
 -- how many words the next page has
 abbrev pub due : Module → ℕ
-due m = words_due m.pages m.words (length m.placed)
+due m = words_due m.extent.pages m.extent.words (length m.placed)
 
 -- with more words placed
 abbrev pub with_placed : Module → List ℕ → Module
-with_placed m more = record { words = m.words; entry = m.entry; profile = m.profile; pages = m.pages; slot = m.slot; placed = m.placed ++ more }
+with_placed m more = record m { placed = m.placed ++ more }

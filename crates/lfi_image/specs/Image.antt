@@ -2,14 +2,12 @@
 use Rattle.std.specs.Prelude.{ℕ, ◌<◌, List, length}
 use Rattle.lfi_module.specs.Numbers.{module_count}
 use Rattle.lfi_module.specs.declared.profile.Profile.{Profile}
+use Rattle.lfi_module.specs.Extents.{ExtentView}
 use Rattle.lfi_rules.specs.Faults.{Lawful}
 
--- a module of so many words, which goes by a profile and comes in pages of so many words, and of which the first words have been placed
+-- a module with this extent, for a slot, of which the first words have been placed
 pub record Module : Type 0 where
-  pub words : ℕ
-  pub entry : ℕ
-  pub profile : Profile
-  pub pages : ℕ
+  pub extent : ExtentView
   pub slot : ℕ
   pub placed : List ℕ
 

@@ -9,7 +9,7 @@ ghost use Rattle.lfi_image.specs.inner.Builders.{IsBuilt};
 
 use crate::judged::JudgedPage;
 use crate::places::Places;
-use lfi_module::{Extent, ModuleNumber, PageSize, Profile, WordCount};
+use lfi_module::{Extent, ModuleNumber, Profile, WordCount};
 use lfi_rules::{Fault, Need, fault_after, leave};
 use page_buf::SealedPage;
 use std::alloc::{AllocError, Global};
@@ -17,16 +17,12 @@ use std::marker::Model;
 
 /// The pages of a module so far. Their words have no fault.
 ///
-/// A contract sees it as the module: how many words it has in all, its entry, its profile, the size of its pages, its slot
-/// and the words placed.
+/// A contract sees it as the module: its extent, its slot and the words placed.
 #[derive(Drop)]
 pub struct Builder {
     pages: Vec<SealedPage>,
-    words: u32,
-    entry: u32,
-    profile: Profile,
-    size: PageSize,
-    slot: u16,
+    extent: Extent,
+    slot: ModuleNumber,
     placed: u32,
     tail: Need,
 }
@@ -34,20 +30,19 @@ pub struct Builder {
 impl Model for Builder {
     ghost Value = { Module };
 
-    ghost view = { λ b. record { words = b.words; entry = b.entry; profile = b.profile; pages = b.size; slot = b.slot; placed = words_in b.pages.items } };
+    ghost view = { λ b. record { extent = b.extent; slot = b.slot; placed = words_in b.pages.items } };
 
-    ghost invariant = { λ b. IsBuilt b.profile b.size b.words b.entry b.slot b.placed b.tail b.pages.items × (page_count b.size b.words ≤ vec_capacity b.pages) };
+    ghost invariant = { λ b. IsBuilt b.extent.profile b.extent.pages b.extent.words b.extent.entry b.slot b.placed b.tail b.pages.items × (page_count b.extent.pages b.extent.words ≤ vec_capacity b.pages) };
 }
 
 impl Builder {
-    /// A module of so many words with this entry, this profile and pages of this size, in this slot. No word is placed, and the places for its pages are
-    /// reserved.
+    /// A module with this extent, for this slot. No word is placed, and the places for its pages are reserved.
     ///
     /// # Errors
     ///
     /// Where the places' memory is refused.
     pub fn new(alloc: Global, extent: Extent, slot: ModuleNumber) -> Result<Builder, AllocError>
-        ensures { IfOk result (λ b. b ≡ record { words = extent.words; entry = extent.entry; profile = extent.profile; pages = extent.pages; slot = slot; placed = [] }) }
+        ensures { IfOk result (λ b. b ≡ record { extent = extent; slot = slot; placed = [] }) }
     {
         let places = Places::new(alloc, extent.words())?;
         Ok(Builder::in_places(places, extent, slot))
@@ -56,22 +51,19 @@ impl Builder {
     /// The same module in places that were reserved before, which are enough: see [`Places::words`]. It takes no memory.
     pub fn in_places(places: Places, extent: Extent, slot: ModuleNumber) -> Builder
         requires { extent.words ≤ places }
-        ensures { result ≡ record { words = extent.words; entry = extent.entry; profile = extent.profile; pages = extent.pages; slot = slot; placed = [] } }
+        ensures { result ≡ record { extent = extent; slot = slot; placed = [] } }
     {
         let Places { pages, words: _ } = places;
         Builder {
             pages,
-            words: extent.words().number(),
-            entry: extent.entry(),
-            profile: extent.profile(),
-            size: extent.pages(),
-            slot: slot.number(),
+            extent,
+            slot,
             placed: 0,
             tail: Need::Nothing,
         }
     }
 
-    /// Places the next page of this module, one that was judged there by its profile. It takes no memory.
+    /// Places the next page of this module, one that was judged there. It takes no memory.
     ///
     /// # Errors
     ///
@@ -81,25 +73,23 @@ impl Builder {
     /// ```
     /// let mut builder = Builder::new(alloc, extent, slot)?;
     /// while builder.due() > 0 {
-    ///     let page = JudgedPage::judge(next_page(), builder.placed(), extent.words(), extent.profile());
+    ///     let page = JudgedPage::judge(next_page(), builder.placed(), extent);
     ///     builder.append(page)?;   // or the first fault, and the page
     /// }
     /// let image = builder.finish();
     /// ```
     pub fn append(&mut self, page: JudgedPage) -> Result<(), (Fault, SealedPage)>
-        requires module { page.words ≡ self.old.words }
-        requires profile { page.profile ≡ self.old.profile }
-        requires pages { page.page.size ≡ self.old.pages }
+        requires module { page.extent ≡ self.old.extent }
         requires place { page.first ≡ length self.old.placed }
         ensures placed { IfOk result (λ _. self.new ≡ with_placed self.old (words_of page.page.bytes)) }
-        ensures faultless { IfOk result (λ _. FirstFault self.old.profile (self.old.placed ++ words_of page.page.bytes) self.old.words None) }
-        ensures fault { IfErr result (λ back. FirstFault self.old.profile (self.old.placed ++ words_of page.page.bytes) self.old.words (Some back.0)) }
+        ensures faultless { IfOk result (λ _. FirstFault self.old.extent.profile (self.old.placed ++ words_of page.page.bytes) self.old.extent.words None) }
+        ensures fault { IfErr result (λ back. FirstFault self.old.extent.profile (self.old.placed ++ words_of page.page.bytes) self.old.extent.words (Some back.0)) }
         ensures back { IfErr result (λ back. back.1 ≡ page.page) }
         ensures stays { OnErr result (self.new ≡ self.old) }
     {
         let (page, verdict) = page.into_parts();
         let count = page.len_words();
-        if let Some(fault) = fault_after(self.words, self.tail, &verdict, count) {
+        if let Some(fault) = fault_after(self.extent.words().number(), self.tail, &verdict, count) {
             return Err((fault, page));
         }
         match self.pages.push(page) {
@@ -119,56 +109,34 @@ impl Builder {
     /// The builder, where words are still to come.
     pub fn finish(self) -> Result<CompleteImage, Builder>
         ensures { MatchResult result
-            (λ image. (length self.placed ≡ self.words) × (image ≡ record { profile = self.profile; entry = self.entry; slot = self.slot; words = self.placed }))
-            (λ b. (length self.placed < self.words) × (b ≡ self)) }
+            (λ image. (length self.placed ≡ self.extent.words) × (image ≡ record { profile = self.extent.profile; entry = self.extent.entry; slot = self.slot; words = self.placed }))
+            (λ b. (length self.placed < self.extent.words) × (b ≡ self)) }
     {
-        if self.placed < self.words {
+        if self.placed < self.extent.words().number() {
             return Err(self);
         }
         Ok(CompleteImage { builder: self })
     }
 
-    /// How many words the module has in all.
-    pub fn words(&self) -> WordCount
-        ensures { result ≡ self.now.words }
+    /// The module's extent.
+    pub fn extent(&self) -> Extent
+        ensures { result ≡ self.now.extent }
     {
-        WordCount::of(self.words)
-    }
-
-    /// The word that is entered, below `words`.
-    pub fn entry(&self) -> u32
-        ensures value { result ≡ self.now.entry }
-        ensures range { self.now.entry < self.now.words }
-    {
-        self.entry
-    }
-
-    /// The profile that it goes by.
-    pub fn profile(&self) -> Profile
-        ensures { result ≡ self.now.profile }
-    {
-        self.profile
-    }
-
-    /// The size of its full pages.
-    pub fn size(&self) -> PageSize
-        ensures { result ≡ self.now.pages }
-    {
-        self.size
+        self.extent
     }
 
     /// The slot.
     pub fn slot(&self) -> ModuleNumber
         ensures { result ≡ self.now.slot }
     {
-        ModuleNumber::at(self.slot as usize)
+        self.slot
     }
 
     /// How many words are placed. They have no fault.
     pub fn placed(&self) -> u32
         ensures count { result ≡ length self.now.placed }
-        ensures within { result ≤ self.now.words }
-        ensures faultless { FirstFault self.now.profile self.now.placed self.now.words None }
+        ensures within { result ≤ self.now.extent.words }
+        ensures faultless { FirstFault self.now.extent.profile self.now.placed self.now.extent.words None }
     {
         self.placed
     }
@@ -177,7 +145,7 @@ impl Builder {
     pub fn due(&self) -> u32
         ensures { result ≡ due self.now }
     {
-        self.words().due(self.size, self.placed)
+        self.extent.words().due(self.extent.pages(), self.placed)
     }
 
     /// The word at `i`, one that is placed.
@@ -185,7 +153,7 @@ impl Builder {
         requires { i < length self.now.placed }
         ensures { result ≡ slice_index self.now.placed i }
     {
-        let size = self.size.words();
+        let size = self.extent.pages().words();
         self.pages[(i / size) as usize].word((i % size) as usize)
     }
 }
@@ -201,9 +169,9 @@ pub struct CompleteImage {
 impl Model for CompleteImage {
     ghost Value = { Image };
 
-    ghost view = { λ c. record { profile = c.builder.profile; entry = c.builder.entry; slot = c.builder.slot; words = c.builder.placed } };
+    ghost view = { λ c. record { profile = c.builder.extent.profile; entry = c.builder.extent.entry; slot = c.builder.slot; words = c.builder.placed } };
 
-    ghost invariant = { λ c. IsImage (record { profile = c.builder.profile; entry = c.builder.entry; slot = c.builder.slot; words = c.builder.placed }) × (length c.builder.placed ≡ c.builder.words) };
+    ghost invariant = { λ c. IsImage (record { profile = c.builder.extent.profile; entry = c.builder.extent.entry; slot = c.builder.slot; words = c.builder.placed }) × (length c.builder.placed ≡ c.builder.extent.words) };
 }
 
 impl CompleteImage {
@@ -219,7 +187,7 @@ impl CompleteImage {
         ensures count { result ≡ length self.now.words }
         ensures lawful { IsImage self.now }
     {
-        self.builder.words()
+        self.builder.extent.words()
     }
 
     /// The word that is entered, below `words`.
@@ -227,14 +195,14 @@ impl CompleteImage {
         ensures value { result ≡ self.now.entry }
         ensures range { self.now.entry < length self.now.words }
     {
-        self.builder.entry()
+        self.builder.extent.entry()
     }
 
     /// The profile by which its words are lawful.
     pub fn profile(&self) -> Profile
         ensures { result ≡ self.now.profile }
     {
-        self.builder.profile()
+        self.builder.extent.profile()
     }
 
     /// The slot.

@@ -20,14 +20,14 @@ use Rattle.lfi_image_file.specs.inner.Steps.{ReadsPage, IsPageFault, IsRead}
 use Rattle.lfi_image_file.proofs.Pieces.{words_of-append, code_of-append, word_count}
 use Rattle.lfi_rules.proofs.Following.{fault_stays, fault_comes}
 
-pub read_more : (p : Profile) (old mid new : Option (List ℕ)) (count : ℕ) (m after : Module) → IsRead p old mid count m.placed → ReadsPage mid new m after → m.profile ≡ p → m.words ≡ count → m.pages ≡ 1024 → length m.placed < count → IsRead p old new count after.placed
+pub read_more : (p : Profile) (old mid new : Option (List ℕ)) (count : ℕ) (m after : Module) → IsRead p old mid count m.placed → ReadsPage mid new m after → m.extent.profile ≡ p → m.extent.words ≡ count → m.extent.pages ≡ 1024 → length m.placed < count → IsRead p old new count after.placed
 read_more p old mid new count m after read step goes same sized less =
     let more = words_of step.page in
     let size : length more ≡ due m = word_count step.page (due m) step.size in
     let words : after.placed ≡ m.placed ++ more = ap words_at step.placed in
     let grown = length-append m.placed more in
     let longer : length after.placed ≡ length m.placed + length more = ap length words ∙ grown in
-    let is_due : due m ≡ min 1024 (m.words - length m.placed) = ap (λ s. min s (m.words - length m.placed)) sized in
+    let is_due : due m ≡ min 1024 (m.extent.words - length m.placed) = ap (λ s. min s (m.extent.words - length m.placed)) sized in
     record {
       code = read.code ++ step.page;
       consumed = Consumes-trans old mid new read.code step.page read.consumed step.consumed;
@@ -37,7 +37,7 @@ read_more p old mid new count m after read step goes same sized less =
       within = omega (arith, longer, size, is_due, same, less);
       pages = read.pages + 1;
       whole = λ still. omega (arith, longer, size, is_due, same, still, read.whole less);
-      faultless = subst (λ l. FirstFault p l count None) (sym words) (subst (λ n. FirstFault p (m.placed ++ more) n None) same (subst (λ x. FirstFault x (m.placed ++ more) m.words None) goes step.faultless));
+      faultless = subst (λ l. FirstFault p l count None) (sym words) (subst (λ n. FirstFault p (m.placed ++ more) n None) same (subst (λ x. FirstFault x (m.placed ++ more) m.extent.words None) goes step.faultless));
     }
   where
     words_at : Module → List ℕ
@@ -112,7 +112,7 @@ whole_begins n pages front rest fits even = by_test (nat_le (4 * n) (length text
         cut (4096 * (length (front ++ rest) / 4096)) low (omega (arith, short)) (ap (λ b. if b then take (4 * n) (front ++ rest) else take (4096 * (length (front ++ rest) / 4096)) (front ++ rest)) test)
 
 -- what is wrong with a page is wrong with the code
-pub page_fault : (p : Profile) (old mid new : Option (List ℕ)) (count : ℕ) (m : Module) (fault : ImageFault) → IsRead p old mid count m.placed → m.profile ≡ p → m.words ≡ count → m.pages ≡ 1024 → length m.placed < count
+pub page_fault : (p : Profile) (old mid new : Option (List ℕ)) (count : ℕ) (m : Module) (fault : ImageFault) → IsRead p old mid count m.placed → m.extent.profile ≡ p → m.extent.words ≡ count → m.extent.pages ≡ 1024 → length m.placed < count
     → IsPageFault mid new m fault → IfSome old (λ code. IsCodeFault p count code fault)
 page_fault p None mid new count m fault read goes same sized less told = tt
 page_fault p (Some xs) None new count m fault read goes same sized less told = absurd read.consumed
@@ -124,7 +124,7 @@ page_fault p (Some xs) (Some ys) new count m Counts read goes same sized less to
 page_fault p (Some xs) (Some ys) new count m Base read goes same sized less told = absurd told
 page_fault p (Some xs) (Some ys) new count m More read goes same sized less told = absurd told
 page_fault p (Some xs) (Some ys) new count m Truncated read goes same sized less told =
-    let is_due : due m ≡ min 1024 (m.words - length m.placed) = ap (λ s. min s (m.words - length m.placed)) sized in
+    let is_due : due m ≡ min 1024 (m.extent.words - length m.placed) = ap (λ s. min s (m.extent.words - length m.placed)) sized in
     let all : length xs ≡ length read.code + length ys = ap length read.consumed ∙ length-append read.code ys in
     let short : length ys < 4 * due m = told in
     let even : length read.code ≡ 4096 * read.pages = omega (arith, read.size, read.whole less) in
@@ -134,11 +134,11 @@ page_fault p (Some xs) (Some ys) None count m (Unlawful fault) read goes same si
 page_fault p (Some xs) (Some ys) (Some rest) count m (Unlawful fault) read goes same sized less told =
     let page : List ℕ = told.page in
     let size : length page ≡ 4 * due m = told.size in
-    let is_due : due m ≡ min 1024 (m.words - length m.placed) = ap (λ s. min s (m.words - length m.placed)) sized in
+    let is_due : due m ≡ min 1024 (m.extent.words - length m.placed) = ap (λ s. min s (m.extent.words - length m.placed)) sized in
     let front : List ℕ = read.code ++ page in
     let long : length front ≡ length read.code + length page = length-append read.code page in
     let text : xs ≡ front ++ rest = read.consumed ∙ ap (λ l. read.code ++ l) told.consumed ∙ sym (append_assoc read.code page rest) in
-    let even : (length front ≡ 4096 * (read.pages + 1)) ⊎ (length front ≡ 4 * count) = elim (cases_lt (m.words - length m.placed) 1024) [
+    let even : (length front ≡ 4096 * (read.pages + 1)) ⊎ (length front ≡ 4 * count) = elim (cases_lt (m.extent.words - length m.placed) 1024) [
       | inl small ↦ inr (omega (arith, long, size, is_due, same, less, read.size, small))
       | inr large ↦ inl (omega (arith, long, size, is_due, read.size, read.whole less, large))
     ] in
@@ -148,10 +148,10 @@ page_fault p (Some xs) (Some ys) (Some rest) count m (Unlawful fault) read goes 
     let words : words_of (whole_pages count xs) ≡ (m.placed ++ words_of page) ++ words_of more =
     ap (λ l. words_of (whole_pages count l)) text ∙ ap words_of begins.1 ∙ words_of-append front more (omega (arith, long, size, read.size)) ∙ ap (λ l. l ++ words_of more) words_front in
     subst (λ ws. FirstFault p ws count (Some fault)) (sym words) (fault_stays p (m.placed ++ words_of page) (words_of more) count fault
-    (subst (λ n. FirstFault p (m.placed ++ words_of page) n (Some fault)) same (subst (λ x. FirstFault x (m.placed ++ words_of page) m.words (Some fault)) goes told.first)))
+    (subst (λ n. FirstFault p (m.placed ++ words_of page) n (Some fault)) same (subst (λ x. FirstFault x (m.placed ++ words_of page) m.extent.words (Some fault)) goes told.first)))
 
 -- what follows a page with a fault is left
-pub page_unread : (p : Profile) (old mid new : Option (List ℕ)) (count : ℕ) (m : Module) (fault : ImageFault) → IsRead p old mid count m.placed → m.profile ≡ p → m.words ≡ count → m.pages ≡ 1024 → length m.placed < count
+pub page_unread : (p : Profile) (old mid new : Option (List ℕ)) (count : ℕ) (m : Module) (fault : ImageFault) → IsRead p old mid count m.placed → m.extent.profile ≡ p → m.extent.words ≡ count → m.extent.pages ≡ 1024 → length m.placed < count
     → IsPageFault mid new m fault → IfSome old (λ code. IsUnread count code new fault)
 page_unread p None mid new count m fault read goes same sized less told = tt
 page_unread p (Some xs) None new count m fault read goes same sized less told = absurd read.consumed
@@ -167,12 +167,12 @@ page_unread p (Some xs) (Some ys) None count m (Unlawful fault) read goes same s
 page_unread p (Some xs) (Some ys) (Some rest) count m (Unlawful fault) read goes same sized less told =
     let page : List ℕ = told.page in
     let size : length page ≡ 4 * due m = told.size in
-    let is_due : due m ≡ min 1024 (m.words - length m.placed) = ap (λ s. min s (m.words - length m.placed)) sized in
+    let is_due : due m ≡ min 1024 (m.extent.words - length m.placed) = ap (λ s. min s (m.extent.words - length m.placed)) sized in
     let front : List ℕ = read.code ++ page in
     let long : length front ≡ length read.code + length page = length-append read.code page in
     let text : xs ≡ front ++ rest = read.consumed ∙ ap (λ l. read.code ++ l) told.consumed ∙ sym (append_assoc read.code page rest) in
     let words : length (words_of page) ≡ due m = word_count page (due m) size in
-    let at = fault_comes p m.placed (words_of page) m.words fault (subst (λ n. FirstFault p m.placed n None) (sym same) read.faultless) (subst (λ x. FirstFault x (m.placed ++ words_of page) m.words (Some fault)) goes told.first) in
+    let at = fault_comes p m.placed (words_of page) m.extent.words fault (subst (λ n. FirstFault p m.placed n None) (sym same) read.faultless) (subst (λ x. FirstFault x (m.placed ++ words_of page) m.extent.words (Some fault)) goes told.first) in
     let before : length m.placed ≡ 1024 * read.pages = read.whole less in
     let low : 1024 * read.pages ≤ fault.word = omega (arith, before, at.0) in
     let high : fault.word < 1024 * read.pages + 1024 = omega (arith, before, at.1, words, is_due) in

@@ -79,13 +79,13 @@ fn read_page<R: Read>(
     reader: &mut R,
     builder: &mut Builder,
 ) -> Result<(), ImageFault>
-    requires room { length builder.old.placed < builder.old.words }
-    requires pages { builder.old.pages ≡ small_page }
+    requires room { length builder.old.placed < builder.old.extent.words }
+    requires pages { builder.old.extent.pages ≡ small_page }
     ensures page { OnOk result (ReadsPage (R.remaining reader.old) (R.remaining reader.new) builder.old builder.new) }
     ensures fault { IfErr result (λ fault. IsPageFault (R.remaining reader.old) (R.remaining reader.new) builder.old fault) }
 {
     let page = read_sealed(alloc, reader, 4 * builder.due() as usize)?;
-    let page = JudgedPage::judge(page, builder.placed(), builder.words(), builder.profile());
+    let page = JudgedPage::judge(page, builder.placed(), builder.extent());
     match builder.append(page) {
         Ok(()) => Ok(()),
         Err((fault, _)) => Err(ImageFault::Unlawful(fault)),
@@ -99,14 +99,14 @@ fn read_code<R: Read>(
     builder: &mut Builder,
 ) -> Result<(), ImageFault>
     requires none { builder.old.placed ≡ [] }
-    requires pages { builder.old.pages ≡ small_page }
-    ensures code { OnOk result (IsRead builder.old.profile (R.remaining reader.old) (R.remaining reader.new) builder.old.words builder.new.placed) }
-    ensures whole { OnOk result (length builder.new.placed ≡ builder.old.words) }
+    requires pages { builder.old.extent.pages ≡ small_page }
+    ensures code { OnOk result (IsRead builder.old.extent.profile (R.remaining reader.old) (R.remaining reader.new) builder.old.extent.words builder.new.placed) }
+    ensures whole { OnOk result (length builder.new.placed ≡ builder.old.extent.words) }
     ensures same { OnOk result (IsSameModule builder.old builder.new) }
-    ensures fault { IfErr result (λ fault. IfSome (R.remaining reader.old) (λ code. IsCodeFault builder.old.profile builder.old.words code fault)) }
-    ensures unread { IfErr result (λ fault. IfSome (R.remaining reader.old) (λ code. IsUnread builder.old.words code (R.remaining reader.new) fault)) }
+    ensures fault { IfErr result (λ fault. IfSome (R.remaining reader.old) (λ code. IsCodeFault builder.old.extent.profile builder.old.extent.words code fault)) }
+    ensures unread { IfErr result (λ fault. IfSome (R.remaining reader.old) (λ code. IsUnread builder.old.extent.words code (R.remaining reader.new) fault)) }
 {
-    while builder.placed() < builder.words().number() {
+    while builder.placed() < builder.extent().words().number() {
         read_page(alloc, reader, builder)?;
     }
     Ok(())

@@ -8,7 +8,7 @@ use lfi_image::JudgedPage;
 impl PageBody for JudgedPage {
     ghost bytes = { λ page. page.page.bytes };
 
-    ghost IsAtPlace = { λ ordinal extent page. (page.first ≡ extent.pages * (ordinal - 1)) × (page.words ≡ extent.words) × (page.profile ≡ extent.profile) × (page.page.size ≡ extent.pages) };
+    ghost IsAtPlace = { λ ordinal extent page. (page.first ≡ extent.pages * (ordinal - 1)) × (page.extent ≡ extent) };
 }
 
 /// One of the numbered items of a module, with the verdict on its page where it brings one: that
@@ -30,7 +30,7 @@ impl Item {
             ItemKind::Open => ItemKind::Open,
             ItemKind::Page(page) => {
                 let first = extent.pages().words() * (ordinal - 1);
-                ItemKind::Page(JudgedPage::judge(page, first, extent.words(), extent.profile()))
+                ItemKind::Page(JudgedPage::judge(page, first, extent))
             }
             ItemKind::End(reason) => ItemKind::End(reason),
         };

@@ -32,14 +32,14 @@ pub record ReadsPage (old new : Option (List ℕ)) (m after : Module) : Type 0 w
   pub size : length page ≡ 4 * due m
   pub back : code_of (words_of page) ≡ page
   pub placed : after ≡ with_placed m (words_of page)
-  pub faultless : FirstFault m.profile (m.placed ++ words_of page) m.words None
+  pub faultless : FirstFault m.extent.profile (m.placed ++ words_of page) m.extent.words None
 
 -- A page was read that brings this fault.
 pub record ReadsFault (old new : Option (List ℕ)) (m : Module) (fault : Fault) : Type 0 where
   pub page : List ℕ
   pub consumed : Consumes old new page
   pub size : length page ≡ 4 * due m
-  pub first : FirstFault m.profile (m.placed ++ words_of page) m.words (Some fault)
+  pub first : FirstFault m.extent.profile (m.placed ++ words_of page) m.extent.words (Some fault)
 
 -- why no page was placed
 abbrev pub IsPageFault : (old new : Option (List ℕ)) → Module → ImageFault → Type 0
@@ -51,10 +51,7 @@ IsPageFault old new m _ = ⊥
 
 -- It is the same module, whatever is placed.
 pub record IsSameModule (old new : Module) : Type 0 where
-  pub words : new.words ≡ old.words
-  pub entry : new.entry ≡ old.entry
-  pub profile : new.profile ≡ old.profile
-  pub pages : new.pages ≡ old.pages
+  pub extent : new.extent ≡ old.extent
   pub slot : new.slot ≡ old.slot
 
 -- Of a module of `count` words, which goes by a profile, these have been read.

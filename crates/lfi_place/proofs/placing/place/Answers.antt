@@ -15,19 +15,13 @@ words_back new old back page stays same = λ i. (stays i).placed ++ words_of (sa
 pub append-requires-clause-module : goal.append-requires-clause-module
 append-requires-clause-module c = c.requires.«module»
 
-pub append-requires-clause-profile : goal.append-requires-clause-profile
-append-requires-clause-profile c = c.requires.profile
-
-pub append-requires-clause-pages : goal.append-requires-clause-pages
-append-requires-clause-pages c = c.requires.pages
-
 pub append-requires-clause-place : goal.append-requires-clause-place
 append-requires-clause-place c = c.requires.next
 
 pub find-word-requires : goal.find-word-requires
 find-word-requires c =
     subst (λ (l : List ℕ). c.in-Err.fault.word < length l) (sym (words_back c.append.new.self c.args.builder.now c.in-Err.page c.args.page.page c.in-Err.ensures.stays c.in-Err.ensures.back))
-    (fault_within c.args.builder.now.profile (c.args.builder.now.placed ++ words_of c.args.page.page.bytes) c.args.builder.now.words c.in-Err.fault c.in-Err.ensures.fault)
+    (fault_within c.args.builder.now.extent.profile (c.args.builder.now.placed ++ words_of c.args.page.page.bytes) c.args.builder.now.extent.words c.in-Err.fault c.in-Err.ensures.fault)
 
 pub returns-in-Ok-clause-placed : goal.returns-in-Ok-clause-placed
 returns-in-Ok-clause-placed c = c.in-Ok.ensures.placed

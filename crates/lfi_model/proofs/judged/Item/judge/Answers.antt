@@ -15,4 +15,4 @@ judge-requires c =
     let long : length c.in-Page.page.bytes ≡ 4 * min i.extent.pages (i.extent.words - i.extent.pages * (i.ordinal - 1)) = f.1 in
     let due : length (words_of c.in-Page.page.bytes) ≡ min i.extent.pages (i.extent.words - i.extent.pages * (i.ordinal - 1)) = omega arith in
     let words : c.words.result ≡ i.extent.pages = c.words.ensures.value ∙ c.pages.ensures.value in
-    record { due = due ∙ (λ j. min (sym sized j) (sym c.words-in-Page.ensures j - sym words j * (i.ordinal - 1))) }
+    record { sized = sized; due = due ∙ (λ j. min i.extent.pages (i.extent.words - sym words j * (i.ordinal - 1))) }

@@ -7,7 +7,7 @@ use Rattle.lfi_place.proofs.placing.Placing.after.Goals as goal
 
 -- what a judged page keeps of its place
 abbrev IsAt : (ordinal : ℕ) → ExtentView → JudgedView → Type 0
-IsAt ordinal extent page = (page.first ≡ extent.pages * (ordinal - 1)) × (page.words ≡ extent.words) × (page.profile ≡ extent.profile) × (page.page.size ≡ extent.pages)
+IsAt ordinal extent page = (page.first ≡ extent.pages * (ordinal - 1)) × (page.extent ≡ extent)
 
 pub returns-in-Page : goal.returns-in-Page
 returns-in-Page c = λ m taken was numbered.
@@ -16,5 +16,4 @@ returns-in-Page c = λ m taken was numbered.
     let typed : IsItem c.args.item = subst IsItem same c.item.invariant.item in
     let at : IsAt i.ordinal i.extent c.in-Page.page = subst (λ k. IfPage (IsAt i.ordinal i.extent) k) c.in-Page.is c.item.invariant.page in
     let kind : c.args.item.kind ≡ Page c.in-Page.page.page.bytes = ap (λ z. z.kind) (sym same) ∙ ap (λ k. kind_seen (λ (page : JudgedView). page.page.bytes) k) c.in-Page.is in
-    c.page.ensures.placing m taken c.args.item was numbered typed (at.0 ∙ (λ j. (same j).extent.pages * ((same j).ordinal - 1))) (at.1 ∙ ap (λ z. z.extent.words) same) (at.2 ∙ ap (λ z. z.extent.profile) same)
-    (at.3 ∙ ap (λ z. z.extent.pages) same) kind
+    c.page.ensures.placing m taken c.args.item was numbered typed (at.0 ∙ (λ j. (same j).extent.pages * ((same j).ordinal - 1))) (at.1 ∙ ap (λ z. z.extent) same) kind
