@@ -48,8 +48,8 @@ fn page(alloc: Global, size: PageSize, words: usize) -> Result<SealedPage, Fault
 
 /// Places the next page of a module: as many NOPs as are due.
 fn append_page(alloc: Global, builder: &mut Builder) -> Result<(), Fault> {
-    let page = page(alloc, builder.size(), builder.due() as usize)?;
-    let page = JudgedPage::judge(page, builder.placed(), builder.words(), builder.profile());
+    let page = page(alloc, builder.extent().pages(), builder.due() as usize)?;
+    let page = JudgedPage::judge(page, builder.placed(), builder.extent());
     if builder.append(page).is_ok() {
         Ok(())
     } else {

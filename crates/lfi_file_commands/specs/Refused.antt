@@ -16,7 +16,7 @@ use Rattle.lfi_explain.specs.Explanations.{ExplainsWord, explanation_line}
 -- A refused module's fault is explained by the refused word, in the module's own slot; of any other module nothing is told.
 abbrev pub IsRefusal : Outcome → ImageState → Option RefusedWord → Option Explanation → Type 0
 IsRefusal (outcome_kind.Refused fault) (image_kind.Part b) (Some refused) told =
-    (e : Explanation) × (told ≡ Some e) × ExplainsWord b.profile b.slot b.words fault refused.word refused.before e
+    (e : Explanation) × (told ≡ Some e) × ExplainsWord b.extent.profile b.slot b.extent.words fault refused.word refused.before e
 IsRefusal outcome state refused told = told ≡ None
 
 -- the lines of a refused module

@@ -27,11 +27,11 @@ fn refusal_of(report: &ModuleReport) -> Option<Explanation>
     };
     Some(explain_word(
         builder.slot(),
-        builder.words(),
+        builder.extent().words(),
         fault,
         refused.word,
         refused.before,
-        builder.profile(),
+        builder.extent().profile(),
     ))
 }
 

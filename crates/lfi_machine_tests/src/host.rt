@@ -126,11 +126,11 @@ fn page_of(alloc: Global, size: PageSize, words: &[u32]) -> Result<SealedPage, F
 
 /// Appends the page of these words.
 fn append(alloc: Global, builder: &mut Builder, words: &[u32]) -> Result<(), Fail> {
-    let page = page_of(alloc, builder.size(), words)?;
+    let page = page_of(alloc, builder.extent().pages(), words)?;
     if page.len_words() != builder.due() as usize {
         return Err(Fail::from("the page has not the words due"));
     }
-    let page = JudgedPage::judge(page, builder.placed(), builder.words(), builder.profile());
+    let page = JudgedPage::judge(page, builder.placed(), builder.extent());
     if builder.append(page).is_err() {
         return Err(Fail::from("the code breaks a rule"));
     }

@@ -21,9 +21,10 @@ const MOVE_STACK: u32 = 0xD100_43FF;
 fn a_judged_page_and_its_parts(rt: HostRuntime) {
     let bytes = MOVE_STACK.to_le_bytes();
     let page = SealedPage::of(rt.alloc(), PageSize::SMALL, &bytes).expect(&rt, "no page");
-    let judged = JudgedPage::judge(page, 1024, WordCount::of(1025), Profile::One);
+    let extent = Extent::of(WordCount::of(1025), 0, Profile::One, PageSize::SMALL);
+    let judged = JudgedPage::judge(page, 1024, extent);
     let len = judged.page().len_words() as u32;
-    let whole = [judged.first(), judged.words().number(), len];
+    let whole = [judged.first(), judged.extent().words().number(), len];
     let inner = judged.verdict().inner;
     let (page, verdict) = judged.into_parts();
     let parts = [verdict.first, page.len_words() as u32];
@@ -42,9 +43,9 @@ fn made_by(builder: Builder) -> Result<Numbers, [u32; 4]> {
     match builder.finish() {
         Ok(image) => Ok(numbers(&image)),
         Err(builder) => Err([
-            builder.words().number(),
+            builder.extent().words().number(),
             builder.placed(),
-            builder.entry(),
+            builder.extent().entry(),
             u32::from(builder.slot().number()),
         ]),
     }

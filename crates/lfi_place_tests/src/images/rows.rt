@@ -19,10 +19,10 @@ pub const ONE_RET: [u8; 28] = [
 
 /// Judges the page that is due, of NOPs and this word at its end, and appends it. What comes back is the page's fault.
 pub fn append(rt: &(impl Abort + AllocGlobal), builder: &mut Builder, last: u32) -> Option<Fault> {
-    let (size, due) = (builder.size(), builder.due());
+    let (size, due) = (builder.extent().pages(), builder.due());
     let page = page_ending(rt, size, due, last);
     assert!(rt; page.size() == size && page.len_words() == due as usize);
-    let page = JudgedPage::judge(page, builder.placed(), builder.words(), builder.profile());
+    let page = JudgedPage::judge(page, builder.placed(), builder.extent());
     match builder.append(page) {
         Ok(()) => None,
         Err((fault, _)) => Some(fault),
