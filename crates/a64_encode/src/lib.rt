@@ -31,7 +31,3 @@ mod load_store;
 mod operands;
 
 pub use instruction::encode;
-pub use operands::{
-    bitfield_code, branch_code, extend_code, index_extend_code, index_mode_code, logical_code,
-    move_wide_code, pair_mode_code, shift_code, transfer_code, two_source_code,
-};

@@ -7,7 +7,7 @@ use a64_word::{
 };
 
 /// The number of a shift in a word.
-pub fn shift_code(shift: Shift) -> u32
+pub(crate) fn shift_code(shift: Shift) -> u32
     ensures { result ≡ spec.shift_code shift }
 {
     match shift {
@@ -19,7 +19,7 @@ pub fn shift_code(shift: Shift) -> u32
 }
 
 /// The number of an extension in a word.
-pub fn extend_code(extend: Extend) -> u32
+pub(crate) fn extend_code(extend: Extend) -> u32
     ensures { result ≡ spec.extend_code extend }
 {
     match extend {
@@ -35,7 +35,7 @@ pub fn extend_code(extend: Extend) -> u32
 }
 
 /// The number of an operation bit by bit in a word.
-pub fn logical_code(operation: Logical) -> u32
+pub(crate) fn logical_code(operation: Logical) -> u32
     ensures { result ≡ spec.logical_code operation }
 {
     match operation {
@@ -47,7 +47,7 @@ pub fn logical_code(operation: Logical) -> u32
 }
 
 /// The number of a kind of wide move in a word.
-pub fn move_wide_code(kind: MoveWideKind) -> u32
+pub(crate) fn move_wide_code(kind: MoveWideKind) -> u32
     ensures { result ≡ spec.move_wide_code kind }
 {
     match kind {
@@ -58,7 +58,7 @@ pub fn move_wide_code(kind: MoveWideKind) -> u32
 }
 
 /// The number of a kind of bitfield move in a word.
-pub fn bitfield_code(kind: BitfieldKind) -> u32
+pub(crate) fn bitfield_code(kind: BitfieldKind) -> u32
     ensures { result ≡ spec.bitfield_code kind }
 {
     match kind {
@@ -69,7 +69,7 @@ pub fn bitfield_code(kind: BitfieldKind) -> u32
 }
 
 /// The number of an operation on two registers in a word.
-pub fn two_source_code(kind: TwoSourceKind) -> u32
+pub(crate) fn two_source_code(kind: TwoSourceKind) -> u32
     ensures { result ≡ spec.two_source_code kind }
 {
     match kind {
@@ -83,7 +83,7 @@ pub fn two_source_code(kind: TwoSourceKind) -> u32
 }
 
 /// The number of a branch to a register in a word.
-pub fn branch_code(kind: BranchKind) -> u32
+pub(crate) fn branch_code(kind: BranchKind) -> u32
     ensures { result ≡ spec.branch_code kind }
 {
     match kind {
@@ -94,7 +94,7 @@ pub fn branch_code(kind: BranchKind) -> u32
 }
 
 /// The number of a store or load in a word.
-pub fn transfer_code(transfer: Transfer) -> u32
+pub(crate) fn transfer_code(transfer: Transfer) -> u32
     ensures { result ≡ spec.transfer_code transfer }
 {
     match transfer {
@@ -106,7 +106,7 @@ pub fn transfer_code(transfer: Transfer) -> u32
 }
 
 /// The number of a mode of a single access in a word.
-pub fn index_mode_code(mode: IndexMode) -> u32
+pub(crate) fn index_mode_code(mode: IndexMode) -> u32
     ensures { result ≡ spec.index_mode_code mode }
 {
     match mode {
@@ -117,7 +117,7 @@ pub fn index_mode_code(mode: IndexMode) -> u32
 }
 
 /// The number of a mode of a pair in a word.
-pub fn pair_mode_code(mode: PairMode) -> u32
+pub(crate) fn pair_mode_code(mode: PairMode) -> u32
     ensures { result ≡ spec.pair_mode_code mode }
 {
     match mode {
@@ -128,7 +128,7 @@ pub fn pair_mode_code(mode: PairMode) -> u32
 }
 
 /// The number of an extension of an index in a word.
-pub fn index_extend_code(extend: IndexExtend) -> u32
+pub(crate) fn index_extend_code(extend: IndexExtend) -> u32
     ensures { result ≡ spec.index_extend_code extend }
 {
     match extend {

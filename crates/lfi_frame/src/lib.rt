@@ -42,10 +42,11 @@ mod answer;
 mod fault;
 mod feed;
 mod header;
-pub mod laws;
+mod laws;
 pub mod messages;
 
 pub use answer::{Got, Step};
 pub use fault::FrameFault;
 pub use feed::{Feed, Position};
 pub use header::{HEADER_BYTES, Header};
+pub use laws::{any_pieces, fault_stays, header_reads_back, one_cut, stands_cut, whole_run};

@@ -16,7 +16,7 @@ use std::marker::Model;
 
 /// How bytes are accessed.
 #[derive(Clone, Copy, PartialEq, Eq)]
-pub enum Access {
+pub(crate) enum Access {
     /// They are read.
     Load,
     /// They are written.
@@ -59,7 +59,7 @@ impl DataFault {
 
 /// How many bytes an access of a size has.
 #[inline(always)]
-pub fn bytes_of(size: Size) -> u32
+pub(crate) fn bytes_of(size: Size) -> u32
     ensures value { result ≡ 2 ^ size_code size }
     ensures some { 1 ≤ result }
     ensures most { result ≤ 8 }
@@ -136,7 +136,7 @@ impl Data {
     }
 
     /// Whether the byte at an address may be accessed so.
-    pub fn is_permitted(&self, access: Access, address: u64) -> bool
+    pub(crate) fn is_permitted(&self, access: Access, address: u64) -> bool
         ensures { result ≡ is_permitted (writes_by access) (permission_at self.now.image address) }
     {
         if address < self.base {
@@ -183,7 +183,7 @@ impl Data {
 
     /// The least address of so many from one on whose byte may not be accessed so, if there is one.
     #[inline(always)]
-    pub fn denied(&self, access: Access, bytes: u32, address: u64) -> Option<u64>
+    pub(crate) fn denied(&self, access: Access, bytes: u32, address: u64) -> Option<u64>
         requires few { bytes ≤ 16 }
         requires within { address + bytes < 2 ^ 64 }
         ensures { result ≡ first_denied self.now.image (writes_by access) bytes address }
@@ -201,7 +201,7 @@ impl Data {
     ///
     /// The least address of a byte that may not be accessed so.
     #[inline(always)]
-    pub fn locate(&self, access: Access, bytes: u32, address: u64) -> Result<u32, u64>
+    pub(crate) fn locate(&self, access: Access, bytes: u32, address: u64) -> Result<u32, u64>
         requires some { 1 ≤ bytes }
         requires few { bytes ≤ 16 }
         requires within { address + bytes < 2 ^ 64 }
@@ -292,7 +292,7 @@ impl Data {
 
     /// The number that the bytes from an offset on spell, the lowest first.
     #[inline(always)]
-    pub fn load(&self, size: Size, offset: u32) -> u64
+    pub(crate) fn load(&self, size: Size, offset: u32) -> u64
         requires { offset + 2 ^ size_code size ≤ 2 ^ 32 }
         ensures value { result ≡ number_at (byte_in self.now.image (byte_at self.now.kept)) (2 ^ size_code size) offset }
         ensures small { result < 256 ^ (2 ^ size_code size) }
@@ -314,7 +314,7 @@ impl Data {
     ///
     /// Where memory was refused, for a page of these bytes that wasn't kept. No byte has changed then.
     #[inline(always)]
-    pub fn keep(&mut self, offset: u32, bytes: u32) -> Result<(), MemoryRefused>
+    pub(crate) fn keep(&mut self, offset: u32, bytes: u32) -> Result<(), MemoryRefused>
         requires some { 1 ≤ bytes }
         requires few { bytes ≤ 16 }
         requires within { offset + bytes ≤ 2 ^ 32 }
@@ -329,7 +329,7 @@ impl Data {
 
     /// Writes the lowest bytes of a value from an offset on, in pages that are kept.
     #[inline(always)]
-    pub fn put(&mut self, size: Size, offset: u32, value: u64)
+    pub(crate) fn put(&mut self, size: Size, offset: u32, value: u64)
         requires within { offset + 2 ^ size_code size ≤ 2 ^ 32 }
         requires kept { AreKept self.old.kept offset (2 ^ size_code size) }
         ensures bytes { WritesNumber self.old.kept self.new.kept offset (2 ^ size_code size) value }

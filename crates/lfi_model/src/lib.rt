@@ -29,12 +29,13 @@
 mod connection;
 mod item;
 mod judged;
-pub mod laws;
+mod laws;
 mod outcome;
 mod summary;
 
 pub use connection::{Cause, Progress};
 pub use item::{Item, ItemKind, NumberedItem, PageBody, Reason};
 pub use judged::Judged;
+pub use laws::{items_are_a_module, longest_beginning, one_items, one_load, one_more_message};
 pub use outcome::Outcome;
 pub use summary::Summary;

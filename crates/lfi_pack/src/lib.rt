@@ -19,8 +19,9 @@
 
 mod copying;
 mod fault;
-pub mod laws;
+mod laws;
 mod pack;
 
 pub use fault::PackFault;
+pub use laws::{numbered_modules, packed_items};
 pub use pack::pack_module;

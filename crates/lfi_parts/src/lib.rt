@@ -24,8 +24,9 @@
 //!   alone.
 #![tactic(auto)]
 
-pub mod laws;
+mod laws;
 pub mod parts;
 mod shared;
 
+pub use laws::{all_parts_stay, receiver_stays, seat_stays};
 pub use shared::Shared;

@@ -38,7 +38,7 @@
 pub mod auxiliary;
 mod intake;
 mod lane;
-pub mod laws;
+mod laws;
 mod left;
 mod log;
 mod making;
@@ -49,6 +49,7 @@ mod round;
 
 pub use intake::{Intake, PutPass, TakePass, Taken};
 pub use lane::Lane;
+pub use laws::{always_kept, kept_of_one};
 pub use left::TAKERS;
 pub use pass::{LanePut, LaneTake};
 pub use queue::RuledQueue;

@@ -15,12 +15,13 @@
 
 mod beginning;
 mod ending;
-pub mod laws;
+mod laws;
 mod numbers;
 mod stream;
 
 pub use beginning::begin;
 pub use ending::end;
+pub use laws::{next_place, one_cut, one_outcome, whole_pages};
 pub use lfi_connection::Event;
 pub use numbers::{LfiStreamFeed, LfiStreamModule, LfiStreamPage, LfiStreamText};
 pub use stream::next;
