@@ -1,8 +1,8 @@
 //! How far the threads of a stage are to go.
 
-ghost use Rattle.std.specs.Prelude.{◌≡◌, ◌≤◌, ◌<◌, ℕ, None, Some, false};
+ghost use Rattle.std.specs.Prelude.{◌≡◌, ◌≤◌, ◌<◌, ℕ, None, Some, false, option_map};
 ghost use Rattle.lfi_signals.specs.Fates.{is_unheard};
-ghost use Rattle.lfi_signals.specs.Stops.{why_of};
+ghost use Rattle.lfi_signals.specs.Stops.{state_number, stops_for, why_of};
 
 use crate::bells::Bells;
 use crate::deadline::Span;
@@ -13,18 +13,58 @@ use std::sync::Wait;
 use std::sync::atomic::{AtomicU64, Ordering};
 use std::time::Duration;
 
-// What the word says. It never goes back.
-const STARTING: u64 = 0;
+/// How far the threads are to go, in the order in which one follows another: the word never goes back.
+#[derive(Clone, Copy, PartialEq, Eq)]
+enum State {
+    /// They are being started.
+    Starting,
+    /// All have been started.
+    Running,
+    /// All verifiers' threads have ended.
+    Verified,
+    /// All are to stop, since memory was refused.
+    NoMemory,
+    /// All are to stop, since a thread was refused.
+    NoThread,
+}
 
-const RUNNING: u64 = 1;
+impl State {
+    /// The number by which it stands in the word.
+    fn number(self) -> u64
+        ensures { result ≡ state_number self }
+    {
+        match self {
+            State::Starting => 0,
+            State::Running => 1,
+            State::Verified => 2,
+            State::NoMemory => 3,
+            State::NoThread => 4,
+        }
+    }
 
-const VERIFIED: u64 = 2;
+    /// The state that stands in the word by this number. No greater one than 4 is ever written.
+    fn of(number: u64) -> State
+        ensures { (state : State) → number ≡ state_number state → result ≡ state }
+    {
+        match number {
+            0 => State::Starting,
+            1 => State::Running,
+            2 => State::Verified,
+            3 => State::NoMemory,
+            _ => State::NoThread,
+        }
+    }
 
-// All are to stop, since memory was refused.
-const NO_MEMORY: u64 = 3;
-
-// All are to stop, since a thread was refused.
-const NO_THREAD: u64 = 4;
+    /// The one by which all are to stop for this.
+    fn stopping(why: LoadError) -> State
+        ensures { stops_for result ≡ Some why }
+    {
+        match why {
+            LoadError::NoMemory => State::NoMemory,
+            LoadError::NoThread => State::NoThread,
+        }
+    }
+}
 
 /// That all threads are to stop, and why. None but the word of `Ends` tells it, so a thread that has
 /// one was told.
@@ -34,18 +74,16 @@ pub struct Stopped {
 }
 
 impl Stopped {
-    /// What this word tells.
-    fn of(word: u64) -> Option<Stopped>
-        ensures going { word < NO_MEMORY → result ≡ None }
-        ensures memory { word ≡ NO_MEMORY → result ≡ Some (record { why = LoadError.NoMemory }) }
-        ensures thread { NO_THREAD ≤ word → result ≡ Some (record { why = LoadError.NoThread }) }
+    /// What this state tells.
+    fn of(state: State) -> Option<Stopped>
+        ensures { option_map why_of result ≡ stops_for state }
     {
-        match word {
-            STARTING | RUNNING | VERIFIED => None,
-            NO_MEMORY => Some(Stopped {
+        match state {
+            State::Starting | State::Running | State::Verified => None,
+            State::NoMemory => Some(Stopped {
                 why: LoadError::NoMemory,
             }),
-            _ => Some(Stopped {
+            State::NoThread => Some(Stopped {
                 why: LoadError::NoThread,
             }),
         }
@@ -63,31 +101,19 @@ impl Stopped {
 /// thread that has one was told.
 #[derive(Clone, Copy)]
 pub struct Verified {
-    word: u64,
+    state: State,
 }
 
 impl Verified {
-    /// What this word tells.
-    fn of(word: u64) -> Option<Verified>
-        ensures before { word < VERIFIED → result ≡ None }
-        ensures after { VERIFIED ≤ word → result ≡ Some (record { word = word }) }
+    /// What this state tells.
+    fn of(state: State) -> Option<Verified>
+        ensures before { state_number state < state_number State.Verified → result ≡ None }
+        ensures after { state_number State.Verified ≤ state_number state → result ≡ Some (record { state = state }) }
     {
-        if word < VERIFIED {
-            None
-        } else {
-            Some(Verified { word })
+        match state {
+            State::Starting | State::Running => None,
+            State::Verified | State::NoMemory | State::NoThread => Some(Verified { state }),
         }
-    }
-}
-
-/// The word by which all are to stop for this.
-fn word_of(why: LoadError) -> u64
-    ensures memory { why ≡ LoadError.NoMemory → result ≡ NO_MEMORY }
-    ensures thread { why ≡ LoadError.NoThread → result ≡ NO_THREAD }
-{
-    match why {
-        LoadError::NoMemory => NO_MEMORY,
-        LoadError::NoThread => NO_THREAD,
     }
 }
 
@@ -119,7 +145,7 @@ impl Ends {
     /// The threads are being started, so many verifiers' among them.
     pub fn new(verifiers: usize) -> Ends {
         Ends {
-            word: AtomicU64::new(STARTING),
+            word: AtomicU64::new(State::Starting.number()),
             heard: AtomicU64::new(0),
             bells: Bells::new(verifiers),
         }
@@ -132,12 +158,12 @@ impl Ends {
 
     /// All threads have been started.
     pub fn go(&self) {
-        self.tell(RUNNING);
+        self.tell(State::Running);
     }
 
     /// All verifiers' threads have ended.
     pub fn verified(&self) {
-        self.tell(VERIFIED);
+        self.tell(State::Verified);
     }
 
     /// A thread couldn't be started, or memory was refused, and all others are to stop. The answer is
@@ -145,29 +171,29 @@ impl Ends {
     pub fn stop(&self, why: LoadError) -> LoadError
         ensures { result ≡ why }
     {
-        self.tell(word_of(why));
+        self.tell(State::stopping(why));
         why
     }
 
     /// Waits until all threads have been started, or are to stop.
     pub fn wait_for_go<S: Wait>(&self, rt: &S) -> Going<'_> {
         for _ in rt.forever() {
-            if self.word.load(Ordering::SeqCst) != STARTING {
+            if self.state() != State::Starting {
                 break;
             }
-            self.word.park(rt, STARTING as u32);
+            self.word.park(rt, State::Starting.number() as u32);
         }
         Going { ends: self }
     }
 
     /// Whether all verifiers' threads have ended, or all threads are to stop.
     pub fn are_verified(&self) -> Option<Verified> {
-        Verified::of(self.word.load(Ordering::SeqCst))
+        Verified::of(self.state())
     }
 
     /// Whether all threads are to stop, and why.
     pub fn stopped(&self) -> Option<Stopped> {
-        Stopped::of(self.word.load(Ordering::SeqCst))
+        Stopped::of(self.state())
     }
 
     /// The thread of the receiver with this number has nothing more to hear. All verifiers look for
@@ -209,8 +235,14 @@ impl Ends {
         self.word.park_timeout(rt, seen, time);
     }
 
-    fn tell(&self, how_far: u64) {
-        self.word.fetch_max(how_far, Ordering::SeqCst);
+    /// What the word says.
+    fn state(&self) -> State {
+        State::of(self.word.load(Ordering::SeqCst))
+    }
+
+    /// The word says this from now on, unless it says more, and all that wait are called.
+    fn tell(&self, state: State) {
+        self.word.fetch_max(state.number(), Ordering::SeqCst);
         self.word.wake_all();
         self.bells.call_all();
     }
