@@ -6,7 +6,6 @@ use Rattle.lfi_model.specs.Texts.{summary_text}
 use Rattle.lfi_threads.specs.Loaded.{IsLoaded}
 use Rattle.lfi_stage.specs.Summaries.{summary_of}
 use Rattle.lfi_file_commands.proofs.Failing.{fails_on_output, is_no_other}
-use Rattle.lfi_file_commands.proofs.Streams.{map_twice}
 use Rattle.lfi_file_commands.specs.Errors.{is_lost_of, writer_of}
 use Rattle.lfi_file_commands.specs.Failures.{is_of_output, FailsOn, IsOfReadingOne}
 use Rattle.lfi_file_commands.specs.Left.{left, OnlyOutput}
@@ -14,7 +13,7 @@ use Rattle.lfi_file_commands.specs.Opening.{AreInputsOf}
 use Rattle.lfi_signals.specs.Clients.{read_by}
 use Rattle.lfi_commands.proofs.Carried.{reported_behind}
 use Rattle.lfi_commands.proofs.Failing.{fails_on_load, fails_on_reading, is_not_of_the_report}
-use Rattle.lfi_commands.proofs.Inputs.{known_left}
+use Rattle.lfi_commands.proofs.Inputs.{known_left, map_twice}
 use Rattle.lfi_commands.specs.Loading.{streams_of, HasLoaded, TellsReport}
 use Rattle.lfi_commands.proofs.program.run_load.Goals as goal
 
