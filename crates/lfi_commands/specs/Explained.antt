@@ -1,6 +1,6 @@
 -- What `lfiload load --explain` and `serve --explain` tell: of refused modules, of who has claimed each module, and of connections. Source: this project's
 -- profile, docs/COMMANDS.md.
-use Rattle.std.specs.Prelude.{◌≡◌, ℕ, ◌==◌, ◌&&◌, Bool, true, false, List, [], ◌++◌, Option, Some, None, codes, decimal, get_or, slice_get, slice_index, if◌then◌else◌}
+use Rattle.std.specs.Prelude.{◌≡◌, ℕ, ◌==◌, ◌&&◌, Bool, true, false, List, [], ◌++◌, Option, Some, None, codes, decimal, slice_get, slice_index, if◌then◌else◌}
 use Rattle.lfi_frame.specs.declared.fault.FrameFault.{FrameFault}
 use Rattle.lfi_frame.specs.declared.fault.FrameFault.TheVariants.{NoMemory, Ended, ReadFailed}
 use Rattle.lfi_frame.specs.Faults.{fault_text}
@@ -43,29 +43,26 @@ abbrev pub of_text : Option (List ℕ) → List ℕ
 of_text None = []
 of_text (Some path) = codes " of " ++ path
 
--- the lines of connection c, which came to this fault: where the message begins that has it, and what the file is
-abbrev pub ended_lines : ℕ → FrameFault → MessageStart → (path : Option (List ℕ)) → List ℕ
-ended_lines c fault start path =
-    codes "connection " ++ decimal c ++ codes ": " ++ fault_text fault ++ codes "\n  message at byte " ++ decimal start.byte ++ of_text path ++ codes "\n" ++ first_line (first_kind fault start)
-
--- one that came to no fault has none
+-- the lines of connection c, where it came to a fault: the fault, where the message begins that has it, and what the file is
 abbrev pub fault_lines : ℕ → Option FrameFault → Option MessageStart → (path : Option (List ℕ)) → List ℕ
-fault_lines c (Some fault) (Some start) path = ended_lines c fault start path
+fault_lines c (Some fault) (Some start) path =
+    codes "connection " ++ decimal c ++ codes ": " ++ fault_text fault ++ codes "\n  message at byte " ++ decimal start.byte ++ of_text path ++ codes "\n" ++ first_line (first_kind fault start)
 fault_lines c fault start path = []
 
 -- the line of its strays, where there are any
 abbrev pub strays_line : ℕ → (strays : ℕ) → List ℕ
 strays_line c strays = if strays == 0 then [] else codes "connection " ++ decimal c ++ codes ": strays " ++ decimal strays ++ codes "\n"
 
--- both
-abbrev pub connection_lines : Report → (paths : List (List ℕ)) → ℕ → Option FrameFault → List ℕ
-connection_lines report paths c fault = fault_lines c fault (slice_get report.starts c) (slice_get paths c) ++ strays_line c (slice_index report.connection_strays c)
+-- both, of a connection with this fault, among those with these starts, strays and paths
+abbrev pub connection_lines : (starts : List MessageStart) → (strays : List ℕ) → (paths : List (List ℕ)) → ℕ → Option FrameFault → List ℕ
+connection_lines starts strays paths c fault = fault_lines c fault (slice_get starts c) (slice_get paths c) ++ strays_line c (slice_index strays c)
 
--- those of all connections, by their numbers; these are the paths of their streams, where they have any
-abbrev pub all_connection_lines : Report → (paths : List (List ℕ)) → List ℕ
-all_connection_lines report paths = lines_from (connection_lines report paths) 0 report.faults
+-- those of all connections, by their numbers
+abbrev pub all_connection_lines : List (Option FrameFault) → (starts : List MessageStart) → (strays : List ℕ) → (paths : List (List ℕ)) → List ℕ
+all_connection_lines faults starts strays paths = lines_from (connection_lines starts strays paths) 0 faults
 
--- what is told of a report: of its refused modules, of who has claimed each module, and of the connections, where that is asked for; and else nothing
+-- what is told of a report: of its refused modules, of who has claimed each module, and of the connections, whose streams have these paths, where that is asked for; and else nothing
 abbrev pub TellsExplained : Bool → Report → (paths : List (List ℕ)) → List ℕ → Type 0
-TellsExplained true report paths text = (refused : List ℕ) × TellRefused report.modules refused × (text ≡ refused ++ holder_lines report.holders ++ all_connection_lines report paths)
+TellsExplained true report paths text =
+    (refused : List ℕ) × TellRefused report.modules refused × (text ≡ refused ++ (holder_lines report.holders ++ all_connection_lines report.faults report.starts report.connection_strays paths))
 TellsExplained false report paths text = text ≡ []

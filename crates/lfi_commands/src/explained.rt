@@ -1,11 +1,13 @@
 //! What `--explain` tells of a load.
 
-ghost use Rattle.std.specs.Prelude.{◌≡◌, ℕ, List, OnOk, IfOk, Some, map, option_map, slice_get};
+ghost use Rattle.std.specs.Prelude.{◌≡◌, ◌++◌, ◌<◌, ℕ, List, Option, IfOk, Some, map, option_map, slice_get};
+ghost use Rattle.std.specs.Fmt.{WritesOnOk};
 ghost use Rattle.std.specs.Io.KnownBytes.{Appends};
-ghost use Rattle.lfi_commands.specs.Explained.{holder_line, holder_lines, is_of_header, first_kind, first_line, of_text, ended_lines, fault_lines, strays_line, all_connection_lines, TellsExplained};
+ghost use Rattle.lfi_commands.specs.Explained.{holder_line, holder_lines, is_of_header, first_kind, first_line, of_text, fault_lines, strays_line, connection_lines, all_connection_lines, TellsExplained};
 
 use lfi_file_commands::{FileKind, KindLine, write_refused, write_text};
 use lfi_frame::FrameFault;
+use lfi_module::{CONNECTIONS, ModuleNumber};
 use lfi_receive::MessageStart;
 use lfi_stage::settle::Report;
 use std::alloc::Global;
@@ -66,127 +68,142 @@ fn first_kind(fault: FrameFault, start: &MessageStart) -> Option<FileKind>
     }
 }
 
-/// A connection that came to a fault.
+/// The connections of a load: which module each has claimed, and what is told of each.
 #[derive(Clone, Copy)]
-struct EndedConnection<'a> {
-    number: usize,
-    fault: FrameFault,
-    start: MessageStart,
-    path: Option<&'a str>,
-}
-
-impl fmt::Display for EndedConnection<'_> {
-    ghost output = { λ c. Some (ended_lines c.number c.fault c.start (option_map (λ path. path.now) c.path)) };
-
-    fn fmt<W: fmt::Write>(&self, f: &mut fmt::Formatter<W>) -> fmt::Result {
-        let number = self.number;
-        let fault = self.fault;
-        let byte = self.start.byte;
-        let of = OfStream(self.path);
-        let first = FirstLine(first_kind(fault, &self.start));
-        write!(
-            f,
-            "connection {number}: {fault}\n  message at byte {byte}{of}\n{first}"
-        )
-    }
+struct Connections<'a> {
+    holders: [Option<usize>; ModuleNumber::COUNT],
+    faults: [Option<FrameFault>; CONNECTIONS],
+    starts: [MessageStart; CONNECTIONS],
+    strays: [u64; CONNECTIONS],
+    /// The paths of their streams, by their numbers, where they have any.
+    paths: &'a [&'a str],
 }
 
 /// Writes the line of a module, where a connection has claimed it.
-fn write_holder<W: Write>(
-    alloc: Global,
+fn write_holder<W: fmt::Write>(
     number: usize,
     holder: Option<usize>,
-    out: &mut W,
-) -> io::Result<()>
-    ensures { OnOk result (Appends (W.contents out.old) (W.contents out.new) (holder_line number holder)) }
+    f: &mut fmt::Formatter<W>,
+) -> fmt::Result
+    ensures { WritesOnOk W.write_str_gives f.old result (holder_line number holder) f.new }
 {
     match holder {
-        Some(connection) => write_text(
-            alloc,
-            out,
-            format_args!("module {number}: from connection {connection}\n"),
-        ),
+        Some(connection) => write!(f, "module {number}: from connection {connection}\n"),
         None => Ok(()),
     }
 }
 
 /// Writes a line for each of these modules that a connection has claimed, by their numbers.
-fn write_holders<W: Write>(
-    alloc: Global,
+fn write_holders<W: fmt::Write>(
     holders: &[Option<usize>],
-    out: &mut W,
-) -> io::Result<()>
-    ensures { OnOk result (Appends (W.contents out.old) (W.contents out.new) (holder_lines holders.now)) }
+    f: &mut fmt::Formatter<W>,
+) -> fmt::Result
+    ensures { WritesOnOk W.write_str_gives f.old result (holder_lines holders.now) f.new }
 {
     for (number, holder) in holders.iter().enumerate() {
-        write_holder(alloc, number, *holder, out)?;
+        write_holder(number, *holder, f)?;
     }
     Ok(())
 }
 
 /// Writes the lines of a connection, where it came to a fault.
-fn write_fault<W: Write>(
-    alloc: Global,
+fn write_fault<W: fmt::Write>(
     number: usize,
     fault: Option<FrameFault>,
     start: MessageStart,
     path: Option<&str>,
-    out: &mut W,
-) -> io::Result<()>
-    ensures { OnOk result (Appends (W.contents out.old) (W.contents out.new) (fault_lines number fault (Some start) (option_map (λ path. path.now) path.entry))) }
+    f: &mut fmt::Formatter<W>,
+) -> fmt::Result
+    ensures { WritesOnOk W.write_str_gives f.old result (fault_lines number fault (Some start) (option_map (λ path. path.now) path.entry)) f.new }
 {
     match fault {
         Some(fault) => {
-            let ended = EndedConnection {
-                number,
-                fault,
-                start,
-                path,
-            };
-            write_text(alloc, out, ended)
+            let byte = start.byte;
+            let of = OfStream(path);
+            let first = FirstLine(first_kind(fault, &start));
+            write!(
+                f,
+                "connection {number}: {fault}\n  message at byte {byte}{of}\n{first}"
+            )
         }
         None => Ok(()),
     }
 }
 
 /// Writes the line of a connection's strays, where there are any.
-fn write_strays<W: Write>(
-    alloc: Global,
+fn write_strays<W: fmt::Write>(
     number: usize,
     strays: u64,
-    out: &mut W,
-) -> io::Result<()>
-    ensures { OnOk result (Appends (W.contents out.old) (W.contents out.new) (strays_line number strays)) }
+    f: &mut fmt::Formatter<W>,
+) -> fmt::Result
+    ensures { WritesOnOk W.write_str_gives f.old result (strays_line number strays) f.new }
 {
-    if strays == 0 {
-        return Ok(());
+    match strays {
+        0 => Ok(()),
+        _ => write!(f, "connection {number}: strays {strays}\n"),
     }
-    write_text(
-        alloc,
-        out,
-        format_args!("connection {number}: strays {strays}\n"),
-    )
 }
 
-/// Writes what is told of each connection, by their numbers; these are the paths of their streams, where they have any.
-fn write_connections<W: Write>(
-    alloc: Global,
-    report: &Report,
-    paths: &[&str],
-    out: &mut W,
-) -> io::Result<()>
-    ensures { OnOk result (Appends (W.contents out.old) (W.contents out.new) (all_connection_lines report.now (map (λ path. path.now) paths.now))) }
+/// Where the message begins at which a connection ended.
+fn start_at(starts: &[MessageStart; CONNECTIONS], number: usize) -> MessageStart
+    requires { number < 8 }
+    ensures { slice_get starts.now number ≡ Some result }
 {
-    for (number, fault) in report.faults.iter().enumerate() {
-        let path = paths.get(number).copied();
-        write_fault(alloc, number, *fault, report.starts[number], path, out)?;
-        write_strays(alloc, number, report.connection_strays[number], out)?;
+    starts[number]
+}
+
+/// The path of a connection's stream, where it has one.
+fn path_at<'a>(paths: &[&'a str], number: usize) -> Option<&'a str>
+    ensures { slice_get (map (λ path. path.now) paths.now) number ≡ option_map (λ path. path.now) result }
+{
+    if number < paths.len() {
+        Some(paths[number])
+    } else {
+        None
+    }
+}
+
+/// Writes what is told of one of these connections, which has this fault.
+fn write_connection<W: fmt::Write>(
+    connections: &Connections<'_>,
+    number: usize,
+    fault: Option<FrameFault>,
+    f: &mut fmt::Formatter<W>,
+) -> fmt::Result
+    requires { number < 8 }
+    ensures { WritesOnOk W.write_str_gives f.old result (connection_lines connections.now.starts connections.now.strays (map (λ path. path.now) connections.now.paths.now) number fault) f.new }
+{
+    let start = start_at(&connections.starts, number);
+    let path = path_at(connections.paths, number);
+    write_fault(number, fault, start, path, f)?;
+    write_strays(number, connections.strays[number], f)
+}
+
+/// Writes what is told of each of these connections, by their numbers.
+fn write_connections<W: fmt::Write>(
+    connections: &Connections<'_>,
+    f: &mut fmt::Formatter<W>,
+) -> fmt::Result
+    ensures { WritesOnOk W.write_str_gives f.old result (all_connection_lines connections.now.faults connections.now.starts connections.now.strays (map (λ path. path.now) connections.now.paths.now)) f.new }
+{
+    for (number, fault) in connections.faults.iter().enumerate() {
+        write_connection(connections, number, *fault, f)?;
     }
     Ok(())
 }
 
+impl fmt::Display for Connections<'_> {
+    ghost output = { λ c. Some (holder_lines c.holders ++ all_connection_lines c.faults c.starts c.strays (map (λ path. path.now) c.paths.now)) };
+
+    fn fmt<W: fmt::Write>(&self, f: &mut fmt::Formatter<W>) -> fmt::Result {
+        write_holders(&self.holders, f)?;
+        write_connections(self, f)
+    }
+}
+
 /// Writes what `--explain` tells of a report, where that is asked for: the first fault of each refused module; which connection
 /// has claimed each module; of each connection its fault, the byte at which the message begins that has it, and its strays.
+/// These are the paths of the connections' streams, where they have any.
 ///
 /// # Errors
 ///
@@ -204,6 +221,12 @@ pub(crate) fn write_explained<W: Write>(
         return Ok(());
     }
     write_refused(alloc, &report.modules, out)?;
-    write_holders(alloc, &report.holders, out)?;
-    write_connections(alloc, report, paths, out)
+    let connections = Connections {
+        holders: report.holders,
+        faults: report.faults,
+        starts: report.starts,
+        strays: report.connection_strays,
+        paths,
+    };
+    write_text(alloc, out, connections)
 }
