@@ -26,7 +26,7 @@ pub const EXPLAIN: &str =
 
 /// Of `--explain`, where modules are loaded.
 pub const EXPLAIN_MODULES: &str =
-    "also explain each refused module's first fault, and say faults in words";
+    "also explain each refused module's first fault, and say of connections what is theirs";
 
 /// Of `--all`.
 pub const ALL: &str = "say so of each word that breaks a rule, and how many they are";
@@ -125,8 +125,16 @@ With --explain, these lines follow for each module M that was refused:
   A sentence                What the rule asks, and what the word does.
   mend: TEXT                What to write instead. A free register is any but x18, x21 to x24 and
                             x30.
-and then one for each connection C that has a fault:
-  connection C: TEXT        The fault in words.
+then one for each module M that was opened:
+  module M: from connection C
+                            The connection that opened it first, from which it is loaded.
+and then for each connection C with a fault or with strays:
+  connection C: TEXT        Its fault in words.
+  message at byte B         Where the message begins that has the fault, or isn't whole, in the bytes
+                            of the connection, counted from 0; and the path of a file.
+  file: TEXT                Where its first header has the fault: what begins so, an ELF file, an
+                            image or no stream, and what to do with it.
+  connection C: strays N    How many of the strays are its own.
 
 With --out DIR, the image of each complete module M is written to DIR/module-MM.img, M in two
 digits, in place of what stands there.

@@ -18,9 +18,9 @@ use Rattle.lfi_commands.specs.inner.Ranges.{IsForFiles, IsInRange}
 
 -- a text was written before
 module _ (text : List ℕ) (asked : ReportOptions) (a b : Option (List ℕ)) (put : Option (List (List ℕ × List ℕ))) (lost : Bool) (errors : Option (List ℕ)) (is : Appends a b text) where
-  pub reported_behind : (report : Report) (kinds : List (Option ErrorKind)) (taken : Bool) (new : Left) (ending : Ending) → TellsReport [] report kinds taken asked (left b put lost errors) new ending
-      → TellsReport text report kinds taken asked (left a put lost errors) new ending
-  reported_behind report kinds taken new ending tells =
+  pub reported_behind : (report : Report) (paths : List (List ℕ)) (kinds : List (Option ErrorKind)) (taken : Bool) (new : Left) (ending : Ending) → TellsReport [] report paths kinds taken asked (left b put lost errors) new ending
+      → TellsReport text report paths kinds taken asked (left a put lost errors) new ending
+  reported_behind report paths kinds taken new ending tells =
       let puts = tells.puts in
       record {
         explained = tells.explained;
@@ -40,7 +40,7 @@ module _ (text : List ℕ) (asked : ReportOptions) (a b : Option (List ℕ)) (pu
       record {
         before = tells.before;
         by_load = tells.by_load;
-        reported = reported_behind served.report served.read_errors _ tells.before tells.by_load tells.reported;
+        reported = reported_behind served.report [] served.read_errors _ tells.before tells.by_load tells.reported;
         out = tells.out;
         put = tells.put;
         told = tells.told;

@@ -2,3 +2,4 @@ mod Carried
 mod Ended
 mod Failing
 mod Inputs
+mod Explaining

@@ -1,5 +1,6 @@
 pub mod LoadFaults
 pub mod Endings
+pub mod Explained
 pub mod Loading
 pub mod Clients
 pub mod Serving

@@ -9,12 +9,12 @@ use Rattle.lfi_file_commands.specs.declared.ending.Ending.{Ending}
 use Rattle.std.specs.declared.io.ErrorKind.{ErrorKind}
 use Rattle.lfi_commands.specs.Clients.{read_lines}
 use Rattle.lfi_commands.specs.Endings.{EndsLoad}
+use Rattle.lfi_commands.specs.Explained.{TellsExplained}
 use Rattle.lfi_file_commands.specs.Failures.{Told}
 use Rattle.lfi_command_line.specs.declared.options.LoadOptions.{LoadOptions}
 use Rattle.lfi_command_line.specs.declared.options.ReportOptions.{ReportOptions}
 use Rattle.lfi_file_commands.specs.Images.{asked_images, folder_or_none, WritesImages}
 use Rattle.lfi_file_commands.specs.Left.{Left}
-use Rattle.lfi_file_commands.specs.Refused.{TellAsked}
 
 -- these are the bytes of the streams, all of which are known
 abbrev pub AreKnown : List (Option (List ℕ)) → (ℕ → List ℕ) → Type 0
@@ -24,11 +24,11 @@ AreKnown streams bytes = (c : ℕ) (stream : Option (List ℕ)) → slice_get st
 abbrev pub folder_of : ReportOptions → Option (List ℕ)
 folder_of asked = option_map (λ path. path.now) asked.out
 
--- What was done with the report on a load, of whose connections all were taken or not: this text was written, then what is told of its refused modules and its faults, where that is
--- asked for; its images were put into the folder, where one is named; and it was told of reads that failed, with errors of these kinds. By all that it ends.
-pub record TellsReport (text : List ℕ) (report : Report) (kinds : List (Option ErrorKind)) (all_taken : Bool) (asked : ReportOptions) (old new : Left) (ending : Ending) : Type 0 where
+-- What was done with the report on a load, of whose connections, with streams at these paths, all were taken or not: this text was written, then what is told of its refused modules
+-- and of its connections, where that is asked for; its images were put into the folder, where one is named; and it was told of reads that failed, with errors of these kinds. By all that it ends.
+pub record TellsReport (text : List ℕ) (report : Report) (paths : List (List ℕ)) (kinds : List (Option ErrorKind)) (all_taken : Bool) (asked : ReportOptions) (old new : Left) (ending : Ending) : Type 0 where
   pub explained : List ℕ
-  pub explains : TellAsked asked.explain report.modules report.faults explained
+  pub explains : TellsExplained asked.explain report paths explained
   pub written : Appends old.out new.out (text ++ explained)
   -- whether all images were put, and what was left then
   pub all : Bool
@@ -49,4 +49,4 @@ pub record HasLoaded (asked : LoadOptions) (file_at : List ℕ → Option (List 
   pub loaded : (bytes : ℕ → List ℕ) → AreKnown (map file_at (streams_of asked)) bytes → IsLoaded (length asked.streams.items) asked.verifiers bytes report
   -- the kinds of the errors of reads, as far as they were told
   pub kinds : List (Option ErrorKind)
-  pub told : TellsReport (summary_text (summary_of report)) report kinds true asked.report old new ending
+  pub told : TellsReport (summary_text (summary_of report)) report (streams_of asked) kinds true asked.report old new ending

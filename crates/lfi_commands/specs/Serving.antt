@@ -1,5 +1,5 @@
 -- What `lfiload serve` finds, writes, puts and tells. Source: this project's profile, docs/COMMANDS.md.
-use Rattle.std.specs.Prelude.{◌≡◌, ℕ, ◌*◌, true, List, Option, Some, None}
+use Rattle.std.specs.Prelude.{◌≡◌, ℕ, ◌*◌, true, List, [], Option, Some, None}
 use Rattle.std.specs.Duration.{as_nanos}
 use Rattle.std.specs.declared.time.Duration.{Duration}
 use Rattle.lfi_model.specs.Texts.{summary_text}
@@ -24,7 +24,7 @@ pub record TellsServed (text : List ℕ) (served : Served) (asked : ReportOption
   -- what was left before it was told of clients, and how it ends but for those that were cut off
   pub before : Left
   pub by_load : Ending
-  pub reported : TellsReport text served.report served.read_errors (are_all_taken served.fates) asked old before by_load
+  pub reported : TellsReport text served.report [] served.read_errors (are_all_taken served.fates) asked old before by_load
   pub out : new.out ≡ before.out
   pub put : new.put ≡ before.put
   pub told : Told new.is_lost before.errors new.errors (fate_lines served.fates)

@@ -51,6 +51,7 @@
 
 mod clients;
 mod ending;
+mod explained;
 mod loading;
 mod notices;
 mod program;

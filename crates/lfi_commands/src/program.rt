@@ -11,12 +11,12 @@ ghost use Rattle.lfi_commands.specs.inner.Ranges.{IsForFiles, IsInRange};
 
 use crate::clients::{are_all_taken, ending_of_serve, tell_fates, tell_reads};
 use crate::ending::ending_of_load;
+use crate::explained::write_explained;
 use crate::loading::{load, serve};
 use lfi_command_line::{Line, LineFault, LoadOptions, ReportOptions, ServeOptions, read_line};
 use lfi_file_commands::{
     DeviceCause, Disk, Ending, Failure, ImageStore, Outputs, ended, open_all, run_check,
     run_disassemble, run_pack, run_run, run_unpack, tell_failure, write_asked_images,
-    write_asked_refused,
 };
 use lfi_module::CONNECTIONS;
 use lfi_signals::ReadErrors;
@@ -32,32 +32,41 @@ use std::sync::Wait;
 use std::thread::Threads;
 use std::time::Duration;
 
-/// Writes what is asked for beside the text of a report: what is told of refused modules and of faults, and the whole images to
-/// a folder where one is named. It tells of reads that failed, with errors of these kinds. It gives how the load ends, of
-/// which all connections were taken or not.
+/// What is known of the connections of a load, beside its report.
+#[derive(Clone, Copy)]
+struct Sources<'a> {
+    /// The paths of their streams, by their numbers, where they have any.
+    paths: &'a [&'a str],
+    /// The kinds of the errors of reads, by their numbers, where one failed.
+    kinds: [Option<ErrorKind>; CONNECTIONS],
+    /// Whether all were taken.
+    all_taken: bool,
+}
+
+/// Writes what is asked for beside the text of a report: what is told of refused modules and of connections, and the whole
+/// images to a folder where one is named. It tells of reads that failed. It gives how the load ends.
 fn end_load<'a, P: ImageStore, O: Write, E: Write>(
     alloc: Global,
     report: &Report,
-    kinds: &[Option<ErrorKind>; CONNECTIONS],
-    all_taken: bool,
+    sources: &Sources<'_>,
     asked: &ReportOptions<'_>,
     outputs: &mut Outputs<P, O, E>,
 ) -> Result<Ending, Failure<'a>>
-    ensures told { IfOk result (TellsReport [] report.now kinds.now all_taken asked.now outputs.old outputs.new) }
+    ensures told { IfOk result (TellsReport [] report.now (map (λ path. path.now) sources.now.paths.now) sources.now.kinds sources.now.all_taken asked.now outputs.old outputs.new) }
     ensures failure { IfErr result (λ failure. is_of_output failure ≡ true) }
     ensures untold { OnErr result (OnlyOutput outputs.old outputs.new) }
 {
-    match write_asked_refused(
+    match write_explained(
         alloc,
         asked.explain,
-        &report.modules,
-        &report.faults,
+        report,
+        sources.paths,
         &mut outputs.out,
     ) {
         Ok(()) => {
             let all = write_asked_images(alloc, asked.out, &report.modules, outputs);
-            tell_reads(&report.faults, kinds, &mut outputs.errors);
-            Ok(ending_of_load(report, all_taken, all))
+            tell_reads(&report.faults, &sources.kinds, &mut outputs.errors);
+            Ok(ending_of_load(report, sources.all_taken, all))
         }
         Err(error) => Err(Failure::of_output(DeviceCause::of(&error))),
     }
@@ -88,7 +97,8 @@ fn run_load<
     ensures untold { OnErr result (OnlyOutput outputs.old outputs.new) }
 {
     let read_errors = ReadErrors::new();
-    let inputs = match open_all(alloc, disk, asked.streams.as_slice(), &read_errors) {
+    let paths = asked.streams.as_slice();
+    let inputs = match open_all(alloc, disk, paths, &read_errors) {
         Ok(inputs) => inputs,
         Err(failure) => return Err(failure),
     };
@@ -101,8 +111,12 @@ fn run_load<
         &mut outputs.out,
     ) {
         Ok(report) => {
-            let kinds = read_errors.kinds();
-            end_load(alloc, &report, &kinds, true, &asked.report, outputs)
+            let sources = Sources {
+                paths,
+                kinds: read_errors.kinds(),
+                all_taken: true,
+            };
+            end_load(alloc, &report, &sources, &asked.report, outputs)
         }
         Err(fault) => Err(Failure::from(fault)),
     }
@@ -119,15 +133,12 @@ fn end_serve<'a, P: ImageStore, O: Write, E: Write>(
     ensures failure { IfErr result (λ failure. is_of_output failure ≡ true) }
     ensures untold { OnErr result (OnlyOutput outputs.old outputs.new) }
 {
-    let taken = are_all_taken(&served.fates);
-    match end_load(
-        alloc,
-        &served.report,
-        &served.read_errors,
-        taken,
-        asked,
-        outputs,
-    ) {
+    let sources = Sources {
+        paths: &[],
+        kinds: served.read_errors,
+        all_taken: are_all_taken(&served.fates),
+    };
+    match end_load(alloc, &served.report, &sources, asked, outputs) {
         Ok(by_load) => {
             tell_fates(&served.fates, &mut outputs.errors);
             Ok(ending_of_serve(&served.fates, by_load, &outputs.errors))

@@ -86,7 +86,7 @@ numbered k h =
     ]
 
 -- a text without a fault so far
-no_fault : (feed : Feed) (messages : List Message) (rest : List ℕ) → FeedStands feed messages rest → feed_fault feed ≡ None → (fault : FrameFault) → rest_of rest ≡ faulty fault → ⊥
+pub no_fault : (feed : Feed) (messages : List Message) (rest : List ℕ) → FeedStands feed messages rest → feed_fault feed ≡ None → (fault : FrameFault) → rest_of rest ≡ faulty fault → ⊥
 no_fault feed messages rest stands none fault e = by feed.position stands.position none
   where
     by : (p : Position) → IsAt feed.held p rest → fault_at p ≡ None → ⊥

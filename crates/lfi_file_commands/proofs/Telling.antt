@@ -1,9 +1,8 @@
--- What is told of one module more, and then of connections.
-use Rattle.std.proofs.Common.{◌≡◌, ℕ, ◌+◌, ◌<◌, Bool, true, false, Option, List, [], ◌∷◌, ◌++◌, length, get_or, take, refl, sym, ◌∙◌, ap, subst, append_assoc}
+-- What is told of one module more.
+use Rattle.std.proofs.Common.{◌≡◌, ℕ, ◌+◌, ◌<◌, List, [], ◌∷◌, ◌++◌, length, get_or, take, refl, sym, ◌∙◌, ap, subst, append_assoc}
 use Rattle.std.proofs.lemmas.List.{append-nil, take_more}
-use Rattle.lfi_frame.specs.declared.fault.FrameFault.{FrameFault}
 use Rattle.lfi_place.specs.declared.report.ModuleReport.{ModuleReport}
-use Rattle.lfi_file_commands.specs.Refused.{TellsOfRefused, TellRefused, TellAsked, fault_lines}
+use Rattle.lfi_file_commands.specs.Refused.{TellsOfRefused, TellRefused}
 
 pub told_more : (xs : List ModuleReport) (x : ModuleReport) (text here : List ℕ) → TellRefused xs text → TellsOfRefused x here → TellRefused (xs ++ x ∷ []) (text ++ here)
 told_more [] x text here told is = (here, [], is, refl, ap (λ l. l ++ here) told ∙ sym (append-nil here))
@@ -14,9 +13,3 @@ pub told_next : (xs : List ModuleReport) (k : ℕ) (x : ModuleReport) (text here
     → TellRefused (take (k + 1) xs) (text ++ here)
 told_next xs k x text here within is told tells =
     subst (λ l. TellRefused l (text ++ here)) (sym (take_more xs k x within ∙ ap (λ z. take k xs ++ z ∷ []) {x = get_or xs k x} {y = x} (sym is))) (told_more (take k xs) x text here told tells)
-
--- both are told where it is asked for
-pub both_told : (explain : Bool) (modules : List ModuleReport) (faults : List (Option FrameFault)) (refused : List ℕ) → explain ≡ true → TellRefused modules refused
-    → TellAsked explain modules faults (refused ++ fault_lines faults)
-both_told true modules faults refused asked told = (refused, told, refl)
-both_told false modules faults refused asked told = absurd cc

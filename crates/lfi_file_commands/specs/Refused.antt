@@ -1,11 +1,7 @@
--- What `lfiload load --explain` tells of refused modules, and of connections with a fault. Source: this project's profile,
--- docs/COMMANDS.md.
-use Rattle.std.specs.Prelude.{◌≡◌, ℕ, Bool, true, false, List, [], ◌∷◌, ◌++◌, Option, Some, None, codes, decimal}
-use Rattle.lfi_frame.specs.declared.fault.FrameFault.{FrameFault}
-use Rattle.lfi_frame.specs.Faults.{fault_text}
+-- What `lfiload load --explain` tells of refused modules. Source: this project's profile, docs/COMMANDS.md.
+use Rattle.std.specs.Prelude.{◌≡◌, ℕ, List, [], ◌∷◌, ◌++◌, Option, Some, None, codes, decimal}
 use Rattle.lfi_model.specs.declared.outcome.Outcome.{Outcome}
 use Rattle.lfi_model.specs.declared.outcome.Outcome.TheVariants as outcome_kind
-use Rattle.lfi_model.specs.Texts.{lines_from}
 use Rattle.lfi_place.specs.declared.report.ImageState.{ImageState}
 use Rattle.lfi_place.specs.declared.report.ImageState.TheVariants as image_kind
 use Rattle.lfi_place.specs.declared.report.ModuleReport.{ModuleReport}
@@ -31,17 +27,3 @@ TellsOfRefused report text = (told : Option Explanation) × IsRefusal report.out
 abbrev pub TellRefused : List ModuleReport → List ℕ → Type 0
 TellRefused [] text = text ≡ []
 TellRefused (report ∷ reports) text = (here rest : List ℕ) × TellsOfRefused report here × TellRefused reports rest × (text ≡ here ++ rest)
-
--- the line of connection c, with its fault in words; one that came to no fault has none
-abbrev pub fault_line : ℕ → Option FrameFault → List ℕ
-fault_line c None = []
-fault_line c (Some fault) = codes "connection " ++ decimal c ++ codes ": " ++ fault_text fault ++ codes "\n"
-
--- the lines of the connections that came to a fault, by their numbers
-abbrev pub fault_lines : List (Option FrameFault) → List ℕ
-fault_lines faults = lines_from fault_line 0 faults
-
--- the lines of both, where they are asked for, and else nothing
-abbrev pub TellAsked : Bool → List ModuleReport → List (Option FrameFault) → List ℕ → Type 0
-TellAsked true modules faults text = (refused : List ℕ) × TellRefused modules refused × (text ≡ refused ++ fault_lines faults)
-TellAsked false modules faults text = text ≡ []

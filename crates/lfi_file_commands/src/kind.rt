@@ -66,7 +66,7 @@ impl FileKind {
 
 /// The line of a file's kind; nothing, where it is plain.
 #[derive(Clone, Copy)]
-pub(crate) struct KindLine(pub(crate) FileKind);
+pub struct KindLine(pub FileKind);
 
 impl fmt::Display for KindLine {
     ghost output = { λ line. Some (spec.kind_line line.0) };

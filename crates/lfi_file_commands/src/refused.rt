@@ -1,12 +1,11 @@
-//! What is told of refused modules, and of connections with a fault.
+//! What is told of refused modules.
 
-ghost use Rattle.std.specs.Prelude.{◌≡◌, ℕ, List, IfOk, OnOk};
+ghost use Rattle.std.specs.Prelude.{ℕ, List, IfOk, OnOk};
 ghost use Rattle.std.specs.Io.KnownBytes.{Appends};
-ghost use Rattle.lfi_file_commands.specs.Refused.{IsRefusal, refusal_lines, fault_line, fault_lines, TellRefused, TellAsked};
+ghost use Rattle.lfi_file_commands.specs.Refused.{IsRefusal, refusal_lines, TellRefused};
 
 use crate::texts::write_line;
 use lfi_explain::{Explanation, explain_word};
-use lfi_frame::FrameFault;
 use lfi_model::Outcome;
 use lfi_place::{ImageState, ModuleReport};
 use std::alloc::Global;
@@ -65,55 +64,4 @@ pub fn write_refused<W: Write>(
         write_refusal(alloc, refusal_of(report), out)?;
     }
     Ok(())
-}
-
-/// Writes the line of a connection, where it came to a fault.
-fn write_fault<W: Write>(
-    alloc: Global,
-    number: usize,
-    fault: Option<FrameFault>,
-    out: &mut W,
-) -> io::Result<()>
-    ensures { OnOk result (Appends (W.contents out.old) (W.contents out.new) (fault_line number fault)) }
-{
-    match fault {
-        Some(fault) => write_line(alloc, out, format_args!("connection {number}: {fault}")),
-        None => Ok(()),
-    }
-}
-
-/// Writes a line for each of these connections that came to a fault, by their numbers: `connection 1: `, and then the fault
-/// in words.
-fn write_faults<W: Write>(
-    alloc: Global,
-    faults: &[Option<FrameFault>],
-    out: &mut W,
-) -> io::Result<()>
-    ensures { OnOk result (Appends (W.contents out.old) (W.contents out.new) (fault_lines faults.now)) }
-{
-    for (number, fault) in faults.iter().enumerate() {
-        write_fault(alloc, number, *fault, out)?;
-    }
-    Ok(())
-}
-
-/// Writes so of these modules, and then of these connections, where that is asked for, and else nothing.
-///
-/// # Errors
-///
-/// Where a write fails.
-pub fn write_asked_refused<W: Write>(
-    alloc: Global,
-    explain: bool,
-    modules: &[ModuleReport],
-    faults: &[Option<FrameFault>],
-    out: &mut W,
-) -> io::Result<()>
-    ensures { IfOk result (λ _. (text : List ℕ) × TellAsked explain modules.now faults.now text × Appends (W.contents out.old) (W.contents out.new) text) }
-{
-    if !explain {
-        return Ok(());
-    }
-    write_refused(alloc, modules, out)?;
-    write_faults(alloc, faults, out)
 }

@@ -49,6 +49,14 @@ pub record FeedStands (feed : Feed) (messages : List Message) (rest : List ℕ) 
   pub each : All IsMessage messages
   pub position : IsAt feed.held feed.position rest
 
+-- the bytes that it holds: those of the header that came last, as far as they came
+abbrev pub header_held : Feed → List ℕ
+header_held feed = feed.held
+
+-- Of the bytes since the last whole message it holds the header, as far as that came.
+abbrev pub HoldsHeader : Feed → (rest : List ℕ) → Type 0
+HoldsHeader feed rest = take (length rest) (header_held feed) ≡ take 12 rest
+
 -- What a call tells that used these bytes after that rest.
 abbrev pub IsTold : Got → Feed → List Message → List ℕ → List ℕ → Type 0
 IsTold More new messages rest used =

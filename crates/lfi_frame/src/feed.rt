@@ -46,7 +46,7 @@ fn fill(held: &mut [u8; HEADER_BYTES], filled: usize, bytes: &[u8])
 impl Feed {
     ghost use Rattle.lfi_frame.specs.declared.fault.FrameFault.TheVariants.{NoMemory, Ended, ReadFailed};
     ghost use Rattle.lfi_frame.specs.Streams.{Message, IsMessage, header_at};
-    ghost use Rattle.lfi_frame.specs.Feeds.{FeedStands, IsAt, IsFed, IsInRange, feed_fault, UsesAll, UsesPayload, IsHeaderUsed, can_be_at, fault_at, fault_told, used_in, IsAtEnd, fault_ended, answer_to, position_after};
+    ghost use Rattle.lfi_frame.specs.Feeds.{FeedStands, HoldsHeader, header_held, IsAt, IsFed, IsInRange, feed_fault, UsesAll, UsesPayload, IsHeaderUsed, can_be_at, fault_at, fault_told, used_in, IsAtEnd, fault_ended, answer_to, position_after};
 
     /// A feed of which no byte has come.
     pub fn new() -> Feed
@@ -108,6 +108,8 @@ impl Feed {
     /// ```
     pub fn feed(&mut self, piece: &[u8]) -> Result<Step, (usize, FrameFault)>
         ensures told { IsFed self.old piece.now result self.new }
+        ensures holds { (messages : List Message) (rest : List ℕ) → FeedStands self.old messages rest → HoldsHeader self.old rest →
+            HoldsHeader self.new (rest ++ take (used_in result) piece.now) }
         ensures range { IfOk result (λ step. IsInRange step.got) }
         ensures within { used_in result ≤ length piece.now }
         ensures whole { UsesAll result (length piece.now) }
@@ -131,6 +133,8 @@ impl Feed {
     fn feed_header(&mut self, filled: usize, piece: &[u8]) -> Result<Step, (usize, FrameFault)>
         requires { self.old.position ≡ Position.Header filled }
         ensures told { IsFed self.old piece.now result self.new }
+        ensures holds { (messages : List Message) (rest : List ℕ) → FeedStands self.old messages rest → HoldsHeader self.old rest →
+            HoldsHeader self.new (rest ++ take (used_in result) piece.now) }
         ensures range { IfOk result (λ step. IsInRange step.got) }
         ensures within { used_in result ≤ length piece.now }
         ensures whole { UsesAll result (length piece.now) }
@@ -176,6 +180,8 @@ impl Feed {
     fn feed_payload(&mut self, left: u32, piece: &[u8]) -> Step
         requires { self.old.position ≡ Position.Payload left }
         ensures told { IsFed self.old piece.now (Ok result) self.new }
+        ensures holds { (messages : List Message) (rest : List ℕ) → FeedStands self.old messages rest → HoldsHeader self.old rest →
+            HoldsHeader self.new (rest ++ take (result.used) piece.now) }
         ensures range { IsInRange result.got }
         ensures within { result.used ≤ length piece.now }
         ensures whole { UsesAll (Ok result) (length piece.now) }
@@ -201,6 +207,28 @@ impl Feed {
             used,
             got: Got::Payload { ended: left == 0 },
         }
+    }
+
+    /// How many bytes have come since the last whole message, where the stream has no fault.
+    pub fn begun(&self) -> usize
+        ensures { (messages : List Message) (rest : List ℕ) → FeedStands self.now messages rest → HoldsHeader self.now rest →
+            feed_fault self.now ≡ None → result ≡ length rest }
+    {
+        match self.position {
+            Position::Header { filled } => filled,
+            Position::Payload { left } => {
+                let payload = Header::read(&self.held).b;
+                (HEADER_BYTES + payload as usize).saturating_sub(left as usize)
+            }
+            Position::Faulty(_) => 0,
+        }
+    }
+
+    /// The bytes of the header that came last, as far as they came; what stands behind them says nothing.
+    pub fn header(&self) -> [u8; HEADER_BYTES]
+        ensures { result ≡ header_held self.now }
+    {
+        self.held
     }
 
     /// Tells that the input has ended. Between two messages this changes nothing.

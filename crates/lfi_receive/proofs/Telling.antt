@@ -22,7 +22,7 @@ use Rattle.lfi_receive.specs.Places.{progress_at}
 use Rattle.lfi_receive.specs.Claims.{is_mine}
 use Rattle.lfi_receive.specs.Seats.{IsAnswered}
 use Rattle.lfi_receive.specs.Receivers.{StandsFor, IsOver, claimed_by}
-use Rattle.lfi_receive.specs.inner.Holding.{made_by, knows, mine, Agrees, Fills, Holds, Brought}
+use Rattle.lfi_receive.specs.inner.Holding.{made_by, knows, mine, Agrees, CountsTo, Fills, Holds, Brought}
 use Rattle.lfi_receive.specs.inner.Pages.{due_page, coming_of}
 use Rattle.lfi_receive.specs.inner.Steps.{Begins, KeepsPage}
 use Rattle.lfi_receive.proofs.Claims.{fit}
@@ -56,17 +56,17 @@ on_end r k extent p reason ms rest used none free b =
 pub on_begin : (r q : Receiver) (page : DuePage) (ms : List Message) (rest used : List ℕ) → r.cause ≡ None → r.hand ≡ None → Begins page r q → Brought r (Begin page) ms rest used → StandsFor q (flat_map spelling ms ++ (rest ++ used))
 on_begin r q page ms rest used none free (inl begun) b =
     let s : Receiver = record r { memory = q.memory } in
-    let d : Brought s (Begin page) ms rest used = record { before = b.before; agrees = b.agrees; awaits = b.awaits; fills = b.fills; moves = b.moves; opens = b.opens; faultless = b.faultless } in
+    let d : Brought s (Begin page) ms rest used = record { before = b.before; agrees = b.agrees; awaits = b.awaits; fills = b.fills; moves = b.moves; counts = b.counts; opens = b.opens; faultless = b.faultless } in
     let none_came = bare page (made_of (mine r) b.moves.now (rest_of b.moves.left)) b.moves.left b.moves.follows.2 b.moves.holds.awaits in
     subst (λ z. StandsFor z (flat_map spelling ms ++ (rest ++ used))) (sym begun.1)
     (goes_on s (Some begun.0) r.hand r.strays (Begin page) ms rest used d none (λ j e. absurd (cc)) (made_none s free r.hand free) refl (ap (λ p. Some p) begun.2) (begun.3 ∙ sym none_came))
 on_begin r q page ms rest used none free (inr refused) b =
-    subst (λ z. StandsFor z (flat_map spelling ms ++ (rest ++ used))) (sym refused) (starved r q.memory q.feed page ms rest used b)
+    subst (λ z. StandsFor z (flat_map spelling ms ++ (rest ++ used))) (sym refused.0) (starved r q.memory q.feed q.start page ms rest used b refused.1)
 
 pub begin_over : (r q : Receiver) (page : DuePage) (ms : List Message) (rest used : List ℕ) → r.cause ≡ None → Begins page r q → Brought r (Begin page) ms rest used → IsOver (claimed_by q) q.cause (flat_map spelling ms ++ (rest ++ used))
 begin_over r q page ms rest used none (inl begun) b = not_over (claimed_by q) q.cause (flat_map spelling ms ++ (rest ++ used)) (ap (λ (z : Receiver). z.cause) begun.1 ∙ none)
 begin_over r q page ms rest used none (inr refused) b =
-    subst (λ (z : Receiver). IsOver (claimed_by z) z.cause (flat_map spelling ms ++ (rest ++ used))) (sym refused) (asks_memory r page ms rest used b)
+    subst (λ (z : Receiver). IsOver (claimed_by z) z.cause (flat_map spelling ms ++ (rest ++ used))) (sym refused.0) (asks_memory r page ms rest used b)
 
 -- code of the page that is kept
 code_by : (r q : Receiver) (page : DuePage) (ended : Bool) (o : Option ComingPage) (ms : List Message) (rest used : List ℕ) (b : Brought r (Code page ended) ms rest used) → r.cause ≡ None → r.hand ≡ None → Continues (Code page ended) (coming_of r.page) (length used)
@@ -100,10 +100,10 @@ code_runs r q (Some kept) false used keeps none = ap (λ (z : Receiver). z.cause
 
 -- What a step of the feed has brought, after the board's answer.
 pub brought : (r : Receiver) (seat : OwnSeat) (modules : List Progress) (got : Got) (is_free : Bool) (event : Event) (ms : List Message) (rest used : List ℕ) → IsAnswered got (knows r) (known_by seat.seat) is_free → (got ≢ More → used ≢ [])
-    → Holds r ms rest → IsTold got r.feed ms rest used → feed_fault r.feed ≡ None
+    → CountsTo r.came r.feed ms (rest ++ used) → Holds r ms rest → IsTold got r.feed ms rest used → feed_fault r.feed ≡ None
     → ((claimed : ℕ → Bool) → Answers got is_free claimed (progress_at r.modules) → Held (progress_at r.modules) (coming_of r.page) claimed ms rest → Moves r.feed (progress_at modules) (coming_of r.page) claimed ms rest used event)
     → Brought (record r { seat = seat; modules = modules }) event ms rest used
-brought r seat modules got is_free event ms rest used answered some holds told faultless brings =
+brought r seat modules got is_free event ms rest used answered some counts holds told faultless brings =
     let claimed : ℕ → Bool = is_mine (known_by seat.seat) in
     let f = fit (knows r) (known_by seat.seat) got is_free r.feed (progress_at r.modules) ms rest used answered some told holds.agrees.progress holds.opens in
     let agrees : Agrees claimed (progress_at r.modules) (made_by r) r.strays ms (rest_of rest) = agrees_alike (mine r) claimed (progress_at r.modules) (made_by r) r.strays ms ms (rest_of rest) (rest_of rest) f.alike holds.agrees in
@@ -116,6 +116,7 @@ brought r seat modules got is_free event ms rest used answered some holds told f
       awaits = awaits;
       fills = holds.fills;
       moves = moves;
+      counts = counts;
       opens = f.knows moves.now moves.left moves.stands moves.text;
       faultless = faultless;
     }

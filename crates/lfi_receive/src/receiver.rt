@@ -3,7 +3,7 @@
 ghost use Rattle.std.specs.Prelude.{◌≡◌, ◌≢◌, ℕ, ◌+◌, ◌-◌, ◌*◌, ◌<◌, ◌≤◌, ◌==◌, ◌%◌, ◌^◌, ◌⊎◌, min, ◌↔◌, List, [], ◌∷◌, ◌++◌, length, take, drop, true, false, Some, None, is_some, IsSome, IsTrue, if◌then◌else◌, flat_map, ◌||◌, ◌&&◌};
 ghost use Rattle.lfi_board.specs.Known.{board_id, board_of, known_by};
 ghost use Rattle.lfi_board.specs.Calls.{Saw, number_of};
-ghost use Rattle.lfi_frame.specs.Feeds.{IsTold, feed_fault};
+ghost use Rattle.lfi_frame.specs.Feeds.{IsTold, feed_fault, header_held};
 ghost use Rattle.lfi_frame.specs.Streams.{Message, spelling};
 ghost use Rattle.lfi_frame.specs.declared.answer.Got.TheVariants.{More};
 ghost use Rattle.lfi_model.specs.declared.item.ItemKind.TheVariants.{Open, End};
@@ -18,9 +18,10 @@ use crate::ahead::PageMemory;
 use crate::coming::ComingPage;
 use crate::modules::Modules;
 use crate::seat::OwnSeat;
+use crate::start::MessageStart;
 use lfi_board::{Board, Phase, ReceiverSeat};
 use lfi_connection::{DuePage, Event, advance, fault_at_end, lose_next};
-use lfi_frame::{Feed, FrameFault, Got, Step};
+use lfi_frame::{Feed, FrameFault, Got, HEADER_BYTES, Step};
 use lfi_model::{Cause, Item, ItemKind, Reason};
 use lfi_module::{Extent, ModuleNumber};
 use lfi_queues::{Intake, PutPass};
@@ -57,15 +58,20 @@ pub struct Receiver {
     cause: Option<Cause>,
     fault: Option<FrameFault>,
     strays: u64,
+    /// How many bytes have come, modulo 2^64.
+    came: u64,
+    /// Where the message begins at which the input ended, once it has.
+    start: MessageStart,
 }
 
 impl Receiver {
     ghost use Rattle.lfi_receive.specs.declared.receiver.ReceiverTurn.TheVariants as turn;
     ghost use Rattle.lfi_receive.specs.Turns.{PutsAsTold, CountsAsTold, is_finished};
-    ghost use Rattle.lfi_receive.specs.inner.Holding.{made_by, knows, Holds, Brought};
-    ghost use Rattle.lfi_receive.specs.inner.Steps.{Begins, Keeps};
+    ghost use Rattle.lfi_receive.specs.inner.Holding.{made_by, knows, CountsTo, Holds, Brought};
+    ghost use Rattle.lfi_receive.specs.inner.Steps.{bytes_before, Begins, Keeps};
     ghost use Rattle.lfi_receive.specs.inner.Pages.{coming_of, Fits};
-    ghost use Rattle.lfi_receive.specs.Receivers.{pass_of, seat_of, member_of, claimed_by, cause_of, hand_of, fault_of, strays_at, cause_told, cause_with, StandsFor, IsOver, IsFinished, due_of, EndsLeast, AfterEnd};
+    ghost use Rattle.lfi_model.specs.declared.connection.Cause.TheVariants as cause_kind;
+    ghost use Rattle.lfi_receive.specs.Receivers.{pass_of, seat_of, member_of, start_of, claimed_by, cause_of, hand_of, fault_of, strays_at, cause_told, cause_with, StandsFor, IsOver, IsFinished, due_of, EndsLeast, AfterEnd};
 
     /// A receiver of which no byte has come, with its pass of the intake and its seat at the board,
     /// neither of which was used, and the pool that it asks for pages first.
@@ -93,7 +99,33 @@ impl Receiver {
             cause: None,
             fault: None,
             strays: 0,
+            came: 0,
+            start: MessageStart::FIRST,
         }
+    }
+
+    /// So many bytes more have come.
+    #[inline(always)]
+    fn count(&mut self, used: usize)
+        ensures { self.new ≡ record self.old { came = (self.old.came + used) % 2 ^ 64 } }
+    {
+        self.came = self.came.wrapping_add(used as u64);
+    }
+
+    /// So many bytes more have come, and with them a header with this fault: the input is over.
+    fn stop(&mut self, used: usize, fault: FrameFault)
+        ensures over { self.new ≡ record self.old { came = (self.old.came + used) % 2 ^ 64; cause = Some cause_kind.End; fault = Some «fault»; start = self.new.start } }
+        ensures byte { self.new.start.byte ≡ bytes_before 12 ((self.old.came + used) % 2 ^ 64) }
+        ensures header { self.new.start.header ≡ header_held self.old.feed }
+        ensures long { length self.new.start.header ≡ 12 }
+    {
+        self.count(used);
+        self.start = MessageStart {
+            byte: self.came.wrapping_sub(HEADER_BYTES as u64),
+            header: self.feed.header(),
+        };
+        self.fault = Some(fault);
+        self.cause = Some(Cause::End);
     }
 
     /// Puts what is in hand, or keeps it there where the intake refuses it.
@@ -166,6 +198,7 @@ impl Receiver {
             Ok(page) => self.page = Some(ComingPage::of(due, page)),
             Err(_) => {
                 self.feed.stop(FrameFault::NoMemory);
+                self.start.byte = self.came.wrapping_sub(HEADER_BYTES as u64);
                 self.fault = Some(FrameFault::NoMemory);
                 self.cause = Some(Cause::Starved);
             }
@@ -238,9 +271,9 @@ impl Receiver {
         requires free { self.old.hand ≡ None }
         requires running { self.old.cause ≡ None }
         requires board { board_of self.old.seat.seat ≡ board_id board.now }
-        ensures stands { (messages : List Message) (rest : List ℕ) → (got ≢ More → bytes.now ≢ []) → Holds self.old messages rest → IsTold got self.old.feed messages rest bytes.now → feed_fault self.old.feed ≡ None →
+        ensures stands { (messages : List Message) (rest : List ℕ) → (got ≢ More → bytes.now ≢ []) → CountsTo self.old.came self.old.feed messages (rest ++ bytes.now) → Holds self.old messages rest → IsTold got self.old.feed messages rest bytes.now → feed_fault self.old.feed ≡ None →
             StandsFor self.new (flat_map spelling messages ++ (rest ++ bytes.now)) }
-        ensures over { (messages : List Message) (rest : List ℕ) → (got ≢ More → bytes.now ≢ []) → Holds self.old messages rest → IsTold got self.old.feed messages rest bytes.now → feed_fault self.old.feed ≡ None →
+        ensures over { (messages : List Message) (rest : List ℕ) → (got ≢ More → bytes.now ≢ []) → CountsTo self.old.came self.old.feed messages (rest ++ bytes.now) → Holds self.old messages rest → IsTold got self.old.feed messages rest bytes.now → feed_fault self.old.feed ≡ None →
             IsOver (claimed_by self.new) self.new.cause (flat_map spelling messages ++ (rest ++ bytes.now)) }
         ensures pass { self.new.pass ≡ self.old.pass }
         ensures stray { IsTrue result → self.new.hand ≡ None }
@@ -272,10 +305,12 @@ impl Receiver {
         ensures strays { self.new.strays ≡ (if result.1 then min (self.old.strays + 1) (2 ^ 64 - 1) else self.old.strays) }
     {
         match self.feed.feed(piece) {
-            Ok(Step { used, got }) => (used, self.take(board, got, &piece[..used])),
+            Ok(Step { used, got }) => {
+                self.count(used);
+                (used, self.take(board, got, &piece[..used]))
+            }
             Err((used, fault)) => {
-                self.fault = Some(fault);
-                self.cause = Some(Cause::End);
+                self.stop(used, fault);
                 (used, false)
             }
         }
@@ -422,6 +457,7 @@ impl Receiver {
         ensures seat { seat_of self.new ≡ seat_of self.old }
         ensures strays { strays_at self.new ≡ strays_at self.old }
     {
+        self.start.byte = self.came.wrapping_sub(self.feed.begun() as u64);
         self.fault = fault_at_end(&self.modules, &mut self.feed, cause);
         self.cause = Some(cause);
     }
@@ -452,6 +488,13 @@ impl Receiver {
         ensures { result ≡ strays_at self.now }
     {
         self.strays
+    }
+
+    /// Where the message begins at which its input ended, once it has: the first that isn't whole.
+    pub fn start(&self) -> MessageStart
+        ensures { result ≡ start_of self.now }
+    {
+        self.start
     }
 
     /// Its pass and its seat, for who settles what all receivers have put.

@@ -1,5 +1,5 @@
 -- Of the same texts, causes and claims there is one report.
-use Rattle.std.proofs.Common.{◌≡◌, ◌⊎◌, ◌-◌, ◌^◌, ◌<◌, ◌≤◌, ℕ, zero, suc, List, [], ◌∷◌, Bool, true, false, Some, None, length, sum, min, inl, inr, refl, sym, ◌∙◌, ap, subst, arith, slice_get, get_or, slice_index}
+use Rattle.std.proofs.Common.{◌≡◌, ◌⊎◌, ◌-◌, ◌^◌, ◌<◌, ◌≤◌, ℕ, zero, suc, List, [], ◌∷◌, Bool, true, false, Option, Some, None, length, sum, min, inl, inr, refl, sym, ◌∙◌, ap, subst, arith, slice_get, get_or, slice_index}
 use Rattle.lfi_module.specs.Numbers.{module_count}
 use Rattle.lfi_model.specs.Item.{ItemView}
 use Rattle.lfi_model.specs.Outcomes.{Load}
@@ -11,7 +11,8 @@ use Rattle.lfi_place.specs.Tells.{Tells}
 use Rattle.lfi_place.specs.declared.report.ModuleReport.{ModuleReport}
 use Rattle.lfi_model.specs.declared.connection.Cause.{Cause}
 use Rattle.lfi_stage.specs.declared.settle.Report.{Report}
-use Rattle.lfi_stage.specs.Reports.{Reports}
+use Rattle.lfi_receive.specs.declared.start.MessageStart.{MessageStart}
+use Rattle.lfi_stage.specs.Reports.{Reports, IsClaimer}
 use Rattle.lfi_parts.proofs.Each.{some_same}
 
 -- a connection that claimed the module, or that none did
@@ -81,6 +82,31 @@ module _ (connections : ℕ) (texts : ℕ → List ℕ) (causes : ℕ → Cause)
     | inl within ↦ same_fault (texts c) (causes c) (claims c) (a.items c) (b.items c) (get_or one.faults c None) (get_or other.faults c None) (slice_index a.strays c) (slice_index b.strays c) (a.made c within) (b.made c within)
     | inr past ↦ a.no_fault c past ∙ sym (b.no_fault c past)
   ]
+
+  pub one_of_holders : (m : ℕ) → m < module_count → get_or one.holders m None ≡ get_or other.holders m None
+  one_of_holders m in_range = by (get_or one.holders m None) (get_or other.holders m None) (a.holders m in_range) (b.holders m in_range)
+    where
+      by : (x y : Option ℕ) → IsClaimer connections (λ c. claims c m) x → IsClaimer connections (λ c. claims c m) y → x ≡ y
+      by None None none nobody = refl
+      by None (Some d) none it = absurd (let both : true ≡ false = sym it.1 ∙ none d it.0 in cc)
+      by (Some c) None is none = absurd (let both : true ≡ false = sym is.1 ∙ none c is.0 in cc)
+      by (Some c) (Some d) is it = ap (λ k. Some k) (a.apart c d m is.0 it.0 in_range is.1 it.1)
+
+  pub one_of_starts : (c : ℕ) (start again : MessageStart) → c < connections → slice_get one.starts c ≡ Some start → slice_get other.starts c ≡ Some again → start.byte ≡ again.byte
+  one_of_starts c start again within at_one at_other =
+      let made = a.made c within in
+      let x = a.starts c made.messages made.rest within made.cut in
+      let y = b.starts c made.messages made.rest within made.cut in
+      ap byte_of (some_same start x.0 (sym at_one ∙ x.1)) ∙ x.2.byte ∙ sym y.2.byte ∙ ap byte_of (some_same y.0 again (sym y.1 ∙ at_other))
+    where
+      byte_of : MessageStart → ℕ
+      byte_of s = s.byte
+
+  pub one_of_each : (c : ℕ) → c < connections → slice_index one.connection_strays c ≡ slice_index other.connection_strays c
+  one_of_each c within =
+      a.each c within
+      ∙ ap (λ n. min n (2 ^ 64 - 1)) (same_strays (texts c) (causes c) (claims c) (a.items c) (b.items c) (get_or one.faults c None) (get_or other.faults c None) (slice_index a.strays c) (slice_index b.strays c) (a.made c within) (b.made c within))
+      ∙ sym (b.each c within)
 
   pub one_of_strays : one.strays ≡ other.strays
   one_of_strays = a.total ∙ ap (λ l. min (sum l) (2 ^ 64 - 1)) (same_numbers a.strays b.strays (a.counted ∙ sym b.counted) each) ∙ sym b.total

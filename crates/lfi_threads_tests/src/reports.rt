@@ -2,6 +2,7 @@
 
 mod connections;
 mod cuts;
+mod ends;
 mod modules;
 mod plain;
 mod rows;

@@ -1,5 +1,5 @@
 -- What the steps of a receiver change. Only private clauses and proofs use it.
-use Rattle.std.specs.Prelude.{◌≡◌, ℕ, ◌+◌, ◌++◌, Bool, true, false, List, [], Option, Some, None, ◌⊎◌}
+use Rattle.std.specs.Prelude.{◌≡◌, ℕ, ◌+◌, ◌-◌, ◌%◌, ◌^◌, ◌++◌, Bool, true, false, List, [], Option, Some, None, ◌⊎◌}
 use Rattle.lfi_frame.specs.declared.fault.FrameFault.TheVariants.{NoMemory}
 use Rattle.lfi_model.specs.declared.connection.Cause.TheVariants.{Starved}
 use Rattle.lfi_model.specs.declared.item.ItemKind.TheVariants.{Page}
@@ -9,11 +9,15 @@ use Rattle.lfi_receive.specs.declared.coming.ComingPage.{ComingPage}
 use Rattle.lfi_receive.specs.declared.receiver.Receiver.{Receiver}
 use Rattle.lfi_receive.specs.inner.Pages.{due_page, IsLonger}
 
--- The page has memory now, and no byte of it came; or there was none, and the input is over.
+-- so many bytes before the one to which these were counted, modulo 2^64
+abbrev pub bytes_before : (count came : ℕ) → ℕ
+bytes_before count came = (came + (2 ^ 64 - count)) % 2 ^ 64
+
+-- The page has memory now, and no byte of it came; or there was none, and the input is over at the page's header.
 abbrev pub Begins : DuePage → (old new : Receiver) → Type 0
 Begins page old new =
     ((c : ComingPage) × (new ≡ record old { memory = new.memory; page = Some c }) × (due_page c ≡ page) × (c.page.bytes ≡ []))
-    ⊎ (new ≡ record old { memory = new.memory; feed = new.feed; fault = Some NoMemory; cause = Some Starved })
+    ⊎ ((new ≡ record old { memory = new.memory; feed = new.feed; fault = Some NoMemory; cause = Some Starved; start = new.start }) × (new.start.byte ≡ bytes_before 12 old.came))
 
 -- The page has these bytes more; where it ended it is in the hand, and no page is coming.
 abbrev pub KeepsPage : Option ComingPage → (ended : Bool) → List ℕ → (old new : Receiver) → Type 0

@@ -11,7 +11,7 @@ use lfi_module::ModuleNumber;
 use lfi_place::{Gate, OpenGate, SequencerTurn, VerifierTurn};
 use lfi_receive::{Input, ReceiverTurn};
 use lfi_stage::Stage;
-use lfi_stage::settle::settle;
+use lfi_stage::settle::{Report, settle};
 use std::alloc::{AllocError, Global};
 use std::io::Read;
 use std::sync::Wait;
@@ -128,8 +128,8 @@ pub fn go_on<S: Wait>(rt: &S, stage: &mut Stage, number: usize, rounds: usize)
     }
 }
 
-/// What is told once all is settled.
-pub fn settled<S: Wait>(rt: &S, stage: Stage) -> Summary
+/// The report once all is settled.
+pub fn settled_report<S: Wait>(rt: &S, stage: Stage) -> Report
     requires { IsPair stage }
 {
     let Stage {
@@ -138,5 +138,12 @@ pub fn settled<S: Wait>(rt: &S, stage: Stage) -> Summary
         sequencers,
         shared,
     } = stage;
-    settle(rt, receivers, verifiers, sequencers, shared).summary()
+    settle(rt, receivers, verifiers, sequencers, shared)
+}
+
+/// What is told once all is settled.
+pub fn settled<S: Wait>(rt: &S, stage: Stage) -> Summary
+    requires { IsPair stage }
+{
+    settled_report(rt, stage).summary()
 }

@@ -1,4 +1,4 @@
-use Rattle.std.proofs.Common.{◌≡◌, ◌∙◌, [], ap, subst, sym}
+use Rattle.std.proofs.Common.{◌≡◌, ◌∙◌, [], ap, map, subst, sym}
 use Rattle.std.specs.Io.KnownBytes.{Appends}
 use Rattle.lfi_file_commands.specs.Errors.{is_lost_of, writer_of}
 use Rattle.lfi_file_commands.specs.Failures.{Told}
@@ -10,7 +10,9 @@ use Rattle.lfi_commands.proofs.program.end_load.Goals as goal
 pub returns-in-Ok-clause-told : goal.returns-in-Ok-clause-told
 returns-in-Ok-clause-told g c =
     let report = c.args.report.now in
-    let kinds = c.args.kinds.now in
+    let sources = c.args.sources.now in
+    let kinds = sources.kinds in
+    let paths = map (λ path. path.now) sources.paths.now in
     let asked = c.args.asked.now in
     let inside = c.outputs.inside in
     let later = c.outputs-in-Ok.inside in
@@ -20,12 +22,12 @@ returns-in-Ok-clause-told g c =
     let written = puts.ensures.written in
     let images = puts.new.outputs in
     let out = g.O.Write.contents inside.out in
-    let half = g.O.Write.contents c.write_asked_refused.new.out in
+    let half = g.O.Write.contents c.write_explained.new.out in
     let lost = is_lost_of c.tell_reads.new.errors in
     let tells = g.E.Write.contents (writer_of c.tell_reads.new.errors) in
     let new = left (g.O.Write.contents later.out) (g.P.ImageStore.put_files later.images) lost tells in
     let same : new.out ≡ half = ap (λ (left : Left). left.out) is ∙ puts.ensures.out in
-    subst (λ old. TellsReport [] report kinds c.args.all_taken asked old new c.ending_of_load.result) c.outputs.view_is
+    subst (λ old. TellsReport [] report paths kinds sources.all_taken asked old new c.ending_of_load.result) c.outputs.view_is
     (record {
       explained = told.0;
       explains = told.1;

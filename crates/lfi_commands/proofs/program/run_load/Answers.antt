@@ -22,13 +22,13 @@ load-requires-clause-verifiers g c κs within = c.requires.verifiers
 
 pub load-requires-clause-connections : goal.load-requires-clause-connections
 load-requires-clause-connections g c κs within =
-    let paths = c.as_slice.result.now in
-    let count = c.in-Ok.ensures.inputs.all ∙ length-map paths (λ path. g.D.Disk.file_at c.args.disk.now path.now) ∙ ap (λ (ps : List (Bor (List ℕ))). length ps) c.as_slice.ensures.value in
+    let paths = c.as_slice-paths.result.now in
+    let count = c.in-Ok.ensures.inputs.all ∙ length-map paths (λ path. g.D.Disk.file_at c.args.disk.now path.now) ∙ ap (λ (ps : List (Bor (List ℕ))). length ps) c.as_slice-paths.ensures.value in
     subst (λ n. (1 ≤ n) × (n ≤ 8)) (sym count) c.requires.connections
 
 pub returns-in-Err : goal.returns-in-Err
 returns-in-Err g c =
-    let failure = subst (λ (ps : List (Bor (List ℕ))). IsOfReadingOne (map (λ p. p.now) ps) c.in-Err.failure) c.as_slice.ensures.value c.in-Err.ensures.failure in
+    let failure = subst (λ (ps : List (Bor (List ℕ))). IsOfReadingOne (map (λ p. p.now) ps) c.in-Err.failure) c.as_slice-paths.ensures.value c.in-Err.ensures.failure in
     record {
       found = tt;
       failure = fails_on_reading (streams_of c.args.asked.now) c.in-Err.failure failure;
@@ -66,17 +66,19 @@ returns-in-Ok-load g c =
     let lost = is_lost_of inside.errors in
     let errors = g.E.Write.contents (writer_of inside.errors) in
     let text = summary_text (summary_of report) in
-    let kinds = c.kinds-kinds.result in
-    let files = subst (λ (ps : List (Bor (List ℕ))). AreInputsOf (read_by g.D.Reader.Read.remaining) (map (λ p. at p.now) ps) inputs) c.as_slice.ensures.value c.in-Ok.ensures.inputs in
+    let kinds = c.kinds.result in
+    let given = map (λ (p : Bor (List ℕ)). p.now) c.as_slice-paths.result.now in
+    let named = ap (λ (ps : List (Bor (List ℕ))). map (λ p. p.now) ps) c.as_slice-paths.ensures.value in
+    let files = subst (λ (ps : List (Bor (List ℕ))). AreInputsOf (read_by g.D.Reader.Read.remaining) (map (λ p. at p.now) ps) inputs) c.as_slice-paths.ensures.value c.in-Ok.ensures.inputs in
     let are = subst (λ known. AreInputsOf (read_by g.D.Reader.Read.remaining) known inputs) (sym (map_twice at (λ (p : Bor (List ℕ)). p.now) asked.streams.items)) files in
     let count = files.all ∙ length-map asked.streams.items (λ p. at p.now) in
     record {
-      found = IfOk-weaker result (TellsReport [] report kinds true asked.report (left half put lost errors) new) (HasLoaded asked at c.args.outputs.now new) (λ ending told.
+      found = IfOk-weaker result (TellsReport [] report given kinds true asked.report (left half put lost errors) new) (HasLoaded asked at c.args.outputs.now new) (λ ending told.
           subst (λ old. HasLoaded asked at old new ending) c.outputs.view_is (record {
             report = report;
             loaded = λ bytes known. subst (λ n. IsLoaded n asked.verifiers bytes report) count (c.in-Ok-load.ensures.report bytes (known_left _ inputs bytes are known));
             kinds = kinds;
-            told = reported_behind text asked.report before half put lost errors c.in-Ok-load.ensures.written report kinds true new ending told;
+            told = reported_behind text asked.report before half put lost errors c.in-Ok-load.ensures.written report (streams_of asked) kinds true new ending (subst (λ paths. TellsReport [] report paths kinds true asked.report (left half put lost errors) new ending) named told);
           })) did.ensures.told;
       failure = IfErr-weaker result (λ failure. is_of_output failure ≡ true) (FailsOn (streams_of asked)) (fails_on_output (streams_of asked)) did.ensures.failure;
       output = IfErr-weaker result (λ failure. is_of_output failure ≡ true) (λ failure. is_of_output failure ≡ false → new.out ≡ c.args.outputs.now.out) (λ failure is other. is_no_other failure is other) did.ensures.failure;
