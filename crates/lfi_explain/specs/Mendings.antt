@@ -1,5 +1,5 @@
 -- How a word that breaks a rule is mended. Source: this project's profile, docs/PROFILE.md; the mends are those of lfi_mends.
-use Rattle.std.specs.Prelude.{◌≡◌, ℕ, ◌==◌, length, Bool, true, false, List, [], ◌∷◌, ◌++◌, codes, flat_map, Option, Some, None, Result, Ok, Err, IfOk, IfSome, IsTrue}
+use Rattle.std.specs.Prelude.{◌≡◌, ℕ, ◌==◌, length, Bool, true, false, List, [], ◌++◌, codes, flat_map, Option, Some, None, Result, Ok, Err, IfOk, IfSome, IsTrue}
 use Rattle.std.specs.List.{list_any}
 use Rattle.a64_word.specs.declared.instruction.Instruction.{Instruction}
 use Rattle.a64_word.specs.Profiles.{SpellsIn}
