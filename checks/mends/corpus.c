@@ -1,10 +1,14 @@
 /* What mends are tried on where no sources of libraries are: one of each kind of what a compiler writes. It prints the same in a slot and here. */
 #include <stddef.h>
 #include <stdint.h>
-#include <stdlib.h>
-#include <string.h>
 
+/* Declared here, since clang has no headers of a C library for AArch64. */
 void rt_putc(int c);
+void *malloc(size_t size);
+void *calloc(size_t count, size_t size);
+void *memcpy(void *restrict to, const void *restrict from, size_t size);
+void *memmove(void *to, const void *from, size_t size);
+int memcmp(const void *left, const void *right, size_t size);
 
 static void say(const char *text) {
     while (*text) rt_putc(*text++);
@@ -132,8 +136,8 @@ static uint64_t numbers(void) {
     for (int k = 1; k < 2000; k++) {
         uint64_t a = random_number(), b = random_number() | 1;
         a = a << 32 | random_number();
-        unsigned __int128 wide = (unsigned __int128)a * b + sum;
-        sum = (uint64_t)(wide >> 64) + (uint64_t)wide;
+        unsigned __int128 wide = (unsigned __int128)a * b;
+        sum += (uint64_t)(wide >> 64) ^ (uint64_t)wide;
         sum += a / b + (uint64_t)((int64_t)a / (int32_t)(b >> 3 | 1)) + a % 1000003;
         sum += (uint64_t)__builtin_clzll(a | 1) + (uint64_t)__builtin_ctzll(a | 1ull << 63) + (uint64_t)__builtin_ctz((uint32_t)b);
         sum ^= __builtin_bswap64(a) + __builtin_bswap16((uint16_t)b);
