@@ -1,5 +1,5 @@
 -- The words of a mend.
-use Rattle.std.proofs.Common.{rules, ◌≡◌, ℕ, ◌<◌, ◌≤◌, ◌+◌, List, [], ◌∷◌, ◌++◌, length, Option, Some, None, refl, sym, subst, arith}
+use Rattle.std.proofs.Common.{rules, ◌≡◌, ℕ, zero, suc, ◌<◌, ◌≤◌, ◌+◌, get_or, List, [], ◌∷◌, ◌++◌, length, Option, Some, None, refl, sym, subst, arith}
 use Rattle.a64_word.specs.declared.instruction.Instruction.{Instruction}
 use Rattle.a64_word.specs.Profiles.{SpellsIn}
 use Rattle.lfi_module.specs.declared.profile.Profile.{Profile}
@@ -26,3 +26,9 @@ spell_count profile [] [] spell = refl
 spell_count profile [] (w ∷ words) spell = absurd spell
 spell_count profile (j ∷ is) [] spell = absurd spell
 spell_count profile (j ∷ is) (w ∷ words) spell = let rest = spell_count profile is words spell.1 in omega (arith, rest)
+
+-- an instruction of some that are spelled is spelled
+pub spelled_at : (profile : Profile) (is : List Instruction) (k : ℕ) (d : Instruction) → AreSpelled profile is → k < length is → (word : ℕ) × SpellsIn profile (get_or is k d) word
+spelled_at profile [] k d spelled inside = absurd (omega (arith, inside))
+spelled_at profile (i ∷ is) zero d spelled inside = spelled.0
+spelled_at profile (i ∷ is) (suc k) d spelled inside = spelled_at profile is k d spelled.1 (omega (arith, inside))

@@ -46,17 +46,20 @@ fn later(words: u32, place: u32, after: u32) -> Option<u32>
     if place + 1 < words { Some(after) } else { None }
 }
 
-/// Puts words at the beginning of a room, if they have room there, and tells how many they are.
-fn put(words: &[u32], room: &mut [u32], count: &mut usize) -> Status
-    ensures put { length words.now ≤ length room.old → (result ≡ Status.Lawful) × (room.new ≡ words.now ++ drop (length words.now) room.old) × (count.new ≡ length words.now) }
-    ensures kept { length room.old < length words.now → (result ≡ Status.NoRoom) × (room.new ≡ room.old) × (count.new ≡ count.old) }
+/// Puts words at the beginning of a room, if they have room there, and tells how many they are. Gives the status.
+fn put(words: &[u32], room: &mut [u32], count: &mut usize) -> u32
+    ensures put { result ≡ status_number Status.Lawful → (room.new ≡ words.now ++ drop (length words.now) room.old) × (count.new ≡ length words.now) }
+    ensures kept { result ≢ status_number Status.Lawful → (room.new ≡ room.old) × (count.new ≡ count.old) }
+    ensures fits { length words.now ≤ length room.old → result ≡ status_number Status.Lawful }
+    ensures other { result ≢ status_number Status.Lawful → result ≡ status_number Status.NoRoom }
+    ensures most { result ≤ 7 }
 {
     if room.len() < words.len() {
-        return Status::NoRoom;
+        return Status::NoRoom.number();
     }
     room[..words.len()].copy_from_slice(words);
     *count = words.len();
-    Status::Lawful
+    Status::Lawful.number()
 }
 
 /// Tells the words that stand in the place of a word with a fault, by the words before it and after it.
@@ -95,7 +98,7 @@ pub extern "C" fn lfi_mend(
     let before = earlier(found.word, before);
     let after = later(words, found.word, after);
     match mend_word(by, found.rule, word, before, after) {
-        Ok(it) => put(words_of(it.instructions(), by).as_slice(), mend, count).number(),
+        Ok(it) => put(words_of(it.instructions(), by).as_slice(), mend, count),
         Err(_) => Status::Refused.number(),
     }
 }
