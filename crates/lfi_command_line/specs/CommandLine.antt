@@ -12,8 +12,9 @@ use Rattle.lfi_module.specs.Profiles.{profile_number, is_two}
 use Rattle.lfi_command_line.specs.Apps.{lfiload_app}
 use Rattle.lfi_command_line.specs.declared.line.Line.{Line}
 use Rattle.lfi_command_line.specs.declared.line.Line.TheVariants.{Check, Load, Serve, Run, Disassemble, Pack, Unpack}
-use Rattle.lfi_command_line.specs.declared.line.Explain.{Explain}
-use Rattle.lfi_command_line.specs.declared.line.Explain.TheVariants.{Nothing, First, All}
+use Rattle.lfi_command_line.specs.declared.options.Explain.{Explain}
+use Rattle.lfi_command_line.specs.declared.options.Explain.TheVariants.{Nothing, First, All}
+use Rattle.lfi_command_line.specs.declared.options.ReportOptions.{ReportOptions}
 use Rattle.lfi_command_line.specs.declared.fault.LineFault.{LineFault}
 use Rattle.lfi_command_line.specs.declared.fault.LineFault.TheVariants.{NoMemory, Help, Wrong, TooManyStreams, TooManyModules, NoPages, Flawed}
 use Rattle.lfi_command_line.specs.Flaws.{flaw_of}
@@ -59,24 +60,27 @@ pages_named None profile = Some small_page
 pages_named (Some text) profile =
     if bytes_eq text (codes "small") then Some small_page else if bytes_eq text (codes "large") && is_two profile then Some large_page else None
 
+-- what is given asks for this beside a report
+abbrev pub IsReportAsked : List Row → ReportOptions → Type 0
+IsReportAsked given asked = IsFlag (one_of (codes "explain") given) asked.explain × (first_of (codes "out") given ≡ option_map (λ s. s.now) asked.out)
+
 -- a subcommand of this name, with what was given to it, asks for this line
 abbrev pub IsAskedBy : (name : Text) → List Row → Line → Type 0
-IsAskedBy name given (Check files explain profile) = (name ≡ codes "check") × (all_of (codes "FILE") given ≡ Some (map (λ s. s.now) files.items)) × (1 ≤ length files.items)
-    × IsExplain given explain × IsProfile given profile
-IsAskedBy name given (Load verifiers out explain streams) = (name ≡ codes "load") × IsFlag (one_of (codes "explain") given) explain × IsNumberOr 2 1 8 (first_of (codes "verifiers") given) verifiers
-    × (first_of (codes "out") given ≡ option_map (λ s. s.now) out)
-    × (all_of (codes "STREAM") given ≡ Some (map (λ s. s.now) streams.items)) × (1 ≤ length streams.items) × (length streams.items ≤ 8)
-IsAskedBy name given (Serve socket connections verifiers seconds out explain) = (name ≡ codes "serve") × IsFlag (one_of (codes "explain") given) explain × (first_of (codes "socket") given ≡ Some socket.now)
-    × ((text : Text) × (first_of (codes "connections") given ≡ Some text) × IsNumber 1 8 text connections)
-    × IsNumberOr 2 1 8 (first_of (codes "verifiers") given) verifiers × IsNumberIfAny 1 86400 (first_of (codes "seconds") given) seconds
-    × (first_of (codes "out") given ≡ option_map (λ s. s.now) out)
-IsAskedBy name given (Run image steps) = (name ≡ codes "run") × (first_of (codes "IMAGE") given ≡ Some image.now)
-    × ((text : Text) × (first_of (codes "steps") given ≡ Some text) × IsNumber 0 1000000000 text steps)
-IsAskedBy name given (Disassemble file marks profile) = (name ≡ codes "disassemble") × (first_of (codes "FILE") given ≡ Some file.now) × IsFlag (one_of (codes "check") given) marks × IsProfile given profile
-IsAskedBy name given (Pack number entry profile pages files) = (name ≡ codes "pack") × IsNumberOr 0 0 15 (first_of (codes "module") given) number
-    × IsNumberOr 0 0 4194303 (first_of (codes "entry") given) entry × IsProfile given profile × (pages_named (first_of (codes "pages") given) profile ≡ Some pages) × (all_of (codes "CODE") given ≡ Some (map (λ s. s.now) files.items))
-    × (1 ≤ length files.items) × (number + length files.items ≤ 16)
-IsAskedBy name given (Unpack image) = (name ≡ codes "unpack") × (first_of (codes "IMAGE") given ≡ Some image.now)
+IsAskedBy name given (Check asked) = (name ≡ codes "check") × (all_of (codes "FILE") given ≡ Some (map (λ s. s.now) asked.files.items)) × (1 ≤ length asked.files.items)
+    × IsExplain given asked.explain × IsProfile given asked.profile
+IsAskedBy name given (Load asked) = (name ≡ codes "load") × IsReportAsked given asked.report × IsNumberOr 2 1 8 (first_of (codes "verifiers") given) asked.verifiers
+    × (all_of (codes "STREAM") given ≡ Some (map (λ s. s.now) asked.streams.items)) × (1 ≤ length asked.streams.items) × (length asked.streams.items ≤ 8)
+IsAskedBy name given (Serve asked) = (name ≡ codes "serve") × IsReportAsked given asked.report × (first_of (codes "socket") given ≡ Some asked.socket.now)
+    × ((text : Text) × (first_of (codes "connections") given ≡ Some text) × IsNumber 1 8 text asked.connections)
+    × IsNumberOr 2 1 8 (first_of (codes "verifiers") given) asked.verifiers × IsNumberIfAny 1 86400 (first_of (codes "seconds") given) asked.seconds
+IsAskedBy name given (Run asked) = (name ≡ codes "run") × (first_of (codes "IMAGE") given ≡ Some asked.image.now)
+    × ((text : Text) × (first_of (codes "steps") given ≡ Some text) × IsNumber 0 1000000000 text asked.steps)
+IsAskedBy name given (Disassemble asked) = (name ≡ codes "disassemble") × (first_of (codes "FILE") given ≡ Some asked.file.now) × IsFlag (one_of (codes "check") given) asked.marks
+    × IsProfile given asked.profile
+IsAskedBy name given (Pack asked) = (name ≡ codes "pack") × IsNumberOr 0 0 15 (first_of (codes "module") given) asked.first
+    × IsNumberOr 0 0 4194303 (first_of (codes "entry") given) asked.entry × IsProfile given asked.profile × (pages_named (first_of (codes "pages") given) asked.profile ≡ Some asked.pages)
+    × (all_of (codes "CODE") given ≡ Some (map (λ s. s.now) asked.codes.items)) × (1 ≤ length asked.codes.items) × (asked.first + length asked.codes.items ≤ 16)
+IsAskedBy name given (Unpack asked) = (name ≡ codes "unpack") × (first_of (codes "IMAGE") given ≡ Some asked.image.now)
 
 -- Nothing is wrong with the words for the parser, which takes them for this subcommand, with what is given to it.
 abbrev pub AreTakenFor : List Text → (name : Text) → List Row → Type 0

@@ -28,10 +28,10 @@ flaw_of_socket folder socket = if is_empty_path (Some socket) then Some NoSocket
 
 -- why a line can't be carried out, if it can't
 abbrev pub flaw_of : Line → Option Flaw
-flaw_of (Load verifiers out explain streams) = flaw_of_files (option_map (λ s. s.now) out) (map (λ s. s.now) streams.items)
-flaw_of (Serve socket connections verifiers seconds out explain) = flaw_of_socket (option_map (λ s. s.now) out) socket.now
-flaw_of (Pack number entry profile pages files) = flaw_of_files None (map (λ s. s.now) files.items)
-flaw_of (Check files explain profile) = flaw_of_files None (map (λ s. s.now) files.items)
+flaw_of (Load asked) = flaw_of_files (option_map (λ s. s.now) asked.report.out) (map (λ s. s.now) asked.streams.items)
+flaw_of (Serve asked) = flaw_of_socket (option_map (λ s. s.now) asked.report.out) asked.socket.now
+flaw_of (Pack asked) = flaw_of_files None (map (λ s. s.now) asked.codes.items)
+flaw_of (Check asked) = flaw_of_files None (map (λ s. s.now) asked.files.items)
 flaw_of _ = None
 
 -- in words

@@ -97,10 +97,10 @@ pub(crate) fn flaw_of(line: &Line<'_>) -> Option<Flaw>
     ensures { result ≡ flaw_of line.now }
 {
     match line {
-        Line::Load { out, streams, .. } => flaw_of_files(*out, streams),
-        Line::Serve { socket, out, .. } => flaw_of_socket(*out, socket),
-        Line::Pack { codes, .. } => flaw_of_files(None, codes),
-        Line::Check { files, .. } => flaw_of_files(None, files),
-        Line::Run { .. } | Line::Disassemble { .. } | Line::Unpack { .. } => None,
+        Line::Load(load) => flaw_of_files(load.report.out, &load.streams),
+        Line::Serve(serve) => flaw_of_socket(serve.report.out, serve.socket),
+        Line::Pack(pack) => flaw_of_files(None, &pack.codes),
+        Line::Check(check) => flaw_of_files(None, &check.files),
+        Line::Run(_) | Line::Disassemble(_) | Line::Unpack(_) => None,
     }
 }

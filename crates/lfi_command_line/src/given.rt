@@ -2,12 +2,16 @@
 
 ghost use Rattle.std.specs.Prelude.{◌≡◌, ℕ, IfOk, IfErr, true, is_some, codes, option_map};
 ghost use Rattle.clap.specs.Words.{first_of, one_of, rows_of, found_of};
-ghost use Rattle.lfi_command_line.specs.CommandLine.{IsAskedBy, IsFlag, IsProfile, IsNumberIfAny, IsNumberOr, explain_by, pages_named};
+ghost use Rattle.lfi_command_line.specs.CommandLine.{IsAskedBy, IsFlag, IsProfile, IsNumberIfAny, IsNumberOr, IsReportAsked, explain_by, pages_named};
 ghost use Rattle.lfi_command_line.specs.inner.Given.{IsNumberGiven, IsFaultOfCheck, IsFaultOfLoad, IsFaultOfPack};
 
 use crate::commands::{LAST_MODULE, MOST_CONNECTIONS};
 use crate::fault::LineFault;
-use crate::line::{Explain, Line};
+use crate::line::Line;
+use crate::options::{
+    CheckOptions, DisassembleOptions, Explain, LoadOptions, PackOptions, ReportOptions, RunOptions,
+    ServeOptions, UnpackOptions,
+};
 use clap::ArgMatches;
 use lfi_module::{PageSize, Profile};
 use std::alloc::Global;
@@ -53,11 +57,11 @@ pub(crate) fn check_line<'a>(alloc: Global, check: &ArgMatches<'a>) -> Result<Li
     ensures fault { IfErr result IsFaultOfCheck }
 {
     let files = Vec::from_slice(alloc, check.get_strs("FILE").unwrap())?;
-    Ok(Line::Check {
+    Ok(Line::Check(CheckOptions {
         files,
         explain: explain_by(is_given(check, "explain"), is_given(check, "all")),
         profile: profile_of(check),
-    })
+    }))
 }
 
 /// The number that is given to this argument, or the other where none is.
@@ -88,6 +92,16 @@ fn profile_of(matches: &ArgMatches<'_>) -> Profile
     }
 }
 
+/// What is asked for beside a report: by `load`, or by `serve`.
+fn report_options<'a>(matches: &ArgMatches<'a>) -> ReportOptions<'a>
+    ensures { IsReportAsked (rows_of (found_of matches.now)) result }
+{
+    ReportOptions {
+        out: matches.get_str("out"),
+        explain: is_given(matches, "explain"),
+    }
+}
+
 /// What `load` asks for.
 ///
 /// # Errors
@@ -104,12 +118,11 @@ pub(crate) fn load_line<'a>(alloc: Global, load: &ArgMatches<'a>) -> Result<Line
         return Err(LineFault::TooManyStreams);
     }
     let streams = Vec::from_slice(alloc, paths)?;
-    Ok(Line::Load {
+    Ok(Line::Load(LoadOptions {
         verifiers: number_or(load, "verifiers", VERIFIERS) as usize,
-        out: load.get_str("out"),
-        explain: is_given(load, "explain"),
         streams,
-    })
+        report: report_options(load),
+    }))
 }
 
 /// What `serve` asks for.
@@ -121,14 +134,13 @@ pub(crate) fn serve_line<'a>(serve: &ArgMatches<'a>) -> Line<'a>
     requires seconds { IsNumberGiven 1 86400 (codes "seconds") (rows_of (found_of serve.now)) }
     ensures { IsAskedBy (codes "serve") (rows_of (found_of serve.now)) result }
 {
-    Line::Serve {
+    Line::Serve(ServeOptions {
         socket: serve.get_str("socket").unwrap(),
         connections: number_or(serve, "connections", 0) as usize,
         verifiers: number_or(serve, "verifiers", VERIFIERS) as usize,
         seconds: number_if_any(serve, "seconds"),
-        out: serve.get_str("out"),
-        explain: is_given(serve, "explain"),
-    }
+        report: report_options(serve),
+    })
 }
 
 /// What `run` asks for.
@@ -138,10 +150,10 @@ pub(crate) fn run_line<'a>(run: &ArgMatches<'a>) -> Line<'a>
     requires number { IsNumberGiven 0 1000000000 (codes "steps") (rows_of (found_of run.now)) }
     ensures { IsAskedBy (codes "run") (rows_of (found_of run.now)) result }
 {
-    Line::Run {
+    Line::Run(RunOptions {
         image: run.get_str("IMAGE").unwrap(),
         steps: number_or(run, "steps", 0),
-    }
+    })
 }
 
 /// What `disassemble` asks for.
@@ -150,11 +162,11 @@ pub(crate) fn disassemble_line<'a>(disassemble: &ArgMatches<'a>) -> Line<'a>
     requires profile { IsNumberGiven 1 2 (codes "profile") (rows_of (found_of disassemble.now)) }
     ensures { IsAskedBy (codes "disassemble") (rows_of (found_of disassemble.now)) result }
 {
-    Line::Disassemble {
+    Line::Disassemble(DisassembleOptions {
         file: disassemble.get_str("FILE").unwrap(),
         marks: is_given(disassemble, "check"),
         profile: profile_of(disassemble),
-    }
+    })
 }
 
 /// What `unpack` asks for.
@@ -162,9 +174,9 @@ pub(crate) fn unpack_line<'a>(unpack: &ArgMatches<'a>) -> Line<'a>
     requires image { is_some (first_of (codes "IMAGE") (rows_of (found_of unpack.now))) ≡ true }
     ensures { IsAskedBy (codes "unpack") (rows_of (found_of unpack.now)) result }
 {
-    Line::Unpack {
+    Line::Unpack(UnpackOptions {
         image: unpack.get_str("IMAGE").unwrap(),
-    }
+    })
 }
 
 /// The size of the pages that are named, by a profile: small ones, where none are named too, or large ones of the second
@@ -198,10 +210,10 @@ pub(crate) fn pack_line<'a>(alloc: Global, pack: &ArgMatches<'a>) -> Result<Line
     ensures line { IfOk result (IsAskedBy (codes "pack") (rows_of (found_of pack.now))) }
     ensures fault { IfErr result (IsFaultOfPack (rows_of (found_of pack.now))) }
 {
-    let module = number_or(pack, "module", 0) as usize;
+    let first = number_or(pack, "module", 0) as usize;
     let entry = number_or(pack, "entry", 0) as u32;
     let paths = pack.get_strs("CODE").unwrap();
-    if module + paths.len() > MODULES {
+    if first + paths.len() > MODULES {
         return Err(LineFault::TooManyModules);
     }
     let profile = profile_of(pack);
@@ -209,11 +221,11 @@ pub(crate) fn pack_line<'a>(alloc: Global, pack: &ArgMatches<'a>) -> Result<Line
         return Err(LineFault::NoPages);
     };
     let codes = Vec::from_slice(alloc, paths)?;
-    Ok(Line::Pack {
-        module,
+    Ok(Line::Pack(PackOptions {
+        first,
         entry,
         profile,
         pages,
         codes,
-    })
+    }))
 }

@@ -7,7 +7,12 @@ mod flaw;
 mod given;
 mod help;
 mod line;
+mod options;
 
 pub use fault::LineFault;
 pub use flaw::Flaw;
-pub use line::{Explain, Line, read_line};
+pub use line::{Line, read_line};
+pub use options::{
+    CheckOptions, DisassembleOptions, Explain, LoadOptions, PackOptions, ReportOptions, RunOptions,
+    ServeOptions, UnpackOptions,
+};

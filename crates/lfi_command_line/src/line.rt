@@ -12,75 +12,23 @@ use crate::flaw::flaw_of;
 use crate::given::{
     check_line, disassemble_line, load_line, pack_line, run_line, serve_line, unpack_line,
 };
+use crate::options::{
+    CheckOptions, DisassembleOptions, LoadOptions, PackOptions, RunOptions, ServeOptions,
+    UnpackOptions,
+};
 use clap::ArgMatches;
-use lfi_module::{PageSize, Profile};
 use std::alloc::Global;
-
-/// What `check` explains.
-#[derive(Clone, Copy, PartialEq, Eq)]
-pub enum Explain {
-    /// Nothing: it tells the first fault in a line.
-    Nothing,
-    /// The first fault.
-    First,
-    /// Each word that breaks a rule.
-    All,
-}
 
 /// What the program is asked for.
 #[derive(Drop)]
 pub enum Line<'a> {
-    /// Whether the code in each of these files is lawful by a profile, and what is to be explained where it isn't.
-    Check {
-        files: Vec<&'a str>,
-        explain: Explain,
-        profile: Profile,
-    },
-    /// To load the modules of the streams in 1 to 8 files, one connection each, with so many
-    /// verifiers, 1 to 8, to explain why modules are refused, and to write the whole images into a
-    /// folder.
-    Load {
-        verifiers: usize,
-        out: Option<&'a str>,
-        explain: bool,
-        streams: Vec<&'a str>,
-    },
-    /// To listen at a socket's path, to load the modules of the streams of so many connections, 1 to
-    /// 8, with so many verifiers, 1 to 8, for so many seconds, 1 to 86,400, where that is said, to
-    /// explain why modules are refused, and to write the whole images into a folder.
-    Serve {
-        socket: &'a str,
-        connections: usize,
-        verifiers: usize,
-        seconds: Option<u64>,
-        out: Option<&'a str>,
-        explain: bool,
-    },
-    /// To run the image in a file for at most so many steps, 0 to 1,000,000,000.
-    Run {
-        image: &'a str,
-        steps: u64,
-    },
-    /// To list the words of the code in a file, by a profile, and to mark those that break a rule.
-    Disassemble {
-        file: &'a str,
-        marks: bool,
-        profile: Profile,
-    },
-    /// To write a stream of the code in 1 to 16 files, one module each, from this number on, up to 15 at the most, each of which
-    /// is entered at this word, 0 to 4,194,303, goes by this profile, and is cut into pages of this size, which are large ones
-    /// by the second profile alone.
-    Pack {
-        module: usize,
-        entry: u32,
-        profile: Profile,
-        pages: PageSize,
-        codes: Vec<&'a str>,
-    },
-    /// To write the code of the image in a file.
-    Unpack {
-        image: &'a str,
-    },
+    Check(CheckOptions<'a>),
+    Load(LoadOptions<'a>),
+    Serve(ServeOptions<'a>),
+    Run(RunOptions<'a>),
+    Disassemble(DisassembleOptions<'a>),
+    Pack(PackOptions<'a>),
+    Unpack(UnpackOptions<'a>),
 }
 
 /// What the parser makes of the words.

@@ -2,8 +2,7 @@
 use Rattle.std.proofs.Common.{◌≡◌, ◌∙◌, ◌⊎◌, ℕ, zero, suc, List, length, map, nat_lt, cond, Bool, true, false, Option, Some, None, Result, Ok, Err, IfOk, IfErr, OnErr, inl, inr, refl, subst, sym}
 use Rattle.lfi_command_line.specs.declared.line.Line.{Line}
 use Rattle.lfi_command_line.specs.declared.line.Line.TheVariants.{Check, Load, Serve, Run, Disassemble, Pack, Unpack}
-use Rattle.lfi_command_line.specs.declared.line.Explain.{Explain}
-use Rattle.lfi_module.specs.declared.profile.Profile.{Profile}
+use Rattle.lfi_command_line.specs.declared.options.CheckOptions.{CheckOptions}
 use Rattle.lfi_command_line.specs.CommandLine.{AreWrong, IsLine}
 use Rattle.lfi_image_file.specs.declared.fault.ImageFault.{ImageFault}
 use Rattle.lfi_image_file.specs.declared.fault.ImageFault.TheVariants as image_fault
@@ -25,9 +24,9 @@ use Rattle.lfi_file_commands.specs.declared.no_code.NoCode.{NoCode}
 use Rattle.lfi_file_commands.specs.Endings.{ending_of_halt, ending_of_run, number_of, EndsUnlessLost}
 use Rattle.lfi_commands.specs.Clients.{are_all_in_time, are_all_taken, EndsServing}
 use Rattle.lfi_commands.specs.Endings.{EndsLoad}
-use Rattle.lfi_file_commands.specs.Left.{Left, left}
+use Rattle.lfi_file_commands.specs.Left.{Left, left, OnlyOutput}
 use Rattle.lfi_file_commands.specs.Running.{EndsRun}
-use Rattle.lfi_file_commands.specs.Failures.{failure_line, is_of_output, Told}
+use Rattle.lfi_file_commands.specs.Failures.{failure_line, is_of_output, Told, TellsLines}
 use Rattle.lfi_file_commands.specs.declared.failure.Failure.{Failure}
 use Rattle.lfi_commands.proofs.Failing.{fails_by}
 use Rattle.lfi_commands.specs.Runs.{CarriesOut, FailsAs, Runs, TellsFailure, TellsFlaw, TellsNoPages, TellsTooMany, TellsTooManyModules}
@@ -81,25 +80,23 @@ chosen : (b : Bool) (before here : Ending) → (before ≡ WrongWords → ⊥) �
 chosen true before here not_before not_here ends = not_here (sym ends)
 chosen false before here not_before not_here ends = not_before (sym ends)
 
-by_one : (name : List ℕ) (profile : Profile) (explain : Explain) (path : List ℕ) (bytes : Option (List ℕ)) (old new : Left) (ending : Ending) → ChecksOne name profile explain path bytes old new ending → ending ≡ WrongWords → ⊥
-by_one name profile explain path bytes old new ending (inl judged) is = by_verdict (verdict_of judged.finding) (sym is ∙ judged.ends)
-by_one name profile explain path bytes old new ending (inr unread) is = failed_ends (sym is ∙ unread.5)
+by_one : (name : List ℕ) (asked : CheckOptions) (path : List ℕ) (bytes : Option (List ℕ)) (old new : Left) (ending : Ending) → ChecksOne name asked path bytes old new ending → ending ≡ WrongWords → ⊥
+by_one name asked path bytes old new ending (inl judged) is = by_verdict (verdict_of judged.finding) (sym is ∙ judged.ends)
+by_one name asked path bytes old new ending (inr unread) is = failed_ends (sym is ∙ unread.5)
 
-by_checked : (profile : Profile) (explain : Explain) (paths : List (List ℕ)) (file_at : List ℕ → Option (List ℕ)) (count : ℕ) (old new : Left) (ending : Ending) → AreChecked profile explain paths file_at count old new ending
-    → ending ≡ WrongWords → ⊥
-by_checked profile explain paths file_at zero old new ending checked is = well_ends (sym is ∙ checked.1)
-by_checked profile explain paths file_at (suc k) old new ending checked is =
-    chosen (nat_lt (number_of checked.1) (number_of checked.2)) checked.1 checked.2 (by_checked profile explain paths file_at k old checked.0 checked.1 checked.4)
-    (by_one _ profile explain checked.3 (file_at checked.3) checked.0 new checked.2 checked.6) (sym is ∙ checked.7)
+by_checked : (asked : CheckOptions) (file_at : List ℕ → Option (List ℕ)) (count : ℕ) (old new : Left) (ending : Ending) → AreChecked asked file_at count old new ending → ending ≡ WrongWords → ⊥
+by_checked asked file_at zero old new ending checked is = well_ends (sym is ∙ checked.1)
+by_checked asked file_at (suc k) old new ending checked is =
+    chosen (nat_lt (number_of checked.1) (number_of checked.2)) checked.1 checked.2 (by_checked asked file_at k old checked.0 checked.1 checked.4)
+    (by_one _ asked checked.3 (file_at checked.3) checked.0 new checked.2 checked.6) (sym is ∙ checked.7)
 
 unless_lost : (is_lost : Bool) (told : Ending) → EndsUnlessLost is_lost told WrongWords → (told ≡ WrongWords → ⊥) → ⊥
 unless_lost true told ends not_told = failed_ends ends
 unless_lost false told ends not_told = not_told (sym ends)
 
-by_check : (profile : Profile) (explain : Explain) (paths : List (List ℕ)) (file_at : List ℕ → Option (List ℕ)) (old new : Left)
-    → ChecksAll profile explain paths file_at old new WrongWords ⊎ StopsAtOutput profile explain paths file_at old new WrongWords → ⊥
-by_check profile explain paths file_at old new (inl all) = unless_lost new.is_lost all.0 all.2 (by_checked profile explain paths file_at (length paths) old new all.0 all.1)
-by_check profile explain paths file_at old new (inr stops) = failed_ends stops.7
+by_check : (asked : CheckOptions) (file_at : List ℕ → Option (List ℕ)) (old new : Left) → ChecksAll asked file_at old new WrongWords ⊎ StopsAtOutput asked file_at old new WrongWords → ⊥
+by_check asked file_at old new (inl all) = unless_lost new.is_lost all.0 all.2 (by_checked asked file_at (length asked.files.items) old new all.0 all.1)
+by_check asked file_at old new (inr stops) = failed_ends stops.7
 
 by_listing : (other : Option NoCode) (is_lost : Bool) → EndsListing other is_lost WrongWords → ⊥
 by_listing None is_lost ends = well_ends ends
@@ -111,13 +108,16 @@ by_unpack bytes old new (inl written) = well_ends written.6
 by_unpack bytes old new (inr told) = by_run new.is_lost (image_run.Refused told.0) told.5
 
 by_line : (line : Line) (file_at : List ℕ → Option (List ℕ)) (old new : Left) → CarriesOut line file_at old new WrongWords → ⊥
-by_line (Check files explain profile) file_at old new carried = by_check profile explain (map (λ s. s.now) files.items) file_at old new carried.did
-by_line (Load verifiers folder explain streams) file_at old new carried = by_load carried.report true carried.all carried.ends
-by_line (Serve socket connections verifiers seconds folder explain) file_at old new carried = by_serve (are_all_in_time carried.found.fates) new.is_lost carried.found.report (are_all_taken carried.found.fates) carried.all carried.by_load carried.loads carried.ends
-by_line (Run image steps) file_at old new carried = by_run new.is_lost carried.run carried.ends
-by_line (Disassemble file marks profile) file_at old new carried = by_listing carried.other new.is_lost carried.ends
-by_line (Pack first entry profile pages files) file_at old new carried = carried.found
-by_line (Unpack image) file_at old new carried = by_unpack (file_at image.now) old new carried
+by_line (Check asked) file_at old new carried = by_check asked file_at old new carried.did
+by_line (Load asked) file_at old new carried = by_load carried.report true carried.told.all carried.told.ends
+by_line (Serve asked) file_at old new carried =
+    let told = carried.told in
+    let fates = carried.found.fates in
+    by_serve (are_all_in_time fates) new.is_lost carried.found.report (are_all_taken fates) told.reported.all told.by_load told.reported.ends told.ends
+by_line (Run asked) file_at old new carried = by_run new.is_lost carried.run carried.ends
+by_line (Disassemble asked) file_at old new carried = by_listing carried.other new.is_lost carried.ends
+by_line (Pack asked) file_at old new carried = carried.found
+by_line (Unpack asked) file_at old new carried = by_unpack (file_at asked.image.now) old new carried
 
 pub runs_line : (words : List (List ℕ)) (file_at : List ℕ → Option (List ℕ)) (old new : Left) (line : Line) (ending : Ending) → IsLine words line → CarriesOut line file_at old new ending
     → Runs words file_at old new ending
@@ -144,9 +144,11 @@ runs_failed words file_at old new ending is tells = subst (Runs words file_at ol
 -- a line that was carried out, or of which a failure is told
 pub runs_ended : (words : List (List ℕ)) (file_at : List ℕ → Option (List ℕ)) (line : Line) (came : Result Ending Failure) (old mid new : Left) (ending : Ending) → IsLine words line
     → IfOk came (CarriesOut line file_at old mid) → IfOk came (λ well. (ending ≡ well) × (new ≡ mid)) → IfErr came (FailsAs line)
-    → IfErr came (λ failure. is_of_output failure ≡ false → new.out ≡ old.out) → OnErr came (new.put ≡ old.put) → OnErr came (mid.errors ≡ old.errors)
-    → IfErr came (λ failure. (ending ≡ Failed) × Told new.is_lost mid.errors new.errors (failure_line failure)) → Runs words file_at old new ending
-runs_ended words file_at line (Ok well) old mid new ending is carried same fails out put errors told =
+    → IfErr came (λ failure. is_of_output failure ≡ false → mid.out ≡ old.out) → OnErr came (OnlyOutput old mid)
+    → IfErr came (λ failure. (ending ≡ Failed) × TellsLines (failure_line failure) mid new) → Runs words file_at old new ending
+runs_ended words file_at line (Ok well) old mid new ending is carried same fails out untold told =
     subst (λ left. Runs words file_at old left ending) (sym same.1) (subst (Runs words file_at old mid) (sym same.0) (runs_line words file_at old mid line well is carried))
-runs_ended words file_at line (Err failure) old mid new ending is carried same fails out put errors told =
-    runs_failed words file_at old new ending told.0 (failure, fails_by words line failure is fails, subst (λ e. Told new.is_lost e new.errors (failure_line failure)) errors told.1, put, out)
+runs_ended words file_at line (Err failure) old mid new ending is carried same fails out untold told =
+    let tells = told.1 in
+    runs_failed words file_at old new ending told.0
+    (failure, fails_by words line failure is fails, subst (λ e. Told new.is_lost e new.errors (failure_line failure)) untold.1.0 tells.0, tells.2 ∙ untold.0, λ other. tells.1 ∙ out other)

@@ -1,5 +1,5 @@
 -- What is left of the inputs of files.
-use Rattle.std.proofs.Common.{◌≡◌, ℕ, zero, suc, ◌<◌, List, [], ◌∷◌, Option, Some, length, slice_get, refl, subst, arith}
+use Rattle.std.proofs.Common.{◌≡◌, ℕ, zero, suc, ◌<◌, List, [], ◌∷◌, Option, Some, length, map, slice_get, refl, ap, subst, arith}
 use Rattle.std.proofs.lemmas.Option.{slice_get_within}
 use Rattle.lfi_receive.specs.declared.input.Input.{Input}
 use Rattle.lfi_receive.specs.Inputs.{left_of}
@@ -19,3 +19,7 @@ known_left {R} {remaining} ts is bytes are known c input at =
     let same = are.all in
     let text = element ts c (omega arith) in
     subst (λ t. IsInputOf remaining t input) (known c text.0 text.1) (are.each c input text.0 at text.1)
+
+pub map_twice : {A B C : Type 0} (f : B → C) (g : A → B) (xs : List A) → map f (map g xs) ≡ map (λ x. f (g x)) xs
+map_twice f g [] = refl
+map_twice f g (x ∷ xs) = ap (λ l. f (g x) ∷ l) (map_twice f g xs)

@@ -1,5 +1,5 @@
 -- What a run of the program does, by its words and its ending. Source: this project's profile, docs/COMMANDS.md.
-use Rattle.std.specs.Prelude.{◌≡◌, ◌⊎◌, ⊤, ℕ, false, List, [], ◌∷◌, ◌++◌, Option, Some, codes, map, option_map}
+use Rattle.std.specs.Prelude.{◌≡◌, ◌⊎◌, ⊤, ℕ, false, List, [], ◌∷◌, ◌++◌, Option, Some, codes}
 use Rattle.lfi_command_line.specs.declared.line.Line.{Line}
 use Rattle.lfi_command_line.specs.declared.line.Line.TheVariants.{Check, Load, Serve, Run, Disassemble, Pack, Unpack}
 use Rattle.lfi_command_line.specs.declared.flaw.Flaw.{Flaw}
@@ -14,31 +14,31 @@ use Rattle.lfi_file_commands.specs.Explaining.{HasChecked}
 use Rattle.lfi_file_commands.specs.Failures.{failure_line, is_of_output, FailsOn, FailsServing, IsOfReading, Told}
 use Rattle.lfi_file_commands.specs.Left.{Left}
 use Rattle.lfi_file_commands.specs.Listing.{HasListed}
-use Rattle.lfi_commands.specs.Loading.{HasLoaded}
-use Rattle.lfi_file_commands.specs.Packing.{HasPacked}
+use Rattle.lfi_commands.specs.Loading.{streams_of, HasLoaded}
+use Rattle.lfi_file_commands.specs.Packing.{codes_of, HasPacked}
 use Rattle.lfi_file_commands.specs.Running.{HasRun}
 use Rattle.lfi_file_commands.specs.Unpacking.{HasUnpacked}
 use Rattle.lfi_commands.specs.Serving.{HasServedAll}
 
 -- What the line asks for was carried out, with this ending.
 abbrev pub CarriesOut : Line → (List ℕ → Option (List ℕ)) → (old new : Left) → Ending → Type 0
-CarriesOut (Check files explain profile) file_at = HasChecked profile explain (map (λ s. s.now) files.items) file_at
-CarriesOut (Load verifiers folder explain streams) file_at = HasLoaded verifiers (map (λ s. file_at s.now) streams.items) (option_map (λ s. s.now) folder) explain
-CarriesOut (Serve socket connections verifiers seconds folder explain) file_at = HasServedAll connections verifiers seconds (option_map (λ s. s.now) folder) explain
-CarriesOut (Run image steps) file_at = HasRun (file_at image.now) steps
-CarriesOut (Disassemble file marks profile) file_at = HasListed marks profile file.now (file_at file.now)
-CarriesOut (Pack first entry profile pages files) file_at = HasPacked profile pages first entry (map (λ s. s.now) files.items) file_at
-CarriesOut (Unpack image) file_at = HasUnpacked (file_at image.now)
+CarriesOut (Check asked) file_at = HasChecked asked file_at
+CarriesOut (Load asked) file_at = HasLoaded asked file_at
+CarriesOut (Serve asked) file_at = HasServedAll asked
+CarriesOut (Run asked) file_at = HasRun (file_at asked.image.now) asked.steps
+CarriesOut (Disassemble asked) file_at = HasListed asked (file_at asked.file.now)
+CarriesOut (Pack asked) file_at = HasPacked asked file_at
+CarriesOut (Unpack asked) file_at = HasUnpacked (file_at asked.image.now)
 
 -- it tells of a fault of what the line asks for: of a file that it names, of the output, of the socket; what `check` tells is part of what it did
 abbrev pub FailsAs : Line → Failure → Type 0
-FailsAs (Check files explain profile) = λ failure. ⊥
-FailsAs (Load verifiers folder explain streams) = FailsOn (map (λ s. s.now) streams.items)
-FailsAs (Serve socket connections verifiers seconds folder explain) = FailsServing socket.now
-FailsAs (Run image steps) = IsOfReading image.now
-FailsAs (Disassemble file marks profile) = FailsOn (file.now ∷ [])
-FailsAs (Pack first entry profile pages files) = FailsOn (map (λ s. s.now) files.items)
-FailsAs (Unpack image) = FailsOn (image.now ∷ [])
+FailsAs (Check asked) = λ failure. ⊥
+FailsAs (Load asked) = FailsOn (streams_of asked)
+FailsAs (Serve asked) = FailsServing asked.socket.now
+FailsAs (Run asked) = IsOfReading asked.image.now
+FailsAs (Disassemble asked) = FailsOn (asked.file.now ∷ [])
+FailsAs (Pack asked) = FailsOn (codes_of asked)
+FailsAs (Unpack asked) = FailsOn (asked.image.now ∷ [])
 
 -- The words ask for a line, and it was carried out.
 abbrev pub CarriesOutWords : List (List ℕ) → (List ℕ → Option (List ℕ)) → (old new : Left) → Ending → Type 0

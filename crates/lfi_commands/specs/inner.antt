@@ -1,3 +1,2 @@
 -- What private functions answer. No claim of this crate rests on these definitions.
-pub mod Found
 pub mod Ranges

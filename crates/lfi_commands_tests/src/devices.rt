@@ -310,7 +310,7 @@ fn first_other_output<S: Threads + Wait + Files<File = File> + Net + Clock + Syn
     let told = "lfiload: cannot write standard output\n  No space left on device\n";
     for answer in &ANSWERS {
         for left in 0..answer.length {
-            if !tells(rt, answer.line, &mut FullWriter { left }, FAILED, told) {
+            if tells(rt, answer.line, FullWriter { left }, FAILED, told).is_none() {
                 return Some(answer.line);
             }
         }
@@ -379,22 +379,24 @@ const UNTOLD: [&str; 6] = [
     "lfiload pack /dev/null",
 ];
 
-/// Whether a run with this output fails, where so many bytes of what it tells are taken, and tells that some are lost.
-pub fn loses<S: Threads + Wait + Files<File = File> + Net + Clock + Sync + AllocGlobal, O: Write>(
-    rt: &S,
-    line: &str,
-    out: &mut O,
-    left: usize,
-) -> bool {
-    let mut errors = Errors::new(rt.alloc(), FullWriter { left });
-    let status = run_over(rt, line, out, &mut errors);
-    status == FAILED && errors.is_lost()
+/// Where a run with this output fails, of which so many bytes of what it tells are taken, and tells that some are lost: the
+/// output.
+pub fn loses<
+    S: Threads + Wait + Files<File = File> + Net + Clock + Sync + AllocGlobal,
+    O: Write + Drop,
+>(rt: &S, line: &str, out: O, left: usize) -> Option<O> {
+    let ran = run_over(rt, line, out, FullWriter { left });
+    if ran.status == FAILED && ran.errors.is_lost() {
+        Some(ran.out)
+    } else {
+        None
+    }
 }
 
 #[test]
 fn errors_that_fail(rt: HostRuntime) {
     for line in UNTOLD {
-        assert!(rt; loses(&rt, line, &mut FullWriter { left: 0 }, 0), "{line}");
+        assert!(rt; loses(&rt, line, FullWriter { left: 0 }, 0).is_some(), "{line}");
     }
 }
 

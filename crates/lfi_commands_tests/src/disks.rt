@@ -2,11 +2,12 @@
 
 ghost use Rattle.std.specs.Prelude.{Some, map, string_bytes};
 
-use crate::runs::{FAILED, ONE_RET, ONE_RET_IMAGE, ONE_RET_REPORT, WELL, tells_over};
-use lfi_file_commands::Disk;
+use crate::runs::{FAILED, ONE_RET, ONE_RET_IMAGE, ONE_RET_REPORT, WELL, is_told, kept, run_noticed};
+use lfi_file_commands::{Disk, ImageStore};
 use lfi_image::CompleteImage;
 use lfi_image_file::write_image;
 use lfi_threads::NoNotices;
+use std::alloc::Global;
 use std::fs::{File, Files};
 use std::io;
 use std::net::Net;
@@ -21,10 +22,15 @@ struct PutFile {
     bytes: Vec<u8>,
 }
 
-/// Has the same file at each path, and takes so many images.
-#[derive(Drop)]
+/// Has the same file at each path.
+#[derive(Clone, Copy)]
 struct MemoryDisk<'a> {
     file: &'a [u8],
+}
+
+/// Takes so many images.
+#[derive(Drop)]
+pub struct MemoryStore {
     put: Vec<PutFile>,
     room: usize,
 }
@@ -34,12 +40,14 @@ impl<'a> Disk for MemoryDisk<'a> {
 
     ghost file_at = { λ disk path. Some disk.file.now };
 
-    ghost put_files = { λ disk. Some (map (λ f. (string_bytes f.path, f.bytes.items)) disk.put.items) };
-
     fn open(&self, path: &str) -> io::Result<&'a [u8]> {
         let _ = path;
         Ok(self.file)
     }
+}
+
+impl ImageStore for MemoryStore {
+    ghost put_files = { λ store. Some (map (λ f. (string_bytes f.path, f.bytes.items)) store.put.items) };
 
     fn put_image(&mut self, path: &str, image: &CompleteImage) -> io::Result<()> {
         if self.put.len() >= self.room {
@@ -61,7 +69,15 @@ impl<'a> Disk for MemoryDisk<'a> {
 /// The words of the runs.
 const LINE: &str = "lfiload load --out folder any.stream";
 
-impl MemoryDisk<'_> {
+impl MemoryStore {
+    /// Has room for so many images.
+    pub fn with_room(alloc: Global, room: usize) -> MemoryStore {
+        MemoryStore {
+            put: Vec::new(alloc),
+            room,
+        }
+    }
+
     /// Whether so many files were put, each the image of the one module at its path.
     fn has_put(&self, count: usize) -> bool {
         for file in &self.put {
@@ -83,14 +99,13 @@ fn fills<S: Threads + Wait + Files<File = File> + Net + Clock + Sync + AllocGlob
     status: u8,
     told: &str,
 ) -> bool {
-    let mut out = Vec::new(rt.alloc());
-    let mut disk = MemoryDisk {
+    let disk = MemoryDisk {
         file: ONE_RET.as_slice(),
-        put: Vec::new(rt.alloc()),
-        room,
     };
-    let is_so = tells_over(rt, &mut disk, &NoNotices, LINE, &mut out, status, told);
-    is_so && out.as_slice() == ONE_RET_REPORT.as_bytes() && disk.has_put(room)
+    let mut outputs = kept(rt.alloc(), MemoryStore::with_room(rt.alloc(), room));
+    let ended = run_noticed(rt, &disk, &NoNotices, LINE, &mut outputs);
+    let is_so = ended == status && is_told(&outputs.errors, told);
+    is_so && outputs.out.as_slice() == ONE_RET_REPORT.as_bytes() && outputs.images.has_put(room)
 }
 
 #[test]

@@ -87,12 +87,14 @@ fn takes<S: Threads + Wait + Files<File = File> + Net + Clock + Sync + AllocGlob
     rt: &S,
     taken: &Taken,
 ) -> bool {
-    let mut out = PartWriter {
+    let out = PartWriter {
         bytes: Vec::new(rt.alloc()),
         left: taken.left,
     };
-    let is_so = tells(rt, LINE, &mut out, WELL, taken.err);
-    is_so && out.bytes.as_slice() == taken.out.as_bytes()
+    match tells(rt, LINE, out, WELL, taken.err) {
+        Some(out) => out.bytes.as_slice() == taken.out.as_bytes(),
+        None => false,
+    }
 }
 
 /// The first of these outputs in which something else is, or of which something else is told.
@@ -112,7 +114,7 @@ fn fails_midway<S: Threads + Wait + Files<File = File> + Net + Clock + Sync + Al
     rt: &S,
 ) -> bool {
     let told = "halt 5 status 255 after 5 steps\n";
-    tells(rt, LINE, &mut FullWriter { left: 1 }, WELL, told)
+    tells(rt, LINE, FullWriter { left: 1 }, WELL, told).is_some()
 }
 
 /// Takes one byte a call, and is interrupted before each.
@@ -142,20 +144,25 @@ impl Write for HaltingWriter {
 fn is_written_all_the_same<
     S: Threads + Wait + Files<File = File> + Net + Clock + Sync + AllocGlobal,
 >(rt: &S) -> bool {
-    let mut out = HaltingWriter {
+    let out = HaltingWriter {
         bytes: Vec::new(rt.alloc()),
         is_ready: false,
     };
     let told = "halt 5 status 105 after 7 steps\n";
-    tells(rt, LINE, &mut out, WELL, told) && out.bytes.as_slice() == b"Hi".as_slice()
+    match tells(rt, LINE, out, WELL, told) {
+        Some(out) => out.bytes.as_slice() == b"Hi".as_slice(),
+        None => false,
+    }
 }
 
 /// Whether all is written, and the run fails, where what is told takes five bytes.
 fn is_written_beside_a_loss<
     S: Threads + Wait + Files<File = File> + Net + Clock + Sync + AllocGlobal,
 >(rt: &S) -> bool {
-    let mut out = Vec::new(rt.alloc());
-    loses(rt, LINE, &mut out, 5) && out.as_slice() == b"Hi".as_slice()
+    match loses(rt, LINE, Vec::new(rt.alloc()), 5) {
+        Some(out) => out.as_slice() == b"Hi".as_slice(),
+        None => false,
+    }
 }
 
 #[test]
@@ -177,9 +184,11 @@ fn prints<S: Threads + Wait + Files<File = File> + Net + Clock + Sync + AllocGlo
     printed: usize,
     told: &str,
 ) -> bool {
-    let mut out = FullWriter { left: room };
     let line = "lfiload run much.tmp/prints.img --steps 30000";
-    tells(rt, line, &mut out, WELL, told) && out.left == room.saturating_sub(printed)
+    match tells(rt, line, FullWriter { left: room }, WELL, told) {
+        Some(out) => out.left == room.saturating_sub(printed),
+        None => false,
+    }
 }
 
 #[test]

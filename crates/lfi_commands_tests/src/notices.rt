@@ -1,9 +1,9 @@
 //! The notice of a refused module.
 
-use crate::runs::{NOT_WELL, begin, connect, has_file, tells_over};
+use crate::disks::MemoryStore;
+use crate::runs::{NOT_WELL, begin, connect, has_file, is_told, kept, run_noticed};
 use lfi_commands::WrittenNotices;
 use lfi_file_commands::Disk;
-use lfi_image::CompleteImage;
 use std::fs::{self, File, Files};
 use std::io::{self, Read, Write};
 use std::net::Net;
@@ -31,7 +31,7 @@ const STRAY: [u8; 12] = [3, 0, 9, 0, 0, 0, 0, 0, 0, 0, 0, 0];
 const TURNS: u32 = 10_000_000;
 
 /// Whether something was written to this file.
-fn is_told(told: &File) -> bool {
+fn is_noticed(told: &File) -> bool {
     match told.metadata() {
         Ok(metadata) => metadata.len() > 0,
         Err(_) => true,
@@ -48,7 +48,7 @@ struct UntilTold<'a, 'b> {
 
 impl Read for UntilTold<'_, '_> {
     fn read(&mut self, buf: &mut [u8]) -> io::Result<usize> {
-        let done = self.turns == 0 || is_told(self.told);
+        let done = self.turns == 0 || is_noticed(self.told);
         if !self.text.is_empty() || done || buf.len() < 12 {
             return self.text.read(buf);
         }
@@ -76,12 +76,6 @@ impl<'a> Disk for UntilToldDisk<'a> {
             turns: TURNS,
         })
     }
-
-    fn put_image(&mut self, path: &str, image: &CompleteImage) -> io::Result<()> {
-        let _ = path;
-        let _ = image;
-        Err(io::Error::from(io::ErrorKind::Unsupported))
-    }
 }
 
 /// What the report on modules 1 and 2 begins with.
@@ -94,14 +88,15 @@ fn is_run<S: Threads + Wait + Files<File = File> + Net + Clock + Sync + AllocGlo
     line: &str,
     told: &File,
 ) -> bool {
-    let mut disk = UntilToldDisk {
+    let disk = UntilToldDisk {
         text: TWO.as_slice(),
         told,
     };
-    let mut out = Vec::new(rt.alloc());
+    let mut outputs = kept(rt.alloc(), MemoryStore::with_room(rt.alloc(), 0));
     let notices = WrittenNotices::new(told);
-    let is_so = tells_over(rt, &mut disk, &notices, line, &mut out, NOT_WELL, "");
-    is_so && out.as_slice().starts_with(TWO_REPORT.as_bytes())
+    let ended = run_noticed(rt, &disk, &notices, line, &mut outputs);
+    let is_so = ended == NOT_WELL && is_told(&outputs.errors, "");
+    is_so && outputs.out.as_slice().starts_with(TWO_REPORT.as_bytes())
 }
 
 /// Connects as soon as somebody listens at the path, and sends the modules, and then strays until
@@ -110,7 +105,7 @@ fn send_until_told<S: Net>(rt: &S, path: &str, told: &File) -> io::Result<()> {
     let mut client = connect(rt, path)?;
     let mut sent = client.write_all(&TWO);
     for _ in 0..TURNS {
-        if sent.is_err() || is_told(told) {
+        if sent.is_err() || is_noticed(told) {
             break;
         }
         sent = client.write_all(&STRAY);

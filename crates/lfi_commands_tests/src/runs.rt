@@ -1,7 +1,7 @@
 //! Runs of the program over the system's files, and what they must answer.
 
 use lfi_commands::run_words;
-use lfi_file_commands::{Disk, Errors, SystemDisk};
+use lfi_file_commands::{Disk, Errors, ImageStore, Outputs, SystemDisk, SystemStore};
 use lfi_threads::{NoNotices, Notices};
 use std::alloc::{AllocError, Global};
 use std::fs::{self, File, Files};
@@ -60,68 +60,79 @@ fn words(alloc: Global, line: &str) -> Result<Vec<String>, AllocError> {
         .try_collect(alloc)
 }
 
-/// Runs the program on the words of a line, over any disk, notices and writers. Gives its exit status; `NO_WORDS` where memory
+/// Runs the program on the words of a line, over any disk, notices and outputs. Gives its exit status; `NO_WORDS` where memory
 /// is refused before it runs.
 pub fn run_noticed<
-    S: Threads + Wait + Files + Net + Clock + Sync,
+    S: Threads + Wait + Files + Net + Clock + Sync + AllocGlobal,
     D: Disk,
     N: Notices + Sync,
+    P: ImageStore,
     O: Write,
     E: Write,
->(
-    rt: &S,
-    alloc: Global,
-    disk: &mut D,
-    notices: &N,
-    line: &str,
-    out: &mut O,
-    errors: &mut Errors<E>,
-) -> u8 {
-    match words(alloc, line) {
-        Ok(words) => run_words(rt, alloc, disk, notices, &words, out, errors).status(),
+>(rt: &S, disk: &D, notices: &N, line: &str, outputs: &mut Outputs<P, O, E>) -> u8 {
+    match words(rt.alloc(), line) {
+        Ok(words) => run_words(rt, rt.alloc(), disk, notices, &words, outputs).status(),
         Err(AllocError) => NO_WORDS,
     }
 }
 
-/// Runs the program on the words of a line, over the system's files and any writers. Gives its exit status.
+/// A run over the system's files with this output: how it ended, and what was written and told.
+#[derive(Drop)]
+pub struct Ran<O, E> {
+    pub status: u8,
+    pub out: O,
+    pub errors: Errors<E>,
+}
+
+/// Runs the program on the words of a line, over the system's files and any writers.
 pub fn run_over<
     S: Threads + Wait + Files<File = File> + Net + Clock + Sync + AllocGlobal,
-    O: Write,
-    E: Write,
->(rt: &S, line: &str, out: &mut O, errors: &mut Errors<E>) -> u8 {
-    let mut disk = SystemDisk {
+    O: Write + Drop,
+    E: Write + Drop,
+>(rt: &S, line: &str, out: O, errors: E) -> Ran<O, E> {
+    let disk = SystemDisk {
         rt,
         input: io::empty(),
     };
-    run_noticed(rt, rt.alloc(), &mut disk, &NoNotices, line, out, errors)
+    let mut outputs = Outputs {
+        images: SystemStore { rt },
+        out,
+        errors: Errors::new(rt.alloc(), errors),
+    };
+    let status = run_noticed(rt, &disk, &NoNotices, line, &mut outputs);
+    let Outputs { out, errors, .. } = outputs;
+    Ran {
+        status,
+        out,
+        errors,
+    }
 }
 
-/// Whether a run over this disk, with these notices and this output, ends with this status, and tells exactly this. Where
-/// memory is refused, it doesn't.
-pub fn tells_over<
+/// Outputs in memory, and this place for images.
+pub fn kept<P: ImageStore>(alloc: Global, images: P) -> Outputs<P, Vec<u8>, Vec<u8>> {
+    Outputs {
+        images,
+        out: Vec::new(alloc),
+        errors: Errors::new(alloc, Vec::new(alloc)),
+    }
+}
+
+/// Whether exactly this was told.
+pub fn is_told(errors: &Errors<Vec<u8>>, told: &str) -> bool {
+    errors.writer().as_slice() == told.as_bytes()
+}
+
+/// Where a run over the system's files, with this output, ends with this status, and tells exactly this: the output.
+pub fn tells<
     S: Threads + Wait + Files<File = File> + Net + Clock + Sync + AllocGlobal,
-    D: Disk,
-    N: Notices + Sync,
-    O: Write,
->(rt: &S, disk: &mut D, notices: &N, line: &str, out: &mut O, status: u8, told: &str) -> bool {
-    let mut errors = Errors::new(rt.alloc(), Vec::new(rt.alloc()));
-    let ended = run_noticed(rt, rt.alloc(), disk, notices, line, out, &mut errors);
-    ended == status && errors.writer().as_slice() == told.as_bytes()
-}
-
-/// Whether a run over the system's files, with this output, ends with this status, and tells exactly this.
-pub fn tells<S: Threads + Wait + Files<File = File> + Net + Clock + Sync + AllocGlobal, O: Write>(
-    rt: &S,
-    line: &str,
-    out: &mut O,
-    status: u8,
-    told: &str,
-) -> bool {
-    let mut disk = SystemDisk {
-        rt,
-        input: io::empty(),
-    };
-    tells_over(rt, &mut disk, &NoNotices, line, out, status, told)
+    O: Write + Drop,
+>(rt: &S, line: &str, out: O, status: u8, told: &str) -> Option<O> {
+    let ran = run_over(rt, line, out, Vec::new(rt.alloc()));
+    if ran.status == status && is_told(&ran.errors, told) {
+        Some(ran.out)
+    } else {
+        None
+    }
 }
 
 /// Whether a run ends with this status, writes exactly this, and tells exactly that.
@@ -132,8 +143,10 @@ pub fn writes<S: Threads + Wait + Files<File = File> + Net + Clock + Sync + Allo
     written: &[u8],
     told: &str,
 ) -> bool {
-    let mut out = Vec::new(rt.alloc());
-    tells(rt, line, &mut out, status, told) && out.as_slice() == written
+    match tells(rt, line, Vec::new(rt.alloc()), status, told) {
+        Some(out) => out.as_slice() == written,
+        None => false,
+    }
 }
 
 /// The line of the first run that answers or writes otherwise.

@@ -5,8 +5,8 @@ use Rattle.lfi_image_file.specs.Reading.{IsFault}
 use Rattle.lfi_module.specs.Numbers.{most_words}
 use Rattle.lfi_module.specs.declared.profile.Profile.{Profile}
 use Rattle.lfi_rules.specs.declared.fault.Fault.{Fault}
-use Rattle.lfi_command_line.specs.declared.line.Explain.{Explain}
-use Rattle.lfi_command_line.specs.declared.line.Explain.TheVariants.{Nothing, First, All}
+use Rattle.lfi_command_line.specs.declared.options.Explain.{Explain}
+use Rattle.lfi_command_line.specs.declared.options.Explain.TheVariants.{Nothing, First, All}
 use Rattle.lfi_code.specs.declared.verdict.Verdict.{Verdict}
 use Rattle.lfi_code.specs.declared.verdict.Verdict.TheVariants.{Lawful, Refused, BadLength}
 use Rattle.lfi_code.specs.Checking.{Checks, IsCode, verdict_text}

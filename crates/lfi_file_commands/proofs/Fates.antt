@@ -10,6 +10,7 @@ use Rattle.lfi_place.specs.declared.report.ModuleReport.{ModuleReport}
 use Rattle.lfi_file_commands.specs.declared.failure.Failure.{Failure}
 use Rattle.lfi_file_commands.specs.Failures.{failure_line, failure_lines, Told, IsOfWriting}
 use Rattle.lfi_file_commands.specs.Images.{Fate, Puts, NamesPath, WritesImages, failures_in, file_written, files_written, image_file, image_in, image_path_of, images_in, is_none_of}
+use Rattle.lfi_file_commands.specs.Left.{Left, left}
 use Rattle.lfi_file_commands.proofs.Joined.{all_taken, joined, no_more}
 
 abbrev Files : Type 0
@@ -49,38 +50,41 @@ none-append [] ys = refl
 none-append (x ∷ xs) ys = refl
 
 -- no image at all
-pub writes_none : (folder : List ℕ) (a : Option Files) (lost : Bool) (e : Option (List ℕ)) → WritesImages folder [] a a lost e e true
-writes_none folder a lost e = record { fates = []; each = refl; puts = puts_nil a; names = tt; told = told_nil lost e; all_put = refl }
+pub writes_none : (folder : List ℕ) (a : Left) → WritesImages folder [] a a true
+writes_none folder a = record { fates = []; each = refl; puts = puts_nil a.put; names = tt; told = told_nil a.is_lost a.errors; all_put = refl }
 
 -- one that was put
-pub writes_one : (folder : List ℕ) (image : Image) (a b : Option Files) (lost : Bool) (e : Option (List ℕ)) → Puts a b (image_file folder image ∷ []) → WritesImages folder (image ∷ []) a b lost e e true
-writes_one folder image a b lost e put =
+pub writes_one : (folder : List ℕ) (image : Image) (out : Option (List ℕ)) (a b : Option Files) (lost : Bool) (e : Option (List ℕ)) → Puts a b (image_file folder image ∷ [])
+    → WritesImages folder (image ∷ []) (left out a lost e) (left out b lost e) true
+writes_one folder image out a b lost e put =
     record { fates = record { image = image; failure = None } ∷ []; each = refl; puts = put; names = (tt, tt); told = told_nil lost e; all_put = refl }
 
 -- one of which a failure was told
-pub fails_one : (folder : List ℕ) (image : Image) (failure : Failure) (a b : Option Files) (lost : Bool) (e f : Option (List ℕ)) → b ≡ a → IsOfWriting (image_path_of folder image.slot) failure
-    → Told lost e f (failure_line failure) → WritesImages folder (image ∷ []) a b lost e f false
-fails_one folder image failure a b lost e f same names told =
+pub fails_one : (folder : List ℕ) (image : Image) (failure : Failure) (out : Option (List ℕ)) (a b : Option Files) (was lost : Bool) (e f : Option (List ℕ)) → b ≡ a → IsOfWriting (image_path_of folder image.slot) failure
+    → Told lost e f (failure_line failure) → WritesImages folder (image ∷ []) (left out a was e) (left out b lost f) false
+fails_one folder image failure out a b was lost e f same names told =
     record {
       fates = record { image = image; failure = Some failure } ∷ [];
       each = refl;
       puts = subst (λ x. Puts a x []) (sym same) (puts_nil a);
       names = (names, tt);
       told = subst (λ l. Told lost e f l) (sym (no_more (failure_line failure))) told;
+     
       all_put = refl;
     }
 
 -- some, and then others
-pub writes_more : (folder : List ℕ) (is js : List Image) (a b c : Option Files) (l m : Bool) (e f g : Option (List ℕ)) (p q : Bool) → (l ≡ true → m ≡ true)
-    → WritesImages folder is a b l e f p → WritesImages folder js b c m f g q → WritesImages folder (is ++ js) a c m e g (p && q)
-writes_more folder is js a b c l m e f g p q grows first second =
+pub writes_more : (folder : List ℕ) (is js : List Image) (a b c : Left) (p q : Bool) → (b.is_lost ≡ true → c.is_lost ≡ true)
+    → WritesImages folder is a b p → WritesImages folder js b c q → WritesImages folder (is ++ js) a c (p && q)
+writes_more folder is js a b c p q grows first second =
     record {
       fates = first.fates ++ second.fates;
       each = map-append (λ fate. fate.image) first.fates second.fates ∙ ap₂ (λ x y. x ++ y) first.each second.each;
-      puts = subst (λ x. Puts a c x) (sym (flat_map-append (written_by folder) first.fates second.fates)) (puts_trans a b c (files_written folder first.fates) (files_written folder second.fates) first.puts second.puts);
+      puts = subst (λ x. Puts a.put c.put x) (sym (flat_map-append (written_by folder) first.fates second.fates))
+          (puts_trans a.put b.put c.put (files_written folder first.fates) (files_written folder second.fates) first.puts second.puts);
       names = names-append folder first.fates second.fates first.names second.names;
-      told = subst (λ x. Told m e g x) (sym (ap failure_lines (filter_map-append (λ (fate : Fate). fate.failure) first.fates second.fates) ∙ flat_map-append failure_line (failures_in first.fates) (failures_in second.fates)))
-          (told_trans l m e f g (failure_lines (failures_in first.fates)) (failure_lines (failures_in second.fates)) grows first.told second.told);
+      told = subst (λ x. Told c.is_lost a.errors c.errors x) (sym (ap failure_lines (filter_map-append (λ (fate : Fate). fate.failure) first.fates second.fates) ∙ flat_map-append failure_line (failures_in first.fates) (failures_in second.fates)))
+          (told_trans b.is_lost c.is_lost a.errors b.errors c.errors (failure_lines (failures_in first.fates)) (failure_lines (failures_in second.fates)) grows first.told second.told);
       all_put = ap₂ (λ x y. x && y) first.all_put second.all_put ∙ sym (none-append (failures_in first.fates) (failures_in second.fates)) ∙ ap is_none_of (sym (filter_map-append (λ (fate : Fate). fate.failure) first.fates second.fates));
     }
 

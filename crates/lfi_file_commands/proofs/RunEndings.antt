@@ -1,10 +1,11 @@
 -- How a run of an image ends, and one that packs code files.
-use Rattle.std.proofs.Common.{ℕ, List, Bool, true, false, Option, refl, subst, sym}
-use Rattle.lfi_module.specs.declared.profile.Profile.{Profile}
+use Rattle.std.proofs.Common.{◌≡◌, ℕ, List, Bool, true, false, Option, refl, subst, sym}
+use Rattle.lfi_command_line.specs.declared.options.PackOptions.{PackOptions}
 use Rattle.lfi_run.specs.declared.image_run.ImageRun.{ImageRun}
 use Rattle.lfi_file_commands.specs.declared.ending.Ending.{Ending}
 use Rattle.lfi_file_commands.specs.declared.ending.Ending.TheVariants.{NotWell}
 use Rattle.lfi_file_commands.specs.Endings.{ending_of_run, EndsUnlessLost}
+use Rattle.lfi_file_commands.specs.Left.{Left}
 use Rattle.lfi_file_commands.specs.Packing.{FindsPacked, TellsNoModule}
 use Rattle.lfi_file_commands.specs.Running.{EndsRun}
 
@@ -14,10 +15,10 @@ ends_run true run ending ends = ends
 ends_run false run ending ends = ends
 
 -- code files of which one is no module, which is told
-pub packs_none : (profile : Profile) (pages first entry : ℕ) (paths : List (List ℕ)) (file_at : List ℕ → Option (List ℕ)) (out_old out_new : Option (List ℕ)) (is_lost : Bool) (errors_old errors_new : Option (List ℕ)) (ending : Ending)
-    → TellsNoModule entry paths file_at out_old out_new is_lost errors_old errors_new → EndsUnlessLost is_lost NotWell ending
-    → FindsPacked profile pages first entry paths file_at out_old out_new is_lost errors_old errors_new ending
-packs_none profile pages first entry paths file_at out_old out_new true errors_old errors_new ending tells ends =
-    subst (FindsPacked profile pages first entry paths file_at out_old out_new true errors_old errors_new) (sym ends) (tells, refl)
-packs_none profile pages first entry paths file_at out_old out_new false errors_old errors_new ending tells ends =
-    subst (FindsPacked profile pages first entry paths file_at out_old out_new false errors_old errors_new) (sym ends) (tells, refl)
+pub packs_none : (asked : PackOptions) (file_at : List ℕ → Option (List ℕ)) (old new : Left) (ending : Ending) → TellsNoModule asked file_at old new → EndsUnlessLost new.is_lost NotWell ending
+    → FindsPacked asked file_at old new ending
+packs_none asked file_at old new ending tells ends = go new.is_lost refl ends
+  where
+    go : (lost : Bool) → new.is_lost ≡ lost → EndsUnlessLost lost NotWell ending → FindsPacked asked file_at old new ending
+    go true is ends = subst (FindsPacked asked file_at old new) (sym ends) (tells, is)
+    go false is ends = subst (FindsPacked asked file_at old new) (sym ends) (tells, is)

@@ -4,6 +4,7 @@ use Rattle.std.proofs.KnownBytes.{Appends-trans}
 use Rattle.std.proofs.lemmas.Option.{none-some, slice_get_within}
 use Rattle.a64_word.specs.Words.{words_of}
 use Rattle.lfi_module.specs.declared.profile.Profile.{Profile}
+use Rattle.lfi_command_line.specs.declared.options.PackOptions.{PackOptions}
 use Rattle.lfi_pack.specs.Heard.{IsStream, modules_from}
 use Rattle.lfi_pack.specs.Packs.{IsPacked}
 use Rattle.lfi_code.specs.Checking.{IsCode}
@@ -42,9 +43,13 @@ taken_length (y ∷ ys) zero within = refl
 taken_length (y ∷ ys) (suc k) within = ap suc (taken_length ys k (omega (arith, within)))
 
 -- one module more was written
-pub written_more : (profile : Profile) (pages number entry : ℕ) (files : List (List ℕ)) (k : ℕ) (code : List ℕ) (old half new : Option (List ℕ)) → slice_get files k ≡ Some code
-    → WritesStream profile pages number entry (take k files) old half → WritesModule profile pages (number + k) entry code half new → WritesStream profile pages number entry (take (k + 1) files) old new
-written_more profile pages number entry files k code old half new at before one =
+pub written_more : (asked : PackOptions) (files : List (List ℕ)) (k : ℕ) (code : List ℕ) (old half new : Option (List ℕ)) → slice_get files k ≡ Some code
+    → WritesStream asked (take k files) old half → WritesModule asked (asked.first + k) code half new → WritesStream asked (take (k + 1) files) old new
+written_more asked files k code old half new at before one =
+    let profile = asked.profile in
+    let pages = asked.pages in
+    let number = asked.first in
+    let entry = asked.entry in
     let within = slice_get_within files k code at in
     let size : length (take k files) ≡ k = taken_length files k within in
     let next : k + 1 ≡ suc k = omega arith in

@@ -1,6 +1,6 @@
 -- What is written of code that is judged, with what is explained of it. Source: this project's profile,
 -- docs/COMMANDS.md.
-use Rattle.std.specs.Prelude.{◌≡◌, ◌⊎◌, ℕ, zero, suc, List, ◌++◌, length, slice_get, Option, Some, IfSome, codes}
+use Rattle.std.specs.Prelude.{◌≡◌, ◌⊎◌, ℕ, zero, suc, List, ◌++◌, length, map, slice_get, Option, Some, IfSome, codes}
 use Rattle.std.specs.Io.KnownBytes.{Appends}
 use Rattle.a64_word.specs.Words.{words_of}
 use Rattle.lfi_module.specs.declared.profile.Profile.{Profile}
@@ -8,8 +8,9 @@ use Rattle.lfi_rules.specs.declared.fault.Fault.{Fault}
 use Rattle.lfi_rules.specs.Texts.{fault_text}
 use Rattle.lfi_explain.specs.declared.explanation.Explanation.{Explanation}
 use Rattle.lfi_explain.specs.Explanations.{Explains, WritesRefusals, explanation_text}
-use Rattle.lfi_command_line.specs.declared.line.Explain.{Explain}
-use Rattle.lfi_command_line.specs.declared.line.Explain.TheVariants.{Nothing, First, All}
+use Rattle.lfi_command_line.specs.declared.options.CheckOptions.{CheckOptions}
+use Rattle.lfi_command_line.specs.declared.options.Explain.{Explain}
+use Rattle.lfi_command_line.specs.declared.options.Explain.TheVariants.{Nothing, First, All}
 use Rattle.lfi_code.specs.declared.verdict.Verdict.TheVariants as verdicts
 use Rattle.lfi_code.specs.Checking.{Checks, verdict_text}
 use Rattle.lfi_file_commands.specs.declared.device_cause.DeviceCause.{DeviceCause}
@@ -57,10 +58,10 @@ WritesFinding name profile explain bytes (findings.Refused fault) old new = Writ
 WritesFinding name profile explain bytes (findings.NoCode n) old new = Appends old new (name ++ verdict_text verdicts.BadLength ++ codes "\n" ++ kind_line n.kind)
 
 -- One finding of the file at a path; it was written, its length told where it is no code, and it gives the ending.
-pub record HasJudged (name : List ℕ) (profile : Profile) (explain : Explain) (path : List ℕ) (bytes : Option (List ℕ)) (old new : Left) (ending : Ending) : Type 0 where
+pub record HasJudged (name : List ℕ) (asked : CheckOptions) (path : List ℕ) (bytes : Option (List ℕ)) (old new : Left) (ending : Ending) : Type 0 where
   pub finding : Finding
-  pub found : IfSome bytes (λ xs. IsFound profile xs finding)
-  pub written : WritesFinding name profile explain bytes finding old.out new.out
+  pub found : IfSome bytes (λ xs. IsFound asked.profile xs finding)
+  pub written : WritesFinding name asked.profile asked.explain bytes finding old.out new.out
   pub told : TellsOf path (other_of finding) old.is_lost new.is_lost old.errors new.errors
   pub put : new.put ≡ old.put
   pub ends : ending ≡ ending_of (verdict_of finding)
@@ -71,27 +72,30 @@ IsUnread path old new ending =
     (failure : Failure) × IsOfReading path failure × Told new.is_lost old.errors new.errors (failure_line failure) × (new.out ≡ old.out) × (new.put ≡ old.put) × (ending ≡ Failed)
 
 -- what came of the file at a path, which has these bytes, as far as they are known
-abbrev pub ChecksOne : (name : List ℕ) → Profile → Explain → (path : List ℕ) → (bytes : Option (List ℕ)) → (old new : Left) → Ending → Type 0
-ChecksOne name profile explain path bytes old new ending = HasJudged name profile explain path bytes old new ending ⊎ IsUnread path old new ending
+abbrev pub ChecksOne : (name : List ℕ) → CheckOptions → (path : List ℕ) → (bytes : Option (List ℕ)) → (old new : Left) → Ending → Type 0
+ChecksOne name asked path bytes old new ending = HasJudged name asked path bytes old new ending ⊎ IsUnread path old new ending
 
--- what came of the first files at these paths, so many of them, one after another; the ending is the worst of theirs
-abbrev pub AreChecked : Profile → Explain → (paths : List (List ℕ)) → (List ℕ → Option (List ℕ)) → (count : ℕ) → (old new : Left) → Ending → Type 0
-AreChecked profile explain paths file_at zero old new ending = (new ≡ old) × (ending ≡ Well)
-AreChecked profile explain paths file_at (suc k) old new ending =
-    (mid : Left) × (before here : Ending) × (path : List ℕ) × AreChecked profile explain paths file_at k old mid before × (slice_get paths k ≡ Some path)
-    × ChecksOne (name_before (length paths) path) profile explain path (file_at path) mid new here × (ending ≡ worst before here)
+-- the paths of the files, by their bytes
+abbrev pub paths_of : CheckOptions → List (List ℕ)
+paths_of asked = map (λ path. path.now) asked.files.items
+
+-- what came of the first files, so many of them, one after another; the ending is the worst of theirs
+abbrev pub AreChecked : CheckOptions → (List ℕ → Option (List ℕ)) → (count : ℕ) → (old new : Left) → Ending → Type 0
+AreChecked asked file_at zero old new ending = (new ≡ old) × (ending ≡ Well)
+AreChecked asked file_at (suc k) old new ending =
+    (mid : Left) × (before here : Ending) × (path : List ℕ) × AreChecked asked file_at k old mid before × (slice_get (paths_of asked) k ≡ Some path)
+    × ChecksOne (name_before (length asked.files.items) path) asked path (file_at path) mid new here × (ending ≡ worst before here)
 
 -- all of them were
-abbrev pub ChecksAll : Profile → Explain → (paths : List (List ℕ)) → (List ℕ → Option (List ℕ)) → (old new : Left) → Ending → Type 0
-ChecksAll profile explain paths file_at old new ending =
-    (all : Ending) × AreChecked profile explain paths file_at (length paths) old new all × EndsUnlessLost new.is_lost all ending
+abbrev pub ChecksAll : CheckOptions → (List ℕ → Option (List ℕ)) → (old new : Left) → Ending → Type 0
+ChecksAll asked file_at old new ending = (all : Ending) × AreChecked asked file_at (length asked.files.items) old new all × EndsUnlessLost new.is_lost all ending
 
 -- those before one were, of which the output failed; that was told, unless it is lost, and the run has failed
-abbrev pub StopsAtOutput : Profile → Explain → (paths : List (List ℕ)) → (List ℕ → Option (List ℕ)) → (old new : Left) → Ending → Type 0
-StopsAtOutput profile explain paths file_at old new ending =
-    (k : ℕ) × (mid : Left) × (before : Ending) × (cause : DeviceCause) × AreChecked profile explain paths file_at k old mid before
+abbrev pub StopsAtOutput : CheckOptions → (List ℕ → Option (List ℕ)) → (old new : Left) → Ending → Type 0
+StopsAtOutput asked file_at old new ending =
+    (k : ℕ) × (mid : Left) × (before : Ending) × (cause : DeviceCause) × AreChecked asked file_at k old mid before
     × Told new.is_lost mid.errors new.errors (failure_line (CannotWrite StandardOutput cause)) × (new.put ≡ mid.put) × (ending ≡ Failed)
 
--- What `lfiload check FILE..` did with the files at these paths.
-pub record HasChecked (profile : Profile) (explain : Explain) (paths : List (List ℕ)) (file_at : List ℕ → Option (List ℕ)) (old new : Left) (ending : Ending) : Type 0 where
-  pub did : ChecksAll profile explain paths file_at old new ending ⊎ StopsAtOutput profile explain paths file_at old new ending
+-- What `lfiload check` did, as it was asked for.
+pub record HasChecked (asked : CheckOptions) (file_at : List ℕ → Option (List ℕ)) (old new : Left) (ending : Ending) : Type 0 where
+  pub did : ChecksAll asked file_at old new ending ⊎ StopsAtOutput asked file_at old new ending

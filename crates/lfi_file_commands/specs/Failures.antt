@@ -12,6 +12,7 @@ use Rattle.lfi_file_commands.specs.declared.failure.Target.{Target}
 use Rattle.lfi_file_commands.specs.declared.failure.Target.TheVariants.{StandardOutput, File}
 use Rattle.lfi_file_commands.specs.declared.failure.Failure.{Failure}
 use Rattle.lfi_file_commands.specs.declared.failure.Failure.TheVariants.{CannotRead, CannotWrite, CannotListen, NoMemory}
+use Rattle.lfi_file_commands.specs.Left.{Left}
 use Rattle.lfi_file_commands.specs.Causes.{cause_behind, cause_line, cause_of}
 
 -- what can't be written, in words
@@ -96,3 +97,7 @@ FailsServing socket _ = ⊥
 abbrev pub Told : Bool → (old new : Option (List ℕ)) → List ℕ → Type 0
 Told true old new lines = ⊤
 Told false old new lines = Appends old new lines
+
+-- These lines were told on the errors, unless something is lost, and nothing else was written or put.
+abbrev pub TellsLines : List ℕ → (old new : Left) → Type 0
+TellsLines lines old new = Told new.is_lost old.errors new.errors lines × (new.out ≡ old.out) × (new.put ≡ old.put)

@@ -9,6 +9,7 @@ use Rattle.lfi_place.specs.declared.report.ImageState.TheVariants.{Absent, Part,
 use Rattle.lfi_place.specs.declared.report.ModuleReport.{ModuleReport}
 use Rattle.lfi_file_commands.specs.declared.failure.Failure.{Failure}
 use Rattle.lfi_file_commands.specs.Failures.{failure_lines, IsOfWriting, Told}
+use Rattle.lfi_file_commands.specs.Left.{Left}
 
 -- a number in decimal digits, two at the least
 abbrev pub two_digits : ℕ → List ℕ
@@ -74,11 +75,11 @@ NamesPath folder image None = ⊤
 NamesPath folder image (Some failure) = IsOfWriting (image_path_of folder image.slot) failure
 
 -- Of these images each was put into the folder at the path of its own slot, or a failure came and was told.
-pub record WritesImages (folder : List ℕ) (images : List Image) (put_old put_new : Option (List (List ℕ × List ℕ))) (is_lost : Bool) (errors_old errors_new : Option (List ℕ)) (all : Bool) : Type 0 where
+pub record WritesImages (folder : List ℕ) (images : List Image) (old new : Left) (all : Bool) : Type 0 where
   pub fates : List Fate
   pub each : map (λ fate. fate.image) fates ≡ images
-  pub puts : Puts put_old put_new (files_written folder fates)
+  pub puts : Puts old.put new.put (files_written folder fates)
   pub names : AllByRecursion (λ fate. NamesPath folder fate.image fate.failure) fates
-  pub told : Told is_lost errors_old errors_new (failure_lines (failures_in fates))
+  pub told : Told new.is_lost old.errors new.errors (failure_lines (failures_in fates))
   -- whether all were put
   pub all_put : all ≡ is_none_of (failures_in fates)

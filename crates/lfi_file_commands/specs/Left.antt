@@ -15,3 +15,7 @@ left out put is_lost errors = record { out = out; put = put; is_lost = is_lost; 
 -- nothing was told on the errors
 abbrev pub TellsNothing : (old new : Left) → Type 0
 TellsNothing old new = (new.errors ≡ old.errors) × (new.is_lost ≡ old.is_lost)
+
+-- nothing was put, and nothing was told on the errors: the output alone may be another one
+abbrev pub OnlyOutput : (old new : Left) → Type 0
+OnlyOutput old new = (new.put ≡ old.put) × TellsNothing old new

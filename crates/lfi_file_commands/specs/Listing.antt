@@ -3,6 +3,7 @@ use Rattle.std.specs.Prelude.{◌≡◌, ℕ, Bool, List, Option, Some, None, If
 use Rattle.std.specs.Io.KnownBytes.{Appends}
 use Rattle.a64_word.specs.Words.{words_of}
 use Rattle.lfi_module.specs.declared.profile.Profile.{Profile}
+use Rattle.lfi_command_line.specs.declared.options.DisassembleOptions.{DisassembleOptions}
 use Rattle.lfi_explain.specs.Listings.{WritesListing}
 use Rattle.lfi_file_commands.specs.declared.ending.Ending.{Ending}
 use Rattle.lfi_file_commands.specs.declared.ending.Ending.TheVariants.{Well, NotWell}
@@ -23,11 +24,11 @@ abbrev pub EndsListing : Option NoCode → (is_lost : Bool) → Ending → Type 
 EndsListing None is_lost ending = ending ≡ Well
 EndsListing (Some n) is_lost ending = EndsUnlessLost is_lost NotWell ending
 
--- What `lfiload disassemble FILE` did with the file at a path, which has these bytes, as far as they are known: it listed them, or wrote that they
--- aren't code and told their length, unless that is lost.
-pub record HasListed (marks : Bool) (profile : Profile) (path : List ℕ) (bytes : Option (List ℕ)) (old new : Left) (ending : Ending) : Type 0 where
+-- What `lfiload disassemble FILE` did, as it was asked for, with a file that has these bytes, as far as they are known: it listed them, or wrote that
+-- they aren't code and told their length, unless that is lost.
+pub record HasListed (asked : DisassembleOptions) (bytes : Option (List ℕ)) (old new : Left) (ending : Ending) : Type 0 where
   pub other : Option NoCode
-  pub listed : WritesWords marks profile bytes other old.out new.out
+  pub listed : WritesWords asked.marks asked.profile bytes other old.out new.out
   pub put : new.put ≡ old.put
-  pub told : TellsOf path other old.is_lost new.is_lost old.errors new.errors
+  pub told : TellsOf asked.file.now other old.is_lost new.is_lost old.errors new.errors
   pub ends : EndsListing other new.is_lost ending

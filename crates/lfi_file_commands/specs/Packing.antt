@@ -1,8 +1,8 @@
 -- What `lfiload pack` finds of code files, and writes. Source: this project's profile, docs/COMMANDS.md.
-use Rattle.std.specs.Prelude.{◌≡◌, ℕ, ◌<◌, ◌≤◌, Bool, true, false, List, ◌++◌, length, map, Option, Some, IfSome, codes, decimal, slice_get}
+use Rattle.std.specs.Prelude.{◌≡◌, ℕ, ◌<◌, ◌≤◌, true, false, List, ◌++◌, length, map, Option, Some, IfSome, codes, decimal, slice_get}
 use Rattle.std.specs.Io.KnownBytes.{Appends}
 use Rattle.a64_word.specs.Words.{words_of}
-use Rattle.lfi_module.specs.declared.profile.Profile.{Profile}
+use Rattle.lfi_command_line.specs.declared.options.PackOptions.{PackOptions}
 use Rattle.lfi_pack.specs.Heard.{IsStream, modules_from}
 use Rattle.lfi_file_commands.specs.declared.packing.NoModule.{NoModule}
 use Rattle.lfi_file_commands.specs.declared.packing.NoModule.TheVariants.{BadLength, NoEntry}
@@ -38,27 +38,29 @@ pub record AreModulesOf (entry : ℕ) (bytes : List (Option (List ℕ))) (files 
   pub each : (c : ℕ) (code : List ℕ) (known : Option (List ℕ)) → slice_get files c ≡ Some code → slice_get bytes c ≡ Some known → IfSome known (λ xs. xs ≡ code)
   pub modules : AreModules entry files
 
--- A stream of exactly these modules, numbered from `first` on, going by a profile and with pages of one size, was written.
-abbrev pub WritesStream : Profile → (pages first entry : ℕ) → List (List ℕ) → (old new : Option (List ℕ)) → Type 0
-WritesStream profile pages first entry files old new = (text : List ℕ) × IsStream (modules_from profile pages first entry files) text × Appends old new text
+-- A stream of exactly these modules was written, as it was asked for: numbered from the first one's number on, by one profile and with pages of one size.
+abbrev pub WritesStream : PackOptions → List (List ℕ) → (old new : Option (List ℕ)) → Type 0
+WritesStream asked files old new = (text : List ℕ) × IsStream (modules_from asked.profile asked.pages asked.first asked.entry files) text × Appends old new text
+
+-- the paths of the files that are asked for, by their bytes
+abbrev pub codes_of : PackOptions → List (List ℕ)
+codes_of asked = map (λ path. path.now) asked.codes.items
 
 -- One of the files is no module; that was told, unless it is lost, and nothing was written.
-abbrev pub TellsNoModule : (entry : ℕ) → (paths : List (List ℕ)) → (List ℕ → Option (List ℕ)) → (out_old out_new : Option (List ℕ)) → (is_lost : Bool) → (errors_old errors_new : Option (List ℕ)) → Type 0
-TellsNoModule entry paths file_at out_old out_new is_lost errors_old errors_new =
-    (c : ℕ) × (path : List ℕ) × (told : NoModule) × (slice_get paths c ≡ Some path) × IsNoModule entry path file_at told
-    × Told is_lost errors_old errors_new (no_module_line told) × (out_new ≡ out_old)
+abbrev pub TellsNoModule : PackOptions → (List ℕ → Option (List ℕ)) → (old new : Left) → Type 0
+TellsNoModule asked file_at old new =
+    (c : ℕ) × (path : List ℕ) × (told : NoModule) × (slice_get (codes_of asked) c ≡ Some path) × IsNoModule asked.entry path file_at told
+    × Told new.is_lost old.errors new.errors (no_module_line told) × (new.out ≡ old.out)
 
--- The files at these paths were packed, a module each; or one of them is no module. By the ending.
-abbrev pub FindsPacked : Profile → (pages first entry : ℕ) → (paths : List (List ℕ)) → (List ℕ → Option (List ℕ)) → (out_old out_new : Option (List ℕ)) → (is_lost : Bool) → (errors_old errors_new : Option (List ℕ)) → Ending → Type 0
-FindsPacked profile pages first entry paths file_at out_old out_new is_lost errors_old errors_new Well =
-    (files : List (List ℕ)) × AreModulesOf entry (map file_at paths) files × WritesStream profile pages first entry files out_old out_new × (errors_new ≡ errors_old)
-FindsPacked profile pages first entry paths file_at out_old out_new is_lost errors_old errors_new NotWell =
-    TellsNoModule entry paths file_at out_old out_new is_lost errors_old errors_new × (is_lost ≡ false)
-FindsPacked profile pages first entry paths file_at out_old out_new is_lost errors_old errors_new WrongWords = ⊥
-FindsPacked profile pages first entry paths file_at out_old out_new is_lost errors_old errors_new Failed =
-    TellsNoModule entry paths file_at out_old out_new is_lost errors_old errors_new × (is_lost ≡ true)
+-- The files were packed, a module each; or one of them is no module. By the ending.
+abbrev pub FindsPacked : PackOptions → (List ℕ → Option (List ℕ)) → (old new : Left) → Ending → Type 0
+FindsPacked asked file_at old new Well =
+    (files : List (List ℕ)) × AreModulesOf asked.entry (map file_at (codes_of asked)) files × WritesStream asked files old.out new.out × (new.errors ≡ old.errors)
+FindsPacked asked file_at old new NotWell = TellsNoModule asked file_at old new × (new.is_lost ≡ false)
+FindsPacked asked file_at old new WrongWords = ⊥
+FindsPacked asked file_at old new Failed = TellsNoModule asked file_at old new × (new.is_lost ≡ true)
 
--- What `lfiload pack` did with the files at these paths: it packed them, or told that one of them is no module, and put no file.
-pub record HasPacked (profile : Profile) (pages first entry : ℕ) (paths : List (List ℕ)) (file_at : List ℕ → Option (List ℕ)) (old new : Left) (ending : Ending) : Type 0 where
-  pub found : FindsPacked profile pages first entry paths file_at old.out new.out new.is_lost old.errors new.errors ending
+-- What `lfiload pack` did, as it was asked for: it packed the files, or told that one of them is no module, and put no file.
+pub record HasPacked (asked : PackOptions) (file_at : List ℕ → Option (List ℕ)) (old new : Left) (ending : Ending) : Type 0 where
+  pub found : FindsPacked asked file_at old new ending
   pub put : new.put ≡ old.put

@@ -14,13 +14,6 @@ abbrev pub EndsRun : (is_lost : Bool) → ImageRun → Ending → Type 0
 EndsRun true run ending = ending ≡ Failed
 EndsRun false run ending = ending ≡ ending_of_run run
 
--- what came of an image's file; its line was told, and it gives the ending
-pub record FindsRun (bytes : Option (List ℕ)) (steps : ℕ) (old new : Option (List ℕ)) (is_lost : Bool) (errors_old errors_new : Option (List ℕ)) (ending : Ending) : Type 0 where
-  pub run : ImageRun
-  pub came : CameOf bytes steps old new run
-  pub told : Told is_lost errors_old errors_new (run_text run ++ codes "\n")
-  pub ends : EndsRun is_lost run ending
-
 -- What `lfiload run` did with a file that has these bytes, as far as they are known: it ran it as an image for at most so many steps,
 -- told the line of what came of it, put no file, and ended by it.
 pub record HasRun (bytes : Option (List ℕ)) (steps : ℕ) (old new : Left) (ending : Ending) : Type 0 where

@@ -10,16 +10,13 @@ use std::fs::{self, File, Files, OpenFile};
 use std::io::{self, Read, Write};
 use std::os::unix::fs::MetadataExt;
 
-/// Where the commands find their input, and put the images.
+/// Where the commands find their input.
 pub trait Disk {
     /// What reads a file.
     type Reader: Read + Send + Drop;
 
     /// The bytes of the file at a path, where they are known.
     ghost file_at: { Self → List ℕ → Option (List ℕ) } = { λ _ _. None };
-
-    /// The paths and bytes of the files that were put there, the oldest first, where they are known.
-    ghost put_files: { Self → Option (List (List ℕ × List ℕ)) } = { λ _. None };
 
     /// Opens the file at this path.
     ///
@@ -34,6 +31,12 @@ pub trait Disk {
     fn length(&self, _reader: &Self::Reader) -> Option<u64> {
         None
     }
+}
+
+/// Where the commands put images.
+pub trait ImageStore {
+    /// The paths and bytes of the files that were put there, the oldest first, where they are known.
+    ghost put_files: { Self → Option (List (List ℕ × List ℕ)) } = { λ _. None };
 
     /// Puts the file of an image at this path, in place of one that is there.
     ///
@@ -55,6 +58,13 @@ pub struct SystemDisk<'a, R, I> {
     pub rt: &'a R,
     /// The standard input, which the path `-` names.
     pub input: I,
+}
+
+/// The system's files, as far as images are put there. It tells contracts nothing of their bytes.
+#[derive(Drop)]
+pub struct SystemStore<'a, R> {
+    /// The runtime that reaches them.
+    pub rt: &'a R,
 }
 
 /// What reads a file of the system, or its standard input.
@@ -113,7 +123,9 @@ impl<R: Files<File = File>, I: Read + Copy + Send + Drop> Disk for SystemDisk<'_
             SystemReader::StandardInput(_) => None,
         }
     }
+}
 
+impl<R: Files<File = File>> ImageStore for SystemStore<'_, R> {
     /// The file is one that this call makes: what stands at its name is removed first, and never written to.
     fn put_image(&mut self, path: &str, image: &CompleteImage) -> io::Result<()> {
         let mut file = create_anew(self.rt, path)?;

@@ -3,12 +3,14 @@
 ghost use Rattle.std.specs.Prelude.{◌≡◌, ◌≢◌, ◌++◌, false, true, IfErr, IfOk, IfSome, OnErr, OnOk, codes};
 ghost use Rattle.lfi_file_commands.specs.Errors.{is_lost_of, writer_of};
 ghost use Rattle.std.specs.IoError.{error_kind};
-ghost use Rattle.lfi_file_commands.specs.Failures.{failure_line, fault_of_read, IsOfReading, Told, TellsOf};
+ghost use Rattle.lfi_file_commands.specs.Failures.{failure_line, fault_of_read, IsOfReading, Told, TellsLines, TellsOf};
 ghost use Rattle.lfi_file_commands.specs.Packing.{no_module_line};
 ghost use Rattle.lfi_file_commands.specs.Endings.{EndsUnlessLost};
 
+use crate::disk::ImageStore;
 use crate::ending::Ending;
 use crate::failure::Failure;
+use crate::outputs::Outputs;
 use crate::packing::NoModule;
 use crate::texts::{self, write_line};
 use std::alloc::Global;
@@ -121,6 +123,7 @@ impl<W: Write> Errors<W> {
 /// Tells of a failure. The run has failed then.
 pub fn tell_failure<E: Write>(failure: Failure<'_>, errors: &mut Errors<E>) -> Ending
     ensures told { Told (is_lost_of errors.new) (E.contents (writer_of errors.old)) (E.contents (writer_of errors.new)) (failure_line failure.entry) }
+    ensures lost { is_lost_of errors.old ≡ true → is_lost_of errors.new ≡ true }
     ensures failed { result ≡ Ending.Failed }
 {
     errors.tell(&failure);
@@ -143,13 +146,15 @@ pub fn tell_unread_arguments<E: Write>(error: &io::Error, errors: &mut Errors<E>
 }
 
 /// How a run ends, by what came of its line. A failure is told.
-pub fn ended<E: Write>(came: Result<Ending, Failure<'_>>, errors: &mut Errors<E>) -> Ending
-    ensures well { IfOk came.entry (λ ending. (result ≡ ending) × (errors.new ≡ errors.old)) }
-    ensures failed { IfErr came.entry (λ failure. (result ≡ Ending.Failed)
-        × Told (is_lost_of errors.new) (E.contents (writer_of errors.old)) (E.contents (writer_of errors.new)) (failure_line failure)) }
+pub fn ended<P: ImageStore, O: Write, E: Write>(
+    came: Result<Ending, Failure<'_>>,
+    outputs: &mut Outputs<P, O, E>,
+) -> Ending
+    ensures well { IfOk came.entry (λ ending. (result ≡ ending) × (outputs.new ≡ outputs.old)) }
+    ensures failed { IfErr came.entry (λ failure. (result ≡ Ending.Failed) × TellsLines (failure_line failure) outputs.old outputs.new) }
 {
     match came {
         Ok(ending) => ending,
-        Err(failure) => tell_failure(failure, errors),
+        Err(failure) => tell_failure(failure, &mut outputs.errors),
     }
 }

@@ -1,25 +1,24 @@
 //! `check`, from the paths to the ending.
 
-ghost use Rattle.std.specs.Prelude.{◌≡◌, ℕ, List, Option, IfOk, IfErr, IfSome, OnErr, false, length, map};
+ghost use Rattle.std.specs.Prelude.{◌≡◌, ℕ, IfOk, IfErr, IfSome, OnErr, false, length};
 ghost use Rattle.lfi_file_commands.specs.Checking.{naming_text, IsFound};
-ghost use Rattle.lfi_file_commands.specs.Errors.{is_lost_of, writer_of};
 ghost use Rattle.lfi_file_commands.specs.Explaining.{AreChecked, ChecksOne, HasChecked, WritesFinding};
 ghost use Rattle.lfi_file_commands.specs.Failures.{is_of_a_write};
-ghost use Rattle.lfi_file_commands.specs.Left.{left};
+ghost use Rattle.lfi_file_commands.specs.Left.{Left, OnlyOutput};
 
 use crate::checking::{CommandFault, check_file};
 use crate::device_cause::DeviceCause;
-use crate::disk::Disk;
+use crate::disk::{Disk, ImageStore};
 use crate::ending::Ending;
-use crate::errors::{Errors, tell_failure};
+use crate::errors::tell_failure;
 use crate::explaining::check_explained;
 use crate::failure::Failure;
 use crate::finding::Finding;
 use crate::naming::{Naming, name_of};
 use crate::opening::{open, path_at};
+use crate::outputs::Outputs;
 use crate::running::tell_other;
-use lfi_command_line::Explain;
-use lfi_module::Profile;
+use lfi_command_line::{CheckOptions, Explain};
 use std::alloc::Global;
 use std::io::Write;
 
@@ -30,20 +29,19 @@ fn judge_file<D: Disk, O: Write>(
     disk: &D,
     reader: D::Reader,
     name: Naming<'_>,
-    profile: Profile,
-    how: Explain,
+    asked: &CheckOptions<'_>,
     out: &mut O,
 ) -> Result<Finding, CommandFault>
-    ensures found { IfOk result (λ finding. IfSome (D.Reader.remaining reader) (λ bytes. IsFound profile bytes finding)) }
-    ensures written { IfOk result (λ finding. WritesFinding (naming_text name.entry) profile how (D.Reader.remaining reader) finding (O.contents out.old) (O.contents out.new)) }
+    ensures found { IfOk result (λ finding. IfSome (D.Reader.remaining reader) (λ bytes. IsFound asked.now.profile bytes finding)) }
+    ensures written { IfOk result (λ finding. WritesFinding (naming_text name.entry) asked.now.profile asked.now.explain (D.Reader.remaining reader) finding (O.contents out.old) (O.contents out.new)) }
     ensures unwritten { IfErr result (λ fault. is_of_a_write fault ≡ false → out.new ≡ out.old) }
 {
-    match how {
+    match asked.explain {
         Explain::Nothing => {
             let length = disk.length(&reader);
-            check_file(alloc, reader, length, profile, name, out)
+            check_file(alloc, reader, length, asked.profile, name, out)
         }
-        _ => check_explained(alloc, reader, profile, how, name, out),
+        explain => check_explained(alloc, reader, asked.profile, explain, name, out),
     }
 }
 
@@ -53,61 +51,54 @@ fn judge_file<D: Disk, O: Write>(
 /// # Errors
 ///
 /// Where a write of the output fails, for this cause. Nothing was told then.
-fn check_one<D: Disk, O: Write, E: Write>(
+fn check_one<D: Disk, P: ImageStore, O: Write, E: Write>(
     alloc: Global,
     disk: &D,
     path: &str,
     name: Naming<'_>,
-    profile: Profile,
-    how: Explain,
-    out: &mut O,
-    errors: &mut Errors<E>,
+    asked: &CheckOptions<'_>,
+    outputs: &mut Outputs<P, O, E>,
 ) -> Result<Ending, DeviceCause>
-    ensures found { (put : Option (List (List ℕ × List ℕ))) → IfOk result (ChecksOne (naming_text name.entry) profile how path.now (D.file_at disk.now path.now)
-        (left (O.contents out.old) put (is_lost_of errors.old) (E.contents (writer_of errors.old)))
-        (left (O.contents out.new) put (is_lost_of errors.new) (E.contents (writer_of errors.new)))) }
-    ensures errors { OnErr result (errors.new ≡ errors.old) }
+    ensures found { IfOk result (ChecksOne (naming_text name.entry) asked.now path.now (D.file_at disk.now path.now) outputs.old outputs.new) }
+    ensures untold { OnErr result (OnlyOutput outputs.old outputs.new) }
 {
     let reader = match open(disk, path) {
         Ok(reader) => reader,
-        Err(failure) => return Ok(tell_failure(failure, errors)),
+        Err(failure) => return Ok(tell_failure(failure, &mut outputs.errors)),
     };
-    match judge_file(alloc, disk, reader, name, profile, how, out) {
+    match judge_file(alloc, disk, reader, name, asked, &mut outputs.out) {
         Ok(finding) => {
-            tell_other(path, finding.other(), errors);
+            tell_other(path, finding.other(), &mut outputs.errors);
             Ok(Ending::of_verdict(&finding.verdict()))
         }
         Err(CommandFault::NotWritten(cause)) => Err(cause),
-        Err(fault) => Ok(tell_failure(Failure::of(fault, path), errors)),
+        Err(fault) => Ok(tell_failure(
+            Failure::of(fault, path),
+            &mut outputs.errors,
+        )),
     }
 }
 
-/// Judges the code in the files at these paths, one after another, and tells of each. It gives the worst of their endings.
+/// Judges the code in the files, one after another, and tells of each. It gives the worst of their endings.
 ///
 /// # Errors
 ///
 /// Where a write of the output fails, for this cause: of one file. The others before it are told.
-fn check_files<'a, D: Disk, O: Write, E: Write>(
+fn check_files<D: Disk, P: ImageStore, O: Write, E: Write>(
     alloc: Global,
     disk: &D,
-    paths: &[&'a str],
-    profile: Profile,
-    how: Explain,
-    out: &mut O,
-    errors: &mut Errors<E>,
+    asked: &CheckOptions<'_>,
+    outputs: &mut Outputs<P, O, E>,
 ) -> Result<Ending, DeviceCause>
-    ensures all { (put : Option (List (List ℕ × List ℕ))) → IfOk result (AreChecked profile how (map (λ path. path.now) paths.now) (D.file_at disk.now) (length paths.now)
-        (left (O.contents out.old) put (is_lost_of errors.old) (E.contents (writer_of errors.old)))
-        (left (O.contents out.new) put (is_lost_of errors.new) (E.contents (writer_of errors.new)))) }
-    ensures part { OnErr result ((k : ℕ) × (mid : Option (List ℕ)) × (before : Ending) × ((put : Option (List (List ℕ × List ℕ))) → AreChecked profile how (map (λ path. path.now) paths.now) (D.file_at disk.now) k
-        (left (O.contents out.old) put (is_lost_of errors.old) (E.contents (writer_of errors.old)))
-        (left mid put (is_lost_of errors.new) (E.contents (writer_of errors.new))) before)) }
+    ensures all { IfOk result (AreChecked asked.now (D.file_at disk.now) (length asked.now.files.items) outputs.old outputs.new) }
+    ensures part { OnErr result ((k : ℕ) × (mid : Left) × (before : Ending) × AreChecked asked.now (D.file_at disk.now) k outputs.old mid before × OnlyOutput mid outputs.new) }
 {
+    let paths = asked.files.as_slice();
     let mut worst = Ending::Well;
     for number in 0..paths.len() {
         let path = path_at(paths, number);
         let name = name_of(paths, path);
-        let here = match check_one(alloc, disk, path, name, profile, how, out, errors) {
+        let here = match check_one(alloc, disk, path, name, asked, outputs) {
             Ok(here) => here,
             Err(cause) => return Err(cause),
         };
@@ -116,23 +107,18 @@ fn check_files<'a, D: Disk, O: Write, E: Write>(
     Ok(worst)
 }
 
-/// Judges the code in the files at these paths, and writes what is found of each, behind its path where there are several. A
-/// file that can't be read is told of, and the others are judged. It ends where the output fails.
-pub fn run_check<'a, D: Disk, O: Write, E: Write>(
+/// Judges the code in the files, and writes what is found of each, behind its path where there are several. A file that can't
+/// be read is told of, and the others are judged. It ends where the output fails.
+pub fn run_check<D: Disk, P: ImageStore, O: Write, E: Write>(
     alloc: Global,
     disk: &D,
-    paths: &[&'a str],
-    profile: Profile,
-    how: Explain,
-    out: &mut O,
-    errors: &mut Errors<E>,
+    asked: &CheckOptions<'_>,
+    outputs: &mut Outputs<P, O, E>,
 ) -> Ending
-    ensures { (put : Option (List (List ℕ × List ℕ))) → HasChecked profile how (map (λ path. path.now) paths.now) (D.file_at disk.now)
-        (left (O.contents out.old) put (is_lost_of errors.old) (E.contents (writer_of errors.old)))
-        (left (O.contents out.new) put (is_lost_of errors.new) (E.contents (writer_of errors.new))) result }
+    ensures { HasChecked asked.now (D.file_at disk.now) outputs.old outputs.new result }
 {
-    match check_files(alloc, disk, paths, profile, how, out, errors) {
-        Ok(worst) => errors.unless_lost(worst),
-        Err(cause) => tell_failure(Failure::of_output(cause), errors),
+    match check_files(alloc, disk, asked, outputs) {
+        Ok(worst) => outputs.errors.unless_lost(worst),
+        Err(cause) => tell_failure(Failure::of_output(cause), &mut outputs.errors),
     }
 }

@@ -20,12 +20,13 @@
 //! - **`check` and `load` are library calls over any reader and writer** (`lfi_commands`). Their contracts speak of all
 //!   that the reader has left, and not of what was read: so a body that judges the first 16 MiB of a longer input, or
 //!   loads its first page, is refused. `check` reads one byte more than can be code, and no more.
-//! - **Files are reached through a small trait, `Disk`**: `open` gives a reader of the file at a path, and `put_image`
-//!   puts an image's file at a path. Two ghost members tell contracts the bytes of a path and the files that were put.
-//!   So `run_words` is generic over its disk, and its contract reads from the words to the files. The disk of the
-//!   system tells nothing; its two methods, `File::open` and `File::create` with `write_image`, are all that stands
-//!   outside of the contracts, with the few lines of `main`. The tests put it to work, and have a disk in memory that
-//!   tells its bytes.
+//! - **Files are reached through two small traits**: `Disk` opens a reader of the file at a path, and `ImageStore` puts an
+//!   image's file at a path. A ghost member of each tells contracts the bytes of a path, and the files that were put. So
+//!   `run_words` is generic over both, and its contract reads from the words to the files. Those of the system
+//!   (`SystemDisk`, `SystemStore`) tell nothing; their calls are all that stands outside of the contracts, with the few lines
+//!   of `main`. The tests put them to work, and have others in memory that tell their bytes.
+//! - **What a run writes to is one value, `Outputs`**, which contracts see as `Left`: what was written, put and told, and
+//!   whether something told is lost. What it reads is beside it, since reading changes nothing there.
 //! - **`put_image` takes the image, and not a writer that the caller fills.** A trait that gave a writer for a path,
 //!   and took it back when it is full, would leave one line less outside. But a writer that is lent to `write_image`
 //!   comes back with its contents known and nothing else, so what path it was made for would have to be kept beside it
@@ -92,6 +93,7 @@ mod kind;
 mod naming;
 mod no_code;
 mod opening;
+mod outputs;
 mod packing;
 mod pieces;
 mod refused;
@@ -102,18 +104,19 @@ mod whole;
 
 pub use checking::{CommandFault, check, check_file};
 pub use device_cause::DeviceCause;
-pub use disk::{Disk, SystemDisk};
+pub use disk::{Disk, ImageStore, SystemDisk, SystemStore};
 pub use ending::Ending;
 pub use errors::{Errors, ended, tell_failure, tell_unread_arguments};
 pub use explaining::{check_explained, disassemble};
 pub use failure::{Failure, Target};
 pub use finding::Finding;
-pub use images::{write_asked_images, write_images};
+pub use images::write_asked_images;
 pub use judging::run_check;
 pub use kind::FileKind;
 pub use naming::Naming;
 pub use no_code::NoCode;
 pub use opening::open_all;
+pub use outputs::Outputs;
 pub use packing::NoModule;
 pub use refused::{write_asked_refused, write_refused};
 pub use running::{run_disassemble, run_pack, run_run};

@@ -14,7 +14,8 @@ use crate::no_code::{BadLength, NoCode};
 use crate::opening::{open, path_at};
 use crate::whole::{Reading, read_code};
 use lfi_code::Code;
-use lfi_module::{Extent, ModuleNumber, PageSize, Profile, WordCount};
+use lfi_command_line::PackOptions;
+use lfi_module::{Extent, ModuleNumber, WordCount};
 use lfi_pack::{PackFault, pack_module};
 use std::alloc::Global;
 use std::fmt;
@@ -111,23 +112,26 @@ fn code_at(files: &[Vec<u8>], place: usize) -> &[u8]
     files[place].as_slice()
 }
 
-/// Writes this code as the module with this number, which is entered at this word and has pages of this size.
+/// Writes this code as the module with this number, as it is asked for.
 fn write_module<W: Write>(
     number: usize,
-    entry: u32,
-    profile: Profile,
-    pages: PageSize,
+    asked: &PackOptions<'_>,
     code: &[u8],
     writer: &mut W,
 ) -> Result<(), DeviceCause>
     requires number { number < 16 }
     requires code { IsCode code.now }
-    requires entry { entry < length (words_of code.now) }
-    requires pages { HasPages profile pages }
-    ensures { OnOk result (WritesModule profile pages number entry code.now (W.contents writer.old) (W.contents writer.new)) }
+    requires entry { asked.now.entry < length (words_of code.now) }
+    requires pages { HasPages asked.now.profile asked.now.pages }
+    ensures { OnOk result (WritesModule asked.now number code.now (W.contents writer.old) (W.contents writer.new)) }
 {
     let words = Code::of(code).len_words() as u32;
-    let extent = Extent::of(WordCount::of(words), entry, profile, pages);
+    let extent = Extent::of(
+        WordCount::of(words),
+        asked.entry,
+        asked.profile,
+        asked.pages,
+    );
     let mut reader = code;
     match pack_module(ModuleNumber::at(number), extent, &mut reader, writer) {
         Ok(()) => Ok(()),
@@ -136,34 +140,23 @@ fn write_module<W: Write>(
     }
 }
 
-/// Writes a stream of this code, a module each, numbered from this number on, entered at this word, and cut into pages of
-/// this size.
+/// Writes a stream of this code, a module each, as it is asked for.
 ///
 /// # Errors
 ///
 /// Where a write fails, for this cause.
 pub(crate) fn write_stream<W: Write>(
-    first: usize,
-    entry: u32,
-    profile: Profile,
-    pages: PageSize,
+    asked: &PackOptions<'_>,
     files: &[Vec<u8>],
     writer: &mut W,
 ) -> Result<(), DeviceCause>
-    requires numbers { first + length files.now ≤ 16 }
-    requires modules { spec.AreModules entry (map (λ file. file.items) files.now) }
-    requires pages { HasPages profile pages }
-    ensures { OnOk result (spec.WritesStream profile pages first entry (map (λ file. file.items) files.now) (W.contents writer.old) (W.contents writer.new)) }
+    requires numbers { asked.now.first + length files.now ≤ 16 }
+    requires modules { spec.AreModules asked.now.entry (map (λ file. file.items) files.now) }
+    requires pages { HasPages asked.now.profile asked.now.pages }
+    ensures { OnOk result (spec.WritesStream asked.now (map (λ file. file.items) files.now) (W.contents writer.old) (W.contents writer.new)) }
 {
     for place in 0..files.len() {
-        write_module(
-            first + place,
-            entry,
-            profile,
-            pages,
-            code_at(files, place),
-            writer,
-        )?;
+        write_module(asked.first + place, asked, code_at(files, place), writer)?;
     }
     Ok(())
 }

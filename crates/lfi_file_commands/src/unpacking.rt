@@ -1,6 +1,6 @@
 //! `unpack`: the code of an image, written.
 
-ghost use Rattle.std.specs.Prelude.{◌≡◌, ℕ, List, Option, [], ◌∷◌, ◌++◌, codes, IfOk, IfErr, OnErr, OnOk, false};
+ghost use Rattle.std.specs.Prelude.{◌≡◌, [], ◌∷◌, ◌++◌, codes, IfOk, IfErr, OnErr, OnOk, false};
 ghost use Rattle.std.specs.Io.KnownBytes.{Appends};
 ghost use Rattle.a64_word.specs.Words.{words_of};
 ghost use Rattle.page_buf.specs.Page.{IsWhole};
@@ -10,16 +10,18 @@ ghost use Rattle.lfi_file_commands.specs.Errors.{is_lost_of, writer_of};
 ghost use Rattle.lfi_run.specs.declared.image_run.ImageRun.TheVariants.{Refused};
 ghost use Rattle.lfi_run.specs.Texts.{run_text};
 ghost use Rattle.lfi_file_commands.specs.Failures.{is_of_output, FailsOn, Told};
-ghost use Rattle.lfi_file_commands.specs.Left.{left};
+ghost use Rattle.lfi_file_commands.specs.Left.{OnlyOutput};
 ghost use Rattle.lfi_file_commands.specs.Running.{EndsRun};
 ghost use Rattle.lfi_file_commands.specs.Unpacking.{HasUnpacked};
 
 use crate::device_cause::DeviceCause;
-use crate::disk::Disk;
+use crate::disk::{Disk, ImageStore};
 use crate::ending::Ending;
 use crate::errors::Errors;
 use crate::failure::Failure;
 use crate::opening::open;
+use crate::outputs::Outputs;
+use lfi_command_line::UnpackOptions;
 use lfi_image_file::{ImageFault, read_image};
 use lfi_run::ImageRun;
 use page_buf::SealedPage;
@@ -67,29 +69,26 @@ fn tell_refused<E: Write>(fault: ImageFault, errors: &mut Errors<E>) -> Ending
 ///
 /// Where the file can't be opened, or a write fails. A read that fails is told of the image, and so is it where there is no
 /// memory for it.
-pub fn run_unpack<'a, D: Disk, O: Write, E: Write>(
+pub fn run_unpack<'a, D: Disk, P: ImageStore, O: Write, E: Write>(
     alloc: Global,
     disk: &D,
-    path: &'a str,
-    out: &mut O,
-    errors: &mut Errors<E>,
+    asked: &UnpackOptions<'a>,
+    outputs: &mut Outputs<P, O, E>,
 ) -> Result<Ending, Failure<'a>>
-    ensures found { (put : Option (List (List ℕ × List ℕ))) → IfOk result (HasUnpacked (D.file_at disk.now path.now)
-        (left (O.contents out.old) put (is_lost_of errors.old) (E.contents (writer_of errors.old)))
-        (left (O.contents out.new) put (is_lost_of errors.new) (E.contents (writer_of errors.new)))) }
-    ensures failure { IfErr result (FailsOn (path.now ∷ [])) }
-    ensures output { IfErr result (λ failure. is_of_output failure ≡ false → out.new ≡ out.old) }
-    ensures errors { OnErr result (errors.new ≡ errors.old) }
+    ensures found { IfOk result (HasUnpacked (D.file_at disk.now asked.now.image.now) outputs.old outputs.new) }
+    ensures failure { IfErr result (FailsOn (asked.now.image.now ∷ [])) }
+    ensures output { IfErr result (λ failure. is_of_output failure ≡ false → outputs.new.out ≡ outputs.old.out) }
+    ensures untold { OnErr result (OnlyOutput outputs.old outputs.new) }
 {
-    let mut reader = match open(disk, path) {
+    let mut reader = match open(disk, asked.image) {
         Ok(reader) => reader,
         Err(failure) => return Err(failure),
     };
     match read_image(alloc, &mut reader) {
-        Ok(image) => match write_pages(image.pages(), out) {
+        Ok(image) => match write_pages(image.pages(), &mut outputs.out) {
             Ok(()) => Ok(Ending::Well),
             Err(error) => Err(Failure::of_output(DeviceCause::of(&error))),
         },
-        Err(fault) => Ok(tell_refused(fault, errors)),
+        Err(fault) => Ok(tell_refused(fault, &mut outputs.errors)),
     }
 }

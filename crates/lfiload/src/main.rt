@@ -2,7 +2,7 @@
 #![tactic(auto)]
 
 use lfi_commands::{WrittenNotices, run_words};
-use lfi_file_commands::{Errors, SystemDisk, tell_unread_arguments};
+use lfi_file_commands::{Errors, Outputs, SystemDisk, SystemStore, tell_unread_arguments};
 use std::fs::File;
 use std::os::fd::{AsRawFd, IntoRawFd};
 use std::process::ExitCode;
@@ -41,24 +41,25 @@ fn words(rt: &HostRuntime) -> io::Result<Vec<String>> {
 
 fn main(rt: HostRuntime) -> ExitCode {
     hold_standard_descriptors(&rt);
-    let mut errors = Errors::new(rt.alloc(), rt.stderr());
+    let disk = SystemDisk {
+        rt: &rt,
+        input: rt.stdin(),
+    };
+    let mut outputs = Outputs {
+        images: SystemStore { rt: &rt },
+        out: io::writer(&rt),
+        errors: Errors::new(rt.alloc(), rt.stderr()),
+    };
     let ending = match words(&rt) {
-        Ok(words) => {
-            let mut disk = SystemDisk {
-                rt: &rt,
-                input: rt.stdin(),
-            };
-            run_words(
-                &rt,
-                rt.alloc(),
-                &mut disk,
-                &WrittenNotices::new(rt.stderr()),
-                &words,
-                &mut io::writer(&rt),
-                &mut errors,
-            )
-        }
-        Err(error) => tell_unread_arguments(&error, &mut errors),
+        Ok(words) => run_words(
+            &rt,
+            rt.alloc(),
+            &disk,
+            &WrittenNotices::new(rt.stderr()),
+            &words,
+            &mut outputs,
+        ),
+        Err(error) => tell_unread_arguments(&error, &mut outputs.errors),
     };
     ExitCode::from(ending.status())
 }

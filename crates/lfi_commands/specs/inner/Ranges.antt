@@ -6,16 +6,16 @@ use Rattle.lfi_command_line.specs.declared.line.Line.TheVariants.{Check, Load, S
 
 -- a line for 1 to 8 streams and verifiers, where it is one for streams; and for modules up to the last one, with pages that their profile has, where it packs
 abbrev pub IsInRange : Line → Type 0
-IsInRange (Check files explain profile) = ⊤
-IsInRange (Load verifiers out explain streams) = ((1 ≤ verifiers) × (verifiers ≤ 8)) × ((1 ≤ length streams.items) × (length streams.items ≤ 8))
-IsInRange (Serve socket connections verifiers seconds out explain) = ((1 ≤ verifiers) × (verifiers ≤ 8)) × ((1 ≤ connections) × (connections ≤ 8))
-IsInRange (Run image steps) = ⊤
-IsInRange (Disassemble file marks profile) = ⊤
-IsInRange (Pack first entry profile pages files) = (first + length files.items ≤ 16) × HasPages profile pages
-IsInRange (Unpack image) = ⊤
+IsInRange (Check asked) = ⊤
+IsInRange (Load asked) = ((1 ≤ asked.verifiers) × (asked.verifiers ≤ 8)) × ((1 ≤ length asked.streams.items) × (length asked.streams.items ≤ 8))
+IsInRange (Serve asked) = ((1 ≤ asked.verifiers) × (asked.verifiers ≤ 8)) × ((1 ≤ asked.connections) × (asked.connections ≤ 8))
+IsInRange (Run asked) = ⊤
+IsInRange (Disassemble asked) = ⊤
+IsInRange (Pack asked) = (asked.first + length asked.codes.items ≤ 16) × HasPages asked.profile asked.pages
+IsInRange (Unpack asked) = ⊤
 
 -- a line that needs no threads, in its range
 abbrev pub IsForFiles : Line → Type 0
-IsForFiles (Load verifiers out explain streams) = ⊥
-IsForFiles (Serve socket connections verifiers seconds out explain) = ⊥
+IsForFiles (Load asked) = ⊥
+IsForFiles (Serve asked) = ⊥
 IsForFiles line = IsInRange line

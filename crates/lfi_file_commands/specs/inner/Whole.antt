@@ -3,6 +3,7 @@ use Rattle.std.specs.Prelude.{◌≡◌, ℕ, List, length, Option, Some, IfSome
 use Rattle.std.specs.Io.KnownBytes.{Appends}
 use Rattle.a64_word.specs.Words.{words_of}
 use Rattle.lfi_module.specs.declared.profile.Profile.{Profile}
+use Rattle.lfi_command_line.specs.declared.options.PackOptions.{PackOptions}
 use Rattle.lfi_pack.specs.Packs.{IsPacked}
 use Rattle.lfi_file_commands.specs.declared.packing.Stop.{Stop}
 use Rattle.lfi_file_commands.specs.declared.packing.Stop.TheVariants.{NoModule, Failed}
@@ -41,7 +42,7 @@ StopsAt entry path file_at (Failed failure) = IsOfReading path failure
 abbrev pub StopsAtOne : (entry : ℕ) → (paths : List (List ℕ)) → (List ℕ → Option (List ℕ)) → Stop → Type 0
 StopsAtOne entry paths file_at stop = (c : ℕ) × (path : List ℕ) × (slice_get paths c ≡ Some path) × StopsAt entry path file_at stop
 
--- one module was written
-abbrev pub WritesModule : Profile → (pages number entry : ℕ) → (code : List ℕ) → (old new : Option (List ℕ)) → Type 0
-WritesModule profile pages number entry code old new =
-    (text : List ℕ) × IsPacked number (record { words = length (words_of code); entry = entry; profile = profile; pages = pages }) code text × Appends old new text
+-- one module was written, with this number
+abbrev pub WritesModule : PackOptions → (number : ℕ) → (code : List ℕ) → (old new : Option (List ℕ)) → Type 0
+WritesModule asked number code old new =
+    (text : List ℕ) × IsPacked number (record { words = length (words_of code); entry = asked.entry; profile = asked.profile; pages = asked.pages }) code text × Appends old new text

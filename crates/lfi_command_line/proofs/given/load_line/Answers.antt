@@ -1,7 +1,7 @@
 use Rattle.std.proofs.Common.{◌≡◌, ◌∙◌, length, map, Some, codes, option_map, is_some, refl, sym, ap, arith}
 use Rattle.clap.specs.Words.{all_of, found_of, rows_of}
 use Rattle.clap.proofs.CallerLemmas.{some_of_text}
-use Rattle.clap.proofs.WalkLemmas.{first_value-rows, raw_values-rows}
+use Rattle.clap.proofs.WalkLemmas.{raw_values-rows}
 use Rattle.lfi_command_line.proofs.Asked.{all_given, map_length, some_same}
 use Rattle.lfi_command_line.proofs.given.load_line.Goals as goal
 
@@ -28,9 +28,8 @@ returns-clause-line c =
     let values : all.0 ≡ map (λ s. s.now) paths = some_same (sym all.1 ∙ same) in
     let count : length all.0 ≡ length paths = ap length values ∙ map_length (λ s. s.now) paths in (
       refl,
-      c.is_given.ensures,
+      c.report_options.ensures,
       c.number_or.ensures 1 8 c.requires.verifiers,
-      sym (first_value-rows (found_of c.args.load.now) (codes "out")) ∙ sym c.get_str.ensures,
       same ∙ ap (λ xs. Some (map (λ s. s.now) xs)) (sym items),
       rw items (omega (count, all.2, arith)),
       rw items (omega (c.if-paths-gt-MOST_STREAMS.false, arith)),

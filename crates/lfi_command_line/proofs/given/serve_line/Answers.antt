@@ -11,10 +11,9 @@ unwrap-requires c = some_of_text _ c.get_str.result _ (c.get_str.ensures ∙ fir
 pub returns : goal.returns
 returns c = (
   refl,
-  c.is_given.ensures,
+  c.report_options.ensures,
   sym (first_value-rows (found_of c.args.serve.now) (codes "socket")) ∙ sym c.get_str.ensures ∙ ap (option_map (λ s. s.now)) c.unwrap.ensures,
   number_has 0 1 8 _ c.number_or.result c.requires.connections (c.number_or.ensures 1 8 c.requires.connection_count),
   c.number_or-2.ensures 1 8 c.requires.verifiers,
   c.number_if_any.ensures 1 86400 c.requires.seconds,
-  sym (first_value-rows (found_of c.args.serve.now) (codes "out")) ∙ sym c.get_str-2.ensures,
 )

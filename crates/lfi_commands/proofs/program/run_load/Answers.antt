@@ -1,18 +1,20 @@
-use Rattle.std.proofs.Common.{◌≡◌, ◌≤◌, ◌∙◌, false, true, map, option_map, refl, subst, sym}
-use Rattle.std.proofs.KnownBytes.{Appends-trans}
+use Rattle.std.proofs.Common.{◌≡◌, ◌≤◌, ◌∙◌, Bor, List, ℕ, [], false, true, ap, length, map, refl, subst, sym}
 use Rattle.std.proofs.lemmas.List.{length-map}
 use Rattle.std.proofs.lemmas.Result.{IfErr-weaker, IfOk-weaker}
+use Rattle.lfi_receive.specs.declared.input.Input.{Input}
 use Rattle.lfi_model.specs.Texts.{summary_text}
 use Rattle.lfi_threads.specs.Loaded.{IsLoaded}
 use Rattle.lfi_stage.specs.Summaries.{summary_of}
 use Rattle.lfi_file_commands.proofs.Failing.{fails_on_output, is_no_other}
-use Rattle.lfi_file_commands.specs.Failures.{is_of_output, FailsOn}
-use Rattle.lfi_commands.proofs.Failing.{fails_on_load, fails_on_reading, is_not_of_the_report}
 use Rattle.lfi_file_commands.specs.Errors.{is_lost_of, writer_of}
-use Rattle.lfi_file_commands.specs.Left.{left}
-use Rattle.lfi_commands.specs.Loading.{HasLoaded}
-use Rattle.lfi_commands.specs.inner.Found.{HasEnded}
-use Rattle.lfi_commands.proofs.Inputs.{known_left}
+use Rattle.lfi_file_commands.specs.Failures.{is_of_output, FailsOn, IsOfReadingOne}
+use Rattle.lfi_file_commands.specs.Left.{left, OnlyOutput}
+use Rattle.lfi_file_commands.specs.Opening.{AreInputsOf}
+use Rattle.lfi_signals.specs.Clients.{read_by}
+use Rattle.lfi_commands.proofs.Carried.{reported_behind}
+use Rattle.lfi_commands.proofs.Failing.{fails_on_load, fails_on_reading, is_not_of_the_report}
+use Rattle.lfi_commands.proofs.Inputs.{known_left, map_twice}
+use Rattle.lfi_commands.specs.Loading.{streams_of, HasLoaded, TellsReport}
 use Rattle.lfi_commands.proofs.program.run_load.Goals as goal
 
 pub load-requires-clause-verifiers : goal.load-requires-clause-verifiers
@@ -20,59 +22,64 @@ load-requires-clause-verifiers g c κs within = c.requires.verifiers
 
 pub load-requires-clause-connections : goal.load-requires-clause-connections
 load-requires-clause-connections g c κs within =
-    subst (λ n. (1 ≤ n) × (n ≤ 8)) (sym (c.in-Ok.ensures.inputs.all ∙ length-map c.args.paths.now (λ path. g.D.Disk.file_at c.args.disk.now path.now))) c.requires.connections
+    let paths = c.as_slice.result.now in
+    let count = c.in-Ok.ensures.inputs.all ∙ length-map paths (λ path. g.D.Disk.file_at c.args.disk.now path.now) ∙ ap (λ (ps : List (Bor (List ℕ))). length ps) c.as_slice.ensures.value in
+    subst (λ n. (1 ≤ n) × (n ≤ 8)) (sym count) c.requires.connections
 
 pub returns-in-Err : goal.returns-in-Err
-returns-in-Err g c = record {
-  found = tt;
-  failure = fails_on_reading (map (λ path. path.now) c.args.paths.now) c.in-Err.failure c.in-Err.ensures.failure;
-  output = λ other. refl {a = c.args.out.now};
-  disk = refl {a = c.args.disk.now};
-  errors = refl {a = c.args.errors.now};
-}
+returns-in-Err g c =
+    let failure = subst (λ (ps : List (Bor (List ℕ))). IsOfReadingOne (map (λ p. p.now) ps) c.in-Err.failure) c.as_slice.ensures.value c.in-Err.ensures.failure in
+    record {
+      found = tt;
+      failure = fails_on_reading (streams_of c.args.asked.now) c.in-Err.failure failure;
+      output = λ other. refl;
+      untold = (refl, (refl, refl));
+    }
 
 pub returns : goal.returns
 returns g c =
     let fault = c.in-Err-load.fault in
+    let streams = streams_of c.args.asked.now in
+    let inside = c.outputs.inside in
     record {
       found = tt;
-      failure = subst (FailsOn (map (λ path. path.now) c.args.paths.now)) (sym c.from.ensures) (fails_on_load (map (λ path. path.now) c.args.paths.now) fault);
-      output = λ other. c.in-Err-load.ensures.unwritten (is_not_of_the_report fault (subst (λ failure. is_of_output failure ≡ false) c.from.ensures other));
-      disk = refl {a = c.args.disk.now};
-      errors = refl {a = c.args.errors.now};
+      failure = subst (FailsOn streams) (sym c.from.ensures) (fails_on_load streams fault);
+      output = λ other. subst (λ old. g.O.Write.contents c.load.new.writer ≡ old.out) c.outputs.view_is
+          (ap g.O.Write.contents (c.in-Err-load.ensures.unwritten (is_not_of_the_report fault (subst (λ failure. is_of_output failure ≡ false) c.from.ensures other))));
+      untold = subst (λ old. OnlyOutput old (left (g.O.Write.contents c.load.new.writer) (g.P.ImageStore.put_files inside.images) (is_lost_of inside.errors) (g.E.Write.contents (writer_of inside.errors)))) c.outputs.view_is
+          (refl, (refl, refl));
     }
 
 pub returns-in-Ok-load : goal.returns-in-Ok-load
 returns-in-Ok-load g c =
+    let inside = c.outputs.inside in
+    let asked = c.args.asked.now in
+    let at = g.D.Disk.file_at c.args.disk.now in
     let inputs = c.in-Ok.inputs.items in
-    let are = c.in-Ok.ensures.inputs in
     let report = c.in-Ok-load.report in
-    let result = c.end_load.result in
-    let before = left (g.O.Write.contents c.args.out.now) (g.D.Disk.put_files c.args.disk.now) (is_lost_of c.args.errors.now) (g.E.Write.contents (writer_of c.args.errors.now)) in
-    let told = left (g.O.Write.contents c.load.new.writer) (g.D.Disk.put_files c.args.disk.now) (is_lost_of c.args.errors.now) (g.E.Write.contents (writer_of c.args.errors.now)) in
-    let after = left (g.O.Write.contents c.end_load.new.out) (g.D.Disk.put_files c.end_load.new.disk) (is_lost_of c.end_load.new.errors) (g.E.Write.contents (writer_of c.end_load.new.errors)) in
-    let folder = option_map (λ s. s.now) c.args.folder in
-    let paths = map (λ path. path.now) c.args.paths.now in
-    let streams = map (λ path. g.D.Disk.file_at c.args.disk.now path.now) c.args.paths.now in
+    let did = c.end_load in
+    let result = did.result in
+    let new = did.new.outputs in
+    let before = g.O.Write.contents inside.out in
+    let half = g.O.Write.contents c.load.new.writer in
+    let put = g.P.ImageStore.put_files inside.images in
+    let lost = is_lost_of inside.errors in
+    let errors = g.E.Write.contents (writer_of inside.errors) in
+    let text = summary_text (summary_of report) in
+    let kinds = c.kinds-kinds.result in
+    let files = subst (λ (ps : List (Bor (List ℕ))). AreInputsOf (read_by g.D.Reader.Read.remaining) (map (λ p. at p.now) ps) inputs) c.as_slice.ensures.value c.in-Ok.ensures.inputs in
+    let are = subst (λ known. AreInputsOf (read_by g.D.Reader.Read.remaining) known inputs) (sym (map_twice at (λ (p : Bor (List ℕ)). p.now) asked.streams.items)) files in
+    let count = files.all ∙ length-map asked.streams.items (λ p. at p.now) in
     record {
-      found = IfOk-weaker result (HasEnded report c.kinds-kinds.result true folder c.args.explain told after) (HasLoaded c.args.verifiers streams folder c.args.explain before after) (λ ending ended. record {
-        report = report;
-        loaded = λ bytes known. subst (λ n. IsLoaded n c.args.verifiers bytes report) are.all (c.in-Ok-load.ensures.report bytes (known_left _ inputs bytes are known));
-        explained = ended.explained;
-        explains = ended.explains;
-        written = Appends-trans (g.O.Write.contents c.args.out.now) (g.O.Write.contents c.load.new.writer) (g.O.Write.contents c.end_load.new.out)
-            (summary_text (summary_of report)) ended.explained c.in-Ok-load.ensures.written ended.written;
-        all = ended.all;
-        errors = ended.errors;
-        is_lost = ended.is_lost;
-        images = ended.images;
-        kinds = c.kinds-kinds.result;
-        told = ended.told;
-        lost = ended.lost;
-        ends = ended.ends;
-      }) c.end_load.ensures.ended;
-      failure = IfErr-weaker result (λ failure. is_of_output failure ≡ true) (FailsOn paths) (fails_on_output paths) c.end_load.ensures.failure;
-      output = IfErr-weaker result (λ failure. is_of_output failure ≡ true) (λ failure. is_of_output failure ≡ false → c.end_load.new.out ≡ c.args.out.now) (λ failure is other. is_no_other failure is other) c.end_load.ensures.failure;
-      disk = c.end_load.ensures.disk;
-      errors = c.end_load.ensures.errors;
+      found = IfOk-weaker result (TellsReport [] report kinds true asked.report (left half put lost errors) new) (HasLoaded asked at c.args.outputs.now new) (λ ending told.
+          subst (λ old. HasLoaded asked at old new ending) c.outputs.view_is (record {
+            report = report;
+            loaded = λ bytes known. subst (λ n. IsLoaded n asked.verifiers bytes report) count (c.in-Ok-load.ensures.report bytes (known_left _ inputs bytes are known));
+            kinds = kinds;
+            told = reported_behind text asked.report before half put lost errors c.in-Ok-load.ensures.written report kinds true new ending told;
+          })) did.ensures.told;
+      failure = IfErr-weaker result (λ failure. is_of_output failure ≡ true) (FailsOn (streams_of asked)) (fails_on_output (streams_of asked)) did.ensures.failure;
+      output = IfErr-weaker result (λ failure. is_of_output failure ≡ true) (λ failure. is_of_output failure ≡ false → new.out ≡ c.args.outputs.now.out) (λ failure is other. is_no_other failure is other) did.ensures.failure;
+      untold = IfErr-weaker result (λ _. OnlyOutput (left half put lost errors) new) (λ _. OnlyOutput c.args.outputs.now new) (λ failure untold.
+          subst (λ old. OnlyOutput old new) c.outputs.view_is untold) did.ensures.untold;
     }

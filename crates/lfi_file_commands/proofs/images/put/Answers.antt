@@ -8,7 +8,7 @@ use Rattle.lfi_file_commands.proofs.images.put.Goals as goal
 
 pub returns-clause-ok : goal.returns-clause-ok
 returns-clause-ok g c =
-    subst (λ p. OnOk c.put_at.result (Puts (g.D.Disk.put_files c.args.disk.now) (g.D.Disk.put_files c.put_at.new.disk) ((p, file_of c.args.image.now) ∷ []))) c.in-Ok.ensures c.put_at.ensures.ok
+    subst (λ p. OnOk c.put_at.result (Puts (g.P.ImageStore.put_files c.args.images.now) (g.P.ImageStore.put_files c.put_at.new.images) ((p, file_of c.args.image.now) ∷ []))) c.in-Ok.ensures c.put_at.ensures.ok
 
 pub returns-clause-failure : goal.returns-clause-failure
 returns-clause-failure g c =

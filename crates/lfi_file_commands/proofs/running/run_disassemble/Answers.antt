@@ -1,21 +1,24 @@
-use Rattle.std.proofs.Common.{◌∙◌, refl, sym}
+use Rattle.std.proofs.Common.{refl, subst}
+use Rattle.lfi_file_commands.specs.Errors.{is_lost_of, writer_of}
+use Rattle.lfi_file_commands.specs.Left.{left}
+use Rattle.lfi_file_commands.specs.Listing.{HasListed}
 use Rattle.lfi_file_commands.proofs.Explained.{words_known}
 use Rattle.lfi_file_commands.proofs.running.run_disassemble.Goals as goal
 
 pub returns-in-Ok-disassemble-clause-found : goal.returns-in-Ok-disassemble-clause-found
-returns-in-Ok-disassemble-clause-found g c = λ put. record {
-  other = c.in-Ok-disassemble.other;
-  listed = words_known c.args.marks c.args.profile (g.D.Reader.Read.remaining c.in-Ok.reader) (g.D.Disk.file_at c.args.disk.now c.args.path.now) c.in-Ok-disassemble.other
-      (g.O.Write.contents c.args.out.now) (g.O.Write.contents c.disassemble.new.writer) c.in-Ok.ensures.reader c.in-Ok-disassemble.ensures.listed;
-  put = refl;
-  told = c.tell_other.ensures.told;
-  ends = c.end_listing.ensures;
-}
-
-pub returns-in-Err-disassemble : goal.returns-in-Err-disassemble
-returns-in-Err-disassemble g c = record {
-  found = λ put. tt;
-  failure = c.of.ensures.on;
-  output = λ other. c.in-Err-disassemble.ensures.unwritten (sym c.of.ensures.output ∙ other);
-  errors = refl {a = c.args.errors.now};
-}
+returns-in-Ok-disassemble-clause-found g c =
+    let inside = c.outputs.inside in
+    let asked = c.args.asked.now in
+    let file = g.D.Disk.file_at c.args.disk.now asked.file.now in
+    let lost = is_lost_of c.tell_other.new.errors in
+    let told = g.E.Write.contents (writer_of c.tell_other.new.errors) in
+    let new = left (g.O.Write.contents c.disassemble.new.writer) (g.P.ImageStore.put_files inside.images) lost told in
+    subst (λ old. HasListed asked file old new c.end_listing.result) c.outputs.view_is
+    (record {
+      other = c.in-Ok-disassemble.other;
+      listed = words_known asked.marks asked.profile (g.D.Reader.Read.remaining c.in-Ok.reader) file c.in-Ok-disassemble.other
+          (g.O.Write.contents inside.out) (g.O.Write.contents c.disassemble.new.writer) c.in-Ok.ensures.reader c.in-Ok-disassemble.ensures.listed;
+      put = refl;
+      told = c.tell_other.ensures.told;
+      ends = c.end_listing.ensures;
+    })

@@ -2,7 +2,7 @@ use Rattle.std.proofs.Common.{◌≡◌, ◌∙◌, ap, ap₂, ℕ, List, [], �
 use Rattle.std.proofs.lemmas.List.{map-append}
 use Rattle.lfi_image_file.specs.Files.{file_of}
 use Rattle.lfi_commands_tests.specs.declared.disks.PutFile.{PutFile}
-use Rattle.lfi_commands_tests.proofs.disks.MemoryDiskDisk.put_image.Goals as goal
+use Rattle.lfi_commands_tests.proofs.disks.MemoryStoreImageStore.put_image.Goals as goal
 
 abbrev shown : PutFile → List ℕ × List ℕ
 shown f = (string_bytes f.path, f.bytes.items)

@@ -1,0 +1,96 @@
+//! What a subcommand is asked for, beside its name.
+
+use lfi_module::{PageSize, Profile};
+
+/// What `check` explains.
+#[derive(Clone, Copy, PartialEq, Eq)]
+pub enum Explain {
+    /// Nothing: it tells the first fault in a line.
+    Nothing,
+    /// The first fault.
+    First,
+    /// Each word that breaks a rule.
+    All,
+}
+
+/// `check`: whether the code in each of these files is lawful by a profile, and what is to be explained where it isn't.
+#[derive(Drop)]
+pub struct CheckOptions<'a> {
+    /// The paths of the files, at least one.
+    pub files: Vec<&'a str>,
+    pub explain: Explain,
+    pub profile: Profile,
+}
+
+/// What is asked for beside a report.
+#[derive(Clone, Copy)]
+pub struct ReportOptions<'a> {
+    /// The folder to which the whole images are written; none, where they aren't written.
+    pub out: Option<&'a str>,
+    /// Whether it is explained why modules are refused, and what is wrong with connections.
+    pub explain: bool,
+}
+
+/// `load`: the modules of the streams in these files are loaded, one connection each.
+#[derive(Drop)]
+pub struct LoadOptions<'a> {
+    /// How many verifiers there are, 1 to 8.
+    pub verifiers: usize,
+    /// The paths of the files, 1 to 8.
+    pub streams: Vec<&'a str>,
+    pub report: ReportOptions<'a>,
+}
+
+/// `serve`: it is listened at a socket's path, and the modules of the streams of so many connections are loaded.
+#[derive(Clone, Copy)]
+pub struct ServeOptions<'a> {
+    /// The path of the socket.
+    pub socket: &'a str,
+    /// How many connections there are, 1 to 8.
+    pub connections: usize,
+    /// How many verifiers there are, 1 to 8.
+    pub verifiers: usize,
+    /// For how many seconds it is listened and read at the most, 1 to 86,400; without limit, where nothing is said.
+    pub seconds: Option<u64>,
+    pub report: ReportOptions<'a>,
+}
+
+/// `run`: the image in a file is run.
+#[derive(Clone, Copy)]
+pub struct RunOptions<'a> {
+    /// The path of the file.
+    pub image: &'a str,
+    /// For how many steps at the most, 0 to 1,000,000,000.
+    pub steps: u64,
+}
+
+/// `disassemble`: the words of the code in a file are listed, by a profile.
+#[derive(Clone, Copy)]
+pub struct DisassembleOptions<'a> {
+    /// The path of the file.
+    pub file: &'a str,
+    /// Whether words that break a rule are marked.
+    pub marks: bool,
+    pub profile: Profile,
+}
+
+/// `pack`: a stream is written of the code in 1 to 16 files, one module each.
+#[derive(Drop)]
+pub struct PackOptions<'a> {
+    /// The number of the first module. That of the last one is 15 at the most.
+    pub first: usize,
+    /// The word at which each module is entered, 0 to 4,194,303.
+    pub entry: u32,
+    pub profile: Profile,
+    /// The size of the pages. They are large ones by the second profile alone.
+    pub pages: PageSize,
+    /// The paths of the files, at least one.
+    pub codes: Vec<&'a str>,
+}
+
+/// `unpack`: the code of the image in a file is written.
+#[derive(Clone, Copy)]
+pub struct UnpackOptions<'a> {
+    /// The path of the file.
+    pub image: &'a str,
+}
