@@ -21,7 +21,7 @@ extern "C" {
 #endif
 
 /* The number of this interface; lfi_version() answers that of the library that is linked. */
-#define LFI_VERSION 5u
+#define LFI_VERSION 6u
 
 /* The profiles: the rules, registers and map of slots of docs/PROFILE.md. The second has the instructions of the first,
  * and LDAR and STLR. Calls with another number answer LFI_UNKNOWN_PROFILE. */
@@ -138,7 +138,8 @@ typedef struct lfi_event {
 /* The caller owes, at each call:
  *  - no pointer is null, also where the size is 0;
  *  - each pointer to a struct is aligned for it; bytes may lie at any address;
- *  - `size` bytes can be read at `code`, `piece` or `bytes`, and `room` bytes written at `text`, each below 2^63, and nobody else
+ *  - `size` bytes can be read at `code`, `piece` or `bytes`, and `room` bytes written at `text`, or words at `mend`, each below
+ *    2^63 bytes, and nobody else
  *    writes them during the call: bytes that another thread or process may still write are to be copied first;
  *  - a struct that is written overlaps nothing else that the call is handed, and no other thread uses it during the call;
  *  - nobody writes bytes that lfi_stream_next told as code, until the host has its own copy of them: they were judged there.
@@ -184,6 +185,22 @@ lfi_status lfi_verify_final(const lfi_state *LFI_RESTRICT state, lfi_fault *LFI_
  *    1 to 4,194,304 or fault->word is none of them; LFI_BAD_STATE, where *fault is {0, 0} or tells none; LFI_NO_ROOM. */
 lfi_status lfi_explain(uint32_t profile, uint32_t module, uint32_t words, const lfi_fault *LFI_RESTRICT fault, uint32_t word,
                        uint32_t before, uint8_t *LFI_RESTRICT text, size_t room, size_t *LFI_RESTRICT size);
+
+#define LFI_MOST_MENDED 8u /* the most words of a mend */
+
+/* Tells a mend: the words that stand in the place of the word at a fault, by that word, the one before it, which is not looked at
+ * where the place is 0, and the one after it, which is not looked at at the module's last place. The text of lfi_explain has the
+ * same instructions, but of RBIT before CLZ, since it isn't told the word after it. For a fault of rule 10 they stand before the
+ * word, which stays; or, where the word itself asks for a next one that there isn't, after it. Ensures:
+ *  - LFI_LAWFUL: there is a mend; *count is how many words it has, 0 to LFI_MOST_MENDED, and `mend` begins with them, and is
+ *    otherwise as it was. Each spells an instruction of the profile and breaks none of the rules 1 to 7 and 9, wherever it
+ *    stands; the first meets what `before` asks for, each other one what the one before it does, and the last asks for nothing.
+ *    None is a direct branch. Of a plain load or store in the slot they do what the word does, but for x18 and x22;
+ *  - else `mend` and *count are as they were: LFI_REFUSED, where there is none, for a reason that lfi_explain tells;
+ *    LFI_UNKNOWN_PROFILE; LFI_BAD_LENGTH and LFI_BAD_STATE, as in lfi_explain; LFI_NO_ROOM, where `room`, in words, is less than
+ *    the mend needs, which LFI_MOST_MENDED never is. */
+lfi_status lfi_mend(uint32_t profile, uint32_t words, const lfi_fault *LFI_RESTRICT fault, uint32_t word, uint32_t before, uint32_t after,
+                    uint32_t *LFI_RESTRICT mend, size_t room, size_t *LFI_RESTRICT count);
 
 /* Begins a stream (docs/PROFILE.md, "Streams"). Ensures: LFI_LAWFUL, and *stream stands for a stream of which no byte came; or
  * LFI_UNKNOWN_PROFILE, where there is no such profile, and *stream is as it was. What modules the stream may have doesn't rest

@@ -23,9 +23,10 @@ import pathlib
 import threading
 from typing import List, NamedTuple, Optional, Union
 
-VERSION = 5
+VERSION = 6
 MAX_WORDS, MODULES = 4_194_304, 16
 ROOM = 2_048  # the most bytes of a text
+MOST_MENDED = 8  # the most words of a mend
 Buffer = Union[bytes, bytearray, memoryview]
 
 
@@ -141,10 +142,11 @@ def _library() -> ctypes.CDLL:
     u32, size, there = ctypes.c_uint32, ctypes.c_size_t, ctypes.POINTER
     found.lfi_verify.argtypes = [ctypes.c_char_p, size, u32, there(_Fault)]
     found.lfi_explain.argtypes = [u32, u32, u32, there(_Fault), u32, u32, ctypes.c_char_p, size, there(size)]
+    found.lfi_mend.argtypes = [u32, u32, there(_Fault), u32, u32, u32, there(u32), size, there(size)]
     found.lfi_stream_init.argtypes = [there(_Stream), u32]
     found.lfi_stream_next.argtypes = [there(_Stream), ctypes.c_void_p, size, there(_Event)]
     found.lfi_stream_end.argtypes = [there(_Stream), there(_Event)]
-    for call in found.lfi_verify, found.lfi_explain, found.lfi_stream_init, found.lfi_stream_end:
+    for call in found.lfi_verify, found.lfi_explain, found.lfi_mend, found.lfi_stream_init, found.lfi_stream_end:
         call.restype = u32
     found.lfi_stream_next.restype = size
     return found
@@ -185,6 +187,22 @@ def explain(data: Buffer, fault: Fault, profile: int = 1, module: int = 0) -> st
     if status is not Status.LAWFUL:
         raise ValueError(status.name)
     return text.raw[: size.value].decode("ascii")
+
+
+def mend(data: Buffer, fault: Fault, profile: int = 1) -> Optional[List[int]]:
+    """The words that stand in the place of the word at this fault, which keep the rules wherever they stand; None where there is no mend.
+
+    For a fault of rule 10 they stand before the word, which stays; or, at the code's end, after it.
+    ValueError: the fault is none that the code can have, or there is no such profile.
+    """
+    code, found, count = bytes(data), (ctypes.c_uint32 * MOST_MENDED)(), ctypes.c_size_t()
+    words = [int.from_bytes(code[4 * at : 4 * at + 4], "little") if at >= 0 else 0 for at in (fault.word, fault.word - 1, fault.word + 1)]
+    status = Status(_LIBRARY.lfi_mend(_number(profile), len(code) // 4, _Fault(_number(fault.word), _number(fault.rule)), *words, found, MOST_MENDED, count))
+    if status is Status.REFUSED:
+        return None
+    if status is not Status.LAWFUL:
+        raise ValueError(status.name)
+    return list(found[: count.value])
 
 
 def _told(event: _Event, data: bytes) -> Optional[Event]:

@@ -51,7 +51,9 @@ class Verifying(unittest.TestCase):
         self.assertEqual(found.exception.fault, Fault(16, 2))
         text = lfi_verifier.explain(code, found.exception.fault)
         self.assertTrue(text.startswith("word 16 rule 2\n  0x0000000100010040  b8237880  str w0, [x4, x3, lsl #2]\n"), text)
-        self.assertTrue(text.endswith("M being 22 or free, and let it go through x21 by wM, uxtw"), text)
+        self.assertTrue(text.endswith("  mend: in its place\n    add w22, w4, w3, uxtw #2\n    str w0, [x21, w22, uxtw]"), text)
+        self.assertEqual(lfi_verifier.mend(code, found.exception.fault), [0x0B234896, 0xB8364AA0])
+        self.assertIsNone(lfi_verifier.mend((0xAA0003F5).to_bytes(4, "little"), Fault(0, 3)))  # mov x21, x0
         for fault, module in (Fault(105, 1), 0), (Fault(16, 0), 0), (Fault(16, 2), 16), (Fault(-1, 2), 0), (Fault(16, 2 + 2**32), 0):
             self.assertRaises(ValueError, lfi_verifier.explain, code, fault, 1, module)
 

@@ -3,7 +3,7 @@
 use std::{env, path::PathBuf, process::Command};
 
 /// The number of the interface that src/calls.rs declares: LFI_VERSION of the header.
-const INTERFACE: &str = "5";
+const INTERFACE: &str = "6";
 
 fn main() -> Result<(), String> {
     for name in ["LFI_VERIFIER_LIB", "PKG_CONFIG", "PKG_CONFIG_PATH"] {

@@ -193,7 +193,7 @@ static int profile(void) {
 static const char FIRST[] = "word 16 rule 2\n  0x0000000100010040  b8237880  str w0, [x4, x3, lsl #2]\n  a load or store goes through x18, x21, "
     "x23, x24 or sp at an immediate offset, through sp and changes it, or through x21 by a W register with uxtw and no shift; "
     "this one goes through x4 by x3, lsl, shifted\n"
-    "  mend: put add wM, w4, w3, lsl #2 before it, M being 22 or free, and let it go through x21 by wM, uxtw";
+    "  mend: in its place\n    add w22, w4, w3, uxtw #2\n    str w0, [x21, w22, uxtw]";
 static const char SECOND[] = "word 1024 rule 10\n  0x0000000700010ffc  f94006be  ldr x30, [x21, #8]\n  0x0000000700011000  d503201f  nop\n"
     "  a load of a table entry into x30 is followed by blr x30; this word isn't that\n"
     "  mend: put blr x30 right after the load, and before the load what stood between them";
@@ -225,6 +225,68 @@ static int explanations(void) {
     CHECK(101, lfi_explain(LFI_PROFILE_1, 0, 16, &none, 0, 0, text, sizeof text, &size) == LFI_BAD_STATE);
     CHECK(102, lfi_explain(LFI_PROFILE_1, 0, 16, &wrong, 0, 0, text, sizeof text, &size) == LFI_BAD_STATE);
     CHECK(103, size == 7 && !memcmp(text, other, sizeof text));
+    return 0;
+}
+
+/* Mends, with LLVM's words of the texts beside them; the fault is at word 1 of so many. */
+static const struct { uint32_t rule, words, word, before, after, status; size_t count; uint32_t mend[4]; } MENDS[] = {
+    {2, 9, 0xB8237880, 0, 0, LFI_LAWFUL, 2, {0x0B234896, 0xB8364AA0}},                         /* str w0, [x4, x3, lsl #2]: add w22, w4, w3, uxtw #2; str w0, [x21, w22, uxtw] */
+    {2, 9, 0xF8408FC0, 0, 0, LFI_LAWFUL, 3, {0x110023D6, 0x8B3642BE, 0xF87E4AA0}},             /* ldr x0, [x30, #8]!: add w22, w30, #8; add x30, x21, w22, uxtw; ldr x0, [x21, w30, uxtw] */
+    {2, 9, 0xF9400020, 0xD10043FF, 0, LFI_LAWFUL, 2, {0xF94003FF, 0xF8614AA0}},                /* ldr x0, [x1] after sub sp, sp, #16: ldr xzr, [sp]; ldr x0, [x21, w1, uxtw] */
+    {1, 9, 0xDAC00020, 0, 0xDAC01000, LFI_LAWFUL, 4, {0xCB0103F0, 0x8A010210, 0xD2F00011, 0x9AD00A20}}, /* rbit x0, x1 before clz x0, x0: neg x16, x1; and x16, x16, x1; mov x17, #0x8000000000000000; udiv x0, x17, x16 */
+    {1, 2, 0xDAC00020, 0, 0xDAC01000, LFI_REFUSED, 7, {0}},                                    /* the same at the last place */
+    {1, 9, 0xF9802020, 0, 0, LFI_LAWFUL, 0, {0}},                                              /* prfm pldl1keep, [x1, #64]: nothing */
+    {3, 9, 0xAA0003F5, 0, 0, LFI_REFUSED, 7, {0}},                                             /* mov x21, x0 */
+    {8, 9, 0x14000802, 0, 0, LFI_REFUSED, 7, {0}},                                             /* b .+8200 */
+    {10, 9, 0xD503201F, 0xF9400A5E, 0, LFI_LAWFUL, 1, {0x8B3E42BE}},                           /* nop after ldr x30, [x18, #16]: add x30, x21, w30, uxtw */
+    {10, 9, 0xD503201F, 0xF94006BE, 0, LFI_REFUSED, 7, {0}},                                   /* nop after ldr x30, [x21, #8] */
+    {10, 2, 0xD10043FF, 0, 0, LFI_LAWFUL, 1, {0xF94003FF}},                                    /* sub sp, sp, #16 at the last place: ldr xzr, [sp] */
+};
+
+static int mends(void) {
+    uint32_t mend[LFI_MOST_MENDED + 1], rest[LFI_MOST_MENDED + 1];
+    size_t count;
+    memset(rest, '#', sizeof rest);
+    for (size_t i = 0; i < sizeof MENDS / sizeof *MENDS; i++) {
+        lfi_fault f = {1, MENDS[i].rule};
+        for (size_t room = 0; room <= LFI_MOST_MENDED; room++) {
+            memset(mend, '#', sizeof mend);
+            count = 7;
+            lfi_status status = lfi_mend(LFI_PROFILE_1, MENDS[i].words, &f, MENDS[i].word, MENDS[i].before, MENDS[i].after, mend, room, &count);
+            int fits = MENDS[i].status == LFI_REFUSED || room >= MENDS[i].count;
+            size_t wanted = fits && status == LFI_LAWFUL ? MENDS[i].count : 0;
+            CHECK(120, status == (fits ? MENDS[i].status : LFI_NO_ROOM) && count == (status == LFI_LAWFUL ? MENDS[i].count : 7));
+            CHECK(121, !memcmp(mend, MENDS[i].mend, 4 * wanted) && !memcmp(mend + wanted, rest, sizeof mend - 4 * wanted));
+        }
+    }
+    lfi_fault f = {1, 2}, none = {0, 0}, wrong = {1, 11};
+    count = 7;
+    memset(mend, '#', sizeof mend);
+    CHECK(122, lfi_mend(3, 9, &f, 0xB8237880, 0, 0, mend, LFI_MOST_MENDED, &count) == LFI_UNKNOWN_PROFILE);
+    CHECK(123, lfi_mend(LFI_PROFILE_1, 0, &f, 0xB8237880, 0, 0, mend, LFI_MOST_MENDED, &count) == LFI_BAD_LENGTH);
+    CHECK(124, lfi_mend(LFI_PROFILE_1, LFI_MAX_WORDS + 1, &f, 0xB8237880, 0, 0, mend, LFI_MOST_MENDED, &count) == LFI_BAD_LENGTH);
+    CHECK(125, lfi_mend(LFI_PROFILE_1, 1, &f, 0xB8237880, 0, 0, mend, LFI_MOST_MENDED, &count) == LFI_BAD_LENGTH);
+    CHECK(126, lfi_mend(LFI_PROFILE_1, 9, &none, 0xB8237880, 0, 0, mend, LFI_MOST_MENDED, &count) == LFI_BAD_STATE);
+    CHECK(127, lfi_mend(LFI_PROFILE_1, 9, &wrong, 0xB8237880, 0, 0, mend, LFI_MOST_MENDED, &count) == LFI_BAD_STATE);
+    CHECK(128, count == 7 && !memcmp(mend, rest, sizeof mend));
+    return 0;
+}
+
+/* Any word has a mend that is lawful by itself, or none. */
+static int all_mended(void) {
+    uint32_t mend[LFI_MOST_MENDED];
+    size_t count = 0, found = 0;
+    for (uint32_t i = 0; i < 200000; i++) {
+        uint32_t word = i * 2654435761u, before = word * 40503u + i, profile = 1 + i / 16 % 2;
+        lfi_fault f = {1 + i % 3, 1 + i % 10}, told;
+        lfi_status status = lfi_mend(profile, 4, &f, word, before, before ^ i, mend, LFI_MOST_MENDED, &count);
+        CHECK(130, status == LFI_LAWFUL || status == LFI_REFUSED);
+        if (status == LFI_REFUSED) continue;
+        found++;
+        CHECK(131, count <= LFI_MOST_MENDED);
+        CHECK(132, count == 0 || lfi_verify((const uint8_t *)mend, 4 * count, profile, &told) == LFI_LAWFUL);
+    }
+    CHECK(133, found > 1000);
     return 0;
 }
 
@@ -283,7 +345,7 @@ static int streams(void) {
 }
 
 int main(void) {
-    int (*const parts[])(void) = {whole_code, long_code, pieces, refused_pieces, other_states, profile, explanations, all_explained, streams};
+    int (*const parts[])(void) = {whole_code, long_code, pieces, refused_pieces, other_states, profile, explanations, all_explained, mends, all_mended, streams};
     for (size_t i = 0; i < sizeof parts / sizeof *parts; i++) {
         int failed = parts[i]();
         if (failed) return failed;

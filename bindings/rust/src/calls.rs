@@ -154,6 +154,17 @@ extern "C" {
         room: usize,
         size: *mut usize,
     ) -> u32;
+    fn lfi_mend(
+        profile: u32,
+        words: u32,
+        fault: *const LfiFault,
+        word: u32,
+        before: u32,
+        after: u32,
+        mend: *mut u32,
+        room: usize,
+        count: *mut usize,
+    ) -> u32;
     fn lfi_stream_init(stream: *mut LfiStream, profile: u32) -> u32;
     fn lfi_stream_next(stream: *mut LfiStream, bytes: *const u8, size: usize, event: *mut LfiEvent) -> usize;
     fn lfi_stream_end(stream: *mut LfiStream, event: *mut LfiEvent) -> u32;
@@ -198,6 +209,9 @@ pub fn verify_final(state: &LfiState) -> (u32, LfiFault) {
     (status, fault)
 }
 
+/// `LFI_MOST_MENDED`.
+pub const MOST_MENDED: usize = 8;
+
 /// What `lfi_explain` is told of a refused word.
 #[derive(Clone, Copy, Debug)]
 pub struct Refused {
@@ -219,6 +233,17 @@ pub fn explain(of: &Refused, text: &mut [u8]) -> (u32, usize) {
         lfi_explain(of.profile, of.module, of.words, &of.fault, of.word, of.before, text.as_mut_ptr(), text.len(), &mut size)
     };
     (status, size)
+}
+
+/// What `lfi_mend` tells of a refused word, by that and the word after it: the status, the words, and how many they are.
+pub fn mend(of: &Refused, after: u32) -> (u32, [u32; MOST_MENDED], usize) {
+    let (mut mend, mut count) = ([0; MOST_MENDED], 0);
+    if !is_of_this_interface() {
+        return (OTHER_INTERFACE, mend, count);
+    }
+    // docs/C.md: so `room`, of bytes that can be written at `text`, or of words at `mend`.
+    let status = unsafe { lfi_mend(of.profile, of.words, &of.fault, of.word, of.before, after, mend.as_mut_ptr(), mend.len(), &mut count) };
+    (status, mend, count)
 }
 
 pub fn stream_init(profile: u32) -> (u32, LfiStream) {

@@ -1,7 +1,7 @@
 //! What a host relies on, with values of docs/PROFILE.md and the examples.
 
 use lfi_verifier::{
-    explain, registers, verify, version, Event, Fault, ModuleNumber, Profile, Reason, RefusedWord, Rule, SlotMap, Stream,
+    explain, mend, registers, verify, version, Event, Fault, ModuleNumber, Profile, Reason, RefusedWord, Rule, SlotMap, Stream,
     StreamFault, Verifier, Violation, VERSION,
 };
 use std::{fs, path::Path};
@@ -90,7 +90,8 @@ fn explanation() {
     let mut text = [0; 1024];
     let told = explain(&word, &mut text).expect("it is a fault");
     assert!(told.starts_with("word 16 rule 2\n  0x0000000100010040  b8237880  str w0, [x4, x3, lsl #2]\n"));
-    assert!(told.ends_with("M being 22 or free, and let it go through x21 by wM, uxtw"));
+    assert!(told.ends_with("  mend: in its place\n    add w22, w4, w3, uxtw #2\n    str w0, [x21, w22, uxtw]"));
+    assert_eq!(mend(&word).expect("it is a fault").expect("there is one").words(), [0x0B23_4896, 0xB836_4AA0]);
     assert_eq!(explain(&word, &mut [0; 14]), Ok("word 16 rule 2"));
     let past = Fault { word: 105, rule: Rule::Spelled };
     assert!(RefusedWord::of(&code, module, Profile::One, past).is_none());

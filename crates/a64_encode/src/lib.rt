@@ -13,7 +13,8 @@
 //! # Decisions
 //!
 //! - **The way back stands apart from decoding**, since no crate of the program takes it, and nearly all of them wait for
-//!   what is proved of decoding. Tests take it, and compare each word with what its instruction is encoded as.
+//!   what is proved of decoding. The C library takes it for the words of mends; tests compare each word with what its
+//!   instruction is encoded as.
 //! - What a word's fields are is said once, by `fields` of `a64_word`, on which both ways rest: so a word that is encoded
 //!   is decoded as the instruction that it was, which nobody has to prove anew.
 //! - The numbers of operands that encoding alone needs are functions here. `Condition` and `Size` have theirs in

@@ -33,7 +33,7 @@ const LAST_PROFILE: u64 = 2;
 const LAST_WORD: u64 = 4_194_303;
 
 /// The program's version, and the number of the C library's interface that goes with it.
-const VERSION: &str = "0.1.0, library interface 5";
+const VERSION: &str = "0.1.0, library interface 6";
 
 /// An argument in its place that has to be there.
 fn required_argument<'a>(alloc: Global, name: &'a str, text: &'a str) -> Arg<'a>

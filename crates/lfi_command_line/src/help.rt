@@ -88,9 +88,11 @@ With --explain, these lines follow `word K rule R`:
                          hexadecimal digits, its assembly text. Where the rule is on what follows
                          a word, the line of the word before stands above it.
   A sentence             What the rule asks, and what the word does.
-  mend: TEXT             What to write instead. A free register is any but x18, x21 to x24 and x30.
+  mend: TEXT             What to write instead: `in its place`, and the instructions in lines below,
+                         which may overwrite w22 and x18; or a sentence, or why there is none.
 With --all, all of these lines for each word that breaks a rule, in order, and then:
   words refused: N       How many they are.
+  words with a mend: M   Of how many of them there are instructions to write instead.
 With either of the two a line tells of a file that isn't lawful and begins as another kind of file:
   file: TEXT             What it is, an ELF file, an image or a stream, and what to do with it.
 
@@ -123,8 +125,9 @@ With --explain, these lines follow for each module M that was refused:
                             digits, its assembly text. Where the rule is on what follows a word,
                             the line of the word before stands above it.
   A sentence                What the rule asks, and what the word does.
-  mend: TEXT                What to write instead. A free register is any but x18, x21 to x24 and
-                            x30.
+  mend: TEXT                What to write instead: `in its place`, and the instructions in lines
+                            below, which may overwrite w22 and x18; or a sentence, or why there is
+                            none.
 then one for each module M that was opened:
   module M: from connection C
                             The connection that opened it first, from which it is loaded.

@@ -1,6 +1,6 @@
 -- Lines written one after another.
 use Rattle.std.proofs.Common.{rules, add-one, ◌≡◌, ℕ, Bool, zero, suc, ◌+◌, ◌≤◌, List, [], ◌∷◌, ◌++◌, length, Option, Some, None, Result, Ok, Err, refl, sym, ◌∙◌, ap, subst, arith}
-use Rattle.std.specs.Prelude.{flat_map, OnOk}
+use Rattle.std.specs.Prelude.{flat_map, OnOk, if◌then◌else◌}
 use Rattle.std.specs.Io.KnownBytes.{Appends, Keeps, append_known}
 use Rattle.std.proofs.KnownBytes.{Appends-kept, Appends-trans, Keeps-refl, append_known-grown}
 use Rattle.std.proofs.lemmas.Grind.{flat_map-append}
@@ -8,7 +8,8 @@ use Rattle.std.proofs.lemmas.List.{length-append, append-nil, append_assoc}
 use Rattle.lfi_module.specs.declared.profile.Profile.{Profile}
 use Rattle.lfi_explain.specs.declared.explanation.Explanation.{Explanation}
 use Rattle.lfi_explain.specs.declared.listing.ListedWord.{ListedWord}
-use Rattle.lfi_explain.specs.Explanations.{AreTold, IsToldAt, one_or_none}
+use Rattle.lfi_explain.specs.Explanations.{AreTold, IsToldAt, one_or_none, mended_among}
+use Rattle.lfi_explain.specs.Mendings.{is_mended}
 use Rattle.lfi_explain.specs.Listings.{AreListed, IsListed}
 
 pub appends_more : {X : Type 0} (line : X → List ℕ) (a b c : Option (List ℕ)) (before here : List X)
@@ -38,6 +39,19 @@ told_count profile ws slot (suc k) told is =
     let here_count = one_at_most here in
     let same : length told ≡ length is.0 + length (one_or_none here) = ap length is.4 ∙ length-append is.0 (one_or_none here) in
     omega (arith, before_count, here_count, same)
+
+-- of how many there is a mend, of one place more
+pub mended_more : (before here : List Explanation) → mended_among (before ++ here) ≡ mended_among before + mended_among here
+mended_more [] here = omega arith
+mended_more (e ∷ before) here = let rest = mended_more before here in omega (arith, rest)
+
+-- there is a mend of no more than are told
+pub mended_count : (told : List Explanation) → mended_among told ≤ length told
+mended_count [] = search rules
+mended_count (e ∷ told) = let rest = mended_count told in let one = mended_once e in omega (arith, rest, one)
+  where
+    mended_once : (e : Explanation) → (if is_mended e.mend then 1 else 0) ≤ 1
+    mended_once e = grind arith
 
 pub one_line : {X : Type 0} (line : X → List ℕ) (a b : Option (List ℕ)) (x : X) → Appends a b (line x) → Appends a b (flat_map line (x ∷ []))
 one_line line a b x p = subst (λ bytes. Appends a b bytes) (sym (append-nil (line x))) p

@@ -1,7 +1,8 @@
 -- What is told of a fault, and of all words that break a rule.
-use Rattle.std.specs.Prelude.{◌≡◌, ℕ, zero, suc, ◌-◌, Bool, true, false, ◌&&◌, not, if◌then◌else◌, List, [], ◌∷◌, ◌++◌, length, flat_map, slice_get, codes, decimal, Option, Some, None}
+use Rattle.std.specs.Prelude.{◌≡◌, ℕ, zero, suc, ◌+◌, ◌-◌, Bool, true, false, ◌&&◌, not, if◌then◌else◌, List, [], ◌∷◌, ◌++◌, length, flat_map, slice_get, codes, decimal, Option, Some, None}
 use Rattle.std.specs.Io.KnownBytes.{Appends}
 use Rattle.lfi_module.specs.declared.profile.Profile.{Profile}
+use Rattle.a64_word.specs.declared.instruction.Instruction.{Instruction}
 use Rattle.lfi_rules.specs.declared.rule.Rule.{Rule}
 use Rattle.lfi_rules.specs.declared.rule.Rule.TheVariants.{NeedMet}
 use Rattle.lfi_rules.specs.declared.fault.Fault.{Fault}
@@ -12,7 +13,7 @@ use Rattle.lfi_explain.specs.declared.explanation.Explanation.{Explanation}
 use Rattle.lfi_explain.specs.Spellings.{IsSpelling, located_text, is_nothing}
 use Rattle.lfi_explain.specs.Openers.{IsOpenerIf, IsNextOpener}
 use Rattle.lfi_explain.specs.Sentences.{unmet_in, sentence_text}
-use Rattle.lfi_explain.specs.Mendings.{mending_text}
+use Rattle.lfi_explain.specs.Mendings.{MendsWord, IsMend, IsDecoded, need_of, is_mended, mending_text}
 
 -- it is rule 10
 abbrev pub is_need_met : Rule → Bool
@@ -48,6 +49,7 @@ pub record ExplainsWord (profile : Profile) (slot n : ℕ) (fault : Fault) (word
   pub count : e.words ≡ n
   pub at : IsSpelling profile word e.at
   pub before : IsNextOpener profile earlier e.opener
+  pub mend : MendsWord profile fault.rule word earlier None e.mend
 
 -- It tells this fault of the words of a module in a slot, and names the word that opens what is open at the fault's place.
 pub record Explains (profile : Profile) (ws : List ℕ) (slot : ℕ) (fault : Fault) (e : Explanation) : Type 0 where
@@ -58,6 +60,9 @@ pub record Explains (profile : Profile) (ws : List ℕ) (slot : ℕ) (fault : Fa
   pub here : slice_get ws fault.word ≡ Some word
   pub at : IsSpelling profile word e.at
   pub opener : IsOpenerIf profile ws fault.word e.opener
+  pub next : Option Instruction
+  pub decoded : IsDecoded profile (slice_get ws (fault.word + 1)) next
+  pub mend : IsMend profile fault.rule word (need_of fault.rule e.at e.opener) next e.mend
 
 -- Of place k the least rule that its word breaks is told; nothing, where it breaks none.
 abbrev pub IsToldAt : Profile → List ℕ → (slot k : ℕ) → Option Explanation → Type 0
@@ -81,8 +86,21 @@ AreTold profile ws slot (suc k) all =
 abbrev pub explanation_line : Explanation → List ℕ
 explanation_line e = explanation_text e ++ codes "\n"
 
--- All that is told was written, and then how many words that is.
+-- of how many of some explanations there is a mend
+abbrev pub mended_among : List Explanation → ℕ
+mended_among [] = 0
+mended_among (e ∷ rest) = (if is_mended e.mend then 1 else 0) + mended_among rest
+
+-- the line with how many words are refused
+abbrev pub refused_text : ℕ → List ℕ
+refused_text refused = codes "words refused: " ++ decimal refused ++ codes "\n"
+
+-- the line with of how many of them there is a mend
+abbrev pub mended_text : ℕ → List ℕ
+mended_text mended = codes "words with a mend: " ++ decimal mended ++ codes "\n"
+
+-- All that is told was written, and then how many words that is, and of how many of them there is a mend.
 abbrev pub WritesRefusals : Profile → List ℕ → (slot : ℕ) → (old new : Option (List ℕ)) → (refused : ℕ) → Type 0
 WritesRefusals profile ws slot old new refused =
     (told : List Explanation) × AreTold profile ws slot (length ws) told × (refused ≡ length told)
-    × Appends old new (flat_map explanation_line told ++ codes "words refused: " ++ decimal refused ++ codes "\n")
+    × Appends old new (flat_map explanation_line told ++ refused_text refused ++ mended_text (mended_among told))

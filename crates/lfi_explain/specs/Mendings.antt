@@ -1,91 +1,123 @@
--- How a word that breaks a rule is mended. Source: this project's profile, docs/PROFILE.md. A register xM, xD or wM stands for
--- any that the text says; free are those of which no rule speaks.
-use Rattle.std.specs.Prelude.{ℕ, ◌==◌, ◌||◌, if◌then◌else◌, Bool, true, false, List, [], ◌++◌, codes, decimal, Option, Some, None}
-use Rattle.a64_word.specs.declared.operands.Width.TheVariants.{W, X}
-use Rattle.a64_text.specs.Texts.{general, or_sp}
-use Rattle.a64_effects.specs.declared.access.Form.{Form}
-use Rattle.a64_effects.specs.declared.access.Form.TheVariants as forms
-use Rattle.a64_effects.specs.declared.access.Address.{Address}
-use Rattle.lfi_rules.specs.Registers.{holds_address}
-use Rattle.lfi_rules.specs.Registers as registers
+-- How a word that breaks a rule is mended. Source: this project's profile, docs/PROFILE.md; the mends are those of lfi_mends.
+use Rattle.std.specs.Prelude.{◌≡◌, ℕ, ◌==◌, length, Bool, true, false, List, [], ◌++◌, codes, flat_map, Option, Some, None, Result, Ok, Err, IfOk, IfSome, IsTrue}
+use Rattle.std.specs.List.{list_any}
+use Rattle.a64_word.specs.declared.instruction.Instruction.{Instruction}
+use Rattle.a64_word.specs.Profiles.{SpellsIn}
+use Rattle.a64_text.specs.Texts.{text}
+use Rattle.lfi_module.specs.declared.profile.Profile.{Profile}
+use Rattle.lfi_rules.specs.Rules.{writes}
 use Rattle.lfi_rules.specs.declared.needs.Need.{Need}
 use Rattle.lfi_rules.specs.declared.needs.Need.TheVariants.{Nothing, Call, Guard, Probe}
 use Rattle.lfi_rules.specs.declared.rule.Rule.{Rule}
 use Rattle.lfi_rules.specs.declared.rule.Rule.TheVariants as rules
+use Rattle.lfi_mends.specs.declared.mend.Mend.{Mend}
+use Rattle.lfi_mends.specs.declared.reason.Reason.{Reason}
+use Rattle.lfi_mends.specs.declared.reason.Reason.TheVariants as reasons
+use Rattle.lfi_mends.specs.Mends.{Leads, mended}
+use Rattle.lfi_mends.specs.Obstacles.{IsReason, refusal}
+use Rattle.lfi_mends.specs.Outcomes.{DoesTheSame, moves_plainly}
+use Rattle.lfi_mends.specs.Registers.{first_scratch, second_scratch}
+use Rattle.lfi_mends.specs.Texts.{reason_text}
 use Rattle.lfi_explain.specs.declared.explanation.Explanation.{Explanation}
-use Rattle.lfi_explain.specs.Spellings.{opened_by, address_by, branch_register_by, written_address_by}
-use Rattle.lfi_explain.specs.Sentences.{unmet_in}
-
--- by how many places an index is shifted where it is scaled, in an access of so many bytes
-abbrev pub shift_of : (bytes : ℕ) → ℕ
-shift_of bytes = if bytes == 1 then 0 else (if bytes == 2 then 1 else (if bytes == 4 then 2 else 3))
-
--- the shift of a scaled index
-abbrev pub shift_text : (scaled : Bool) → (bytes : ℕ) → List ℕ
-shift_text true bytes = codes ", lsl #" ++ decimal (shift_of bytes)
-shift_text false bytes = []
-
--- a guard that makes an address of the slot of a register
-abbrev pub guard_text : (register : ℕ) → List ℕ
-guard_text register = codes "put add xD, x21, " ++ general W register ++ codes ", uxtw before it, D being 18, 23 or 24"
-
--- an access that changes its base: one through which it may go at an immediate offset, or any other
-abbrev pub indexed_text : (base : ℕ) → List ℕ
-indexed_text base =
-    if holds_address base || base == registers.base then codes "let it go through " ++ general X base ++ codes " at an immediate offset, and not change it"
-    else guard_text base ++ codes ", let it go through xD at an immediate offset, and change " ++ general X base ++ codes " by a word of its own"
-
--- a base and an index, which is shifted
-abbrev pub summands_text : (base index : ℕ) → (scaled : Bool) → (bytes : ℕ) → List ℕ
-summands_text base index scaled bytes = or_sp W base ++ codes ", " ++ general W index ++ shift_text scaled bytes
-
--- an access by the sum of a base and an index
-abbrev pub sum_text : (base index : ℕ) → (scaled : Bool) → (bytes : ℕ) → List ℕ
-sum_text base index scaled bytes =
-    codes "put add wM, " ++ summands_text base index scaled bytes ++ codes " before it, M being 22 or free, and let it go through x21 by wM, uxtw"
-
--- an access at this address, which isn't confined
-abbrev pub at_text : Address → List ℕ
-at_text address = by_form address.form
-  where
-    by_form : Form → List ℕ
-    by_form forms.Offset = guard_text address.base ++ codes ", and let it go through xD"
-    by_form forms.PreIndex = indexed_text address.base
-    by_form forms.PostIndex = indexed_text address.base
-    by_form (forms.Index register extend scaled) = sum_text address.base register scaled address.bytes
-
--- what to write in place of an access
-abbrev pub access_text : Option Address → List ℕ
-access_text (Some address) = at_text address
-access_text None = codes "let it go through x18, x21, x23, x24 or sp"
-
--- a register that the guard writes, alone or beside a few others
-abbrev pub guarded_text : (name : List ℕ) → List ℕ
-guarded_text name = codes "let it write a free register xM; then add " ++ name ++ codes ", x21, wM, uxtw writes " ++ name
-
--- x18, x23 or x24, whichever is written
-abbrev pub address_text : Option ℕ → List ℕ
-address_text (Some register) = guarded_text (codes "x" ++ decimal register)
-address_text None = guarded_text (codes "xD")
-
--- what to do about a target outside of the module
-abbrev pub target_text : List ℕ
-target_text = codes "let it go to a word of the module; code outside is called by ldr x30, [x21, #8j], j being 0 to 511, with blr x30 right after it"
-
--- a branch through another register
-abbrev pub bounded_text : Option ℕ → List ℕ
-bounded_text (Some register) =
-    codes "put add x30, x21, " ++ general W register ++ codes ", uxtw before it, and let it go through x30; but for ret, x18, x23 and x24 serve too"
-bounded_text None = codes "let it go through x30"
+use Rattle.lfi_explain.specs.declared.opener.Opener.{Opener}
+use Rattle.lfi_explain.specs.declared.spelling.Spelling.{Spelling}
+use Rattle.lfi_explain.specs.Openers.{asked_if, IsNextOpener}
+use Rattle.lfi_explain.specs.Spellings.{IsSpelling, opened_by}
+use Rattle.lfi_explain.specs.Sentences.{unmet_of}
 
 -- the need that isn't met: that of a word before, or that of the last word, or else a probe, which comes late alone
-abbrev pub asked_in : Explanation → Need
-asked_in e = by_unmet (unmet_in e) (opened_by e.at)
+abbrev pub owed : Spelling → Option Opener → Need
+owed at opener = by_unmet (unmet_of at opener) (opened_by at)
   where
     by_unmet : Need → Need → Need
     by_unmet Nothing Nothing = Probe 1
     by_unmet Nothing opened = opened
     by_unmet need opened = need
+
+-- the need that a mend meets: of rule 10 the one that isn't met, of any other rule what is open before the word
+abbrev pub need_of : Rule → Spelling → Option Opener → Need
+need_of rules.NeedMet at opener = owed at opener
+need_of rule at opener = asked_if opener
+
+-- Which instruction of a profile a word spells, if there is a word and one does.
+abbrev pub IsDecoded : Profile → Option ℕ → Option Instruction → Type 0
+IsDecoded profile None found = found ≡ None
+IsDecoded profile (Some word) found = IfSome found (λ i. SpellsIn profile i word) × ((i : Instruction) → SpellsIn profile i word → found ≡ Some i)
+
+-- It is what mend_of of lfi_mends answers: a mend that keeps the rules after what leaves this need open, and does the same as a plain access; or the reason
+-- why there is none. `next` is the instruction after the word.
+pub record IsMend (profile : Profile) (rule : Rule) (word : ℕ) (need : Need) (next : Option Instruction) (mend : Result Mend Reason) : Type 0 where
+  pub leads : IfOk mend (λ m. Leads profile need (mended m) Nothing)
+  pub does : (i : Instruction) → rule ≡ rules.AccessConfined → need ≡ Nothing → SpellsIn profile i word → IsTrue (moves_plainly i) → IfOk mend (λ m. DoesTheSame (mended m) i)
+  pub told : IsReason profile rule word need next (refusal mend)
+
+-- The same of a word that breaks a rule, by the words before it and after it, where there are any.
+pub record MendsWord (profile : Profile) (rule : Rule) (word : ℕ) (before after : Option ℕ) (mend : Result Mend Reason) : Type 0 where
+  pub at : Spelling
+  pub spelled : IsSpelling profile word at
+  pub opener : Option Opener
+  pub opens : IsNextOpener profile before opener
+  pub next : Option Instruction
+  pub decoded : IsDecoded profile after next
+  pub mends : IsMend profile rule word (need_of rule at opener) next mend
+
+-- there is a mend
+abbrev pub is_mended : Result Mend Reason → Bool
+is_mended (Ok mend) = true
+is_mended (Err reason) = false
+
+-- a line of a mend
+abbrev pub instruction_line : Instruction → List ℕ
+instruction_line i = codes "\n    " ++ text i
+
+-- one of some instructions writes a register
+abbrev pub write : ℕ → List Instruction → Bool
+write register is = list_any (λ i. writes i register) is
+
+-- which of x16 and x17 a mend overwrites, which no rule reserves for it
+abbrev pub scratch_text : (first second : Bool) → List ℕ
+scratch_text true true = codes "; x16 and x17 are overwritten"
+scratch_text true false = codes "; x16 is overwritten"
+scratch_text false true = codes "; x17 is overwritten"
+scratch_text false false = []
+
+-- where a mend stands; that of PRFM is empty
+abbrev pub place_text : (is_empty : Bool) → List ℕ
+place_text true = codes "nothing in its place"
+place_text false = codes "in its place"
+
+-- what else there is to do: a compiler may have a number in x30
+abbrev pub else_text : Rule → List ℕ
+else_text rules.LinkGuarded = codes "; where x30 isn't meant as an address, use another register"
+else_text rule = []
+
+-- the line above a mend
+abbrev pub head_text : Rule → (is_empty first second : Bool) → List ℕ
+head_text rule is_empty first second = place_text is_empty ++ scratch_text first second ++ else_text rule
+
+-- the instructions of a mend, a line each, below a line that says where they stand
+abbrev pub instructions_text : Rule → List Instruction → List ℕ
+instructions_text rule is = head_text rule (length is == 0) (write first_scratch is) (write second_scratch is) ++ flat_map instruction_line is
+
+-- what to do where there is no mend
+abbrev pub instead_text : Reason → List ℕ
+instead_text reasons.Base = codes "; use another register"
+instead_text reasons.Reserved = codes "; use another register"
+instead_text reasons.Outside = codes "; docs/PROFILE.md lists what stands in for others"
+instead_text reason = []
+
+-- why there is no mend
+abbrev pub without_text : Reason → List ℕ
+without_text reason = codes "none: " ++ reason_text reason ++ instead_text reason
+
+-- a mend, or why there is none
+abbrev pub mend_text : Rule → Result Mend Reason → List ℕ
+mend_text rule (Ok mend) = instructions_text rule (mended mend)
+mend_text rule (Err reason) = without_text reason
+
+-- what to do about a target outside of the module
+abbrev pub target_text : List ℕ
+target_text = codes "let it go to a word of the module; code outside is called by ldr x30, [x21, #8j], j being 0 to 511, with blr x30 right after it"
 
 -- what meets a need
 abbrev pub met_text : Need → List ℕ
@@ -96,16 +128,9 @@ met_text (Probe count) = codes "put ldr xzr, [sp] right after the move, or let a
 
 -- what is written instead of the word, or beside it, by the rule that it breaks
 abbrev pub way_text : Rule → Explanation → List ℕ
-way_text rules.Spelled e = codes "put instructions of the profile in its place: docs/PROFILE.md lists them, and what stands in for others"
-way_text rules.AccessConfined e = access_text (address_by e.at)
-way_text rules.BaseKept e = codes "let it write a free register in place of x21"
-way_text rules.AddressGuarded e = address_text (written_address_by e.at)
-way_text rules.LinkGuarded e = guarded_text (codes "x30")
-way_text rules.OffsetNarrow e = codes "let it write w22; or a free register xM, and then mov w22, wM writes w22"
-way_text rules.StackBounded e = guarded_text (codes "sp")
 way_text rules.TargetInside e = target_text
-way_text rules.BranchBounded e = bounded_text (branch_register_by e.at)
-way_text rules.NeedMet e = met_text (asked_in e)
+way_text rules.NeedMet e = met_text (owed e.at e.opener)
+way_text rule e = mend_text rule e.mend
 
 -- what to write in place of the word
 abbrev pub mending_text : Explanation → List ℕ

@@ -17,6 +17,7 @@ use Rattle.lfi_rules.specs.declared.rule.Rule.{Rule}
 use Rattle.lfi_rules.specs.declared.rule.Rule.TheVariants as rules
 use Rattle.lfi_explain.specs.declared.explanation.Explanation.{Explanation}
 use Rattle.lfi_explain.specs.declared.opener.Opener.{Opener}
+use Rattle.lfi_explain.specs.declared.spelling.Spelling.{Spelling}
 use Rattle.lfi_explain.specs.Groups.{group_of, group_text}
 use Rattle.lfi_explain.specs.Openers.{asked_if}
 use Rattle.lfi_explain.specs.Spellings.{opened_by, is_met_by, is_calm_by, address_by, target_by, branch_register_by, written_address_by}
@@ -97,9 +98,13 @@ abbrev pub gone_before : Option Opener → ℕ
 gone_before (Some opener) = opener.gone
 gone_before None = 0
 
--- what a word before asks, where it isn't met; else Nothing
+-- what a word before asks, where a word doesn't meet it; else Nothing
+abbrev pub unmet_of : Spelling → Option Opener → Need
+unmet_of at opener = if is_met_by at (asked_if opener) then Nothing else asked_if opener
+
+-- the same of the word that is told
 abbrev pub unmet_in : Explanation → Need
-unmet_in e = if is_met_by e.at (asked_if e.opener) then Nothing else asked_if e.opener
+unmet_in e = unmet_of e.at e.opener
 
 -- what a rule asks of a word; of the last rule, nothing, since its need says it
 abbrev pub asks_text : Rule → List ℕ

@@ -1,17 +1,19 @@
 //! What is told of a fault.
 
-ghost use Rattle.std.specs.Prelude.{◌≡◌, ◌<◌, ◌≤◌, length, Some};
+ghost use Rattle.std.specs.Prelude.{◌≡◌, ◌<◌, ◌≤◌, ◌+◌, length, slice_get, Some};
 ghost use Rattle.lfi_module.specs.Numbers.{most_words};
 ghost use Rattle.lfi_explain.specs.Explanations as spec;
-ghost use Rattle.lfi_explain.specs.Openers.{IsNextOpener};
+ghost use Rattle.lfi_explain.specs.Mendings.{IsDecoded};
 ghost use Rattle.lfi_explain.specs.Sentences.{unmet_in, gone_before};
 
 use crate::located::Located;
+use crate::mend_of_word::{decoded, mend_at, mend_word, next_opener, unmet};
 use crate::mending::Mending;
 use crate::opener::{Opener, opener_before};
 use crate::sentence::Sentence;
 use crate::spelling::Spelling;
-use a64_word::Words;
+use a64_word::{Instruction, Words};
+use lfi_mends::{Mend, Reason};
 use lfi_module::{ModuleNumber, Profile, WordCount};
 use lfi_rules::{Fault, Need, Rule};
 use std::fmt;
@@ -29,6 +31,8 @@ pub struct Explanation {
     pub at: Spelling,
     /// The word before it that opens a need, or that before it, if there is one.
     pub opener: Option<Opener>,
+    /// What stands in the word's place; or, where the fault is that a need isn't met, beside it.
+    pub mend: Result<Mend, Reason>,
 }
 
 impl Explanation {
@@ -36,15 +40,7 @@ impl Explanation {
     pub fn unmet(&self) -> Need
         ensures { result ≡ unmet_in self.now }
     {
-        let need = match &self.opener {
-            Some(opener) => opener.asks(),
-            None => Need::Nothing,
-        };
-        if self.at.meets(need) {
-            Need::Nothing
-        } else {
-            need
-        }
+        unmet(&self.at, &self.opener)
     }
 
     /// Behind how many calm words the word is that has to meet what one before opens.
@@ -115,23 +111,10 @@ impl fmt::Display for Told {
 impl fmt::Display for Explanation {
     ghost output = { λ explanation. Some (spec.explanation_text explanation) };
 
-    /// Writes four lines, without the end of the last: the fault, as `word 16 rule 2`; the word at its address, after that of
-    /// the word whose need isn't met; what the rule asks; and how the word is mended.
+    /// Writes lines, without the end of the last: the fault, as `word 16 rule 2`; the word at its address, after that of the
+    /// word whose need isn't met; what the rule asks; and how the word is mended, with a line for each instruction of a mend.
     fn fmt<W: fmt::Write>(&self, f: &mut fmt::Formatter<W>) -> fmt::Result {
         write!(f, "{}\n  mend: {}", Told(*self), Mending(*self))
-    }
-}
-
-/// A word as the opener of what the next one has to meet, if there is a word.
-fn next_opener(before: Option<u32>, profile: Profile) -> Option<Opener>
-    ensures { IsNextOpener profile before result }
-{
-    match before {
-        Some(word) => Some(Opener {
-            gone: 0,
-            spelling: Spelling::of(word, profile),
-        }),
-        None => None,
     }
 }
 
@@ -153,6 +136,20 @@ pub fn explain_word(
         words: words.number(),
         at: Spelling::of(word, profile),
         opener: next_opener(before, profile),
+        mend: mend_word(profile, fault.rule, word, before, None),
+    }
+}
+
+/// The instruction after a place, if there is a word and one spells it.
+fn instruction_after<W: Words>(words: &W, place: usize, profile: Profile) -> Option<Instruction>
+    requires { place < length (W.words words.now) }
+    ensures { IsDecoded profile (slice_get (W.words words.now) (place + 1)) result }
+{
+    let count = words.count();
+    if place + 1 < count {
+        decoded(Some(words.word(place + 1)), profile)
+    } else {
+        None
     }
 }
 
@@ -176,11 +173,15 @@ pub fn explain<W: Words>(
     ensures { spec.Explains profile (W.words words.now) slot fault result }
 {
     let place = fault.word as usize;
+    let at = Spelling::of(words.word(place), profile);
+    let opener = opener_before(words, place, profile);
+    let next = instruction_after(words, place, profile);
     Explanation {
         fault,
         slot,
         words: words.count() as u32,
-        at: Spelling::of(words.word(place), profile),
-        opener: opener_before(words, place, profile),
+        at,
+        opener,
+        mend: mend_at(fault.rule, &at, &opener, &next),
     }
 }

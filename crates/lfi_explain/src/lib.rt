@@ -3,9 +3,9 @@
 //!
 //! # How data flows
 //!
-//! `explain` takes a list of words and a fault to an `Explanation`, which keeps the decoded words; its `Display` is the
-//! text. `write_refusals` explains each place that breaks a rule, `write_listing` writes a line for each word. Both
-//! keep lines until they are 8,192 bytes, and then write.
+//! `explain` takes a list of words and a fault to an `Explanation`, which keeps the decoded words and the mend that
+//! lfi_mends answers (mend_of_word); its `Display` is the text. `write_refusals` explains each place that breaks a rule,
+//! `write_listing` writes a line for each word. Both keep lines until they are 8,192 bytes, and then write.
 //!
 //! # What it may not know
 //!
@@ -22,9 +22,9 @@
 //!   bitmask that is none prints as `#?`.
 //! - **`mask_of` is a function beside the relation `IsMask`**, since what is printed has to be a function of the
 //!   instruction. `gives_mask` is its test.
-//! - **An `Explanation` keeps the decoded words** (`Spelling`), so that its text is a function of its fields.
-//!   `Spelling::of`, `explain` and `explain_word` are the ways in; the last for words that are known alone, as those of
-//!   a module that came in pages.
+//! - **An `Explanation` keeps the decoded words** (`Spelling`) **and the mend**, so that its text is a function of its
+//!   fields: what `mend_of` answers is said by a relation. `explain_word` is for words that are known alone, as those of a
+//!   module that came in pages. There no next word is known, and so there is no mend of RBIT before CLZ.
 //! - **What a word breaks, by its place, is asked of lfi_rules** (`broken_at`), which has the order of the rules;
 //!   lfi_explain tells it. It decodes the words before anew at each place: explanations are asked for by hand.
 //! - **All refusals are told, not only the first of each cause**: a word after one that opens a need may be told for
@@ -32,14 +32,12 @@
 //! - **A word that no instruction of the profile spells is told with its group** (`Group`), by the manual's own tables, so
 //!   that who meets it knows what to ask of a compiler. No group says that a word is an instruction.
 //! - **A listing marks broken rules where that is asked for**: it looks at each place as `write_refusals` does.
-//! - **The number of refusals is a line of its own form** (`words refused: 1`), which needs no plural.
-//! - **A sentence names registers by wM and xD** where any would do.
-//! - **How a word is mended is a line of its own**, which begins with `mend:` and is chosen by the rule, the word's own
-//!   registers and the need that isn't met. What it advises keeps the rule, whatever the registers are: so it names no
-//!   place for the word that writes a guarded register, since a load of a pair can open a need besides; it leaves the
-//!   choice of D and M, since a store may have its data in any of them; and it takes the index of a sum as W, since an
-//!   offset from x21 has 32 bits.
-//! - **`Told` is all but that line**: one `write!` of both has too many parts for the search.
+//! - **A number is a line of its own form** (`words refused: 1`), which needs no plural.
+//! - **A mend is lines of its own, below `mend:`**: the instructions of lfi_mends, one a line, so that they can be put
+//!   into an assembler's file. Where there is none, the reason stands in that line. Direct branches, and what the next
+//!   word owes, are told in a sentence: for the first there is no mend, for the second it stands beside another word.
+//! - **A mend meets what is open before the word** (`need_of`), also where the word itself would meet it.
+//! - **`Told` is all but the mend**: one `write!` of both has too many parts for the search.
 #![tactic(auto)]
 
 mod digits;
@@ -48,6 +46,7 @@ mod group;
 mod kept;
 mod listing;
 mod located;
+mod mend_of_word;
 mod mending;
 mod opener;
 mod refusals;
@@ -58,6 +57,7 @@ pub use explanation::{Explanation, explain, explain_word};
 pub use group::Group;
 pub use listing::{ListedWord, write_listing};
 pub use located::Located;
+pub use mend_of_word::mend_word;
 pub use opener::Opener;
 pub use refusals::write_refusals;
 pub use spelling::Spelling;

@@ -15,7 +15,7 @@ use std::fmt;
 
 /// Whether an instruction writes a register, by its number.
 #[tactic(auto, unfolding(lfi_rules::specs::Rules::written))]
-fn is_written(instruction: &Instruction, number: u8) -> bool
+pub(crate) fn is_written(instruction: &Instruction, number: u8) -> bool
     requires { number < 31 }
     ensures { result ≡ writes instruction.now number }
 {

@@ -8,3 +8,4 @@ pub mod Shares
 pub mod Following
 pub mod Followed
 pub mod Losing
+pub mod Spelled

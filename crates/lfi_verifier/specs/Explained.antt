@@ -1,5 +1,5 @@
 -- What is told of a fault as text.
-use Rattle.std.specs.Prelude.{◌≡◌, ℕ, ◌<◌, ◌==◌, if◌then◌else◌, List, ◌++◌, length, take, drop, Option, Some, None}
+use Rattle.std.specs.Prelude.{◌≡◌, ℕ, ◌+◌, ◌<◌, nat_lt, ◌==◌, if◌then◌else◌, List, ◌++◌, length, take, drop, Option, Some, None}
 use Rattle.lfi_module.specs.Numbers.{module_count}
 use Rattle.lfi_module.specs.declared.profile.Profile.{Profile}
 use Rattle.lfi_rules.specs.declared.fault.Fault.{Fault}
@@ -19,6 +19,10 @@ pub record IsTold (slot words : ℕ) (told : LfiFault) (fault : Fault) : Type 0 
 -- the word before a place, if there is one
 abbrev pub earlier : (place before : ℕ) → Option ℕ
 earlier place before = if place == 0 then None else Some before
+
+-- the word after a place of a module of so many words, if there is one
+abbrev pub later : (words place after : ℕ) → Option ℕ
+later words place after = if nat_lt (place + 1) words then Some after else None
 
 -- The text begins with the explanation of this fault by a profile, by the word at its place and the one before it, as far as there was room, and is otherwise as it was; the size is that of the whole explanation.
 pub record TellsFault (profile : Profile) (slot words : ℕ) (found : Fault) (word before : ℕ) (old new : List ℕ) (told : ℕ) : Type 0 where

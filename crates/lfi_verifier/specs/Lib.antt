@@ -4,6 +4,7 @@ pub mod Faults
 pub mod Verdicts
 pub mod States
 pub mod Explained
+pub mod Mended
 pub mod CutStates
 pub mod StreamVerdicts
 pub mod StreamEvents

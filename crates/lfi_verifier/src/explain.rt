@@ -43,7 +43,7 @@ fn copy_cut(whole: &[u8], text: &mut [u8])
 }
 
 /// The word before a place, if there is one.
-fn earlier(place: u32, before: u32) -> Option<u32>
+pub(crate) fn earlier(place: u32, before: u32) -> Option<u32>
     ensures { result ≡ earlier place before }
 {
     if place == 0 { None } else { Some(before) }

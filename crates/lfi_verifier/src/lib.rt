@@ -9,6 +9,7 @@ mod explain;
 mod fault;
 mod finding;
 mod laws;
+mod mending;
 mod pieces;
 mod profile;
 mod state;

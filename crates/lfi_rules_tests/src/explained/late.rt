@@ -103,7 +103,7 @@ const LISTED: &str =
 
 /// What is told of them.
 const REFUSED: &str =
-    "word 1 rule 10\n  0x0000000100010000  d10043ff  sub sp, sp, #16\n  0x0000000100010004  d503201f  nop\n  a move of sp by an immediate is followed by a load or store at [sp] within 4 words, with only calm words before it; the module ends with 3 of the 4 left\n  mend: put ldr xzr, [sp] right after the move, or let a pre- or post-indexed access move sp\nwords refused: 1\n";
+    "word 1 rule 10\n  0x0000000100010000  d10043ff  sub sp, sp, #16\n  0x0000000100010004  d503201f  nop\n  a move of sp by an immediate is followed by a load or store at [sp] within 4 words, with only calm words before it; the module ends with 3 of the 4 left\n  mend: put ldr xzr, [sp] right after the move, or let a pre- or post-indexed access move sp\nwords refused: 1\nwords with a mend: 1\n";
 
 #[test]
 fn lists_and_refuses(rt: HostRuntime) -> Result<(), Fail> {

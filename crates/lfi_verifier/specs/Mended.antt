@@ -1,0 +1,45 @@
+-- What is told of a mend in C: its words.
+use Rattle.std.specs.Prelude.{◌≡◌, ℕ, ◌<◌, List, [], ◌∷◌, ◌++◌, length, drop, slice_get, Option, Some, None, Ok, Err}
+use Rattle.a64_word.specs.declared.instruction.Instruction.{Instruction}
+use Rattle.a64_word.specs.Profiles.{SpellsIn}
+use Rattle.lfi_module.specs.declared.profile.Profile.{Profile}
+use Rattle.lfi_rules.specs.declared.fault.Fault.{Fault}
+use Rattle.lfi_mends.specs.declared.mend.Mend.{Mend}
+use Rattle.lfi_mends.specs.declared.reason.Reason.{Reason}
+use Rattle.lfi_mends.specs.Mends.{mended}
+use Rattle.lfi_explain.specs.Mendings.{MendsWord}
+use Rattle.lfi_verifier.specs.declared.fault.LfiFault.{LfiFault}
+use Rattle.lfi_verifier.specs.Explained.{earlier, later}
+use Rattle.lfi_verifier.specs.Faults.{fault_at}
+use Rattle.lfi_verifier.specs.States.{IsWordCount}
+
+-- the numbers are those of a fault at one of so many words
+pub record IsFaultOf (words : ℕ) (told : LfiFault) (fault : Fault) : Type 0 where
+  pub in_range : IsWordCount words
+  pub found : fault_at told ≡ Some (Some fault)
+  pub inside : fault.word < words
+
+-- each of some instructions is spelled by a word
+abbrev pub AreSpelled : Profile → List Instruction → Type 0
+AreSpelled profile [] = Unit {0}
+AreSpelled profile (i ∷ is) = ((word : ℕ) × SpellsIn profile i word) × AreSpelled profile is
+
+-- Words spell instructions, each one of them.
+abbrev pub Spell : Profile → List Instruction → (words : List ℕ) → Type 0
+Spell profile [] [] = Unit {0}
+Spell profile (i ∷ is) (word ∷ words) = SpellsIn profile i word × Spell profile is words
+Spell profile is words = ⊥
+
+-- The mend of a word with a fault, by the words before it and after it: the numbers begin with its words, and are otherwise as they were.
+pub record TellsMend (profile : Profile) (words : ℕ) (found : Fault) (word before after : ℕ) (old new : List ℕ) (count : ℕ) : Type 0 where
+  pub mend : Mend
+  pub mends : MendsWord profile found.rule word (earlier found.word before) (later words found.word after) (Ok mend)
+  pub spelling : List ℕ
+  pub spells : Spell profile (mended mend) spelling
+  pub written : new ≡ spelling ++ drop (length spelling) old
+  pub counted : count ≡ length spelling
+
+-- There is no mend of it, for a reason.
+pub record HasNoMend (profile : Profile) (words : ℕ) (found : Fault) (word before after : ℕ) : Type 0 where
+  pub reason : Reason
+  pub mends : MendsWord profile found.rule word (earlier found.word before) (later words found.word after) (Err reason)

@@ -1,2 +1,0 @@
-// word 0 rule 1
-    rev w0, w1
