@@ -45,6 +45,22 @@ fn turn_over(board: &Board, intake: &Intake<Item>, receiver: &mut Receiver, piec
     }
 }
 
+/// Turns the receiver over a piece, so many times.
+fn turn_often(
+    board: &Board,
+    intake: &Intake<Item>,
+    receiver: &mut Receiver,
+    piece: &[u8],
+    times: u64,
+)
+    requires part { (pass_of receiver.old).queue ≡ intake.now }
+    requires board { board_of (seat_of receiver.old) ≡ board_id board.now }
+{
+    for _ in 0..times {
+        turn_over(board, intake, receiver, piece);
+    }
+}
+
 /// The nanoseconds in which a new receiver is given so many pieces, and the strays that it counted.
 fn give<R: Clock>(rt: &R, alloc: Global, pieces: u64) -> Result<(u64, u64), Fault> {
     let piece = piece_of_closes();
@@ -54,9 +70,7 @@ fn give<R: Clock>(rt: &R, alloc: Global, pieces: u64) -> Result<(u64, u64), Faul
     let pool = PoolMember::new(alloc)?;
     let mut receiver = Receiver::new(alloc, puts.swap_remove(0), seat, pool);
     let start = Instant::now(rt)?;
-    for _ in 0..pieces {
-        turn_over(&board, &intake, &mut receiver, &piece);
-    }
+    turn_often(&board, &intake, &mut receiver, &piece, pieces);
     Ok((nanos_since(rt, start)?, receiver.strays()))
 }
 
@@ -72,7 +86,10 @@ pub(crate) fn run(rt: &HostRuntime, closes: u64, rounds: Option<u64>) -> Result<
     }
     println!(rt; "{strays} strays")?;
     if rounds.is_some() {
-        println!(rt; "{} ns for 100 Closes", least.saturating_mul(100) / strays.max(1))?;
+        println!(rt;
+            "{} ns for 100 Closes",
+            least.saturating_mul(100) / strays.max(1)
+        )?;
     }
     Ok(())
 }
