@@ -3,10 +3,10 @@
 //!
 //! # How data flows
 //!
-//! `load_in` over readers and `serve_with` over a door are handed what the threads share (`Env`) and all parts (`Parts`). In a
-//! scope they start the threads, join them, and give the parts back (`Parts`, `Back`). What each thread promises of its
-//! part (promises.rt) is what settling the stage asks for. A receiver's thread tells of refused modules (`Notices`). What
-//! these calls do is told by specs/: Running, Seated (who has a seat at the board) and Heard (what receivers have heard).
+//! `load_in` over readers is handed a scope, what the threads share (`Env`) and all parts (`Parts`); `serve_with` over a door
+//! makes the first two itself. They start the threads, join them, and give the parts back (`Parts`, `Back`). What each thread
+//! promises of its part (promises.rt) is what settling the stage asks for. A receiver's thread tells of refused modules
+//! (`Notices`). What these calls do is told by specs/: Running, Seated (who has a seat at the board) and Heard.
 //!
 //! # What it may not know
 //!
