@@ -1,4 +1,3 @@
-pub mod LoadFaults
 pub mod Endings
 pub mod Explained
 pub mod Loading

@@ -11,7 +11,7 @@ use Rattle.lfi_file_commands.specs.declared.failure.Target.TheVariants.{Standard
 use Rattle.lfi_file_commands.specs.declared.failure.Failure.{Failure}
 use Rattle.lfi_file_commands.specs.declared.failure.Failure.TheVariants.{CannotWrite, NoMemory}
 use Rattle.lfi_file_commands.specs.Explaining.{HasChecked}
-use Rattle.lfi_file_commands.specs.Failures.{failure_line, is_of_output, FailsOn, FailsServing, IsOfReading, Told}
+use Rattle.lfi_file_commands.specs.Failures.{failure_line, is_of_output, FailsLoading, FailsOn, FailsServing, IsOfReading, Told}
 use Rattle.lfi_file_commands.specs.Left.{Left}
 use Rattle.lfi_file_commands.specs.Listing.{HasListed}
 use Rattle.lfi_commands.specs.Loading.{streams_of, HasLoaded}
@@ -33,7 +33,7 @@ CarriesOut (Unpack asked) file_at = HasUnpacked (file_at asked.image.now)
 -- it tells of a fault of what the line asks for: of a file that it names, of the output, of the socket; what `check` tells is part of what it did
 abbrev pub FailsAs : Line → Failure → Type 0
 FailsAs (Check asked) = λ failure. ⊥
-FailsAs (Load asked) = FailsOn (streams_of asked)
+FailsAs (Load asked) = FailsLoading (streams_of asked)
 FailsAs (Serve asked) = FailsServing asked.socket.now
 FailsAs (Run asked) = IsOfReading asked.image.now
 FailsAs (Disassemble asked) = FailsOn (asked.file.now ∷ [])

@@ -2,7 +2,7 @@
 
 ghost use Rattle.std.specs.Prelude.{◌≡◌, ◌≤◌, [], ℕ, List, Option, IfOk, IfErr, OnErr, false, true, length, map, string_bytes};
 ghost use Rattle.lfi_command_line.specs.CommandLine.{IsLineFault};
-ghost use Rattle.lfi_file_commands.specs.Failures.{is_of_output, FailsOn, FailsServing};
+ghost use Rattle.lfi_file_commands.specs.Failures.{is_of_output, FailsLoading, FailsServing};
 ghost use Rattle.lfi_file_commands.specs.Left.{OnlyOutput};
 ghost use Rattle.lfi_commands.specs.Loading.{streams_of, HasLoaded, TellsReport};
 ghost use Rattle.lfi_commands.specs.Serving.{HasServedAll, IsLimit, TellsServed};
@@ -21,7 +21,7 @@ use lfi_file_commands::{
 use lfi_module::CONNECTIONS;
 use lfi_signals::ReadErrors;
 use lfi_stage::settle::Report;
-use lfi_threads::{Notices, Served};
+use lfi_threads::{Door, Notices, Served, StageSize};
 use std::alloc::Global;
 use std::fs::Files;
 use std::io::{ErrorKind, Write};
@@ -92,7 +92,7 @@ fn run_load<
     requires verifiers { (1 ≤ asked.now.verifiers) × (asked.now.verifiers ≤ 8) }
     requires connections { (1 ≤ length asked.now.streams.items) × (length asked.now.streams.items ≤ 8) }
     ensures found { IfOk result (HasLoaded asked.now (D.file_at disk.now) outputs.old outputs.new) }
-    ensures failure { IfErr result (FailsOn (streams_of asked.now)) }
+    ensures failure { IfErr result (FailsLoading (streams_of asked.now)) }
     ensures output { IfErr result (λ failure. is_of_output failure ≡ false → outputs.new.out ≡ outputs.old.out) }
     ensures untold { OnErr result (OnlyOutput outputs.old outputs.new) }
 {
@@ -118,7 +118,7 @@ fn run_load<
             };
             end_load(alloc, &report, &sources, &asked.report, outputs)
         }
-        Err(fault) => Err(Failure::from(fault)),
+        Err(failure) => Err(failure),
     }
 }
 
@@ -183,26 +183,17 @@ fn run_serve<
     let listener = match UnixListener::bind(rt, asked.socket) {
         Ok(listener) => listener,
         Err(error) => {
-            return Err(Failure::CannotListen(
-                asked.socket,
-                DeviceCause::of(&error),
-            ));
+            return Err(Failure::CannotListen(asked.socket, DeviceCause::of(&error)));
         }
     };
-    let served = serve(
-        rt,
-        alloc,
-        listener,
-        asked.socket,
-        asked.connections,
-        asked.verifiers,
-        limit_of(asked.seconds),
-        notices,
-        &mut outputs.out,
-    );
-    match served {
+    let door = Door::new(rt, &listener, asked.socket, limit_of(asked.seconds));
+    let size = StageSize {
+        connections: asked.connections,
+        verifiers: asked.verifiers,
+    };
+    match serve(rt, alloc, door, size, notices, &mut outputs.out) {
         Ok(served) => end_serve(alloc, &served, &asked.report, outputs),
-        Err(fault) => Err(Failure::from(fault)),
+        Err(failure) => Err(failure),
     }
 }
 

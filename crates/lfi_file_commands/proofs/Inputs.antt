@@ -4,7 +4,7 @@ use Rattle.std.proofs.lemmas.Option.{none-some, slice_get-map}
 use Rattle.lfi_receive.specs.declared.input.Input.{Input}
 use Rattle.lfi_file_commands.specs.Opening.{AreInputsOf, IsInputOf}
 use Rattle.lfi_file_commands.specs.declared.failure.Failure.{Failure}
-use Rattle.lfi_file_commands.specs.declared.failure.Failure.TheVariants.{CannotRead, CannotWrite, CannotListen, NoMemory}
+use Rattle.lfi_file_commands.specs.declared.failure.Failure.TheVariants.{CannotRead, CannotWrite, CannotListen, NoMemory, NoThread}
 use Rattle.lfi_file_commands.specs.Failures.{IsOfReading, IsOfReadingOne}
 use Rattle.lfi_file_commands.proofs.Joined.{all_taken}
 
@@ -48,3 +48,4 @@ tells_one f xs k x (CannotRead told cause) at tells = (k, slice_get-map f xs k â
 tells_one f xs k x (CannotWrite target cause) at tells = absurd tells
 tells_one f xs k x (CannotListen told cause) at tells = absurd tells
 tells_one f xs k x NoMemory at tells = tt
+tells_one f xs k x NoThread at tells = absurd tells

@@ -11,8 +11,10 @@ use Rattle.lfi_file_commands.specs.declared.checking.CommandFault.TheVariants as
 use Rattle.lfi_file_commands.specs.declared.failure.Target.{Target}
 use Rattle.lfi_file_commands.specs.declared.failure.Target.TheVariants.{StandardOutput, File}
 use Rattle.lfi_file_commands.specs.declared.failure.Failure.{Failure}
-use Rattle.lfi_file_commands.specs.declared.failure.Failure.TheVariants.{CannotRead, CannotWrite, CannotListen, NoMemory}
+use Rattle.lfi_file_commands.specs.declared.failure.Failure.TheVariants.{CannotRead, CannotWrite, CannotListen, NoMemory, NoThread}
 use Rattle.lfi_file_commands.specs.Left.{Left}
+use Rattle.lfi_signals.specs.declared.refusal.LoadError.{LoadError}
+use Rattle.lfi_signals.specs.declared.refusal.LoadError.TheVariants as load_error
 use Rattle.lfi_file_commands.specs.Causes.{cause_behind, cause_line, cause_of}
 
 -- what can't be written, in words
@@ -26,6 +28,7 @@ failure_text (CannotRead path cause) = codes "cannot read " ++ path.now ++ cause
 failure_text (CannotWrite target cause) = codes "cannot write " ++ target_text target ++ cause_line cause
 failure_text (CannotListen path cause) = codes "cannot listen\n  " ++ path.now ++ cause_behind cause
 failure_text NoMemory = codes "no memory"
+failure_text NoThread = codes "no memory"
 
 -- its line; of an output that nobody reads any longer nothing is told
 abbrev pub failure_line : Failure → List ℕ
@@ -86,12 +89,27 @@ FailsOn paths (CannotWrite StandardOutput cause) = ⊤
 FailsOn paths NoMemory = ⊤
 FailsOn paths _ = ⊥
 
--- it tells of a fault of a command that listens at a socket at this path
+-- what refuses a load: memory, or a thread
+abbrev pub failure_of_load : LoadError → Failure
+failure_of_load load_error.NoMemory = NoMemory
+failure_of_load load_error.NoThread = NoThread
+
+-- it tells that a load was refused, or of the output for its report
+abbrev pub IsOfLoad : Failure → Type 0
+IsOfLoad (CannotWrite StandardOutput cause) = ⊤
+IsOfLoad NoMemory = ⊤
+IsOfLoad NoThread = ⊤
+IsOfLoad _ = ⊥
+
+-- it tells of a fault of a load of the files at these paths
+abbrev pub FailsLoading : List (List ℕ) → Failure → Type 0
+FailsLoading paths NoThread = ⊤
+FailsLoading paths failure = FailsOn paths failure
+
+-- it tells of a fault of a load that listens at a socket at this path
 abbrev pub FailsServing : List ℕ → Failure → Type 0
 FailsServing socket (CannotListen told cause) = told.now ≡ socket
-FailsServing socket (CannotWrite StandardOutput cause) = ⊤
-FailsServing socket NoMemory = ⊤
-FailsServing socket _ = ⊥
+FailsServing socket failure = IsOfLoad failure
 
 -- These lines were written to the errors, unless something is lost.
 abbrev pub Told : Bool → (old new : Option (List ℕ)) → List ℕ → Type 0

@@ -19,10 +19,12 @@ use a64_word::WORD_BYTES;
 use lfi_code::{Verdict, judge_code};
 use lfi_module::{Profile, WordCount};
 use std::alloc::Global;
+use std::error::Error;
+use std::fmt;
 use std::io::{self, Read, Write};
 
 /// Why a command comes to no answer, or can't tell it.
-#[derive(Clone, Copy, PartialEq, Eq)]
+#[derive(Clone, Copy, Debug, PartialEq, Eq)]
 pub enum CommandFault {
     /// There was no memory.
     NoMemory,
@@ -31,6 +33,18 @@ pub enum CommandFault {
     /// A write failed, for this cause.
     NotWritten(DeviceCause),
 }
+
+impl fmt::Display for CommandFault {
+    fn fmt<W: fmt::Write>(&self, f: &mut fmt::Formatter<W>) -> fmt::Result {
+        match self {
+            CommandFault::NoMemory => write!(f, "no memory"),
+            CommandFault::NotRead(cause) => write!(f, "cannot read{cause}"),
+            CommandFault::NotWritten(cause) => write!(f, "cannot write{cause}"),
+        }
+    }
+}
+
+impl Error for CommandFault {}
 
 impl CommandFault {
     /// That of a read.

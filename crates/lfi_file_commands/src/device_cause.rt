@@ -7,7 +7,7 @@ ghost use Rattle.lfi_file_commands.specs.Causes.{cause_of, cause_line, cause_tex
 use std::{fmt, io};
 
 /// Why a device failed.
-#[derive(Clone, Copy, PartialEq, Eq)]
+#[derive(Clone, Copy, Debug, PartialEq, Eq)]
 pub enum DeviceCause {
     NotFound,
     PermissionDenied,

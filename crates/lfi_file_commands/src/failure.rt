@@ -3,15 +3,17 @@
 ghost use Rattle.std.specs.Prelude.{◌≡◌, [], ◌∷◌, ◌++◌, Some, false, IsTrue, codes};
 ghost use Rattle.std.specs.IoError.{error_kind};
 ghost use Rattle.lfi_file_commands.specs.Causes.{cause_of};
-ghost use Rattle.lfi_file_commands.specs.Failures.{failure_line, failure_text, fault_of_read, is_of_a_write, is_of_output, target_text, FailsOn, IsOfReading, TellsOf};
+ghost use Rattle.lfi_file_commands.specs.Failures.{failure_line, failure_of_load, failure_text, fault_of_read, is_of_a_write, is_of_output, target_text, FailsOn, IsOfReading, TellsOf};
 
 use crate::checking::CommandFault;
 use crate::device_cause::DeviceCause;
+use lfi_signals::LoadError;
 use std::alloc::AllocError;
+use std::error::Error;
 use std::{fmt, io};
 
 /// What can't be written.
-#[derive(Drop)]
+#[derive(Debug, Drop)]
 pub enum Target {
     /// The standard output.
     StandardOutput,
@@ -20,7 +22,7 @@ pub enum Target {
 }
 
 /// Why a command could not be carried out.
-#[derive(Drop)]
+#[derive(Debug, Drop)]
 pub enum Failure<'a> {
     /// The file at this path can't be read.
     CannotRead(&'a str, DeviceCause),
@@ -28,8 +30,10 @@ pub enum Failure<'a> {
     CannotWrite(Target, DeviceCause),
     /// It can't be listened at this path of a socket.
     CannotListen(&'a str, DeviceCause),
-    /// There was no memory, or a thread can't be started.
+    /// There was no memory.
     NoMemory,
+    /// A thread can't be started. It is told by the line that tells of memory.
+    NoThread,
 }
 
 impl fmt::Display for Target {
@@ -56,7 +60,7 @@ impl fmt::Display for Failure<'_> {
             Failure::CannotListen(path, cause) => {
                 write!(f, "cannot listen\n  {path}: {}", cause.text())
             }
-            Failure::NoMemory => write!(f, "no memory"),
+            Failure::NoMemory | Failure::NoThread => write!(f, "no memory"),
         }
     }
 }
@@ -71,6 +75,21 @@ impl<'a> From<AllocError> for Failure<'a> {
         Failure::NoMemory
     }
 }
+
+impl<'a> From<LoadError> for Failure<'a> {
+    ghost use Rattle.std.specs.Prelude.{◌≡◌};
+
+    ghost from_gives = { λ error failure. failure ≡ failure_of_load error };
+
+    fn from(error: LoadError) -> Failure<'a> {
+        match error {
+            LoadError::NoMemory => Failure::NoMemory,
+            LoadError::NoThread => Failure::NoThread,
+        }
+    }
+}
+
+impl Error for Failure<'_> {}
 
 impl<'a> Failure<'a> {
     /// Whether it is that of an output that nobody reads any longer, as that of `lfiload disassemble FILE | head`. Nothing is

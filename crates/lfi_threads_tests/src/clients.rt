@@ -5,7 +5,7 @@ use crate::build::{MODULE_0, MODULE_3, MODULE_5, NOP, eight, is_text, piece, pus
 use crate::inputs::{YIELDS, comes_to};
 use lfi_model::{Item, Judged, Summary};
 use lfi_place::{Gate, OpenGate};
-use lfi_threads::{ClientFate, LoadError, NoNotices, serve_on};
+use lfi_threads::{ClientFate, Door, LoadError, NoNotices, StageSize, serve_on};
 use std::alloc::{AllocError, Global};
 use std::fs;
 use std::fs::Files;
@@ -58,18 +58,12 @@ pub(crate) fn served<S: Threads + Wait + Files + Clock + Sync + AllocGlobal, G: 
     limit: Option<Duration>,
     gate: &G,
 ) -> Result<Told, LoadError> {
-    let connections = connections.max(1).min(8);
-    let served = serve_on(
-        rt,
-        rt.alloc(),
-        listener,
-        path,
-        connections,
-        2,
-        limit,
-        gate,
-        &NoNotices,
-    )?;
+    let size = StageSize {
+        connections: connections.max(1).min(8),
+        verifiers: 2,
+    };
+    let door = Door::new(rt, &listener, path, limit);
+    let served = serve_on(rt, rt.alloc(), door, size, gate, &NoNotices)?;
     Ok(Told {
         summary: served.report.summary(),
         all_accepted: are_all_taken(&served.fates),

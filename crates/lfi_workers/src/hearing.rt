@@ -10,7 +10,7 @@ ghost use Rattle.lfi_workers.specs.declared.hearing.Leaving.TheVariants as leavi
 ghost use Rattle.lfi_workers.specs.inner.Hearing.{IsHearing, IsAsBefore, IsHeardBy};
 
 use crate::notices::{Notices, Told};
-use crate::promises::{Heard, Place};
+use crate::promises::{PartExit, Place};
 use lfi_receive::{Input, Receiver, ReceiverTurn};
 use lfi_signals::{Ends, Going, Stopped, Teller};
 use std::io::Read;
@@ -59,17 +59,20 @@ const REFUSED_PAUSE: u64 = 200;
 
 /// What a receiver's thread keeps beside its receiver.
 #[derive(Drop)]
-struct Watch<'a> {
+struct Watch<'a, N> {
     /// Of items.
     items: Teller<'a>,
+    /// Where it tells of refused modules, and of which it has told.
+    notices: &'a N,
     told: Told,
     turns: u32,
 }
 
-impl<'a> Watch<'a> {
-    fn new(ends: &'a Ends) -> Watch<'a> {
+impl<'a, N> Watch<'a, N> {
+    fn new(ends: &'a Ends, notices: &'a N) -> Watch<'a, N> {
         Watch {
             items: Teller::new(&ends.bells().items, EVERY),
+            notices,
             told: Told::new(),
             turns: 0,
         }
@@ -97,15 +100,11 @@ impl<'a> Watch<'a> {
             || did == ReceiverTurn::Finished
             || self.turns % LOOK_TURNS == 0
     }
+}
 
+impl<N: Notices> Watch<'_, N> {
     /// Looks at the modules' phases, where it is time to.
-    fn look_after<N: Notices>(
-        &mut self,
-        place: Place<'_>,
-        notices: &N,
-        receiver: &mut Receiver,
-        did: ReceiverTurn,
-    )
+    fn look_after(&mut self, place: Place<'_>, receiver: &mut Receiver, did: ReceiverTurn)
         requires is { IsReceiver place.shared.now place.number receiver.old }
         ensures is { IsReceiver place.entry.shared.now place.entry.number receiver.new }
         ensures before { IsAsBefore receiver.old receiver.new }
@@ -114,7 +113,7 @@ impl<'a> Watch<'a> {
         if !self.is_due(did) {
             return;
         }
-        self.told.look(place, receiver, notices);
+        self.told.look(place, receiver, self.notices);
     }
 }
 
@@ -132,10 +131,9 @@ fn hear_once<S: Wait, R: Read + Drop, N: Notices>(
     rt: &S,
     place: Place<'_>,
     going: Going<'_>,
-    notices: &N,
     receiver: &mut Receiver,
     input: &mut Input<R>,
-    watch: &mut Watch<'_>,
+    watch: &mut Watch<'_, N>,
 ) -> Option<Leaving>
     requires is { IsReceiver place.shared.now place.number receiver.old }
     ensures is { IsReceiver place.entry.shared.now place.entry.number receiver.new }
@@ -146,7 +144,7 @@ fn hear_once<S: Wait, R: Read + Drop, N: Notices>(
         return Some(Leaving::Stopped(stopped));
     }
     let did = pull_one(place, receiver, input);
-    watch.look_after(place, notices, receiver, did);
+    watch.look_after(place, receiver, did);
     watch.go_on(rt, going.ends(), did);
     if did == ReceiverTurn::Finished {
         return Some(Leaving::Finished);
@@ -168,9 +166,9 @@ fn hear_on<S: Wait, R: Read + Drop, N: Notices>(
     ensures hearing { (whole : Option (List ℕ)) → IsHearing R.remaining whole receiver.old input.old → IsHearing R.remaining whole receiver.new input.new }
     ensures finished { result ≡ leaving.Finished → IsFinished receiver.new }
 {
-    let mut watch = Watch::new(going.ends());
+    let mut watch = Watch::new(going.ends(), notices);
     for _ in rt.forever() {
-        if let Some(leaving) = hear_once(rt, place, going, notices, receiver, input, &mut watch) {
+        if let Some(leaving) = hear_once(rt, place, going, receiver, input, &mut watch) {
             return leaving;
         }
     }
@@ -186,7 +184,7 @@ pub(crate) fn hear<S: Wait, R: Read + Drop, N: Notices>(
     notices: &N,
     mut receiver: Receiver,
     mut input: Input<R>,
-) -> Heard
+) -> PartExit<Receiver>
     requires is { IsReceiver place.shared.now place.number receiver }
     requires fresh { IsFresh receiver }
     ensures { IsHeardBy place.entry.shared.now place.entry.number (left_of R.remaining input) result }
@@ -196,10 +194,10 @@ pub(crate) fn hear<S: Wait, R: Read + Drop, N: Notices>(
     drop(input);
     ends.tell_heard(place.number);
     match leaving {
-        Leaving::Finished => Heard::Finished(receiver),
+        Leaving::Finished => PartExit::Ended(receiver),
         Leaving::Stopped(stopped) => {
             drop(receiver);
-            Heard::GaveUp(stopped)
+            PartExit::GaveUp(stopped)
         }
     }
 }

@@ -7,18 +7,21 @@ use crate::env::Env;
 use crate::notices::Notices;
 use crate::running::{Parts, join_parts};
 use crate::starting::{start_receivers, start_sequencers, start_verifiers};
-use lfi_parts::Shared;
 use lfi_place::Gate;
 use lfi_receive::Input;
-use lfi_signals::{Ends, LoadError};
-use std::alloc::Global;
+use lfi_signals::LoadError;
 use std::io::Read;
 use std::sync::Wait;
-use std::thread;
 use std::thread::{Scope, Threads};
 
-/// Starts the threads of all parts, lets them go, and joins them.
-fn load_in<
+/// All parts of a stage go through their threads, each receiver with the input of its number: starts the threads, lets them
+/// go, and joins them. The gate is told of each item before and after it is judged, and the notices of refused modules.
+///
+/// # Errors
+///
+/// `NoMemory` where there is no memory for the handles of threads, and `NoThread` where a thread can't
+/// be started. Of both it is the one that came first.
+pub fn load_in<
     's,
     'e: 's,
     S: Threads + Wait + Sync,
@@ -47,49 +50,4 @@ fn load_in<
     env.ends.go();
     let back = join_parts(env, receiving, verifying, placing);
     started.and(back)
-}
-
-/// All parts of a stage go through their threads, each receiver with the input of its number. The gate
-/// is told of each item before and after it is judged, and the notices of refused modules.
-///
-/// # Errors
-///
-/// `NoMemory` where there is no memory for the handles of threads, and `NoThread` where a thread can't
-/// be started. Of both it is the one that came first.
-pub fn load_with<
-    'x,
-    S: Threads + Wait + Sync,
-    R: Read + Send + Drop,
-    G: Gate + Sync,
-    N: Notices + Sync,
->(
-    rt: &'x S,
-    alloc: Global,
-    shared: &'x Shared,
-    ready: Parts,
-    inputs: Vec<Input<R>>,
-    gate: &'x G,
-    notices: &'x N,
-) -> Result<Parts, LoadError>
-    requires ready { AreReady shared.now (length inputs.items) ready }
-    ensures { IfOk result (AreBack shared.now (length inputs.items) (length ready.verifiers.items) (had_by R.remaining inputs.items)) }
-{
-    let ends = Ends::new(ready.verifiers.len());
-    let env = Env {
-        rt,
-        alloc,
-        shared,
-        ends: &ends,
-        gate,
-        notices,
-    };
-    let env = &env;
-    thread::scope(
-        thread::scope_env(),
-        rt,
-        move |scope| -> Result<Parts, LoadError>
-            requires { AreReady env.now.shared.now (length inputs.items) ready }
-            ensures { IfOk result (AreBack env.entry.now.shared.now (length inputs.items) (length ready.verifiers.items) (had_by R.remaining inputs.items)) }
-        { load_in(scope, env, ready, inputs) },
-    )
 }

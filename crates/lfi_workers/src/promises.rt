@@ -15,11 +15,11 @@ pub(crate) struct Place<'a> {
     pub(crate) number: usize,
 }
 
-/// How the thread of a verifier ended.
+/// How the thread of a part ended.
 #[derive(Drop)]
-pub(crate) enum VerifierExit {
-    /// All receivers had ended, and a later turn of the verifier found nothing.
-    Over(Verifier),
+pub(crate) enum PartExit<T> {
+    /// The part has done all that was to be done.
+    Ended(T),
     /// It gave up, since the threads are to stop.
     GaveUp(Stopped),
 }
@@ -30,19 +30,10 @@ pub(crate) struct VerifiedBy<'a> {
     pub(crate) place: Place<'a>,
 }
 
-impl<'a> Promise<VerifierExit> for VerifiedBy<'a> {
+impl<'a> Promise<PartExit<Verifier>> for VerifiedBy<'a> {
     ghost use Rattle.lfi_workers.specs.inner.Workers.{IsVerifiedBy};
 
     ghost kept_by = { λ p e. IsVerifiedBy p.place.shared.now p.place.number e };
-}
-
-/// How the thread of a receiver ended.
-#[derive(Drop)]
-pub(crate) enum Heard {
-    /// The receiver has put all that its input makes.
-    Finished(Receiver),
-    /// It gave up, since the threads are to stop.
-    GaveUp(Stopped),
 }
 
 /// The thread gives back the receiver of this place, which has heard what this input had, or it gave
@@ -53,7 +44,7 @@ pub(crate) struct HeardBy<'a, R> {
     pub(crate) input: Snapshot<Input<R>>,
 }
 
-impl<'a, R: Read> Promise<Heard> for HeardBy<'a, R> {
+impl<'a, R: Read> Promise<PartExit<Receiver>> for HeardBy<'a, R> {
     ghost use Rattle.lfi_receive.specs.Inputs.{left_of};
     ghost use Rattle.lfi_workers.specs.inner.Hearing.{IsHeardBy};
 
@@ -80,8 +71,8 @@ impl<'a> Promise<Placed> for AllPlaced<'a> {
     ghost kept_by = { λ p placed. AreSequencersOf p.shared.now placed.sequencers.items };
 }
 
-pub(crate) type ReceiverThread<'a, R> = PromisedHandle<Heard, HeardBy<'a, R>>;
+pub(crate) type ReceiverThread<'a, R> = PromisedHandle<PartExit<Receiver>, HeardBy<'a, R>>;
 
-pub(crate) type VerifierThread<'a> = PromisedHandle<VerifierExit, VerifiedBy<'a>>;
+pub(crate) type VerifierThread<'a> = PromisedHandle<PartExit<Verifier>, VerifiedBy<'a>>;
 
 pub(crate) type SequencersThread<'a> = PromisedHandle<Placed, AllPlaced<'a>>;

@@ -7,19 +7,18 @@ ghost use Rattle.lfi_receive.specs.Inputs.{left_of};
 ghost use Rattle.lfi_parts.specs.Parts.{IsReceiver};
 ghost use Rattle.lfi_workers.specs.Heard.{HasHeard};
 ghost use Rattle.lfi_workers.specs.Seated.{AreVerifiersOf, HasEnded};
-ghost use Rattle.lfi_workers.specs.declared.promises.VerifierExit.TheVariants as exit;
-ghost use Rattle.lfi_workers.specs.declared.promises.Heard.TheVariants as heard_kind;
+ghost use Rattle.lfi_workers.specs.declared.promises.PartExit.TheVariants as exit;
 ghost use Rattle.lfi_workers.specs.inner.Places.{AreAt};
 ghost use Rattle.lfi_workers.specs.inner.Workers.{AreSequencersOf};
 
 use crate::env::Env;
-use crate::promises::{Heard, ReceiverThread, SequencersThread, VerifierExit, VerifierThread};
+use crate::promises::{PartExit, ReceiverThread, SequencersThread, VerifierThread};
 use lfi_place::{Sequencer, Verifier};
 use lfi_receive::Receiver;
 use lfi_signals::{LoadError, join_all};
 use std::alloc::Global;
 use std::io::Read;
-use std::thread::Threads;
+use std::thread::{Promise, PromisedHandle, Threads};
 
 /// All parts of a stage, before their threads and after.
 #[derive(Drop)]
@@ -29,64 +28,32 @@ pub struct Parts {
     pub sequencers: Vec<Sequencer>,
 }
 
-/// The receivers of these threads. Where one of them gave up, it is why it was told to; else only
-/// memory can be refused.
-fn all_finished(alloc: Global, threads: Vec<Heard>) -> Result<Vec<Receiver>, LoadError>
-    ensures count { IfOk result (λ receivers. length receivers.items ≡ length threads.items) }
-    ensures finished { IfOk result (λ receivers. (k : ℕ) (r : Receiver) → slice_get receivers.items k ≡ Some r → slice_get threads.items k ≡ Some (heard_kind.Finished r)) }
+/// The parts of these threads. Where one of them gave up, it is why it was told to; else only memory can
+/// be refused.
+fn all_back<T: Drop>(alloc: Global, exits: Vec<PartExit<T>>) -> Result<Vec<T>, LoadError>
+    ensures count { IfOk result (λ parts. length parts.items ≡ length exits.items) }
+    ensures ended { IfOk result (λ parts. (k : ℕ) (part : T) → slice_get parts.items k ≡ Some part → slice_get exits.items k ≡ Some (exit.Ended part)) }
 {
-    let mut receivers = Vec::new(alloc);
-    for heard in threads {
-        match heard {
-            Heard::Finished(receiver) => receivers.push(receiver)?,
-            Heard::GaveUp(stopped) => return Err(stopped.why()),
+    let mut parts = Vec::new(alloc);
+    for left in exits {
+        match left {
+            PartExit::Ended(part) => parts.push(part)?,
+            PartExit::GaveUp(stopped) => return Err(stopped.why()),
         }
     }
-    Ok(receivers)
+    Ok(parts)
 }
 
-/// Joins the threads of all receivers. Where one of them gave up, it is why it was told to.
-fn join_receivers<S: Threads, R: Read + Drop, G, N>(
+/// Joins the threads of all parts of a kind. Where one of them gave up, it is why it was told to.
+fn join_each<S: Threads, G, N, T: Drop, P: Promise<PartExit<T>>>(
     env: &Env<'_, S, G, N>,
-    receiving: Vec<ReceiverThread<'_, R>>,
-) -> Result<Vec<Receiver>, LoadError>
-    requires { AreAt env.now.shared.now receiving.items (λ h. h.promise.place) }
-    ensures count { IfOk result (λ receivers. length receivers.items ≡ length receiving.entry.items) }
-    ensures are { IfOk result (λ receivers. (k : ℕ) (r : Receiver) → slice_get receivers.items k ≡ Some r → IsReceiver env.entry.now.shared.now k r) }
-    ensures heard { IfOk result (λ receivers. (k : ℕ) (r : Receiver) (h : _) → slice_get receivers.items k ≡ Some r → slice_get receiving.entry.items k ≡ Some h → HasHeard (left_of R.remaining h.promise.input.value) r) }
+    threads: Vec<PromisedHandle<PartExit<T>, P>>,
+) -> Result<Vec<T>, LoadError>
+    ensures count { IfOk result (λ parts. length parts.items ≡ length threads.items) }
+    ensures kept { IfOk result (λ parts. (k : ℕ) (part : T) → slice_get parts.items k ≡ Some part → (thread : _) × (slice_get threads.items k ≡ Some thread) × P.kept_by thread.promise (exit.Ended part)) }
 {
-    let heard = join_all(env.rt, receiving)?;
-    all_finished(env.alloc, heard)
-}
-
-/// The verifiers of these threads. Where one of them gave up, it is why it was told to; else only
-/// memory can be refused.
-fn all_over(alloc: Global, threads: Vec<VerifierExit>) -> Result<Vec<Verifier>, LoadError>
-    ensures count { IfOk result (λ verifiers. length verifiers.items ≡ length threads.items) }
-    ensures over { IfOk result (λ verifiers. (k : ℕ) (v : Verifier) → slice_get verifiers.items k ≡ Some v → slice_get threads.items k ≡ Some (exit.Over v)) }
-{
-    let mut verifiers = Vec::new(alloc);
-    for ended in threads {
-        match ended {
-            VerifierExit::Over(verifier) => verifiers.push(verifier)?,
-            VerifierExit::GaveUp(stopped) => return Err(stopped.why()),
-        }
-    }
-    Ok(verifiers)
-}
-
-/// Joins the threads of all verifiers. Where one of them gave up, it is why it was told to.
-fn join_verifiers<S: Threads, G, N>(
-    env: &Env<'_, S, G, N>,
-    verifying: Vec<VerifierThread<'_>>,
-) -> Result<Vec<Verifier>, LoadError>
-    requires { AreAt env.now.shared.now verifying.items (λ h. h.promise.place) }
-    ensures count { IfOk result (λ verifiers. length verifiers.items ≡ length verifying.entry.items) }
-    ensures are { IfOk result (λ verifiers. AreVerifiersOf env.entry.now.shared.now verifiers.items) }
-    ensures ended { IfOk result (λ verifiers. (k : ℕ) (v : Verifier) → slice_get verifiers.items k ≡ Some v → HasEnded env.entry.now.shared.now v) }
-{
-    let ended = join_all(env.rt, verifying)?;
-    all_over(env.alloc, ended)
+    let exits = join_all(env.rt, threads)?;
+    all_back(env.alloc, exits)
 }
 
 /// All parts, where all of them are there.
@@ -125,8 +92,8 @@ pub(crate) fn join_parts<S: Threads, R: Read + Drop, G, N>(
     ensures ended { IfOk result (λ parts. (k : ℕ) (v : Verifier) → slice_get parts.verifiers.items k ≡ Some v → HasEnded env.entry.now.shared.now v) }
     ensures sequencers { IfOk result (λ parts. AreSequencersOf env.entry.now.shared.now parts.sequencers.items) }
 {
-    let receivers = join_receivers(env, receiving);
-    let verifiers = join_verifiers(env, verifying);
+    let receivers = join_each(env, receiving);
+    let verifiers = join_each(env, verifying);
     env.ends.verified();
     let placed = placing.join(env.rt);
     parts_of(receivers, verifiers, placed.sequencers)

@@ -22,7 +22,6 @@ use lfi_parts::Shared;
 use lfi_place::Gate;
 use lfi_receive::{Input, Receiver};
 use lfi_signals::{Client, ClientFate, Connection, Door, Ends, LoadError, Streams, Unheard, keep};
-use std::alloc::Global;
 use std::fs::Files;
 use std::io::ErrorKind;
 use std::rt::Clock;
@@ -45,6 +44,13 @@ pub struct Back {
 
 /// The thread of a client's receiver.
 type ClientThread<'e> = ReceiverThread<'e, Client<Connection<'e>>>;
+
+/// Where clients come in, and what their connections share.
+#[derive(Clone, Copy)]
+struct Clients<'d, 'l, 'e, S: Files> {
+    door: &'d Door<'l, S>,
+    streams: &'e Streams,
+}
 
 /// Starts the thread of one client's receiver. Where it or memory is refused, all are told to stop.
 fn start_client<'s, 'e: 's, S: Wait + Sync, G, N: Notices + Sync>(
@@ -74,8 +80,7 @@ fn accept_all<'s, 'e: 's, S: Threads + Wait + Files + Clock + Sync, G, N: Notice
     scope: &Scope<'s, &'e ()>,
     env: &Env<'e, S, G, N>,
     verifying: Result<(), LoadError>,
-    door: &Door<'_, S>,
-    streams: &'e Streams,
+    clients: Clients<'_, '_, 'e, S>,
     receivers: Vec<Receiver>,
     handles: &mut Vec<ClientThread<'e>>,
 ) -> Result<[ClientFate; CONNECTIONS], LoadError>
@@ -85,14 +90,14 @@ fn accept_all<'s, 'e: 's, S: Threads + Wait + Files + Clock + Sync, G, N: Notice
     ensures places { AreAt env.entry.now.shared.now handles.new.items (λ h. h.promise.place) }
     ensures all { IfOk result (λ fates. length handles.new.items ≡ length receivers.items) }
     ensures taken { IfOk result (λ fates. AreTaken fates handles.new.items (λ h. left_of sent_over_socket h.promise.input.value)) }
-    ensures endless { IfOk result (λ fates. limit_of_door door.now ≡ None → (c : ℕ) → is_out_of_time (fate_at fates c) ≡ false) }
+    ensures endless { IfOk result (λ fates. limit_of_door clients.entry.door.now ≡ None → (c : ℕ) → is_out_of_time (fate_at fates c) ≡ false) }
     ensures verifying { OnOk result (IsOk verifying) }
 {
     verifying?;
     let mut fates = [ClientFate::Heard; CONNECTIONS];
     for receiver in receivers {
         let number = handles.len();
-        let client = streams.accept(door, number);
+        let client = clients.streams.accept(clients.door, number);
         let fate = client.fate();
         let handle = start_client(scope, env, number, receiver, client);
         keep(env.rt, env.ends, handles, handle)?;
@@ -150,7 +155,11 @@ fn serve_in<
     let mut receiving = Vec::new(env.alloc);
     let begun = start_verifiers(scope, env, verifiers, &mut verifying);
     env.ends.go();
-    let accepted = accept_all(scope, env, begun, &door, streams, receivers, &mut receiving);
+    let clients = Clients {
+        door: &door,
+        streams,
+    };
+    let accepted = accept_all(scope, env, begun, clients, receivers, &mut receiving);
     streams.shut_down_unless(&accepted);
     let closed = door.close();
     let unheard = closed.wait_in_time(env.rt, env.ends, streams, receiving.len());
@@ -169,7 +178,6 @@ fn serve_in<
 /// a thread can't be started. Of both it is the one that came first.
 pub fn serve_with<'x, S: Threads + Wait + Files + Clock + Sync, G: Gate + Sync, N: Notices + Sync>(
     rt: &'x S,
-    alloc: Global,
     shared: &'x Shared,
     ready: Parts,
     door: Door<'_, S>,
@@ -184,7 +192,7 @@ pub fn serve_with<'x, S: Threads + Wait + Files + Clock + Sync, G: Gate + Sync, 
     let streams = &streams;
     let env = Env {
         rt,
-        alloc,
+        alloc: *ready.receivers.allocator(),
         shared,
         ends: &ends,
         gate,

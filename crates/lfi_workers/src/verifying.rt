@@ -7,7 +7,7 @@ ghost use Rattle.lfi_workers.specs.declared.verifying.Ending.TheVariants as endi
 ghost use Rattle.lfi_workers.specs.Seated.{IsVerifierOf, HasSeenAllEnd};
 ghost use Rattle.lfi_workers.specs.inner.Workers.{FoundNothing, EndsAsTold, IsVerifiedBy};
 
-use crate::promises::{Place, VerifierExit};
+use crate::promises::{PartExit, Place};
 use lfi_parts::Shared;
 use lfi_place::{Gate, Verifier, VerifierTurn};
 use lfi_signals::{Ends, Rest, Stopped, Teller};
@@ -54,6 +54,8 @@ const EVERY: u32 = 32;
 /// How a verifier's thread waits, and tells others of what it brings them.
 #[derive(Drop)]
 struct Pace<'a> {
+    /// How far the threads are to go.
+    ends: &'a Ends,
     /// Until there are items.
     idle: Rest<'a>,
     /// Until there is room in the lane of the item in hand.
@@ -67,6 +69,7 @@ impl<'a> Pace<'a> {
     fn new(ends: &'a Ends, number: usize) -> Pace<'a> {
         let bells = ends.bells();
         Pace {
+            ends,
             idle: Rest::new(&bells.items, number),
             blocked: Rest::new(&bells.lane_room, number),
             judged: Teller::new(&bells.judged, EVERY),
@@ -106,7 +109,6 @@ impl<'a> Pace<'a> {
 fn verify_once<S: Wait, G: Gate>(
     rt: &S,
     place: Place<'_>,
-    ends: &Ends,
     gate: &G,
     verifier: &mut Verifier,
     all_ended: bool,
@@ -123,7 +125,7 @@ fn verify_once<S: Wait, G: Gate>(
     if all_ended && did == VerifierTurn::Idle {
         return Some(Ending::Over);
     }
-    if let Some(stopped) = ends.stopped() {
+    if let Some(stopped) = pace.ends.stopped() {
         return Some(Ending::Stopped(stopped));
     }
     pace.rest(rt, did);
@@ -146,7 +148,7 @@ fn verify_on<S: Wait, G: Gate>(
     let mut pace = Pace::new(ends, place.number);
     for _ in rt.forever() {
         let all_ended = have_all_ended(place, verifier);
-        if let Some(ending) = verify_once(rt, place, ends, gate, verifier, all_ended, &mut pace) {
+        if let Some(ending) = verify_once(rt, place, gate, verifier, all_ended, &mut pace) {
             return ending;
         }
     }
@@ -161,16 +163,16 @@ pub(crate) fn verify<S: Wait, G: Gate>(
     ends: &Ends,
     gate: &G,
     mut verifier: Verifier,
-) -> VerifierExit
+) -> PartExit<Verifier>
     requires is { IsVerifierOf shared.now number verifier }
     ensures { IsVerifiedBy shared.now number result }
 {
     let place = Place { shared, number };
     match verify_on(rt, place, ends, gate, &mut verifier) {
-        Ending::Over => VerifierExit::Over(verifier),
+        Ending::Over => PartExit::Ended(verifier),
         Ending::Stopped(stopped) => {
             drop(verifier);
-            VerifierExit::GaveUp(stopped)
+            PartExit::GaveUp(stopped)
         }
     }
 }

@@ -9,8 +9,8 @@ use Rattle.lfi_receive.specs.Pulls.{EndsAt}
 use Rattle.lfi_parts.specs.declared.shared.Shared.{Shared}
 use Rattle.lfi_parts.specs.Parts.{IsReceiver}
 use Rattle.lfi_workers.specs.Heard.{HasHeard}
-use Rattle.lfi_workers.specs.declared.promises.Heard.{Heard}
-use Rattle.lfi_workers.specs.declared.promises.Heard.TheVariants.{Finished, GaveUp}
+use Rattle.lfi_workers.specs.declared.promises.PartExit.{PartExit}
+use Rattle.lfi_workers.specs.declared.promises.PartExit.TheVariants.{Ended, GaveUp}
 
 -- The receiver stands for a beginning of the whole, and the input has the rest.
 pub record IsHearing {R : Type 0} (remaining : R → Option (List ℕ)) (whole : Option (List ℕ)) (r : Receiver) (input : Input R) : Type 0 where
@@ -26,6 +26,6 @@ pub record IsAsBefore (old new : Receiver) : Type 0 where
   pub claimed : (m : ℕ) → claimed_by new m ≡ claimed_by old m
 
 -- What the thread of the receiver with this number gives back, whose input had this: the receiver, which has heard it; nothing where it gave up.
-abbrev pub IsHeardBy : Shared → (number : ℕ) → (whole : Option (List ℕ)) → Heard → Type 0
-IsHeardBy shared number whole (Finished r) = IsReceiver shared number r × HasHeard whole r
+abbrev pub IsHeardBy : Shared → (number : ℕ) → (whole : Option (List ℕ)) → PartExit Receiver → Type 0
+IsHeardBy shared number whole (Ended r) = IsReceiver shared number r × HasHeard whole r
 IsHeardBy shared number whole (GaveUp stopped) = Unit {0}

@@ -15,8 +15,8 @@ use Rattle.lfi_parts.specs.declared.shared.Shared.{Shared}
 use Rattle.lfi_parts.specs.Shares.{board_at, lanes_of}
 use Rattle.lfi_workers.specs.declared.verifying.Ending.{Ending}
 use Rattle.lfi_workers.specs.declared.verifying.Ending.TheVariants.{Over, Stopped}
-use Rattle.lfi_workers.specs.declared.promises.VerifierExit.{VerifierExit}
-use Rattle.lfi_workers.specs.declared.promises.VerifierExit.TheVariants as exit
+use Rattle.lfi_workers.specs.declared.promises.PartExit.{PartExit}
+use Rattle.lfi_workers.specs.declared.promises.PartExit.TheVariants as exit
 use Rattle.lfi_workers.specs.Seated.{IsVerifierOf, HasEnded}
 
 -- The turn found no item, neither in hand nor in the intake.
@@ -29,8 +29,8 @@ EndsAsTold Over shared v = HasEnded shared v
 EndsAsTold (Stopped stopped) shared v = Unit {0}
 
 -- What the thread of the verifier with this number gives back: the verifier, once all receivers have ended; nothing where it gave up.
-abbrev pub IsVerifiedBy : Shared → (number : ℕ) → VerifierExit → Type 0
-IsVerifiedBy shared number (exit.Over v) = IsVerifierOf shared number v × HasEnded shared v
+abbrev pub IsVerifiedBy : Shared → (number : ℕ) → PartExit Verifier → Type 0
+IsVerifiedBy shared number (exit.Ended v) = IsVerifierOf shared number v × HasEnded shared v
 IsVerifiedBy shared number (exit.GaveUp stopped) = Unit {0}
 
 -- Each sequencer took one turn, which is one take from its lane. The answer is yes exactly where one of them took an item.

@@ -5,14 +5,14 @@ use Rattle.lfi_receive.specs.declared.input.Input.{Input}
 use Rattle.lfi_model.specs.Texts.{summary_text}
 use Rattle.lfi_threads.specs.Loaded.{IsLoaded}
 use Rattle.lfi_stage.specs.Summaries.{summary_of}
-use Rattle.lfi_file_commands.proofs.Failing.{fails_on_output, is_no_other}
+use Rattle.lfi_file_commands.proofs.Failing.{is_no_other}
 use Rattle.lfi_file_commands.specs.Errors.{is_lost_of, writer_of}
-use Rattle.lfi_file_commands.specs.Failures.{is_of_output, FailsOn, IsOfReadingOne}
+use Rattle.lfi_file_commands.specs.Failures.{is_of_output, FailsLoading, IsOfReadingOne}
 use Rattle.lfi_file_commands.specs.Left.{left, OnlyOutput}
 use Rattle.lfi_file_commands.specs.Opening.{AreInputsOf}
 use Rattle.lfi_signals.specs.Clients.{read_by}
 use Rattle.lfi_commands.proofs.Carried.{reported_behind}
-use Rattle.lfi_commands.proofs.Failing.{fails_on_load, fails_on_reading, is_not_of_the_report}
+use Rattle.lfi_commands.proofs.Failing.{fails_on_load, fails_on_reading, is_of_load}
 use Rattle.lfi_commands.proofs.Inputs.{known_left, map_twice}
 use Rattle.lfi_commands.specs.Loading.{streams_of, HasLoaded, TellsReport}
 use Rattle.lfi_commands.proofs.program.run_load.Goals as goal
@@ -38,14 +38,13 @@ returns-in-Err g c =
 
 pub returns : goal.returns
 returns g c =
-    let fault = c.in-Err-load.fault in
     let streams = streams_of c.args.asked.now in
+    let failed = c.in-Err-load in
     let inside = c.outputs.inside in
     record {
       found = tt;
-      failure = subst (FailsOn streams) (sym c.from.ensures) (fails_on_load streams fault);
-      output = λ other. subst (λ old. g.O.Write.contents c.load.new.writer ≡ old.out) c.outputs.view_is
-          (ap g.O.Write.contents (c.in-Err-load.ensures.unwritten (is_not_of_the_report fault (subst (λ failure. is_of_output failure ≡ false) c.from.ensures other))));
+      failure = fails_on_load streams failed.failure failed.ensures.failure;
+      output = λ other. subst (λ old. g.O.Write.contents c.load.new.writer ≡ old.out) c.outputs.view_is (ap g.O.Write.contents (failed.ensures.unwritten other));
       untold = subst (λ old. OnlyOutput old (left (g.O.Write.contents c.load.new.writer) (g.P.ImageStore.put_files inside.images) (is_lost_of inside.errors) (g.E.Write.contents (writer_of inside.errors)))) c.outputs.view_is
           (refl, (refl, refl));
     }
@@ -80,7 +79,7 @@ returns-in-Ok-load g c =
             kinds = kinds;
             told = reported_behind text asked.report before half put lost errors c.in-Ok-load.ensures.written report (streams_of asked) kinds true new ending (subst (λ paths. TellsReport [] report paths kinds true asked.report (left half put lost errors) new ending) named told);
           })) did.ensures.told;
-      failure = IfErr-weaker result (λ failure. is_of_output failure ≡ true) (FailsOn (streams_of asked)) (fails_on_output (streams_of asked)) did.ensures.failure;
+      failure = IfErr-weaker result (λ failure. is_of_output failure ≡ true) (FailsLoading (streams_of asked)) (λ failure is. fails_on_load (streams_of asked) failure (is_of_load failure is)) did.ensures.failure;
       output = IfErr-weaker result (λ failure. is_of_output failure ≡ true) (λ failure. is_of_output failure ≡ false → new.out ≡ c.args.outputs.now.out) (λ failure is other. is_no_other failure is other) did.ensures.failure;
       untold = IfErr-weaker result (λ _. OnlyOutput (left half put lost errors) new) (λ _. OnlyOutput c.args.outputs.now new) (λ failure untold.
           subst (λ old. OnlyOutput old new) c.outputs.view_is untold) did.ensures.untold;

@@ -13,6 +13,6 @@ invariant-loop-receiver g l = record {
   rest : (k : ℕ) → slice_get (into_iter_items l.receiver-iterator) k ≡ slice_get l.fn.receivers.items (length l.handles.items + k);
   long : length l.fates ≡ 8;
   taken : AreTaken l.fates l.handles.items (λ h. left_of sent_over_socket h.promise.input.value);
-  endless : limit_of_door l.door ≡ None → (c : ℕ) → is_out_of_time (fate_at l.fates c) ≡ false;
+  endless : limit_of_door l.clients.door.now ≡ None → (c : ℕ) → is_out_of_time (fate_at l.fates c) ≡ false;
   places : (k : ℕ) (h : _) → slice_get l.handles.items k ≡ Some h → (h.promise.place.shared.now ≡ l.env.shared.now) × (h.promise.place.number ≡ k);
 }

@@ -6,18 +6,20 @@ use Rattle.lfi_signals.specs.Fates.{fate_at}
 use Rattle.lfi_stage.specs.Reports.{Reports, cause_at, claimed_at}
 use Rattle.lfi_parts.proofs.Each.{some_at}
 use Rattle.lfi_threads.proofs.Told.{told_by, none_heard, none_sent}
-use Rattle.lfi_threads.proofs.serve.serve_ready.Goals as goal
+use Rattle.lfi_threads.proofs.serve.settled.Goals as goal
 
 -- what is known of a receiver: what it has heard, which is nothing where nothing was sent
 abbrev Knows : (ℕ → Option (List ℕ)) → ℕ → Receiver → List ℕ → Type 0
 Knows sent k r told = StandsFor r told × (sent k ≡ Some [] → told ≡ []) × IsFinished r
 
-pub returns-in-Ok : goal.returns-in-Ok
-returns-in-Ok g c =
-    let served = c.in-Ok.ensures in
+pub settle-report-requires : goal.settle-report-requires
+settle-report-requires g c = record { parts = c.requires.3.parts.all }
+
+pub returns : goal.returns
+returns g c = λ count verifiers limit served.
     let back = served.parts in
-    let rs = c.in-Ok.back.parts.receivers.items in
-    let fates = c.in-Ok.back.fates in
+    let rs = c.args.back.parts.receivers.items in
+    let fates = c.args.back.fates in
     let told = told_by [] rs (Knows (λ k. sent_at (fate_at fates k))) (λ k r at.
     let h = back.heard k r at in
     (h.heard, (h.stands, none_heard (claimed_by r) (cause_of r) h.heard (sent_at (fate_at fates k)) h.hears, h.finished))) in
