@@ -183,10 +183,7 @@ fn run_serve<
     let listener = match UnixListener::bind(rt, asked.socket) {
         Ok(listener) => listener,
         Err(error) => {
-            return Err(Failure::CannotListen(
-                asked.socket,
-                DeviceCause::of(&error),
-            ));
+            return Err(Failure::CannotListen(asked.socket, DeviceCause::of(&error)));
         }
     };
     let served = serve(

@@ -396,7 +396,10 @@ pub fn loses<
 #[test]
 fn errors_that_fail(rt: HostRuntime) {
     for line in UNTOLD {
-        assert!(rt; loses(&rt, line, FullWriter { left: 0 }, 0).is_some(), "{line}");
+        assert!(rt;
+            loses(&rt, line, FullWriter { left: 0 }, 0).is_some(),
+            "{line}"
+        );
     }
 }
 

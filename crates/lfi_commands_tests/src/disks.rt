@@ -2,7 +2,9 @@
 
 ghost use Rattle.std.specs.Prelude.{Some, map, string_bytes};
 
-use crate::runs::{FAILED, ONE_RET, ONE_RET_IMAGE, ONE_RET_REPORT, WELL, is_told, kept, run_noticed};
+use crate::runs::{
+    FAILED, ONE_RET, ONE_RET_IMAGE, ONE_RET_REPORT, WELL, is_told, kept, run_noticed,
+};
 use lfi_file_commands::{Disk, ImageStore};
 use lfi_image::CompleteImage;
 use lfi_image_file::write_image;

@@ -69,7 +69,6 @@ fails_one folder image failure out a b was lost e f same names told =
       puts = subst (λ x. Puts a x []) (sym same) (puts_nil a);
       names = (names, tt);
       told = subst (λ l. Told lost e f l) (sym (no_more (failure_line failure))) told;
-     
       all_put = refl;
     }
 

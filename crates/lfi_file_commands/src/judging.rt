@@ -72,10 +72,7 @@ fn check_one<D: Disk, P: ImageStore, O: Write, E: Write>(
             Ok(Ending::of_verdict(&finding.verdict()))
         }
         Err(CommandFault::NotWritten(cause)) => Err(cause),
-        Err(fault) => Ok(tell_failure(
-            Failure::of(fault, path),
-            &mut outputs.errors,
-        )),
+        Err(fault) => Ok(tell_failure(Failure::of(fault, path), &mut outputs.errors)),
     }
 }
 
