@@ -26,7 +26,7 @@ pub const EXPLAIN: &str =
 
 /// Of `--explain`, where modules are loaded.
 pub const EXPLAIN_MODULES: &str =
-    "also explain each refused module's first fault, and say of connections what is theirs";
+    "also explain each refused module's first fault, and tell of connections";
 
 /// Of `--all`.
 pub const ALL: &str = "say so of each word that breaks a rule, and how many they are";

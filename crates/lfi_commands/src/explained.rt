@@ -94,10 +94,7 @@ fn write_holder<W: fmt::Write>(
 }
 
 /// Writes a line for each of these modules that a connection has claimed, by their numbers.
-fn write_holders<W: fmt::Write>(
-    holders: &[Option<usize>],
-    f: &mut fmt::Formatter<W>,
-) -> fmt::Result
+fn write_holders<W: fmt::Write>(holders: &[Option<usize>], f: &mut fmt::Formatter<W>) -> fmt::Result
     ensures { WritesOnOk W.write_str_gives f.old result (holder_lines holders.now) f.new }
 {
     for (number, holder) in holders.iter().enumerate() {
@@ -131,11 +128,7 @@ fn write_fault<W: fmt::Write>(
 }
 
 /// Writes the line of a connection's strays, where there are any.
-fn write_strays<W: fmt::Write>(
-    number: usize,
-    strays: u64,
-    f: &mut fmt::Formatter<W>,
-) -> fmt::Result
+fn write_strays<W: fmt::Write>(number: usize, strays: u64, f: &mut fmt::Formatter<W>) -> fmt::Result
     ensures { WritesOnOk W.write_str_gives f.old result (strays_line number strays) f.new }
 {
     match strays {

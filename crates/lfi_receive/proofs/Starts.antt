@@ -1,8 +1,7 @@
 -- What a receiver has counted, and where the message begins at which its input ends.
-use Rattle.std.proofs.Common.{◌≡◌, ℕ, ◌+◌, ◌-◌, ◌<◌, ◌≤◌, ◌%◌, ◌^◌, ◌⊎◌, List, [], ◌++◌, length, take, drop, None, refl, sym, ◌∙◌, ap, subst, inl, inr, arith, flat_map, length-append}
+use Rattle.std.proofs.Common.{◌≡◌, ℕ, ◌+◌, ◌<◌, ◌≤◌, ◌%◌, ◌^◌, List, [], ◌++◌, length, take, drop, None, refl, sym, ◌∙◌, ap, subst, inl, inr, arith, flat_map, length-append}
 use Rattle.std.proofs.Math.Seq.{take-length}
 use Rattle.std.proofs.lemmas.List.{length-drop}
-use Rattle.lfi_frame.specs.declared.fault.FrameFault.{FrameFault}
 use Rattle.lfi_frame.specs.declared.feed.Feed.{Feed}
 use Rattle.lfi_frame.specs.Streams.{Message, faulty, unfinished, rest_of, spelling}
 use Rattle.lfi_frame.specs.Feeds.{FeedStands, HoldsHeader, header_held, feed_fault}

@@ -1,5 +1,5 @@
 -- Where the message begins at which a connection ended. Source: this project's profile, docs/COMMANDS.md.
-use Rattle.std.specs.Prelude.{◌≡◌, ℕ, ◌+◌, ◌%◌, ◌^◌, List, length, take, flat_map}
+use Rattle.std.specs.Prelude.{◌≡◌, ℕ, ◌%◌, ◌^◌, List, length, take, flat_map}
 use Rattle.lfi_frame.specs.declared.fault.FrameFault.{FrameFault}
 use Rattle.lfi_frame.specs.Streams.{Message, spelling, rest_of, faulty}
 use Rattle.lfi_receive.specs.declared.start.MessageStart.{MessageStart}

@@ -1,4 +1,4 @@
-use Rattle.std.proofs.Common.{rules, ◌<◌, ◌^◌, ◌∙◌, ap, sym, subst, length}
+use Rattle.std.proofs.Common.{rules, ◌<◌, ◌^◌, ap, subst, length}
 use Rattle.lfi_receive.specs.declared.start.MessageStart.{MessageStart}
 use Rattle.lfi_receive.specs.inner.Steps.{bytes_before}
 use Rattle.lfi_receive.proofs.Standing.{end_stands}
