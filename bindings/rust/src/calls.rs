@@ -242,7 +242,9 @@ pub fn mend(of: &Refused, after: u32) -> (u32, [u32; MOST_MENDED], usize) {
         return (OTHER_INTERFACE, mend, count);
     }
     // docs/C.md: so `room`, of bytes that can be written at `text`, or of words at `mend`.
-    let status = unsafe { lfi_mend(of.profile, of.words, &of.fault, of.word, of.before, after, mend.as_mut_ptr(), mend.len(), &mut count) };
+    let status = unsafe {
+        lfi_mend(of.profile, of.words, &of.fault, of.word, of.before, after, mend.as_mut_ptr(), mend.len(), &mut count)
+    };
     (status, mend, count)
 }
 

@@ -336,7 +336,11 @@ pub fn refused(
 /// Modules in slot 1, of profile 1, how many of their words break a rule, and what is told of them: the three, and NOP, RET X30.
 const TOLD: [(&[u32], u32, &str); 2] = [
     (&THREE, 3, OF_THREE),
-    (&[0xD503201F, 0xD65F03C0], 0, "words refused: 0\nwords with a mend: 0\n"),
+    (
+        &[0xD503201F, 0xD65F03C0],
+        0,
+        "words refused: 0\nwords with a mend: 0\n",
+    ),
 ];
 
 #[test]
