@@ -6,7 +6,7 @@ ghost use Rattle.lfi_commands.specs.Endings.{EndsBy, EndsLoad, IsReadFailed};
 
 use lfi_file_commands::Ending;
 use lfi_frame::FrameFault;
-use lfi_stage::settle::Report;
+use lfi_stage::Report;
 
 /// Whether a fault is that of a read that failed.
 pub(crate) fn is_of_a_read(fault: Option<FrameFault>) -> bool

@@ -9,7 +9,7 @@ use lfi_file_commands::{FileKind, KindLine, write_refused, write_text};
 use lfi_frame::FrameFault;
 use lfi_module::{CONNECTIONS, ModuleNumber};
 use lfi_receive::MessageStart;
-use lfi_stage::settle::Report;
+use lfi_stage::Report;
 use std::alloc::Global;
 use std::fmt;
 use std::io::{self, Write};

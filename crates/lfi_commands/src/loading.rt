@@ -14,7 +14,7 @@ ghost use Rattle.lfi_stage.specs.Summaries.{summary_of};
 use lfi_file_commands::{DeviceCause, Failure, write_text};
 use lfi_place::OpenGate;
 use lfi_receive::Input;
-use lfi_stage::settle::Report;
+use lfi_stage::Report;
 use lfi_threads::{Door, Notices, Served, StageSize, load_all, serve_on};
 use std::alloc::Global;
 use std::fs::Files;

@@ -20,7 +20,7 @@ use lfi_file_commands::{
 };
 use lfi_module::CONNECTIONS;
 use lfi_signals::ReadErrors;
-use lfi_stage::settle::Report;
+use lfi_stage::Report;
 use lfi_threads::{Door, Notices, Served, StageSize};
 use std::alloc::Global;
 use std::fs::Files;

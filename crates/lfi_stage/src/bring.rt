@@ -19,7 +19,7 @@ use std::sync::Wait;
 /// Brings what is in the lanes, in the verifiers' hands and in the intake to what the modules'
 /// sequencers hold, which are the sequences by the modules' numbers. It is handed all passes that
 /// put to the intake, each at the place of its number. It takes no memory.
-pub fn bring_all<R: Wait>(
+pub(crate) fn bring_all<R: Wait>(
     rt: &R,
     intake: &Intake<Item>,
     lanes: &[Lane<Judged>],

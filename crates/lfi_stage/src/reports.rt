@@ -22,7 +22,7 @@ fn report_in(sequence: Option<Sequence>) -> ModuleReport
 }
 
 /// What became of each module, by what has come to its sequence.
-pub fn into_reports(
+pub(crate) fn into_reports(
     sequences: [Option<Sequence>; ModuleNumber::COUNT],
 ) -> [ModuleReport; ModuleNumber::COUNT]
     ensures { AreReportsOf sequences result }

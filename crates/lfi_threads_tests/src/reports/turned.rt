@@ -11,7 +11,7 @@ use lfi_module::ModuleNumber;
 use lfi_place::{Gate, OpenGate, SequencerTurn, VerifierTurn};
 use lfi_receive::{Input, ReceiverTurn};
 use lfi_stage::Stage;
-use lfi_stage::settle::{Report, settle};
+use lfi_stage::{Report, settle};
 use std::alloc::{AllocError, Global};
 use std::io::Read;
 use std::sync::Wait;
