@@ -31,11 +31,13 @@ use lfi_rules::Fault;
 use std::alloc::Global;
 use std::io::{self, Read, Write};
 
-/// What stands around what is told of code in a file: before it the file's name, after it what the file is.
+/// What stands around what is told of code in a file: before it the file's name, after it what the file is; and the profile
+/// by which the code is judged.
 #[derive(Clone, Copy)]
 struct Around<'a> {
     name: Naming<'a>,
     kind: FileKind,
+    profile: Profile,
 }
 
 /// The slot in which code is told to lie: that of module 0, since a code file says none.
@@ -65,14 +67,13 @@ fn write_explanation<W: Write>(
     code: &Code<'_>,
     around: Around<'_>,
     fault: Fault,
-    profile: Profile,
     writer: &mut W,
 ) -> io::Result<()>
-    requires fault { FirstFault profile (words_of code.now) (length (words_of code.now)) (Some fault) }
+    requires fault { FirstFault around.profile (words_of code.now) (length (words_of code.now)) (Some fault) }
     requires most { length (words_of code.now) ≤ most_words }
-    ensures { OnOk result (ExplainsFault (naming_text around.entry.name) around.entry.kind profile code.now fault (W.contents writer.old) (W.contents writer.new)) }
+    ensures { OnOk result (ExplainsFault (naming_text around.entry.name) around.entry.kind around.entry.profile code.now fault (W.contents writer.old) (W.contents writer.new)) }
 {
-    let explanation = explain(code, slot(), fault, profile);
+    let explanation = explain(code, slot(), fault, around.profile);
     write_explained(alloc, around, explanation, writer)
 }
 
@@ -81,14 +82,13 @@ fn write_each_refusal<W: Write>(
     alloc: Global,
     code: &Code<'_>,
     around: Around<'_>,
-    profile: Profile,
     writer: &mut W,
 ) -> io::Result<()>
     requires most { length (words_of code.now) ≤ most_words }
-    ensures { OnOk result (TellsRefusals (naming_text around.entry.name) around.entry.kind profile code.now (W.contents writer.old) (W.contents writer.new)) }
+    ensures { OnOk result (TellsRefusals (naming_text around.entry.name) around.entry.kind around.entry.profile code.now (W.contents writer.old) (W.contents writer.new)) }
 {
     write_text(alloc, writer, around.name)?;
-    write_refusals(alloc, code, slot(), profile, writer)?;
+    write_refusals(alloc, code, slot(), around.profile, writer)?;
     write_text(alloc, writer, KindLine(around.kind))
 }
 
@@ -110,18 +110,17 @@ fn write_fault<W: Write>(
     code: &Code<'_>,
     around: Around<'_>,
     fault: Fault,
-    profile: Profile,
     how: Explain,
     writer: &mut W,
 ) -> io::Result<()>
-    requires fault { FirstFault profile (words_of code.now) (length (words_of code.now)) (Some fault) }
+    requires fault { FirstFault around.profile (words_of code.now) (length (words_of code.now)) (Some fault) }
     requires most { length (words_of code.now) ≤ most_words }
-    ensures { OnOk result (WritesFault (naming_text around.entry.name) around.entry.kind profile how code.now fault (W.contents writer.old) (W.contents writer.new)) }
+    ensures { OnOk result (WritesFault (naming_text around.entry.name) around.entry.kind around.entry.profile how code.now fault (W.contents writer.old) (W.contents writer.new)) }
 {
     match how {
         Explain::Nothing => write_fault_line(alloc, around.name, fault, writer),
-        Explain::First => write_explanation(alloc, code, around, fault, profile, writer),
-        Explain::All => write_each_refusal(alloc, code, around, profile, writer),
+        Explain::First => write_explanation(alloc, code, around, fault, writer),
+        Explain::All => write_each_refusal(alloc, code, around, writer),
     }
 }
 
@@ -148,8 +147,12 @@ fn write_judged<W: Write>(
         }
         Verdict::Refused(fault) => {
             let kind = FileKind::of(bytes);
-            let around = Around { name, kind };
-            match write_fault(alloc, &Code::of(bytes), around, fault, profile, how, writer) {
+            let around = Around {
+                name,
+                kind,
+                profile,
+            };
+            match write_fault(alloc, &Code::of(bytes), around, fault, how, writer) {
                 Ok(()) => Ok(Finding::Refused(fault)),
                 Err(error) => Err(CommandFault::NotWritten(DeviceCause::of(&error))),
             }
