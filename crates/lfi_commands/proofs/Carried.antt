@@ -8,7 +8,7 @@ use Rattle.lfi_command_line.specs.declared.line.Line.TheVariants.{Check, Load, S
 use Rattle.lfi_command_line.specs.declared.options.LoadOptions.{LoadOptions}
 use Rattle.lfi_command_line.specs.declared.options.ReportOptions.{ReportOptions}
 use Rattle.lfi_command_line.specs.declared.options.ServeOptions.{ServeOptions}
-use Rattle.lfi_stage.specs.declared.settle.Report.{Report}
+use Rattle.lfi_stage.specs.declared.settlement.Report.{Report}
 use Rattle.lfi_threads.specs.declared.serve.Served.{Served}
 use Rattle.lfi_file_commands.specs.declared.ending.Ending.{Ending}
 use Rattle.lfi_file_commands.specs.Left.{Left, left}

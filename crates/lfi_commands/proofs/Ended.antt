@@ -11,7 +11,7 @@ use Rattle.lfi_machine.specs.declared.halt.Halt.{Halt}
 use Rattle.lfi_machine.specs.declared.halt.Halt.TheVariants as halts
 use Rattle.lfi_run.specs.declared.image_run.ImageRun.{ImageRun}
 use Rattle.lfi_run.specs.declared.image_run.ImageRun.TheVariants as image_run
-use Rattle.lfi_stage.specs.declared.settle.Report.{Report}
+use Rattle.lfi_stage.specs.declared.settlement.Report.{Report}
 use Rattle.lfi_code.specs.declared.verdict.Verdict.{Verdict}
 use Rattle.lfi_code.specs.declared.verdict.Verdict.TheVariants.{Lawful, Refused, BadLength}
 use Rattle.lfi_file_commands.specs.declared.ending.Ending.{Ending}

@@ -3,7 +3,7 @@ use Rattle.std.proofs.Common.{◌≡◌, ℕ, Bool, true, false, List, ◌++◌,
 use Rattle.std.specs.Prelude.{slice_index}
 use Rattle.lfi_frame.specs.declared.fault.FrameFault.{FrameFault}
 use Rattle.lfi_receive.specs.declared.start.MessageStart.{MessageStart}
-use Rattle.lfi_stage.specs.declared.settle.Report.{Report}
+use Rattle.lfi_stage.specs.declared.settlement.Report.{Report}
 use Rattle.lfi_file_commands.specs.Refused.{TellRefused}
 use Rattle.lfi_commands.specs.Explained.{connection_lines, fault_lines, strays_line, holder_lines, all_connection_lines, TellsExplained}
 

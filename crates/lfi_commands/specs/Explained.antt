@@ -6,7 +6,7 @@ use Rattle.lfi_frame.specs.declared.fault.FrameFault.TheVariants.{NoMemory, Ende
 use Rattle.lfi_frame.specs.Faults.{fault_text}
 use Rattle.lfi_model.specs.Texts.{lines_from}
 use Rattle.lfi_receive.specs.declared.start.MessageStart.{MessageStart}
-use Rattle.lfi_stage.specs.declared.settle.Report.{Report}
+use Rattle.lfi_stage.specs.declared.settlement.Report.{Report}
 use Rattle.lfi_file_commands.specs.declared.kind.FileKind.{FileKind}
 use Rattle.lfi_file_commands.specs.declared.kind.FileKind.TheVariants.{Stream, Plain}
 use Rattle.lfi_file_commands.specs.Kinds.{file_kind, kind_line}

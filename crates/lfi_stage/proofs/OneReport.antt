@@ -10,7 +10,7 @@ use Rattle.lfi_place.specs.Placed.{extent_at}
 use Rattle.lfi_place.specs.Tells.{Tells}
 use Rattle.lfi_place.specs.declared.report.ModuleReport.{ModuleReport}
 use Rattle.lfi_model.specs.declared.connection.Cause.{Cause}
-use Rattle.lfi_stage.specs.declared.settle.Report.{Report}
+use Rattle.lfi_stage.specs.declared.settlement.Report.{Report}
 use Rattle.lfi_receive.specs.declared.start.MessageStart.{MessageStart}
 use Rattle.lfi_stage.specs.Reports.{Reports, IsClaimer}
 use Rattle.lfi_parts.proofs.Each.{some_same}

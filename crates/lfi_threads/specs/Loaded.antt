@@ -1,7 +1,7 @@
 -- What a report says of streams that readers had.
 use Rattle.std.specs.Prelude.{◌≡◌, ◌<◌, ℕ, Bool, List}
 use Rattle.lfi_model.specs.declared.connection.Cause.{Cause}
-use Rattle.lfi_stage.specs.declared.settle.Report.{Report}
+use Rattle.lfi_stage.specs.declared.settlement.Report.{Report}
 use Rattle.lfi_stage.specs.Reports.{Reports, verifiers_of}
 use Rattle.lfi_workers.specs.Heard.{IsHeard}
 
