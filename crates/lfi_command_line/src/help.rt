@@ -133,7 +133,7 @@ then one for each module M that was opened:
                             The connection that opened it first, from which it is loaded.
 and then for each connection C with a fault or with strays:
   connection C: TEXT        Its fault in words.
-  message at byte B         Where the message begins that has the fault, or isn't whole, in the bytes
+  message at byte B         Where the message begins that has the fault or isn't whole, in the bytes
                             of the connection, counted from 0; and the path of a file.
   file: TEXT                Where its first header has the fault: what begins so, an ELF file, an
                             image or no stream, and what to do with it.
