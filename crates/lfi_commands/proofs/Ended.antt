@@ -1,5 +1,5 @@
 -- A line that is carried out is no wrong words.
-use Rattle.std.proofs.Common.{◌≡◌, ◌∙◌, ◌⊎◌, ℕ, zero, suc, List, length, map, nat_lt, cond, Bool, true, false, Option, Some, None, Result, Ok, Err, IfOk, IfErr, OnErr, inl, inr, refl, subst, sym}
+use Rattle.std.proofs.Common.{◌≡◌, ◌∙◌, ◌⊎◌, ℕ, zero, suc, List, length, nat_lt, cond, Bool, true, false, Option, Some, None, Result, Ok, Err, IfOk, IfErr, OnErr, inl, inr, refl, subst, sym}
 use Rattle.lfi_command_line.specs.declared.line.Line.{Line}
 use Rattle.lfi_command_line.specs.declared.line.Line.TheVariants.{Check, Load, Serve, Run, Disassemble, Pack, Unpack}
 use Rattle.lfi_command_line.specs.declared.options.CheckOptions.{CheckOptions}

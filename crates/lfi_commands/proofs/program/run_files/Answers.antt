@@ -1,4 +1,4 @@
-use Rattle.std.proofs.Common.{◌≡◌, ap, false, refl, subst, sym}
+use Rattle.std.proofs.Common.{◌≡◌, ap, false, subst, sym}
 use Rattle.std.specs.Prelude.{IfErr, IfOk}
 use Rattle.std.proofs.lemmas.Result.{IfErr-weaker}
 use Rattle.lfi_file_commands.specs.Failures.{is_of_output}

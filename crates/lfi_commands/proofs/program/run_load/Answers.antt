@@ -1,7 +1,6 @@
 use Rattle.std.proofs.Common.{◌≡◌, ◌≤◌, ◌∙◌, Bor, List, ℕ, [], false, true, ap, length, map, refl, subst, sym}
 use Rattle.std.proofs.lemmas.List.{length-map}
 use Rattle.std.proofs.lemmas.Result.{IfErr-weaker, IfOk-weaker}
-use Rattle.lfi_receive.specs.declared.input.Input.{Input}
 use Rattle.lfi_model.specs.Texts.{summary_text}
 use Rattle.lfi_threads.specs.Loaded.{IsLoaded}
 use Rattle.lfi_stage.specs.Summaries.{summary_of}
