@@ -1,5 +1,5 @@
 -- Failures of what a line asks for.
-use Rattle.std.proofs.Common.{◌≡◌, ℕ, List, false, true, inr, sym, true≢false}
+use Rattle.std.proofs.Common.{◌≡◌, ℕ, List, true, inr, sym, true≢false}
 use Rattle.lfi_command_line.specs.declared.line.Line.{Line}
 use Rattle.lfi_command_line.specs.CommandLine.{IsLine}
 use Rattle.lfi_file_commands.specs.declared.failure.Target.TheVariants.{StandardOutput, File}

@@ -1,5 +1,5 @@
 -- What became of the clients of connections, and what these have sent.
-use Rattle.std.proofs.Common.{◌≡◌, ◌∙◌, ◌<◌, ◌≤◌, ℕ, Bool, true, false, List, [], ◌∷◌, ◌++◌, Option, Some, None, Result, Ok, length, slice_get, refl, sym, ap, subst, inl, inr, arith}
+use Rattle.std.proofs.Common.{◌≡◌, ◌∙◌, ◌<◌, ◌≤◌, ℕ, Bool, true, false, List, [], ◌∷◌, ◌++◌, Option, Some, length, slice_get, refl, sym, ap, subst, inl, inr, arith}
 use Rattle.std.proofs.Math.ListN.{set}
 use Rattle.std.proofs.lemmas.Bool.{cases_lt}
 use Rattle.std.proofs.lemmas.List.{get_or-set_same, get_or-set_other}
@@ -10,12 +10,11 @@ use Rattle.lfi_receive.specs.declared.receiver.Receiver.{Receiver}
 use Rattle.lfi_signals.specs.declared.fate.ClientFate.{ClientFate}
 use Rattle.lfi_signals.specs.declared.fate.ClientFate.TheVariants.{Heard, CutOff, Absent}
 use Rattle.lfi_signals.specs.declared.fate.Unheard.{Unheard}
-use Rattle.lfi_signals.specs.declared.refusal.LoadError.{LoadError}
 use Rattle.lfi_signals.specs.Clients.{sent_at}
 use Rattle.lfi_signals.specs.Fates.{fate_after, fate_at, is_out_of_time, is_unheard}
 use Rattle.lfi_signals.proofs.Begun.{each_of_none}
 use Rattle.lfi_workers.specs.Heard.{HasHeard}
-use Rattle.lfi_workers.specs.inner.Clients.{AreTaken, HaveComeTo}
+use Rattle.lfi_workers.specs.inner.Clients.{AreTaken}
 use Rattle.lfi_workers.proofs.Through.{had_of, had_of_is}
 
 -- of no client that was taken

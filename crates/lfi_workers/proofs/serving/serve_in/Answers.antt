@@ -3,7 +3,7 @@ use Rattle.std.proofs.lemmas.Result.{IfOk-at_ok, IfOk-from_err}
 use Rattle.lfi_receive.specs.Inputs.{left_of}
 use Rattle.lfi_signals.specs.Clients.{sent_over_socket}
 use Rattle.lfi_workers.proofs.Clients.{heard_after, no_other_after, endless_after}
-use Rattle.lfi_workers.proofs.Through.{back_of, sequencers_of, receivers_of, had_of, heard_by, on_ok, of_three}
+use Rattle.lfi_workers.proofs.Through.{back_of, sequencers_of, receivers_of, heard_by, on_ok, of_three}
 use Rattle.lfi_workers.proofs.serving.serve_in.Goals as goal
 
 pub start_sequencers-requires-clause-are : goal.start_sequencers-requires-clause-are
