@@ -291,7 +291,7 @@ const ANSWERS: [Answer; 8] = [
     },
     Answer {
         line: "lfiload check --all written.tmp/zero.code",
-        length: UNSPELLED.len() + 17,
+        length: UNSPELLED.len() + 38,
     },
     Answer {
         line: "lfiload disassemble written.tmp/zero.code",
