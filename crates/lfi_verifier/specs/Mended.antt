@@ -1,5 +1,5 @@
 -- What is told of a mend in C: its words.
-use Rattle.std.specs.Prelude.{◌≡◌, ℕ, ◌<◌, List, [], ◌∷◌, ◌++◌, length, drop, slice_get, Option, Some, None, Ok, Err}
+use Rattle.std.specs.Prelude.{◌≡◌, ℕ, ◌<◌, List, [], ◌∷◌, ◌++◌, length, drop, Some, Ok, Err}
 use Rattle.a64_word.specs.declared.instruction.Instruction.{Instruction}
 use Rattle.a64_word.specs.Profiles.{SpellsIn}
 use Rattle.lfi_module.specs.declared.profile.Profile.{Profile}
