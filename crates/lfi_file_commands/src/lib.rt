@@ -7,7 +7,7 @@
 //! A command has its options, opens its file by a `Disk`, and judges, explains, lists, packs or runs what the reader has left
 //! by the crates below. What it writes, puts and tells goes to its `Outputs`. What failed is a `Failure`, told by `Errors`; how
 //! it ended is an `Ending`, whose number is the exit status. For a load, `open_all` makes inputs of files,
-//! `write_asked_refused` tells of refused modules, and `write_asked_images` puts whole images into a folder.
+//! `write_refused` tells of refused modules, and `write_asked_images` puts whole images into a folder.
 //!
 //! # What it may not know
 //!
