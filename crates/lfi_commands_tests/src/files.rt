@@ -1,8 +1,7 @@
 //! Each command once, over the system's files.
 
 use crate::runs::{
-    FAILED, NOT_WELL, ONE_RET, ONE_RET_IMAGE, ONE_RET_REPORT, RET, Run, WELL, begin, first_other,
-    has_file, writes,
+    FAILED, NOT_WELL, ONE_RET, ONE_RET_IMAGE, RET, Run, WELL, begin, first_other, has_file, writes,
 };
 use std::{fs, io};
 
@@ -34,7 +33,7 @@ const RUNS: [Run; 7] = [
     Run {
         line: "lfiload load --out files.tmp --explain files.tmp/one_ret.stream",
         status: WELL,
-        out: ONE_RET_REPORT,
+        out: "module 0: complete, 1 words\nstrays 0\nmodule 0: from connection 0\n",
         err: "",
     },
     Run {

@@ -150,11 +150,13 @@ fn who_has_what_and_where_each_ended(rt: HostRuntime) {
     for row in &ROWS {
         let seen = seen_in(&rt, row).expect(&rt, "memory");
         assert!(rt; seen.finished);
-        assert!(rt; seen.holders[0] == row.holders[0]);
-        assert!(rt; seen.holders[3] == row.holders[1]);
+        let holders = row.holders;
+        assert!(rt; seen.holders[0] == holders[0]);
+        assert!(rt; seen.holders[3] == holders[1]);
         assert!(rt; seen.first.byte == row.bytes[0]);
         assert!(rt; seen.second.byte == row.bytes[1]);
-        assert!(rt; seen.second.header == row.header);
+        let header = row.header;
+        assert!(rt; seen.second.header == header);
         assert!(rt; seen.strays[0] == row.strays[0]);
         assert!(rt; seen.strays[1] == row.strays[1]);
     }
