@@ -228,7 +228,7 @@ pub fn explain(of: &Refused, text: &mut [u8]) -> (u32, usize) {
     if !is_of_this_interface() {
         return (OTHER_INTERFACE, size);
     }
-    // docs/C.md: so `room`, of bytes that can be written at `text`.
+    // docs/C.md: so `room`, of bytes that can be written at `text`, or of words at `mend`.
     let status = unsafe {
         lfi_explain(of.profile, of.module, of.words, &of.fault, of.word, of.before, text.as_mut_ptr(), text.len(), &mut size)
     };
