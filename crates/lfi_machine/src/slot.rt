@@ -7,9 +7,9 @@ ghost use Rattle.lfi_confinement.specs.Slots.{base, permission_at, is_permitted,
 ghost use Rattle.lfi_confinement.specs.Moves.{first_denied};
 ghost use Rattle.lfi_machine.specs.Owned.{memory, fault_number, writes_by, IsLocated};
 
-use lfi_rules::map::{CODE_OFFSET, FIRST_ENTRY, ENTRY_STEP, SLOT_BYTES, TABLE_BYTES};
 use a64_word::Size;
 use lfi_image::CompleteImage;
+use lfi_rules::map::{CODE_OFFSET, ENTRY_STEP, FIRST_ENTRY, SLOT_BYTES, TABLE_BYTES};
 use sparse_memory::{MemoryRefused, SparseMemory};
 use std::alloc::Global;
 use std::marker::Model;

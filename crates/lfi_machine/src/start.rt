@@ -6,9 +6,9 @@ ghost use Rattle.lfi_module.specs.Numbers.{base_of, most_words};
 ghost use Rattle.lfi_confinement.specs.Slots.{is_in_slot};
 ghost use Rattle.lfi_confinement.specs.Lawful.{Held};
 
-use lfi_rules::map::{CODE_OFFSET, SLOT_BYTES, STACK_REACH};
 use a64_semantics::Registers;
 use lfi_image::CompleteImage;
+use lfi_rules::map::{CODE_OFFSET, SLOT_BYTES, STACK_REACH};
 use lfi_rules::registers::{BASE, FIRST_ADDRESS, LINK, OFFSET, SECOND_ADDRESS, THIRD_ADDRESS};
 
 /// Why a machine isn't made.

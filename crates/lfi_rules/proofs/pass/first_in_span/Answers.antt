@@ -7,8 +7,10 @@ first_by_look-requires g c =
     let ws : List ℕ = g.W.Words.words c.args.region.words.now in
     let left : ℕ = c.mark_untold-left.result in
     let places : List ℕ = c.mark_untold-left.new.places in
-    record { within = marked_within c.args.region.profile ws c.args.region.first c.args.region.n c.args.start c.args.stop (take left places) c.requires.stop
-    (taken c.args.region.profile ws c.args.region.first c.args.region.n c.args.start c.args.stop places left c.mark_untold-left.ensures.count c.mark_untold-left.ensures.marked); }
+    record {
+      within = marked_within c.args.region.profile ws c.args.region.first c.args.region.n c.args.start c.args.stop (take left places) c.requires.stop
+          (taken c.args.region.profile ws c.args.region.first c.args.region.n c.args.start c.args.stop places left c.mark_untold-left.ensures.count c.mark_untold-left.ensures.marked);
+    }
 
 pub returns-clause-some : goal.returns-clause-some
 returns-clause-some g c =
