@@ -11,7 +11,8 @@ ghost use Rattle.lfi_verifier.specs.Statuses.{status_number};
 use crate::status::Status;
 use lfi_module::{ModuleNumber, Profile};
 use lfi_rules::map::{
-    CODE_OFFSET, ENTRY_COUNT, ENTRY_STEP, FIRST_ENTRY, GUARD_BYTES, SLOT_BYTES, STACK_REACH, TABLE_BYTES,
+    CODE_OFFSET, ENTRY_COUNT, ENTRY_STEP, FIRST_ENTRY, GUARD_BYTES, SLOT_BYTES, STACK_REACH,
+    TABLE_BYTES,
 };
 use lfi_rules::registers::{BASE, FIRST_ADDRESS, LINK, OFFSET, SECOND_ADDRESS, THIRD_ADDRESS};
 
