@@ -44,7 +44,8 @@ impl State {
 
     /// The state that stands in the word by this number. No greater one than 4 is ever written.
     fn of(number: u64) -> State
-        ensures { (state : State) → number ≡ state_number state → result ≡ state }
+        ensures state { (state : State) → number ≡ state_number state → result ≡ state }
+        ensures above { state_number State.NoThread ≤ number → result ≡ State.NoThread }
     {
         match number {
             0 => State::Starting,
