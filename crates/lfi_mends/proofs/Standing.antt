@@ -463,6 +463,8 @@ computing_stands p (instructions.AddSubExtended x) h legal fits =
     let tests = and_parts _ _ h in
     by_spares p (instructions.AddSubExtended x) _ refl legal fits refl (computes_either x.set_flags x.rd x.width tests.0 (not-true _ tests.1)) refl refl
     (opens_nothing p (instructions.AddSubExtended x) refl refl refl)
+computing_stands p (instructions.ConditionalCompare x) h legal fits =
+    by_spares p (instructions.ConditionalCompare x) _ refl legal fits refl spares_none refl refl (opens_nothing p (instructions.ConditionalCompare x) refl refl refl)
 computing_stands p (instructions.ConditionalSelect x) h legal fits =
     by_spares p (instructions.ConditionalSelect x) _ refl legal fits refl (computes x.rd x.width h) refl refl (opens_nothing p (instructions.ConditionalSelect x) refl refl refl)
 computing_stands p (instructions.TwoSource x) h legal fits =

@@ -30,7 +30,8 @@
 //!   and begins with what meets the need.
 //! - **Operands outside of the profile are read by likeness**: a row of the table has the word's fields where an instruction
 //!   of the profile has them, so its decoding, which is proved, reads them.
-//! - **RBIT is mended for the CLZ after it alone**: all bits in the other order take some 20 instructions.
+//! - **RBIT is mended for the CLZ after it alone**: all bits in the other order take some 20 instructions, and so a reason of
+//!   its own.
 #![tactic(auto)]
 
 mod accesses;
