@@ -276,12 +276,7 @@ pub(crate) fn chosen(width: Width, into: Register, one: Register, other: Registe
 }
 
 /// ADDS ZR, Rn, Rm, LSL #amount: the flags of a sum.
-pub(crate) fn flags_of_sum(
-    width: Width,
-    one: Register,
-    other: Register,
-    amount: u8,
-) -> Instruction
+pub(crate) fn flags_of_sum(width: Width, one: Register, other: Register, amount: u8) -> Instruction
     requires fits { amount < 32 }
     ensures stands { (profile : Profile) → Stands profile Nothing result }
     ensures opens { (profile : Profile) → opens_of profile result ≡ Nothing }
@@ -299,12 +294,7 @@ pub(crate) fn flags_of_sum(
 }
 
 /// CCMN Rn, Rm, #nzcv, NE: the flags of a sum, or these.
-pub(crate) fn flags_of_sum_or(
-    width: Width,
-    one: Register,
-    other: Register,
-    nzcv: u8,
-) -> Instruction
+pub(crate) fn flags_of_sum_or(width: Width, one: Register, other: Register, nzcv: u8) -> Instruction
     requires fits { nzcv < 16 }
     ensures stands { (profile : Profile) → Stands profile Nothing result }
     ensures opens { (profile : Profile) → opens_of profile result ≡ Nothing }

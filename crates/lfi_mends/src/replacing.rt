@@ -256,22 +256,8 @@ fn operands_by_bits(mend: Mend, i: &AddSubShifted) -> Mend
     ensures keeps { (profile : Profile) → KeepsRules profile (mended result) }
     ensures count { result.count ≡ mend.count + 2 }
 {
-    mend.and(joined(
-        i.width,
-        Logical::And,
-        i.subtract,
-        second(),
-        i.rn,
-        i.rm,
-    ))
-    .and(joined(
-        i.width,
-        Logical::Orr,
-        i.subtract,
-        first(),
-        i.rn,
-        i.rm,
-    ))
+    mend.and(joined(i.width, Logical::And, i.subtract, second(), i.rn, i.rm))
+        .and(joined(i.width, Logical::Orr, i.subtract, first(), i.rn, i.rm))
 }
 
 /// A sum of two registers and the flag C, with its flags. The result's register holds x17 and C before it holds the sum. That
@@ -300,14 +286,7 @@ fn flags_with_carry(i: &AddSubShifted) -> Mend
     let carry = Register::new(OFFSET);
     operands_by_bits(Mend::new().and(carry_in_offset()), i)
         .and(joined(i.width, Logical::Ands, false, zero, carry, second()))
-        .and(joined(
-            i.width,
-            Logical::Orr,
-            false,
-            second(),
-            second(),
-            carry,
-        ))
+        .and(joined(i.width, Logical::Orr, false, second(), second(), carry))
         .and(flags_of_sum_or(i.width, first(), second(), 0))
         .and(flags_of_sum_or(i.width, first(), second(), 2))
 }

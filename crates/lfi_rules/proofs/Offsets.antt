@@ -1,5 +1,5 @@
 -- Where a direct branch's offset stands in its word.
-use Rattle.std.proofs.Common.{◌≡◌, ℕ, ◌-◌, ◌*◌, ◌/◌, ◌%◌, ◌^◌, ◌<◌, ◌≤◌, eqb, eqb-true, refl, sym, ap, ◌∙◌, arith, inl, inr}
+use Rattle.std.proofs.Common.{◌≡◌, ℕ, ◌-◌, ◌*◌, ◌/◌, ◌^◌, ◌<◌, ◌≤◌, eqb, eqb-true, refl, sym, ◌∙◌, arith, inl, inr}
 use Rattle.std.specs.Prelude.{bit_and}
 use Rattle.std.proofs.lemmas.Bool.{cases_Bool, eqb-false}
 use Rattle.std.proofs.lemmas.Nat.{and_mask, mod_below}
