@@ -1,5 +1,7 @@
 //! Sums and differences with a carry that set flags: their mends, and what these do to the register and to the flags.
 
+ghost use Rattle.std.specs.Prelude.{◌≡◌, ◌⊎◌};
+
 use crate::machine::Machine;
 use crate::rows::Row;
 use crate::states::{Draws, agree, field, mended, numbers};
@@ -78,6 +80,7 @@ const EDGES: [u64; 12] = [
 ];
 
 /// A sum and its flags, as the manual's `AddWithCarry` has them.
+#[derive(Clone, Copy)]
 struct Sum {
     value: u64,
     flags: u8,
