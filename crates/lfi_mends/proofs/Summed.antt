@@ -125,18 +125,18 @@ abbrev pub reached : (below : Bool) → (bytes b : ℕ) → ℕ
 reached true bytes b = (b + (18446744073709551616 - bytes)) % 18446744073709551616
 reached false bytes b = (b + bytes) % 18446744073709551616
 
-moved_in_slot : (below : Bool) (base b bytes slot : ℕ) → bytes < 32768 → base ≡ slot * 4294967296 → (slot + 1) * 4294967296 ≤ 18446744073709551616
+pub moved_in_slot : (below : Bool) (base b bytes slot : ℕ) → bytes < 32768 → base ≡ slot * 4294967296 → (slot + 1) * 4294967296 ≤ 18446744073709551616
     → slot * 4294967296 ≤ reached below bytes b → reached below bytes b < (slot + 1) * 4294967296
     → (base + moved below bytes b % 4294967296 * 1) % 18446744073709551616 ≡ reached below bytes b
 moved_in_slot true base b bytes slot fits e room first last = omega (arith, fits, e, room, first, last)
 moved_in_slot false base b bytes slot fits e room first last = omega (arith, fits, e, room, first, last)
 
-after_more : (is js : List Instruction) (s : State) → after_all (is ++ js) s ≡ after_all js (after_all is s)
+pub after_more : (is js : List Instruction) (s : State) → after_all (is ++ js) s ≡ after_all js (after_all is s)
 after_more [] js s = refl
 after_more (i ∷ is) js s = after_more is js (after i s)
 
 -- by no distance
-reached_none : (below : Bool) (bytes b : ℕ) → bytes ≡ 0 → b < 18446744073709551616 → reached below bytes b ≡ b
+pub reached_none : (below : Bool) (bytes b : ℕ) → bytes ≡ 0 → b < 18446744073709551616 → reached below bytes b ≡ b
 reached_none true bytes b none fits = omega (arith, none, fits)
 reached_none false bytes b none fits = omega (arith, none, fits)
 
