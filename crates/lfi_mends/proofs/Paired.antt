@@ -23,7 +23,7 @@ use Rattle.lfi_mends.proofs.Beside.{put_same, put_stack}
 use Rattle.lfi_mends.proofs.Summed.{summed, reached, moved_in_slot, reached_none, after_more}
 
 -- ---- what a pair does that accesses an address
-abbrev loads : (load : Bool) → Width → (rt rt2 first second : ℕ) → List Write
+abbrev pub loads : (load : Bool) → Width → (rt rt2 first second : ℕ) → List Write
 loads load width rt rt2 first second = if load then to_general rt width first (to_general rt2 width second []) else []
 
 abbrev pub pair_at : Width → (load : Bool) → (rt2 rt : ℕ) → State → ℕ → State
@@ -33,19 +33,19 @@ pair_at width load rt2 rt s a = record {
 }
 
 -- two results, one after another
-in_turn : (rt value : ℕ) (width : Width) (rest : List Write) (r : Registers) → put_all (to_general rt width value rest) r ≡ put_all rest (put_all (to_general rt width value []) r)
+pub in_turn : (rt value : ℕ) (width : Width) (rest : List Write) (r : Registers) → put_all (to_general rt width value rest) r ≡ put_all rest (put_all (to_general rt width value []) r)
 in_turn rt value width rest r = elim (cases_Bool (eqb rt 31)) [
   | inl zr ↦ rw zr refl
   | inr other ↦ rw other refl
 ]
 
-put_count : (rt value : ℕ) (width : Width) (r : Registers) → length (put_all (to_general rt width value []) r).x ≡ length r.x
+pub put_count : (rt value : ℕ) (width : Width) (r : Registers) → length (put_all (to_general rt width value []) r).x ≡ length r.x
 put_count rt value width r = elim (cases_Bool (eqb rt 31)) [
   | inl zr ↦ rw zr refl
   | inr other ↦ rw (other, other) (length-set r.x rt _)
 ]
 
-two_same : (load : Bool) (rt rt2 first second n : ℕ) (width : Width) (one two : Registers) → length one.x ≡ length two.x → n < length one.x → x_at one n ≡ x_at two n
+pub two_same : (load : Bool) (rt rt2 first second n : ℕ) (width : Width) (one two : Registers) → length one.x ≡ length two.x → n < length one.x → x_at one n ≡ x_at two n
     → x_at (put_all (loads load width rt rt2 first second) one) n ≡ x_at (put_all (loads load width rt rt2 first second) two) n
 two_same false rt rt2 first second n width one two lengths below e = e
 two_same true rt rt2 first second n width one two lengths below e =
@@ -58,7 +58,7 @@ two_same true rt rt2 first second n width one two lengths below e =
     ∙ (put_same false rt2 n second width one1 two1 lengths1 below1 (put_same false rt n first width one two lengths below e)
     ∙ sym (ap (λ r. x_at r n) (in_turn rt first width rest two)))
 
-stack_same : (load : Bool) (rt rt2 first second : ℕ) (width : Width) (one two : Registers) → one.sp ≡ two.sp
+pub stack_same : (load : Bool) (rt rt2 first second : ℕ) (width : Width) (one two : Registers) → one.sp ≡ two.sp
     → (put_all (loads load width rt rt2 first second) one).sp ≡ (put_all (loads load width rt rt2 first second) two).sp
 stack_same false rt rt2 first second width one two e = e
 stack_same true rt rt2 first second width one two e =
@@ -68,7 +68,7 @@ stack_same true rt rt2 first second width one two e =
     ∙ sym (ap (λ r. r.sp) (in_turn rt first width rest two)))
 
 -- The same pair, of registers that agree and of the same bytes, by data registers that are the same in both.
-pair_agrees : (width : Width) (load : Bool) (rt2 rt : ℕ) (one two : Registers) (memory : ℕ → ℕ) (a : ℕ) → length one.x ≡ 31 → length two.x ≡ 31
+pub pair_agrees : (width : Width) (load : Bool) (rt2 rt : ℕ) (one two : Registers) (memory : ℕ → ℕ) (a : ℕ) → length one.x ≡ 31 → length two.x ≡ 31
     → x_at one rt ≡ x_at two rt → x_at one rt2 ≡ x_at two rt2
     → Agree (record { registers = one; memory = memory }) (record { registers = two; memory = memory })
     → Agree (pair_at width load rt2 rt (record { registers = one; memory = memory }) a) (pair_at width load rt2 rt (record { registers = two; memory = memory }) a)
@@ -81,20 +81,20 @@ pair_agrees width load rt2 rt one two memory a first second same same2 h = recor
 
 -- ---- the guarded address
 -- a state that differs from another in x18 and x22 alone, of which the first holds an address
-record Guarded (s2 s : State) (a : ℕ) : Type 0 where
-  general : (n : ℕ) → eqb n 18 ≡ false → eqb n 22 ≡ false → x_at s2.registers n ≡ x_at s.registers n
-  value : x_at s2.registers 18 ≡ a
-  stack : s2.registers.sp ≡ s.registers.sp
-  flags : s2.registers.nzcv ≡ s.registers.nzcv
-  count : length s2.registers.x ≡ 31
-  memory : s2.memory ≡ s.memory
+pub record Guarded (s2 s : State) (a : ℕ) : Type 0 where
+  pub general : (n : ℕ) → eqb n 18 ≡ false → eqb n 22 ≡ false → x_at s2.registers n ≡ x_at s.registers n
+  pub value : x_at s2.registers 18 ≡ a
+  pub stack : s2.registers.sp ≡ s.registers.sp
+  pub flags : s2.registers.nzcv ≡ s.registers.nzcv
+  pub count : length s2.registers.x ≡ 31
+  pub memory : s2.memory ≡ s.memory
 
 guard_value : (base x a : ℕ) → (base + x % 4294967296 * 1) % 18446744073709551616 ≡ a
     → (base + x % 4294967296 * 1 % 18446744073709551616 + 0) % 18446744073709551616 % 18446744073709551616 ≡ a
 guard_value base x a e = omega (arith, e)
 
 -- after a state that differs in x22 alone
-guarded_after : (rm a : ℕ) (s s1 : State) → ((n : ℕ) → eqb n 22 ≡ false → x_at s1.registers n ≡ x_at s.registers n) → s1.registers.sp ≡ s.registers.sp → s1.registers.nzcv ≡ s.registers.nzcv
+pub guarded_after : (rm a : ℕ) (s s1 : State) → ((n : ℕ) → eqb n 22 ≡ false → x_at s1.registers n ≡ x_at s.registers n) → s1.registers.sp ≡ s.registers.sp → s1.registers.nzcv ≡ s.registers.nzcv
     → length s1.registers.x ≡ 31 → s1.memory ≡ s.memory → (x_at s1.registers 21 + x_at s1.registers rm % 4294967296 * 1) % 18446744073709551616 ≡ a
     → Guarded (after (guard_of 18 rm) s1) s a
 guarded_after rm a s s1 general stack flags count memory e = record {
@@ -112,7 +112,7 @@ at_first widths.W a small = omega (arith, small)
 at_first widths.X a small = omega (arith, small)
 
 -- A pair at x18 does what a pair does at the address that x18 holds.
-by_guard : (width : Width) (load : Bool) (rt2 rt a : ℕ) (s s2 : State) → Guarded s2 s a → moves_both rt2 rt ≡ true → length s.registers.x ≡ 31 → a < 18446744073709551616
+pub by_guard : (width : Width) (load : Bool) (rt2 rt a : ℕ) (s s2 : State) → Guarded s2 s a → moves_both rt2 rt ≡ true → length s.registers.x ≡ 31 → a < 18446744073709551616
     → Agree (after (pair_of width load rt2 rt) s2) (pair_at width load rt2 rt s a)
 by_guard width load rt2 rt a s s2 h free count small =
     let tests = and_parts (not (is_reserved rt2)) (not (is_reserved rt)) free in
@@ -132,7 +132,7 @@ by_guard width load rt2 rt a s s2 h free count small =
     subst (λ m. Agree (pair_at width load rt2 rt (record { registers = r2; memory = m }) a) (pair_at width load rt2 rt s a)) (sym h.memory) same in
     subst (λ x. Agree (pair_at width load rt2 rt s2 x) (pair_at width load rt2 rt s a)) (sym address) here
 
-some_pair : (width : Width) → 1 ≤ pair_bytes width
+pub some_pair : (width : Width) → 1 ≤ pair_bytes width
 some_pair widths.W = lit≤ tt
 some_pair widths.X = lit≤ tt
 

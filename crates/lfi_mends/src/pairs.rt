@@ -2,7 +2,7 @@
 
 ghost use Rattle.std.specs.Prelude.{◌≡◌, ◌≢◌, ◌<◌, ◌≤◌, ◌+◌, IfOk, IfSome, IsTrue, true, false, not, ◌||◌, ◌⊎◌, is_some, ◌==◌, ◌++◌, ◌∷◌, []};
 ghost use Rattle.a64_effects.specs.Effects.{changes_base, form_of_pair_mode, pair_offset};
-ghost use Rattle.a64_word.specs.declared.operands.PairMode.TheVariants.{Offset};
+ghost use Rattle.a64_word.specs.declared.operands.PairMode.TheVariants.{Offset, PreIndex, PostIndex};
 ghost use Rattle.lfi_mends.specs.Outcomes.{DoesTheSame, moves_both, moves_plainly};
 ghost use Rattle.lfi_mends.specs.inner.Rows as rows;
 ghost use Rattle.lfi_module.specs.declared.profile.Profile.{Profile};
@@ -147,6 +147,8 @@ fn placed(two: &Two, base: Register, distance: Distance, mode: PairMode, sum: Re
     requires holds { IsTrue (spec.may_hold sum) }
     requires base { IsTrue (not (changes_base (form_of_pair_mode mode)) || not (base == 21)) }
     ensures keeps { (profile : Profile) → KeepsRules profile (mended result) }
+    ensures before { mode ≡ PreIndex → IsTrue (spec.is_free base) → IsTrue (moves_both two.now.second two.now.first) → mended result ≡ rows.changing_pair true two.now.width two.now.load two.now.second two.now.first base distance.below distance.bytes }
+    ensures after { mode ≡ PostIndex → IsTrue (spec.is_free base) → IsTrue (moves_both two.now.second two.now.first) → mended result ≡ rows.changing_pair false two.now.width two.now.load two.now.second two.now.first base distance.below distance.bytes }
     ensures items { mode ≡ Offset → IsTrue (moves_both two.now.second two.now.first) → mended result ≡ rows.paired sum two.now.width two.now.load two.now.second two.now.first base distance.below distance.bytes }
     ensures count { result.count ≤ 7 }
 {

@@ -81,3 +81,8 @@ pair_of width load rt2 rt =
 -- a pair at a base and a distance
 abbrev pub paired : (sum : ℕ) → Width → (load : Bool) → (rt2 rt rn : ℕ) → (below : Bool) → (bytes : ℕ) → List Instruction
 paired sum width load rt2 rt rn below bytes = sums sum rn below bytes ++ guard_of 18 (index_of sum rn bytes) ∷ pair_of width load rt2 rt ∷ []
+
+-- a pair at a base alone, which is changed before it or after it
+abbrev pub changing_pair : (before : Bool) → Width → (load : Bool) → (rt2 rt rn : ℕ) → (below : Bool) → (bytes : ℕ) → List Instruction
+changing_pair true width load rt2 rt rn below bytes = changed_of below bytes rn ∷ guard_of 18 rn ∷ pair_of width load rt2 rt ∷ []
+changing_pair false width load rt2 rt rn below bytes = guard_of 18 rn ∷ pair_of width load rt2 rt ∷ changed_of below bytes rn ∷ []
