@@ -141,7 +141,7 @@ reached_small true bytes b = omega arith
 reached_small false bytes b = omega arith
 
 -- The guarded address, of the base alone and of a sum.
-guarded_at : (rn : ℕ) (below : Bool) (bytes : ℕ) (s : State) → bytes < 4096 → IsWhole s.registers → (slot : ℕ) → x_at s.registers 21 ≡ slot * 4294967296
+pub guarded_at : (rn : ℕ) (below : Bool) (bytes : ℕ) (s : State) → bytes < 4096 → IsWhole s.registers → (slot : ℕ) → x_at s.registers 21 ≡ slot * 4294967296
     → (slot + 1) * 4294967296 ≤ 18446744073709551616 → slot * 4294967296 ≤ reached below bytes (x_or_sp_at s.registers rn)
     → reached below bytes (x_or_sp_at s.registers rn) < (slot + 1) * 4294967296
     → Guarded (after (guard_of 18 (index_of 22 rn bytes)) (after_all (sums 22 rn below bytes) s)) s (reached below bytes (x_or_sp_at s.registers rn))

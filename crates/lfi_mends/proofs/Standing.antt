@@ -37,7 +37,7 @@ use Rattle.lfi_rules.specs.Needs.{loads_link, loads_entry, moves_stack, is_load_
 use Rattle.lfi_rules.specs.inner.Quiet.{IsUnreserved}
 use Rattle.lfi_rules.proofs.Avoiding.{Spares, spares_none, spares_one, spares_more, spares_free, spares_offset, link_kept, stack_kept, Avoids, avoids_none, avoids_link, avoids_more, no_stack}
 use Rattle.lfi_mends.specs.Mends.{Stands, Leads, KeepsRules}
-use Rattle.lfi_mends.specs.inner.Rows.{sum_of_immediate, sum_of_index, access_of, changed_of, guard_of, pair_of}
+use Rattle.lfi_mends.specs.inner.Rows.{sum_of_immediate, sum_of_index, access_of, changed_of, guard_of, pair_of, ordered_of}
 use Rattle.lfi_mends.specs.inner.Computing.{may_compute, is_computing}
 use Rattle.lfi_mends.specs.Registers.{is_reserved, is_free, may_hold, may_move, may_move_two, holds_link}
 
@@ -511,9 +511,6 @@ link_pair_stands p rt2 rt below2 below holds apart =
     )
 
 -- ---- LDAR and STLR at x18
-abbrev pub ordered_of : Size → (load : Bool) → (rt : ℕ) → Instruction
-ordered_of size load rt = instructions.Ordered (record { size = size; load = load; rn = 18; rt = rt })
-
 pub ordered_stands : (size : Size) (load : Bool) (rt : ℕ) → rt < 32 → may_move (ordered_transfer load) rt ≡ true
     → Stands Two Nothing (ordered_of size load rt) × (opens_of Two (ordered_of size load rt) ≡ Nothing)
 ordered_stands size load rt below free =

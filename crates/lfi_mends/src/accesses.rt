@@ -360,6 +360,7 @@ fn loads_reserved(size: Size, load: bool, moved: Register) -> bool
 /// What stands in the place of LDAR or STLR, of the second profile.
 fn in_order(i: &Ordered) -> Result<Mend, Reason>
     ensures keeps { IfOk result (λ mend. KeepsRules Two (mended mend)) }
+    ensures items { IfOk result (λ mend. spec.is_reserved i.now.rt ≡ false → mended mend ≡ rows.in_order i.now.size i.now.load i.now.rt i.now.rn) }
     ensures count { IfOk result (λ mend. mend.count ≤ 7) }
     ensures told { refusal result ≡ of_access (Instruction.Ordered i.now) }
 {
@@ -386,6 +387,16 @@ fn in_order(i: &Ordered) -> Result<Mend, Reason>
     Ok(mend.and_ordered(ordered(i.size, true, i.rt)))
 }
 
+/// The same, by what it does.
+fn ordered_access(i: &Ordered) -> Result<Mend, Reason>
+    ensures keeps { IfOk result (λ mend. KeepsRules Two (mended mend)) }
+    ensures does { IfOk result (λ mend. IsTrue (moves_plainly (Instruction.Ordered i.now)) → DoesTheSame (mended mend) (Instruction.Ordered i.now)) }
+    ensures count { IfOk result (λ mend. mend.count ≤ 7) }
+    ensures told { refusal result ≡ of_access (Instruction.Ordered i.now) }
+{
+    in_order(i)
+}
+
 /// What stands in the place of an access that isn't confined.
 pub(crate) fn confined(profile: Profile, instruction: &Instruction) -> Result<Mend, Reason>
     requires has { IsTrue (is_of profile instruction.now) }
@@ -401,7 +412,7 @@ pub(crate) fn confined(profile: Profile, instruction: &Instruction) -> Result<Me
         Instruction::SignedOffset(i) => signed(i),
         Instruction::RegisterOffset(i) => indexed(i),
         Instruction::Pair(i) => paired(i),
-        Instruction::Ordered(i) => in_order(i),
+        Instruction::Ordered(i) => ordered_access(i),
         _ => Err(Reason::Kept),
     }
 }

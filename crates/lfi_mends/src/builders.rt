@@ -332,6 +332,7 @@ pub(crate) fn stack_moved(subtract: bool, imm12: u16) -> Instruction
 /// LDAR or STLR at x18.
 pub(crate) fn ordered(size: Size, load: bool, moved: Register) -> Instruction
     requires free { IsTrue (spec.may_move (ordered_transfer load) moved) }
+    ensures is { result ≡ rows.ordered_of size load moved }
     ensures stands { Stands Two Nothing result }
     ensures opens { opens_of Two result ≡ Nothing }
 {

@@ -86,3 +86,11 @@ paired sum width load rt2 rt rn below bytes = sums sum rn below bytes ++ guard_o
 abbrev pub changing_pair : (before : Bool) → Width → (load : Bool) → (rt2 rt rn : ℕ) → (below : Bool) → (bytes : ℕ) → List Instruction
 changing_pair true width load rt2 rt rn below bytes = changed_of below bytes rn ∷ guard_of 18 rn ∷ pair_of width load rt2 rt ∷ []
 changing_pair false width load rt2 rt rn below bytes = guard_of 18 rn ∷ pair_of width load rt2 rt ∷ changed_of below bytes rn ∷ []
+
+-- LDAR and STLR at x18
+abbrev pub ordered_of : Size → (load : Bool) → (rt : ℕ) → Instruction
+ordered_of size load rt = instructions.Ordered (record { size = size; load = load; rn = 18; rt = rt })
+
+-- an ordered access at a base
+abbrev pub in_order : Size → (load : Bool) → (rt rn : ℕ) → List Instruction
+in_order size load rt rn = sums 22 rn false 0 ++ guard_of 18 (index_of 22 rn 0) ∷ ordered_of size load rt ∷ []
