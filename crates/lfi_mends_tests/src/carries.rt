@@ -107,18 +107,17 @@ fn sum_of(bits: u32, one: u64, other: u64, carry: u64) -> Sum
 /// What a row's word makes of registers.
 fn meant(row: &Row, registers: &Registers) -> Machine {
     let word = row.word;
-    let (one, other) = (
-        registers.x(field(word, 5)),
-        registers.x(field(word, 16)),
-    );
+    let (one, other) = (registers.x(field(word, 5)), registers.x(field(word, 16)));
     let carry = u64::from(registers.nzcv >> 1 & 1);
-    let addend = if word & 0x4000_0000 != 0 { !other } else { other };
+    let addend = if word & 0x4000_0000 != 0 {
+        !other
+    } else {
+        other
+    };
     let is_wide = word & 0x8000_0000 != 0;
     let sum = sum_of(if is_wide { 64 } else { 32 }, one, addend, carry);
     let mut machine = Machine::new(*registers);
-    machine
-        .registers
-        .put(field(word, 0), Width::X, sum.value);
+    machine.registers.put(field(word, 0), Width::X, sum.value);
     machine.registers.nzcv = sum.flags;
     machine
 }
