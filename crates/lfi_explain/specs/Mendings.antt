@@ -103,6 +103,7 @@ instructions_text rule is = head_text rule (length is == 0) (write first_scratch
 abbrev pub instead_text : Reason → List ℕ
 instead_text reasons.Base = codes "; use another register"
 instead_text reasons.Reserved = codes "; use another register"
+instead_text reasons.Bits = codes "; docs/PROFILE.md lists what stands in for others"
 instead_text reasons.Outside = codes "; docs/PROFILE.md lists what stands in for others"
 instead_text reason = []
 

@@ -125,7 +125,7 @@ impl fmt::Display for Without {
         let reason = self.0;
         let instead = match reason {
             Reason::Base | Reason::Reserved => "; use another register",
-            Reason::Outside => "; docs/PROFILE.md lists what stands in for others",
+            Reason::Bits | Reason::Outside => "; docs/PROFILE.md lists what stands in for others",
             _ => "",
         };
         write!(f, "none: {reason}{instead}")

@@ -2,8 +2,8 @@
 use Rattle.std.proofs.Common.{◌≡◌, ℕ, ◌<◌, eqb, Bool, true, false, [], length, refl, sym, subst, ◌∙◌, inl, inr}
 use mathlib.Core.Logic.{dite}
 use native.Mathlib.Decide.{ℕ_discrete}
-use Rattle.std.specs.Prelude.{if◌then◌else◌}
-use Rattle.std.proofs.lemmas.Bool.{cases_Bool}
+use Rattle.std.specs.Prelude.{if◌then◌else◌, not}
+use Rattle.std.proofs.lemmas.Bool.{cases_Bool, and_parts, not-true}
 use Rattle.std.proofs.lemmas.List.{get_or-set_other}
 use Rattle.std.proofs.lemmas.Grind.{get_or-set_at}
 use Rattle.a64_word.specs.declared.operands.Width.{Width}
@@ -12,7 +12,8 @@ use Rattle.a64_word.specs.declared.operands.Transfer.{Transfer}
 use Rattle.a64_effects.specs.Effects.{is_store}
 use Rattle.a64_semantics.specs.declared.registers.Registers.{Registers}
 use Rattle.a64_semantics.specs.Registers.{x_at, put_all, to_general}
-use Rattle.lfi_mends.specs.Outcomes.{Agree}
+use Rattle.lfi_mends.specs.Outcomes.{Agree, moves_itself}
+use Rattle.lfi_mends.specs.Registers.{may_move}
 use Rattle.lfi_mends.proofs.Same.{at_address}
 
 pub put_same : (b : Bool) (rt n value : ℕ) (width : Width) (one two : Registers) → length one.x ≡ length two.x → n < length one.x → x_at one n ≡ x_at two n
@@ -44,3 +45,7 @@ agree_after size transfer rt one two memory a first second same h = record {
   flags = h.flags;
   memory = λ place. rw same refl;
 }
+
+-- The register that such an access moves isn't x22.
+pub no_offset : (transfer : Transfer) (rt : ℕ) → moves_itself transfer rt ≡ true → eqb rt 22 ≡ false
+no_offset transfer rt h = not-true (eqb rt 22) (and_parts (may_move transfer rt) (not (eqb rt 22)) h).1

@@ -29,19 +29,19 @@ use Rattle.lfi_mends.proofs.Addresses.{same_address}
 use Rattle.lfi_mends.proofs.Summed.{reached}
 
 -- registers of which one holds a value, and that are else others
-record Changed (r1 r : Registers) (rn c : ℕ) : Type 0 where
-  general : (n : ℕ) → n ≢ rn → x_at r1 n ≡ x_at r n
-  value : x_at r1 rn ≡ c
-  stack : r1.sp ≡ r.sp
-  flags : r1.nzcv ≡ r.nzcv
-  count : length r1.x ≡ 31
+pub record Changed (r1 r : Registers) (rn c : ℕ) : Type 0 where
+  pub general : (n : ℕ) → n ≢ rn → x_at r1 n ≡ x_at r n
+  pub value : x_at r1 rn ≡ c
+  pub stack : r1.sp ≡ r.sp
+  pub flags : r1.nzcv ≡ r.nzcv
+  pub count : length r1.x ≡ 31
 
 reached_by : (below : Bool) (bytes b : ℕ) → bytes < 4096 → b < 18446744073709551616
     → (b + (if below then 18446744073709551615 - bytes else bytes) + (if below then 1 else 0)) % 18446744073709551616 % 18446744073709551616 ≡ reached below bytes b
 reached_by true bytes b fits small = omega (arith, fits, small)
 reached_by false bytes b fits small = omega (arith, fits, small)
 
-changed : (below : Bool) (bytes rn : ℕ) (s : State) → length s.registers.x ≡ 31 → rn < 31 → eqb rn 31 ≡ false → bytes < 4096 → x_at s.registers rn < 18446744073709551616
+pub changed : (below : Bool) (bytes rn : ℕ) (s : State) → length s.registers.x ≡ 31 → rn < 31 → eqb rn 31 ≡ false → bytes < 4096 → x_at s.registers rn < 18446744073709551616
     → Changed (after (changed_of below bytes rn) s).registers s.registers rn (reached below bytes (x_at s.registers rn))
 changed true bytes rn s count inside other fits small = rw other (record {
   general = λ n apart. get_or-set_other s.registers.x rn n _ 0 apart;
@@ -88,7 +88,7 @@ moved_count false width rt value r = elim (cases_Bool (eqb rt 31)) [
   | inr other ↦ rw (other, other) (length-set r.x rt _)
 ]
 
-small_base : (c : ℕ) → c < 18446744073709551616 → c % 18446744073709551616 ≡ c
+pub small_base : (c : ℕ) → c < 18446744073709551616 → c % 18446744073709551616 ≡ c
 small_base c small = omega (arith, small)
 
 based_apart : (store : Bool) (width : Width) (rt value rn c n : ℕ) (r : Registers) → eqb rn 31 ≡ false → n ≢ rn
@@ -155,11 +155,11 @@ base_last size transfer rt rn c a s r2 h other inside count small =
     }
 
 -- ---- the mends
-displaced_by : (below : Bool) (bytes b : ℕ) → (below ≡ true → 1 ≤ bytes) → reached below bytes b ≡ displaced b (offset_of below bytes)
+pub displaced_by : (below : Bool) (bytes b : ℕ) → (below ≡ true → 1 ≤ bytes) → reached below bytes b ≡ displaced b (offset_of below bytes)
 displaced_by true bytes b some = ap (λ d. (b + d) % 18446744073709551616) (omega (arith, some refl))
 displaced_by false bytes b some = refl
 
-reached_small : (below : Bool) (bytes b : ℕ) → reached below bytes b < 18446744073709551616
+pub reached_small : (below : Bool) (bytes b : ℕ) → reached below bytes b < 18446744073709551616
 reached_small true bytes b = omega arith
 reached_small false bytes b = omega arith
 

@@ -1,6 +1,6 @@
 -- Instructions that stand after a need.
 use Rattle.std.proofs.Common.{◌≡◌, ◌≢◌, ℕ, ◌<◌, ◌≤◌, eqb, List, [], ◌∷◌, ◌++◌, Bool, true, false, refl, ap, ◌∙◌, subst, sym, arith, lit≤, true≢false, inl, inr, None}
-use Rattle.std.specs.Prelude.{if◌then◌else◌, ◌⊎◌, ◌||◌, ◌&&◌, not, pos}
+use Rattle.std.specs.Prelude.{if◌then◌else◌, ◌⊎◌, ◌||◌, ◌&&◌, not}
 use Rattle.std.proofs.lemmas.Bool.{and_left, and_right, or_left, or_right, or_cases, and_parts, or_parts, not-true, eqb-true}
 use Rattle.lfi_module.specs.declared.profile.Profile.{Profile}
 use Rattle.lfi_module.specs.declared.profile.Profile.TheVariants.{Two}
@@ -25,7 +25,6 @@ use Rattle.lfi_rules.proofs.Broken.{in_same}
 use Rattle.a64_word.specs.Encoding.{IsAccess}
 use Rattle.a64_word.specs.declared.operands.Size.TheVariants as sizes
 use Rattle.a64_word.specs.declared.operands.Transfer.TheVariants as transfers
-use Rattle.a64_word.specs.declared.operands.PairMode.TheVariants as pair_modes
 use Rattle.a64_word.specs.declared.operands.Width.{Width}
 use Rattle.a64_word.specs.Operands.{bit, sf, size_code, transfer_code, branch_code}
 use Rattle.a64_word.specs.declared.operands.BranchKind.{BranchKind}
@@ -38,7 +37,7 @@ use Rattle.lfi_rules.specs.Needs.{loads_link, loads_entry, moves_stack, is_load_
 use Rattle.lfi_rules.specs.inner.Quiet.{IsUnreserved}
 use Rattle.lfi_rules.proofs.Avoiding.{Spares, spares_none, spares_one, spares_more, spares_free, spares_offset, link_kept, stack_kept, Avoids, avoids_none, avoids_link, avoids_more, no_stack}
 use Rattle.lfi_mends.specs.Mends.{Stands, Leads, KeepsRules}
-use Rattle.lfi_mends.specs.inner.Rows.{sum_of_immediate, sum_of_index, access_of, changed_of}
+use Rattle.lfi_mends.specs.inner.Rows.{sum_of_immediate, sum_of_index, access_of, changed_of, guard_of, pair_of, ordered_of}
 use Rattle.lfi_mends.specs.inner.Computing.{may_compute, is_computing}
 use Rattle.lfi_mends.specs.Registers.{is_reserved, is_free, may_hold, may_move, may_move_two, holds_link}
 
@@ -171,18 +170,6 @@ writes_moved size t rt h = elim (or_cases (is_store t) (not (is_reserved rt)) h)
     by_test false s = s
 
 -- ---- guards
-abbrev pub guard_of : (rd rm : ℕ) → Instruction
-guard_of rd rm = instructions.AddSubExtended (record {
-  width = widths.X;
-  subtract = false;
-  set_flags = false;
-  extend = extends.Uxtw;
-  amount = 0;
-  rm = rm;
-  rn = 21;
-  rd = rd;
-})
-
 -- a test among others that holds
 second_of_four : (a c d : Bool) → (a || true || c || d) ≡ true
 second_of_four true c d = refl
@@ -351,17 +338,6 @@ access_stands p size transfer rm rt legal index below free =
     )
 
 -- ---- two registers at x18
-abbrev pub pair_of : Width → (load : Bool) → (rt2 rt : ℕ) → Instruction
-pair_of width load rt2 rt = instructions.Pair (record {
-  width = width;
-  load = load;
-  mode = pair_modes.Offset;
-  imm7 = pos 0;
-  rt2 = rt2;
-  rn = 18;
-  rt = rt;
-})
-
 -- what a pair writes: nothing, or two registers that aren't reserved
 record WritesTwo (width : Width) (load : Bool) (rt2 rt : ℕ) : Type 0 where
   spares : Spares (if load then general rt width (general rt2 width []) else [])
@@ -463,6 +439,8 @@ computing_stands p (instructions.AddSubExtended x) h legal fits =
     let tests = and_parts _ _ h in
     by_spares p (instructions.AddSubExtended x) _ refl legal fits refl (computes_either x.set_flags x.rd x.width tests.0 (not-true _ tests.1)) refl refl
     (opens_nothing p (instructions.AddSubExtended x) refl refl refl)
+computing_stands p (instructions.ConditionalCompare x) h legal fits =
+    by_spares p (instructions.ConditionalCompare x) _ refl legal fits refl spares_none refl refl (opens_nothing p (instructions.ConditionalCompare x) refl refl refl)
 computing_stands p (instructions.ConditionalSelect x) h legal fits =
     by_spares p (instructions.ConditionalSelect x) _ refl legal fits refl (computes x.rd x.width h) refl refl (opens_nothing p (instructions.ConditionalSelect x) refl refl refl)
 computing_stands p (instructions.TwoSource x) h legal fits =
@@ -533,9 +511,6 @@ link_pair_stands p rt2 rt below2 below holds apart =
     )
 
 -- ---- LDAR and STLR at x18
-abbrev pub ordered_of : Size → (load : Bool) → (rt : ℕ) → Instruction
-ordered_of size load rt = instructions.Ordered (record { size = size; load = load; rn = 18; rt = rt })
-
 pub ordered_stands : (size : Size) (load : Bool) (rt : ℕ) → rt < 32 → may_move (ordered_transfer load) rt ≡ true
     → Stands Two Nothing (ordered_of size load rt) × (opens_of Two (ordered_of size load rt) ≡ Nothing)
 ordered_stands size load rt below free =

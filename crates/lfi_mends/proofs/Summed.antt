@@ -19,8 +19,6 @@ use Rattle.a64_semantics.specs.Accesses.{displaced, extended_index}
 use Rattle.a64_word.specs.declared.operands.IndexExtend.{IndexExtend}
 use Rattle.a64_word.specs.declared.operands.IndexExtend.TheVariants as indexes
 use Rattle.a64_word.specs.declared.operands.Size.TheVariants as sizes
-use Rattle.lfi_mends.specs.Registers.{is_reserved}
-use Rattle.lfi_mends.proofs.Standing.{unreserved}
 use Rattle.lfi_mends.specs.Outcomes.{State, Agree, IsWhole, InSlot, DoesTheSame, after, after_all}
 use Rattle.lfi_mends.specs.inner.Rows.{sum_of_immediate, access_of, is_bare, index_of, sums, accessed, offset_of, sum_of_index, amount_of, indexed}
 use Rattle.lfi_mends.proofs.Same.{at_address, some_bytes, agree_at}
@@ -127,18 +125,18 @@ abbrev pub reached : (below : Bool) → (bytes b : ℕ) → ℕ
 reached true bytes b = (b + (18446744073709551616 - bytes)) % 18446744073709551616
 reached false bytes b = (b + bytes) % 18446744073709551616
 
-moved_in_slot : (below : Bool) (base b bytes slot : ℕ) → bytes < 32768 → base ≡ slot * 4294967296 → (slot + 1) * 4294967296 ≤ 18446744073709551616
+pub moved_in_slot : (below : Bool) (base b bytes slot : ℕ) → bytes < 32768 → base ≡ slot * 4294967296 → (slot + 1) * 4294967296 ≤ 18446744073709551616
     → slot * 4294967296 ≤ reached below bytes b → reached below bytes b < (slot + 1) * 4294967296
     → (base + moved below bytes b % 4294967296 * 1) % 18446744073709551616 ≡ reached below bytes b
 moved_in_slot true base b bytes slot fits e room first last = omega (arith, fits, e, room, first, last)
 moved_in_slot false base b bytes slot fits e room first last = omega (arith, fits, e, room, first, last)
 
-after_more : (is js : List Instruction) (s : State) → after_all (is ++ js) s ≡ after_all js (after_all is s)
+pub after_more : (is js : List Instruction) (s : State) → after_all (is ++ js) s ≡ after_all js (after_all is s)
 after_more [] js s = refl
 after_more (i ∷ is) js s = after_more is js (after i s)
 
 -- by no distance
-reached_none : (below : Bool) (bytes b : ℕ) → bytes ≡ 0 → b < 18446744073709551616 → reached below bytes b ≡ b
+pub reached_none : (below : Bool) (bytes b : ℕ) → bytes ≡ 0 → b < 18446744073709551616 → reached below bytes b ≡ b
 reached_none true bytes b none fits = omega (arith, none, fits)
 reached_none false bytes b none fits = omega (arith, none, fits)
 
@@ -184,7 +182,7 @@ same_access size transfer rt rn below bytes s fits other whole lies = elim (case
 
 -- What mends of plain accesses do, at an unsigned offset and at a signed one.
 pub unsigned_same : (size : Size) (transfer : Transfer) (imm12 rn rt bytes : ℕ) (is : List Instruction) → bytes ≡ imm12 * 2 ^ size_code size → bytes < 32768
-    → is_reserved rt ≡ false → is ≡ accessed size transfer rt rn false bytes
+    → eqb rt 22 ≡ false → is ≡ accessed size transfer rt rn false bytes
     → DoesTheSame is (instructions.UnsignedOffset (record { size = size; transfer = transfer; imm12 = imm12; rn = rn; rt = rt }))
 unsigned_same size transfer imm12 rn rt bytes is far fits free e s whole lies =
     let there : reached false bytes (x_or_sp_at s.registers rn) ≡ (x_or_sp_at s.registers rn + imm12 * 2 ^ size_code size) % 18446744073709551616 =
@@ -193,10 +191,10 @@ unsigned_same size transfer imm12 rn rt bytes is far fits free e s whole lies =
     subst (λ a. InSlot s.registers (record { address = a; bytes = 2 ^ size_code size; stores = is_store transfer })) (sym there) lies in
     subst (λ l. Agree (after_all l s) (after (instructions.UnsignedOffset (record { size = size; transfer = transfer; imm12 = imm12; rn = rn; rt = rt })) s)) (sym e)
     (subst (λ a. Agree (after_all (accessed size transfer rt rn false bytes) s) (at_address size transfer rt s a)) there
-    (same_access size transfer rt rn false bytes s fits (unreserved rt free).offset whole lie))
+    (same_access size transfer rt rn false bytes s fits free whole lie))
 
 pub signed_same : (size : Size) (transfer : Transfer) (imm9 : ℤ) (rn rt : ℕ) (below : Bool) (bytes : ℕ) (is : List Instruction) → offset_of below bytes ≡ imm9 → bytes < 32768
-    → (below ≡ true → 1 ≤ bytes) → is_reserved rt ≡ false → is ≡ accessed size transfer rt rn below bytes
+    → (below ≡ true → 1 ≤ bytes) → eqb rt 22 ≡ false → is ≡ accessed size transfer rt rn below bytes
     → DoesTheSame is (instructions.SignedOffset (record { size = size; transfer = transfer; mode = modes.Unscaled; imm9 = imm9; rn = rn; rt = rt }))
 signed_same size transfer imm9 rn rt below bytes is far fits some free e s whole lies =
     let b = x_or_sp_at s.registers rn in
@@ -205,7 +203,7 @@ signed_same size transfer imm9 rn rt below bytes is far fits some free e s whole
     subst (λ a. InSlot s.registers (record { address = a; bytes = 2 ^ size_code size; stores = is_store transfer })) (sym there) lies in
     subst (λ l. Agree (after_all l s) (after (instructions.SignedOffset (record { size = size; transfer = transfer; mode = modes.Unscaled; imm9 = imm9; rn = rn; rt = rt })) s)) (sym e)
     (subst (λ a. Agree (after_all (accessed size transfer rt rn below bytes) s) (at_address size transfer rt s a)) there
-    (same_access size transfer rt rn below bytes s fits (unreserved rt free).offset whole lie))
+    (same_access size transfer rt rn below bytes s fits free whole lie))
   where
     displaced_by : (below : Bool) (bytes b : ℕ) → (below ≡ true → 1 ≤ bytes) → reached below bytes b ≡ displaced b (offset_of below bytes)
     displaced_by true bytes b some = ap (λ d. (b + d) % 18446744073709551616) (omega (arith, some refl))
@@ -247,7 +245,7 @@ index_in_slot sizes.Half true base b e x slot low at room first last = omega (ar
 index_in_slot sizes.Word true base b e x slot low at room first last = omega (arith, low, at, room, first, last)
 index_in_slot sizes.Double true base b e x slot low at room first last = omega (arith, low, at, room, first, last)
 
-pub index_same : (size : Size) (transfer : Transfer) (rm : ℕ) (extend : IndexExtend) (scaled : Bool) (rn rt : ℕ) (is : List Instruction) → is_reserved rt ≡ false
+pub index_same : (size : Size) (transfer : Transfer) (rm : ℕ) (extend : IndexExtend) (scaled : Bool) (rn rt : ℕ) (is : List Instruction) → eqb rt 22 ≡ false
     → is ≡ indexed 22 size transfer rt rn rm (amount_of size scaled)
     → DoesTheSame is (instructions.RegisterOffset (record { size = size; transfer = transfer; rm = rm; extend = extend; scaled = scaled; rn = rn; rt = rt }))
 index_same size transfer rm extend scaled rn rt is free e s whole lies =
@@ -256,5 +254,5 @@ index_same size transfer rm extend scaled rn rt is free e s whole lies =
     let some = some_bytes size in
     let refused = instructions.RegisterOffset (record { size = size; transfer = transfer; rm = rm; extend = extend; scaled = scaled; rn = rn; rt = rt }) in
     subst (λ l. Agree (after_all l s) (after refused s)) (sym e)
-    (by_sum size transfer rt _ _ s _ (summed_index (amount_of size scaled) rm rn s whole.count) (unreserved rt free).offset whole.count
+    (by_sum size transfer rt _ _ s _ (summed_index (amount_of size scaled) rm rn s whole.count) free whole.count
     (index_in_slot size scaled _ b (extended_index extend x) x lies.slot (index_low extend x) lies.base lies.room lies.first (omega (arith, lies.last, some))))

@@ -3,6 +3,7 @@ use Rattle.std.specs.Prelude.{◌≡◌, ℕ, ◌==◌, ◌||◌, ◌&&◌, not,
 use Rattle.lfi_module.specs.declared.profile.Profile.{Profile}
 use Rattle.a64_word.specs.declared.instruction.Instruction.{Instruction}
 use Rattle.a64_word.specs.declared.instruction.Instruction.TheVariants as instructions
+use Rattle.a64_word.specs.declared.data_register.AddSubShifted.{AddSubShifted}
 use Rattle.a64_word.specs.declared.data_register.CountLeadingZeros.{CountLeadingZeros}
 use Rattle.a64_word.specs.declared.load_store.Pair.{Pair}
 use Rattle.a64_word.specs.declared.load_store.Ordered.{Ordered}
@@ -153,7 +154,11 @@ is_bit_reversal = elim [ outsides.ReverseBits ↦ true | outside ↦ false ]
 
 -- Of RBIT, REV and their kin: RBIT takes too many instructions, but where zeros are counted after it.
 abbrev pub of_turned : Outside → CountLeadingZeros → (next : Option Instruction) → Option Reason
-of_turned outside i next = if is_bit_reversal outside && not (counts next i) then Some reasons.Outside else of_operands i.rd i.rn i.rn i.rn
+of_turned outside i next = if is_bit_reversal outside && not (counts next i) then Some reasons.Bits else of_operands i.rd i.rn i.rn i.rn
+
+-- Of ADC, SBC and those that set flags: their mends compute in the register of the result too.
+abbrev pub of_carry : AddSubShifted → Option Reason
+of_carry i = of_operands i.rd i.rn i.rm (if i.set_flags then i.rd else i.rm)
 
 -- of LDPSW: x21 isn't changed, and no reserved register is loaded
 abbrev pub of_signed_pair : Pair → Option Reason
@@ -170,7 +175,7 @@ of_outside outsides.ReverseInWords (instructions.CountLeadingZeros i) next = of_
 of_outside outsides.ReverseAll (instructions.CountLeadingZeros i) next = of_turned outsides.ReverseAll i next
 of_outside outsides.SignedProduct (instructions.MultiplyAdd i) next = of_operands i.rd i.rn i.rm i.ra
 of_outside outsides.UnsignedProduct (instructions.MultiplyAdd i) next = of_operands i.rd i.rn i.rm i.ra
-of_outside outsides.Carry (instructions.AddSubShifted i) next = of_operands i.rd i.rn i.rm i.rm
+of_outside outsides.Carry (instructions.AddSubShifted i) next = of_carry i
 of_outside outsides.SignedPair (instructions.Pair i) next = of_signed_pair i
 of_outside outsides.Unprivileged i next = of_access i
 of_outside outsides.NonTemporal i next = of_access i

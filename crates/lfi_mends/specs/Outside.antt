@@ -15,7 +15,7 @@ is_prefetch word = matches 0xFFC00000 0xF9800000 word || matches 0xFFE00C00 0xF8
 -- the table, from its ninth row on
 abbrev pub other_outside_of : ℕ → Option Outside
 other_outside_of word =
-    if matches 0x3FE0FC00 0x1A000000 word then Some outsides.Carry
+    if matches 0x1FE0FC00 0x1A000000 word then Some outsides.Carry
     else (if matches 0xFE400000 0x68400000 word then Some outsides.SignedPair
     else (if matches 0x3F200C00 0x38000800 word then Some outsides.Unprivileged
     else (if matches 0x7F800000 0x28000000 word then Some outsides.NonTemporal

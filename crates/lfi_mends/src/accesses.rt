@@ -7,7 +7,7 @@ ghost use Rattle.a64_word.specs.Encoding.{IsAccess, IsLegal, fields};
 ghost use Rattle.a64_word.specs.Fields.{AllFit};
 ghost use Rattle.a64_word.specs.declared.instruction.Instruction.{Instruction};
 ghost use Rattle.lfi_mends.specs.Mends.{KeepsRules, mended};
-ghost use Rattle.lfi_mends.specs.Outcomes.{DoesTheSame, moves_plainly};
+ghost use Rattle.lfi_mends.specs.Outcomes.{DoesTheSame, moves_itself, moves_plainly};
 ghost use Rattle.lfi_mends.specs.Obstacles.{refusal, of_access, of_single, is_double};
 ghost use Rattle.lfi_mends.specs.Registers as spec;
 ghost use Rattle.lfi_mends.specs.inner.Rows as rows;
@@ -70,7 +70,7 @@ pub(crate) fn scratch_beside(register: Register) -> Register
 /// The register that holds the sum for an access: w22, or w16 where x22 is stored.
 fn sum_register(transfer: Transfer, moved: Register) -> Register
     ensures holds { IsTrue (spec.may_hold result) }
-    ensures offset { spec.is_reserved moved ≡ false → result ≡ 22 }
+    ensures offset { IsTrue (moves_itself transfer moved) → result ≡ 22 }
 {
     if moved.number() == OFFSET && transfer == Transfer::Store {
         Register::new(FIRST_SCRATCH)
@@ -134,7 +134,7 @@ pub(crate) fn put(mend: Mend, into: Register, from: Register) -> Mend
 
 /// Whether an access loads 64 bits into x30.
 fn loads_link(size: Size, transfer: Transfer, moved: Register) -> bool
-    ensures { IsTrue result → IsTrue (spec.is_reserved moved) }
+    ensures { IsTrue result → spec.may_move transfer moved ≡ false }
 {
     size == Size::Double && transfer == Transfer::Load && moved.number() == LINK
 }
@@ -147,7 +147,7 @@ fn with_access(mend: Mend, single: Single, index: Register, scratch: Register) -
     requires free { IsTrue (spec.is_free scratch) }
     requires base { of_single single.transfer single.moved ≡ None }
     ensures keeps { (profile : Profile) → KeepsRules profile (mended result) }
-    ensures items { spec.is_reserved single.moved ≡ false → mended result ≡ mended mend ++ rows.access_of single.size single.transfer index single.moved ∷ [] }
+    ensures items { IsTrue (moves_itself single.transfer single.moved) → mended result ≡ mended mend ++ rows.access_of single.size single.transfer index single.moved ∷ [] }
     ensures count { result.count ≤ mend.count + 2 }
 {
     if loads_link(single.size, single.transfer, single.moved) {
@@ -194,7 +194,7 @@ fn plain(mend: Mend, single: Single, base: Register, distance: Distance) -> Mend
     requires legal { IsAccess single.size single.transfer }
     requires base { of_single single.transfer single.moved ≡ None }
     ensures keeps { (profile : Profile) → KeepsRules profile (mended result) }
-    ensures items { spec.is_reserved single.moved ≡ false → mended result ≡ mended mend ++ rows.accessed single.size single.transfer single.moved base distance.below distance.bytes }
+    ensures items { IsTrue (moves_itself single.transfer single.moved) → mended result ≡ mended mend ++ rows.accessed single.size single.transfer single.moved base distance.below distance.bytes }
     ensures count { result.count ≤ mend.count + 4 }
 {
     let sum = sum_register(single.transfer, single.moved);
@@ -245,7 +245,7 @@ fn unsigned(i: &UnsignedOffset) -> Result<Mend, Reason>
     requires fits { AllFit (fields (Instruction.UnsignedOffset i.now)) }
     ensures keeps { IfOk result (λ mend. (profile : Profile) → KeepsRules profile (mended mend)) }
     ensures count { IfOk result (λ mend. mend.count ≤ 7) }
-    ensures does { IfOk result (λ mend. spec.is_reserved i.now.rt ≡ false → DoesTheSame (mended mend) (Instruction.UnsignedOffset i.now)) }
+    ensures does { IfOk result (λ mend. IsTrue (moves_itself i.now.transfer i.now.rt) → DoesTheSame (mended mend) (Instruction.UnsignedOffset i.now)) }
     ensures told { refusal result ≡ of_access (Instruction.UnsignedOffset i.now) }
 {
     if loads_base(i.transfer, i.rt) {
@@ -290,7 +290,7 @@ fn changing(single: Single, base: Register, distance: Distance, before: bool) ->
     requires free { of_single single.transfer single.moved ≡ None }
     requires base { (base == 21) ≡ false }
     ensures keeps { (profile : Profile) → KeepsRules profile (mended result) }
-    ensures items { spec.is_reserved single.moved ≡ false → IsTrue (spec.is_free base) → mended result ≡ rows.changing before single.size single.transfer single.moved base distance.below distance.bytes }
+    ensures items { IsTrue (moves_itself single.transfer single.moved) → IsTrue (spec.is_free base) → mended result ≡ rows.changing before single.size single.transfer single.moved base distance.below distance.bytes }
     ensures count { result.count ≤ 7 }
 {
     let sum = sum_register(single.transfer, single.moved);
@@ -334,7 +334,7 @@ fn indexed(i: &RegisterOffset) -> Result<Mend, Reason>
     requires legal { IsLegal (Instruction.RegisterOffset i.now) }
     ensures keeps { IfOk result (λ mend. (profile : Profile) → KeepsRules profile (mended mend)) }
     ensures count { IfOk result (λ mend. mend.count ≤ 7) }
-    ensures does { IfOk result (λ mend. spec.is_reserved i.now.rt ≡ false → DoesTheSame (mended mend) (Instruction.RegisterOffset i.now)) }
+    ensures does { IfOk result (λ mend. IsTrue (moves_itself i.now.transfer i.now.rt) → DoesTheSame (mended mend) (Instruction.RegisterOffset i.now)) }
     ensures told { refusal result ≡ of_access (Instruction.RegisterOffset i.now) }
 {
     if loads_base(i.transfer, i.rt) {
@@ -360,6 +360,7 @@ fn loads_reserved(size: Size, load: bool, moved: Register) -> bool
 /// What stands in the place of LDAR or STLR, of the second profile.
 fn in_order(i: &Ordered) -> Result<Mend, Reason>
     ensures keeps { IfOk result (λ mend. KeepsRules Two (mended mend)) }
+    ensures items { IfOk result (λ mend. spec.is_reserved i.now.rt ≡ false → mended mend ≡ rows.in_order i.now.size i.now.load i.now.rt i.now.rn) }
     ensures count { IfOk result (λ mend. mend.count ≤ 7) }
     ensures told { refusal result ≡ of_access (Instruction.Ordered i.now) }
 {
@@ -386,6 +387,16 @@ fn in_order(i: &Ordered) -> Result<Mend, Reason>
     Ok(mend.and_ordered(ordered(i.size, true, i.rt)))
 }
 
+/// The same, by what it does.
+fn ordered_access(i: &Ordered) -> Result<Mend, Reason>
+    ensures keeps { IfOk result (λ mend. KeepsRules Two (mended mend)) }
+    ensures does { IfOk result (λ mend. IsTrue (moves_plainly (Instruction.Ordered i.now)) → DoesTheSame (mended mend) (Instruction.Ordered i.now)) }
+    ensures count { IfOk result (λ mend. mend.count ≤ 7) }
+    ensures told { refusal result ≡ of_access (Instruction.Ordered i.now) }
+{
+    in_order(i)
+}
+
 /// What stands in the place of an access that isn't confined.
 pub(crate) fn confined(profile: Profile, instruction: &Instruction) -> Result<Mend, Reason>
     requires has { IsTrue (is_of profile instruction.now) }
@@ -401,7 +412,7 @@ pub(crate) fn confined(profile: Profile, instruction: &Instruction) -> Result<Me
         Instruction::SignedOffset(i) => signed(i),
         Instruction::RegisterOffset(i) => indexed(i),
         Instruction::Pair(i) => paired(i),
-        Instruction::Ordered(i) => in_order(i),
+        Instruction::Ordered(i) => ordered_access(i),
         _ => Err(Reason::Kept),
     }
 }

@@ -47,6 +47,7 @@ pub(crate) fn may_move(transfer: Transfer, register: Register) -> bool
 pub(crate) fn guard(into: Register, register: Register) -> Instruction
     requires base { (into == 21) ≡ false }
     requires offset { (into == 22) ≡ false }
+    ensures is { result ≡ rows.guard_of into register }
     ensures stands { (profile : Profile) → Stands profile Nothing result }
     ensures opens { (profile : Profile) → opens_of profile result ≡ Nothing }
 {
@@ -64,6 +65,7 @@ pub(crate) fn guard(into: Register, register: Register) -> Instruction
 
 /// ADD X18, X21, Wm, UXTW.
 pub(crate) fn address_guard(register: Register) -> Instruction
+    ensures is { result ≡ rows.guard_of 18 register }
     ensures stands { (profile : Profile) → Stands profile Nothing result }
     ensures opens { (profile : Profile) → opens_of profile result ≡ Nothing }
 {
@@ -174,6 +176,7 @@ pub(crate) fn may_move_two(load: bool, second: Register, first: Register) -> boo
 pub(crate) fn pair(width: Width, load: bool, second: Register, first: Register) -> Instruction
     requires free { IsTrue (spec.may_move_two load second first) }
     requires apart { load ≡ true → first ≢ second }
+    ensures is { result ≡ rows.pair_of width load second first }
     ensures stands { (profile : Profile) → Stands profile Nothing result }
     ensures opens { (profile : Profile) → opens_of profile result ≡ Nothing }
 {
@@ -329,6 +332,7 @@ pub(crate) fn stack_moved(subtract: bool, imm12: u16) -> Instruction
 /// LDAR or STLR at x18.
 pub(crate) fn ordered(size: Size, load: bool, moved: Register) -> Instruction
     requires free { IsTrue (spec.may_move (ordered_transfer load) moved) }
+    ensures is { result ≡ rows.ordered_of size load moved }
     ensures stands { Stands Two Nothing result }
     ensures opens { opens_of Two result ≡ Nothing }
 {

@@ -81,6 +81,7 @@ impl Mend {
         requires stands { Stands Two Nothing instruction }
         requires opens { opens_of Two instruction ≡ Nothing }
         ensures keeps { KeepsRules Two (mended result) }
+        ensures items { mended result ≡ mended self ++ instruction ∷ [] }
         ensures count { result.count ≡ self.count + 1 }
     {
         self.then(instruction)

@@ -10,11 +10,11 @@ ghost use Rattle.lfi_mends.specs.Registers.{is_reserved, is_free};
 
 use crate::builders::computing;
 use a64_word::{
-    AddSubShifted, Bitfield, BitfieldKind, Condition, ConditionalSelect, Instruction, Logical,
-    LogicalImmediate, LogicalShifted, MoveWide, MoveWideKind, MultiplyAdd, Register, Shift,
-    TwoSource, TwoSourceKind, Width,
+    AddSubShifted, Bitfield, BitfieldKind, Condition, ConditionalCompare, ConditionalSelect,
+    Instruction, Logical, LogicalImmediate, LogicalShifted, MoveWide, MoveWideKind, MultiplyAdd,
+    Register, Shift, TwoSource, TwoSourceKind, Width,
 };
-use lfi_rules::registers::STACK;
+use lfi_rules::registers::{OFFSET, STACK};
 
 /// Bytes of a register that a mask keeps.
 #[derive(Clone, Copy, PartialEq, Eq)]
@@ -200,9 +200,11 @@ pub(crate) fn negated(width: Width, into: Register, from: Register) -> Instructi
     summed(width, true, into, Register::new(STACK), from)
 }
 
-/// AND Rd, Rn, Rm.
-pub(crate) fn meeting_bits(
+/// AND, ORR or ANDS Rd, Rn, Rm, or the same with the complement of Rm.
+pub(crate) fn joined(
     width: Width,
+    operation: Logical,
+    invert: bool,
     into: Register,
     one: Register,
     other: Register,
@@ -213,13 +215,98 @@ pub(crate) fn meeting_bits(
 {
     computing(Instruction::LogicalShifted(LogicalShifted {
         width,
-        operation: Logical::And,
-        invert: false,
+        operation,
+        invert,
         shift: Shift::Lsl,
         amount: 0,
         rm: other,
         rn: one,
         rd: into,
+    }))
+}
+
+/// CSINC W22, WZR, WZR, CC: the flag C.
+pub(crate) fn carry_in_offset() -> Instruction
+    ensures stands { (profile : Profile) → Stands profile Nothing result }
+    ensures opens { (profile : Profile) → opens_of profile result ≡ Nothing }
+{
+    computing(Instruction::ConditionalSelect(ConditionalSelect {
+        width: Width::W,
+        invert: false,
+        increment: true,
+        rm: Register::new(STACK),
+        condition: Condition::Cc,
+        rn: Register::new(STACK),
+        rd: Register::new(OFFSET),
+    }))
+}
+
+/// CSINC Rd, Rn, Rn, CC: the register and the flag C.
+pub(crate) fn with_carry(width: Width, into: Register, from: Register) -> Instruction
+    requires free { is_reserved into ≡ false }
+    ensures stands { (profile : Profile) → Stands profile Nothing result }
+    ensures opens { (profile : Profile) → opens_of profile result ≡ Nothing }
+{
+    computing(Instruction::ConditionalSelect(ConditionalSelect {
+        width,
+        invert: false,
+        increment: true,
+        rm: from,
+        condition: Condition::Cc,
+        rn: from,
+        rd: into,
+    }))
+}
+
+/// CSEL Rd, Rn, Rm, EQ.
+pub(crate) fn chosen(width: Width, into: Register, one: Register, other: Register) -> Instruction
+    requires free { is_reserved into ≡ false }
+    ensures stands { (profile : Profile) → Stands profile Nothing result }
+    ensures opens { (profile : Profile) → opens_of profile result ≡ Nothing }
+{
+    computing(Instruction::ConditionalSelect(ConditionalSelect {
+        width,
+        invert: false,
+        increment: false,
+        rm: other,
+        condition: Condition::Eq,
+        rn: one,
+        rd: into,
+    }))
+}
+
+/// ADDS ZR, Rn, Rm, LSL #amount: the flags of a sum.
+pub(crate) fn flags_of_sum(width: Width, one: Register, other: Register, amount: u8) -> Instruction
+    requires fits { amount < 32 }
+    ensures stands { (profile : Profile) → Stands profile Nothing result }
+    ensures opens { (profile : Profile) → opens_of profile result ≡ Nothing }
+{
+    computing(Instruction::AddSubShifted(AddSubShifted {
+        width,
+        subtract: false,
+        set_flags: true,
+        shift: Shift::Lsl,
+        amount,
+        rm: other,
+        rn: one,
+        rd: Register::new(STACK),
+    }))
+}
+
+/// CCMN Rn, Rm, #nzcv, NE: the flags of a sum, or these.
+pub(crate) fn flags_of_sum_or(width: Width, one: Register, other: Register, nzcv: u8) -> Instruction
+    requires fits { nzcv < 16 }
+    ensures stands { (profile : Profile) → Stands profile Nothing result }
+    ensures opens { (profile : Profile) → opens_of profile result ≡ Nothing }
+{
+    computing(Instruction::ConditionalCompare(ConditionalCompare {
+        width,
+        compare: false,
+        immediate: false,
+        rm: other,
+        condition: Condition::Ne,
+        rn: one,
+        nzcv,
     }))
 }
 

@@ -18,8 +18,8 @@
 //! - **No rule is stated here.** `KeepsRules` and `Leads` cite those of lfi_rules, of each instruction wherever it stands.
 //! - **That there is a mend is a clause** (`IsReason`, specs/Obstacles.antt): it says of every word, rule and need whether
 //!   there is one, else for which reason not. So a body that gives up is refused.
-//! - **What a mend does is a clause for plain accesses** (`DoesTheSame`, `moves_plainly`): registers, flags and bytes are
-//!   those of the refused access, wherever it lies in the slot, but for scratch registers. Of other mends tests show it.
+//! - **What a mend does is a clause for plain accesses and pairs** (`DoesTheSame`, `moves_plainly`): registers, flags and bytes
+//!   are those of the refused access, wherever it lies in the slot, but for scratch registers. Of other mends tests show it.
 //! - **A builder takes no word.** It makes an instruction, and says after what that stands and what it opens. A mend is a
 //!   chain of these, so its proof needs no look at the chain.
 //! - **An address goes by x21 and a sum in w22**, and not by a guarded base with an offset: the first is the address that
@@ -30,7 +30,8 @@
 //!   and begins with what meets the need.
 //! - **Operands outside of the profile are read by likeness**: a row of the table has the word's fields where an instruction
 //!   of the profile has them, so its decoding, which is proved, reads them.
-//! - **RBIT is mended for the CLZ after it alone**: all bits in the other order take some 20 instructions.
+//! - **RBIT is mended for the CLZ after it alone**: all bits in the other order take some 20 instructions, and so a reason of
+//!   its own.
 #![tactic(auto)]
 
 mod accesses;

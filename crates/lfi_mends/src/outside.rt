@@ -20,7 +20,7 @@ pub enum Outside {
     SignedProduct,
     /// UMADDL, UMSUBL, and their aliases UMULL and UMNEGL.
     UnsignedProduct,
-    /// ADC and SBC.
+    /// ADC, ADCS, SBC and SBCS.
     Carry,
     /// LDPSW.
     SignedPair,
@@ -59,7 +59,7 @@ pub fn outside_of(word: u32) -> Option<Outside>
 fn other_outside_of(word: u32) -> Option<Outside>
     ensures { result ≡ spec.other_outside_of word }
 {
-    if word & 0x3FE0FC00 == 0x1A000000 {
+    if word & 0x1FE0FC00 == 0x1A000000 {
         Some(Outside::Carry)
     } else if word & 0xFE400000 == 0x68400000 {
         Some(Outside::SignedPair)
@@ -98,7 +98,7 @@ pub(crate) fn likened(outside: Outside, word: u32) -> u32
         | Outside::ReverseAll => word & 0x800003FF | 0x5AC01000,
         // MADD and MSUB: Rm, Ra, Rn and Rd.
         Outside::SignedProduct | Outside::UnsignedProduct => word & 0xFF1FFFFF,
-        // ADD and SUB (shifted register), LSL #0: Rm, Rn and Rd.
+        // ADD, ADDS, SUB and SUBS (shifted register), LSL #0: Rm, Rn and Rd.
         Outside::Carry => word & 0xE01FFFFF | 0x0B000000,
         // LDP of W registers: imm7, Rt2, Rn and Rt.
         Outside::SignedPair => word & 0x3FFFFFFF,

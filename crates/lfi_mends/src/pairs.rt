@@ -1,7 +1,10 @@
 //! What stands in the place of pairs.
 
-ghost use Rattle.std.specs.Prelude.{◌≡◌, ◌≢◌, ◌<◌, ◌≤◌, ◌+◌, IfOk, IfSome, IsTrue, true, false, not, ◌||◌, ◌⊎◌, is_some, ◌==◌};
-ghost use Rattle.a64_effects.specs.Effects.{changes_base, form_of_pair_mode};
+ghost use Rattle.std.specs.Prelude.{◌≡◌, ◌≢◌, ◌<◌, ◌≤◌, ◌+◌, IfOk, IfSome, IsTrue, true, false, not, ◌||◌, ◌⊎◌, is_some, ◌==◌, ◌++◌, ◌∷◌, []};
+ghost use Rattle.a64_effects.specs.Effects.{changes_base, form_of_pair_mode, pair_offset};
+ghost use Rattle.a64_word.specs.declared.operands.PairMode.TheVariants.{Offset, PreIndex, PostIndex};
+ghost use Rattle.lfi_mends.specs.Outcomes.{DoesTheSame, moves_both, moves_plainly};
+ghost use Rattle.lfi_mends.specs.inner.Rows as rows;
 ghost use Rattle.lfi_module.specs.declared.profile.Profile.{Profile};
 ghost use Rattle.a64_word.specs.Encoding.{IsLegal};
 ghost use Rattle.a64_word.specs.Operands.{IsSigned};
@@ -93,7 +96,8 @@ fn with_singles(mend: Mend, two: &Two, index: Register, sum: Register) -> Mend
 
 /// Whether a pair stores x18.
 fn stores_first_address(two: &Two) -> bool
-    ensures { two.now.load ≡ true → result ≡ false }
+    ensures load { two.now.load ≡ true → result ≡ false }
+    ensures free { IsTrue (moves_both two.now.second two.now.first) → result ≡ false }
 {
     !two.load && (two.first.number() == FIRST_ADDRESS || two.second.number() == FIRST_ADDRESS)
 }
@@ -106,6 +110,7 @@ fn with_pair(mend: Mend, two: &Two, index: Register, sum: Register) -> Mend
     requires apart { two.now.load ≡ true → two.now.first ≢ two.now.second }
     requires holds { IsTrue (spec.may_hold sum) }
     ensures keeps { (profile : Profile) → KeepsRules profile (mended result) }
+    ensures items { IsTrue (moves_both two.now.second two.now.first) → mended result ≡ mended mend ++ rows.guard_of 18 index ∷ rows.pair_of two.now.width two.now.load two.now.second two.now.first ∷ [] }
     ensures count { result.count ≤ mend.count + 3 }
 {
     if stores_first_address(two) {
@@ -127,6 +132,7 @@ fn plain(mend: Mend, two: &Two, base: Register, distance: Distance, sum: Registe
     requires apart { two.now.load ≡ true → two.now.first ≢ two.now.second }
     requires holds { IsTrue (spec.may_hold sum) }
     ensures keeps { (profile : Profile) → KeepsRules profile (mended result) }
+    ensures items { IsTrue (moves_both two.now.second two.now.first) → mended result ≡ mended mend ++ rows.paired sum two.now.width two.now.load two.now.second two.now.first base distance.below distance.bytes }
     ensures count { result.count ≤ mend.count + 5 }
 {
     let index = index_of(base, distance.bytes, sum);
@@ -141,6 +147,9 @@ fn placed(two: &Two, base: Register, distance: Distance, mode: PairMode, sum: Re
     requires holds { IsTrue (spec.may_hold sum) }
     requires base { IsTrue (not (changes_base (form_of_pair_mode mode)) || not (base == 21)) }
     ensures keeps { (profile : Profile) → KeepsRules profile (mended result) }
+    ensures before { mode ≡ PreIndex → IsTrue (spec.is_free base) → IsTrue (moves_both two.now.second two.now.first) → mended result ≡ rows.changing_pair true two.now.width two.now.load two.now.second two.now.first base distance.below distance.bytes }
+    ensures after { mode ≡ PostIndex → IsTrue (spec.is_free base) → IsTrue (moves_both two.now.second two.now.first) → mended result ≡ rows.changing_pair false two.now.width two.now.load two.now.second two.now.first base distance.below distance.bytes }
+    ensures items { mode ≡ Offset → IsTrue (moves_both two.now.second two.now.first) → mended result ≡ rows.paired sum two.now.width two.now.load two.now.second two.now.first base distance.below distance.bytes }
     ensures count { result.count ≤ 7 }
 {
     match mode {
@@ -160,6 +169,7 @@ fn placed(two: &Two, base: Register, distance: Distance, mode: PairMode, sum: Re
 fn sum_register(i: &Pair) -> Option<Register>
     ensures some { is_some result ≡ (i.now.load || is_some (spec.spare i.now.rt i.now.rt2 i.now.rn)) }
     ensures holds { IfSome result (λ register. IsTrue (spec.may_hold register)) }
+    ensures offset { IsTrue (moves_both i.now.rt2 i.now.rt) → (i.now.rn == 22) ≡ false → IfSome result (λ register. register ≡ 22) }
 {
     if i.load {
         return Some(Register::new(OFFSET));
@@ -177,7 +187,9 @@ fn may_load(i: &Pair) -> bool
 /// The distance of a pair from its base.
 pub(crate) fn distance(i: &Pair) -> Distance
     requires { IsSigned 7 i.now.imm7 }
-    ensures { result.bytes < 4096 }
+    ensures near { result.bytes < 4096 }
+    ensures is { rows.offset_of result.below result.bytes ≡ pair_offset i.now.width i.now.imm7 }
+    ensures some { result.below ≡ true → 1 ≤ result.bytes }
 {
     match i.width {
         Width::W => distance_of(i.imm7 * 4),
@@ -190,6 +202,7 @@ pub(crate) fn paired(i: &Pair) -> Result<Mend, Reason>
     requires legal { IsLegal (Instruction.Pair i.now) }
     ensures keeps { IfOk result (λ mend. (profile : Profile) → KeepsRules profile (mended mend)) }
     ensures count { IfOk result (λ mend. mend.count ≤ 7) }
+    ensures does { IfOk result (λ mend. IsTrue (moves_plainly (Instruction.Pair i.now)) → DoesTheSame (mended mend) (Instruction.Pair i.now)) }
     ensures told { refusal result ≡ of_access (Instruction.Pair i.now) }
 {
     if i.mode != PairMode::Offset && i.rn.number() == BASE {

@@ -12,7 +12,7 @@ pub enum Reason {
     Base,
     /// A result goes to a register that the profile reserves, where a mend would have to write it in two steps.
     Reserved,
-    /// A mend needs a register of its own that the word reads: x16 or x17.
+    /// A mend needs a register of its own that the word names: x16 or x17.
     Scratch,
     /// What the word computes depends on its place: ADR and ADRP.
     Place,
@@ -22,6 +22,8 @@ pub enum Reason {
     Call,
     /// The word keeps the rule, or there is no need to be met.
     Kept,
+    /// All bits in the other order take more instructions than a mend has.
+    Bits,
     /// No instructions of the profile are known that do the same.
     Outside,
 }
@@ -34,11 +36,13 @@ impl fmt::Display for Reason {
         f.write_str(match self {
             Reason::Base => "no instruction may write x21",
             Reason::Reserved => "a result goes to a register that the profile reserves",
-            Reason::Scratch => "it reads x16 or x17, which a mend would write",
+            Reason::Scratch => "it names x16 or x17, which a mend would write",
             Reason::Place => "what it computes depends on where it stands",
             Reason::Target => "where it should go isn't known",
             Reason::Call => "only blr x30 may stand right after the load of a table entry",
             Reason::Kept => "it keeps this rule",
+            Reason::Bits =>
+                "bits in the other order take more than eight instructions, but where CLZ in the next word counts them in the same register",
             Reason::Outside => "no instructions of the profile are known that do the same",
         })
     }

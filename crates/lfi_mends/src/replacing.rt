@@ -16,16 +16,16 @@ ghost use Rattle.lfi_mends.specs.Obstacles.{refusal, IsReasonOfOutside};
 use crate::accesses::{FIRST_SCRATCH, SECOND_SCRATCH, confined, with_change};
 use crate::builders::{access, is_reserved, sum_with_immediate};
 use crate::formulas::{
-    Mask, carry, divided, extended, masked, meeting_bits, multiplied, negated, rotated, shifted,
-    summed, top_bit,
+    Mask, carry, carry_in_offset, chosen, divided, extended, flags_of_sum, flags_of_sum_or, joined,
+    masked, multiplied, negated, rotated, shifted, summed, top_bit, with_carry,
 };
 use crate::mend::Mend;
 use crate::outside::{Outside, likened, outside_of};
 use crate::pairs::distance;
 use crate::reason::Reason;
 use a64_word::{
-    AddSubShifted, Condition, CountLeadingZeros, Instruction, LogicalShifted, MultiplyAdd, Pair,
-    PairMode, Register, Shift, Size, Transfer, Width, decode,
+    AddSubShifted, Condition, CountLeadingZeros, Instruction, Logical, LogicalShifted, MultiplyAdd,
+    Pair, PairMode, Register, Shift, Size, Transfer, Width, decode,
 };
 use lfi_module::Profile;
 use lfi_rules::registers::{BASE, OFFSET, STACK};
@@ -170,7 +170,7 @@ fn lowest_bit_reversed(width: Width, into: Register, from: Register) -> Mend
 {
     Mend::new()
         .and(negated(width, first(), from))
-        .and(meeting_bits(width, first(), first(), from))
+        .and(joined(width, Logical::And, false, first(), first(), from))
         .and(top_bit(width, second()))
         .and(divided(width, into, second(), first()))
 }
@@ -198,7 +198,7 @@ fn turned(
     ensures told { refusal result ≡ obstacles.of_turned outside i.now next.now }
 {
     if outside == Outside::ReverseBits && !counts(next, i) {
-        return Err(Reason::Outside);
+        return Err(Reason::Bits);
     }
     if let Some(reason) = hindered(i.rd, i.rn, i.rn, i.rn) {
         return Err(reason);
@@ -246,6 +246,77 @@ fn sum_with_carry(i: &AddSubShifted) -> Result<Mend, Reason>
             .and(summed(i.width, false, first(), first(), i.rm))
             .and(summed(i.width, i.subtract, i.rd, i.rn, first())),
     )
+}
+
+/// After a mend, the bits in x17 that both operands have, and in x16 those that one of them has, or both; of a difference, the
+/// second operand is its complement. The sum of these two is that of the operands, and wraps where that does.
+fn operands_by_bits(mend: Mend, i: &AddSubShifted) -> Mend
+    requires room { mend.count ≤ 5 }
+    requires keeps { (profile : Profile) → KeepsRules profile (mended mend) }
+    ensures keeps { (profile : Profile) → KeepsRules profile (mended result) }
+    ensures count { result.count ≡ mend.count + 2 }
+{
+    mend.and(joined(i.width, Logical::And, i.subtract, second(), i.rn, i.rm))
+        .and(joined(i.width, Logical::Orr, i.subtract, first(), i.rn, i.rm))
+}
+
+/// A sum of two registers and the flag C, with its flags. The result's register holds x17 and C before it holds the sum. That
+/// wraps for itself only where both operands have all bits but the highest; the flags are then those of the sum without C.
+fn sum_with_flags(i: &AddSubShifted) -> Mend
+    requires free { spec.is_reserved i.now.rd ≡ false }
+    ensures keeps { (profile : Profile) → KeepsRules profile (mended result) }
+    ensures count { result.count ≤ 7 }
+{
+    let zero = Register::new(STACK);
+    operands_by_bits(Mend::new(), i)
+        .and(with_carry(i.width, i.rd, second()))
+        .and(flags_of_sum(i.width, zero, i.rd, 1))
+        .and(chosen(i.width, second(), second(), i.rd))
+        .and(summed(i.width, false, i.rd, first(), i.rd))
+        .and(flags_of_sum(i.width, first(), second(), 0))
+}
+
+/// The flags alone of such a sum. C goes to the bit 0 of x17. Where that was 1, both operands are odd and the sum with C isn't 0:
+/// it has the flags of the sum without C, but for that of 0, which is 1 with a carry.
+fn flags_with_carry(i: &AddSubShifted) -> Mend
+    ensures keeps { (profile : Profile) → KeepsRules profile (mended result) }
+    ensures count { result.count ≤ 7 }
+{
+    let zero = Register::new(STACK);
+    let carry = Register::new(OFFSET);
+    operands_by_bits(Mend::new().and(carry_in_offset()), i)
+        .and(joined(i.width, Logical::Ands, false, zero, carry, second()))
+        .and(joined(i.width, Logical::Orr, false, second(), second(), carry))
+        .and(flags_of_sum_or(i.width, first(), second(), 0))
+        .and(flags_of_sum_or(i.width, first(), second(), 2))
+}
+
+/// What stands in the place of ADCS and SBCS.
+fn flagged(i: &AddSubShifted) -> Result<Mend, Reason>
+    ensures keeps { IfOk result (λ mend. (profile : Profile) → KeepsRules profile (mended mend)) }
+    ensures count { IfOk result (λ mend. mend.count ≤ 7) }
+    ensures told { refusal result ≡ obstacles.of_operands i.now.rd i.now.rn i.now.rm i.now.rd }
+{
+    if let Some(reason) = hindered(i.rd, i.rn, i.rm, i.rd) {
+        return Err(reason);
+    }
+    if i.rd.number() == STACK {
+        return Ok(flags_with_carry(i));
+    }
+    Ok(sum_with_flags(i))
+}
+
+/// What stands in the place of ADC, SBC, ADCS and SBCS.
+fn carried(i: &AddSubShifted) -> Result<Mend, Reason>
+    ensures keeps { IfOk result (λ mend. (profile : Profile) → KeepsRules profile (mended mend)) }
+    ensures count { IfOk result (λ mend. mend.count ≤ 7) }
+    ensures told { refusal result ≡ obstacles.of_carry i.now }
+{
+    if i.set_flags {
+        flagged(i)
+    } else {
+        sum_with_carry(i)
+    }
 }
 
 /// Two loads of words whose signs are extended, from a base and a distance.
@@ -331,7 +402,7 @@ fn by_likeness(
         ) => turned(outside, i, next),
         (Outside::SignedProduct, Instruction::MultiplyAdd(i)) => product(true, i),
         (Outside::UnsignedProduct, Instruction::MultiplyAdd(i)) => product(false, i),
-        (Outside::Carry, Instruction::AddSubShifted(i)) => sum_with_carry(i),
+        (Outside::Carry, Instruction::AddSubShifted(i)) => carried(i),
         (Outside::SignedPair, Instruction::Pair(i)) => signed_pair(i),
         (Outside::Unprivileged | Outside::NonTemporal, _) => confined(profile, like),
         (Outside::Prefetch, _) => Ok(Mend::new()),

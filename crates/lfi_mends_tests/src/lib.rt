@@ -3,6 +3,8 @@
 #![tactic(auto)]
 
 #[cfg(test)]
+mod carries;
+#[cfg(test)]
 mod machine;
 #[cfg(test)]
 mod reasons;

@@ -3,7 +3,7 @@ use lfi_mends::Reason;
 use lfi_rules::Rule;
 
 /// A word, what it breaks, and why there is no mend.
-pub const REASONS: [(Rule, u32, Reason); 21] = [
+pub const REASONS: [(Rule, u32, Reason); 24] = [
     (Rule::BaseKept, 0xAA0003F5, Reason::Base), // mov x21, x0
     (Rule::AccessConfined, 0xF8408EA0, Reason::Base), // ldr x0, [x21, #8]!
     (Rule::AccessConfined, 0xF9400035, Reason::Base), // ldr x21, [x1]
@@ -15,14 +15,17 @@ pub const REASONS: [(Rule, u32, Reason); 21] = [
     (Rule::AddressGuarded, 0x91000400, Reason::Kept), // add x0, x0, #1
     (Rule::AccessConfined, 0xD503201F, Reason::Kept), // nop
     (Rule::BranchBounded, 0xD503201F, Reason::Kept), // nop
-    (Rule::Spelled, 0xDAC00020, Reason::Outside), // rbit x0, x1
+    (Rule::Spelled, 0xDAC00020, Reason::Bits), // rbit x0, x1
+    (Rule::Spelled, 0x5AC00210, Reason::Bits), // rbit w16, w16
     (Rule::Spelled, 0xDAC00C37, Reason::Reserved), // rev x23, x1
     (Rule::Spelled, 0xDAC00E00, Reason::Scratch), // rev x0, x16
     (Rule::Spelled, 0x9BA24420, Reason::Scratch), // umaddl x0, w1, w2, x17
     (Rule::Spelled, 0x1E622820, Reason::Outside), // fadd d0, d1, d2
     (Rule::Spelled, 0xC85F7C20, Reason::Outside), // ldxr x0, [x1]
     (Rule::Spelled, 0xD4000001, Reason::Outside), // svc #0
-    (Rule::Spelled, 0xBA020020, Reason::Outside), // adcs x0, x1, x2
+    (Rule::Spelled, 0xBA010010, Reason::Scratch), // adcs x16, x0, x1
+    (Rule::Spelled, 0xBA020037, Reason::Reserved), // adcs x23, x1, x2
+    (Rule::Spelled, 0xFA11001F, Reason::Scratch), // sbcs xzr, x0, x17
     (Rule::Spelled, 0x69400452, Reason::Reserved), // ldpsw x18, x1, [x2]
     (Rule::Spelled, 0xDAC01420, Reason::Outside), // cls x0, x1
 ];

@@ -17,8 +17,8 @@ const SLOT: u64 = 7 << 32;
 
 /// Random numbers, always the same.
 #[derive(Clone, Copy)]
-struct Draws {
-    state: u64,
+pub struct Draws {
+    pub state: u64,
 }
 
 impl Draws {
@@ -65,7 +65,7 @@ fn addresses(draws: &mut Draws) -> Registers {
 }
 
 /// Registers that hold any numbers, but for x21.
-fn numbers(draws: &mut Draws) -> Registers {
+pub fn numbers(draws: &mut Draws) -> Registers {
     let mut x = [0; 31];
     for i in 0..31 {
         x[i] = draws.number();
@@ -95,7 +95,7 @@ fn same_stores(one: [Option<Stored>; 2], other: [Option<Stored>; 2]) -> bool {
 }
 
 /// Whether a mend's registers and stores are those of the refused word.
-fn agree(before: &Registers, meant: &Machine, found: &Machine) -> bool {
+pub fn agree(before: &Registers, meant: &Machine, found: &Machine) -> bool {
     for i in 0..31 {
         if !agrees(i, before.x[i], meant.registers.x[i], found.registers.x[i]) {
             return false;
@@ -108,7 +108,7 @@ fn agree(before: &Registers, meant: &Machine, found: &Machine) -> bool {
 }
 
 /// The machine after a row's mend, if it has one.
-fn mended(row: &Row, registers: Registers) -> Option<Machine> {
+pub fn mended(row: &Row, registers: Registers) -> Option<Machine> {
     let mut machine = Machine::new(registers);
     match answer(row) {
         Ok(mend) => {
@@ -181,7 +181,7 @@ fn writes_do_the_same(rt: HostRuntime) -> Result<(), Fail> {
 }
 
 /// A register that a field of a word names.
-fn field(word: u32, low: u32) -> Register
+pub fn field(word: u32, low: u32) -> Register
     requires { low < 27 }
 {
     Register::new((word >> low & 31) as u8)

@@ -61,7 +61,7 @@ fn is_lawful(row: &Row) -> bool {
 }
 
 /// The first word of a table whose mend is another, or isn't lawful.
-fn first_wrong(rows: &[Row]) -> Option<u32> {
+pub fn first_wrong(rows: &[Row]) -> Option<u32> {
     for row in rows {
         if !is_as_told(row) || !is_lawful(row) {
             return Some(row.word);

@@ -2,9 +2,10 @@
 
 ghost use Rattle.std.specs.Prelude.{◌≢◌, ◌+◌, ◌<◌, ◌≤◌, IsTrue, IfSome, IfNone, length, Some};
 ghost use Rattle.lfi_module.specs.Numbers.{most_words};
-ghost use Rattle.lfi_rules.specs.declared.needs.Need.TheVariants.{Nothing};
+ghost use Rattle.lfi_module.specs.declared.profile.Profile.{Profile};
+ghost use Rattle.lfi_rules.specs.declared.needs.Need.TheVariants.{Nothing, Probe};
 ghost use Rattle.lfi_rules.specs.Faults.{IsFirstInside};
-ghost use Rattle.lfi_rules.specs.inner.Passing.{IsFine, AreFine, OpensAt};
+ghost use Rattle.lfi_rules.specs.inner.Passing.{IsMetAfter, IsFine, AreFine, OpensAt};
 
 use crate::calm::is_calm_word;
 use crate::fault::Fault;
@@ -44,7 +45,7 @@ pub fn is_told_late<W: Words>(region: Region<'_, W>, i: usize) -> bool
 /// Whether the word at a place moves sp, and calm words alone stand between it and its probe, two to four words behind it, where as
 /// many words follow: it is fine. Without a branch by what a word is.
 #[inline(always)]
-pub fn probes_late<W: Words>(region: Region<'_, W>, i: usize) -> bool
+fn probes_late<W: Words>(region: Region<'_, W>, i: usize) -> bool
     requires within { i < length (W.words region.words.now) }
     ensures { IsTrue result → IsFine region.entry.profile (W.words region.entry.words.now) region.entry.first region.entry.n i }
 {
@@ -59,6 +60,34 @@ pub fn probes_late<W: Words>(region: Region<'_, W>, i: usize) -> bool
     let past_one = is_surely_calm(two) & (is_plain_probe(three) | past_two);
     let behind = is_surely_calm(one) & (is_plain_probe(two) | past_one);
     classes_of(region.words.word(i)).opens_probe() & (window(region.profile) == 4) & behind
+}
+
+/// Whether the word after a place surely meets Probe: so it is, where the words end.
+#[inline(always)]
+fn probes_after<W: Words>(words: &W, i: usize) -> bool
+    requires within { i < length (W.words words.now) }
+    requires small { length (W.words words.now) ≤ most_words }
+    ensures { (profile : Profile) → IsTrue result → IsMetAfter profile (W.words words.now) i (Probe 1) }
+{
+    i + 1 >= words.count() || is_met(words.word(i + 1), Need::Probe(1))
+}
+
+/// Whether the word at a place moves sp, and the next one is the probe, or the words end: it is fine.
+#[inline(always)]
+fn probes_next<W: Words>(region: Region<'_, W>, i: usize) -> bool
+    requires within { i < length (W.words region.words.now) }
+    ensures { IsTrue result → IsFine region.entry.profile (W.words region.entry.words.now) region.entry.first region.entry.n i }
+{
+    classes_of(region.words.word(i)).opens_probe() && probes_after(region.words, i)
+}
+
+/// Whether the word at a place moves sp, and is told by a probe one to four words behind it: it is fine.
+#[inline(always)]
+pub fn is_probed<W: Words>(region: Region<'_, W>, i: usize) -> bool
+    requires within { i < length (W.words region.words.now) }
+    ensures { IsTrue result → IsFine region.entry.profile (W.words region.entry.words.now) region.entry.first region.entry.n i }
+{
+    probes_next(region, i) || probes_late(region, i)
 }
 
 /// The first fault of the words after one that opens a need, up to the one that meets it or should have: what a word breaks by

@@ -7,7 +7,7 @@ ghost use Rattle.lfi_module.specs.declared.profile.Profile.{Profile};
 ghost use Rattle.lfi_module.specs.declared.profile.Profile.TheVariants.{Two};
 ghost use Rattle.lfi_classes.specs.Classes.{least_of};
 ghost use Rattle.lfi_classes.specs.declared.classes.Reach.TheVariants.{Quiet, Ordered};
-ghost use Rattle.lfi_rules.specs.declared.needs.Need.TheVariants.{Nothing, Call, Guard, Probe};
+ghost use Rattle.lfi_rules.specs.declared.needs.Need.TheVariants.{Nothing, Call, Guard};
 ghost use Rattle.lfi_rules.specs.Faults.{IsFirstInside};
 ghost use Rattle.lfi_rules.specs.inner.Quiet.{IsToldWord};
 ghost use Rattle.lfi_rules.specs.inner.Passing.{AreFarFromEnds, IsMetAfter, IsFine, AreFine, AreMarked, AreWithin, AreMarkedFine, IsFoundIn};
@@ -15,7 +15,7 @@ ghost use Rattle.lfi_rules.specs.inner.Passing.{AreFarFromEnds, IsMetAfter, IsFi
 use crate::direct::stays_inside;
 use crate::fault::Fault;
 use crate::inspect::inspect;
-use crate::late::{fault_behind, is_told_late, probes_late};
+use crate::late::{fault_behind, is_probed, is_told_late};
 use crate::met::is_met;
 use crate::needs::Need;
 use crate::region::Region;
@@ -119,12 +119,11 @@ fn mark_span<W: Words>(
     mark_loud(region, i, stop - i, reach, places, count)
 }
 
-/// Which needs a word meets.
+/// Which needs a word meets. Whether it meets Probe is asked of those alone that come after a move of sp (`keep_unprobed`).
 #[derive(Clone, Copy)]
 struct Met {
     call: bool,
     guard: bool,
-    probe: bool,
 }
 
 /// Which needs the word after a place surely meets: all, where the words end.
@@ -134,20 +133,17 @@ fn met_after<W: Words>(words: &W, i: usize) -> Met
     requires small { length (W.words words.now) ≤ most_words }
     ensures call { (profile : Profile) → IsTrue result.call → IsMetAfter profile (W.words words.now) i Call }
     ensures guard { (profile : Profile) → IsTrue result.guard → IsMetAfter profile (W.words words.now) i Guard }
-    ensures probe { (profile : Profile) → IsTrue result.probe → IsMetAfter profile (W.words words.now) i (Probe 1) }
 {
     if i + 1 >= words.count() {
         return Met {
             call: true,
             guard: true,
-            probe: true,
         };
     }
     let next = words.word(i + 1);
     Met {
         call: is_met(next, Need::Call),
         guard: is_met(next, Need::Guard),
-        probe: is_met(next, Need::Probe(1)),
     }
 }
 
@@ -166,7 +162,7 @@ fn is_told_alone(word: u32, place: u32, n: u32, profile: Profile) -> bool
         | classes.is_ordered() & has_ordered(profile)
 }
 
-/// Whether the word at a place is told by its class, its own fields and the word after it: it is fine.
+/// Whether the word at a place is told by its class, its own fields and the word after it: it is fine. No move of sp is told here.
 #[inline(always)]
 fn is_told<W: Words>(region: Region<'_, W>, i: usize) -> bool
     requires within { i < length (W.words region.words.now) }
@@ -180,7 +176,6 @@ fn is_told<W: Words>(region: Region<'_, W>, i: usize) -> bool
     is_told_alone(word, region.first + i as u32, region.n, region.profile)
         | guards & met.guard
         | classes.opens_call() & met.call
-        | classes.opens_probe() & met.probe
 }
 
 /// Keeps those of the first `count` places whose words aren't told, in order and before all others; answers how many they are.
@@ -204,7 +199,7 @@ fn keep_untold<W: Words>(region: Region<'_, W>, places: &mut [u32], count: usize
     kept
 }
 
-/// Of the first `count` places keeps those whose words aren't told by a probe two to four words behind, as `keep_untold` does.
+/// Of the first `count` places keeps those whose words aren't told by a probe one to four words behind, as `keep_untold` does.
 #[inline(never)]
 fn keep_unprobed<W: Words>(region: Region<'_, W>, places: &mut [u32], count: usize) -> usize
     requires count { count ≤ length places.old }
@@ -217,7 +212,7 @@ fn keep_unprobed<W: Words>(region: Region<'_, W>, places: &mut [u32], count: usi
     for at in 0..count {
         let place = places[at];
         places[left] = place;
-        if !probes_late(region, place as usize) {
+        if !is_probed(region, place as usize) {
             left += 1;
         }
     }

@@ -1,5 +1,5 @@
 -- What memory that is kept in pages stands for.
-use Rattle.std.specs.Prelude.{◌≡◌, ℕ, ◌+◌, ◌-◌, ◌*◌, ◌/◌, ◌%◌, ◌^◌, ◌<◌, ◌≤◌, ◌↔◌, ◌⊎◌, if◌then◌else◌, ◌==◌, List, length, slice_index}
+use Rattle.std.specs.Prelude.{◌≡◌, ℕ, ◌+◌, ◌-◌, ◌*◌, ◌/◌, ◌%◌, ◌^◌, ◌<◌, ◌≤◌, ◌↔◌, ◌⊎◌, if◌then◌else◌, ◌==◌, List, [], ◌∷◌, length, slice_index}
 use Rattle.a64_word.specs.Bytes.{low_bytes, written}
 
 -- Pages of 65,536 bytes. At each page's number the table has 0, or one more than the page's place among the frames.
@@ -52,10 +52,17 @@ WritesNumber old new offset bytes value = (at : ℕ) → byte_at new at ≡ writ
 abbrev pub WritesByte : Kept → Kept → (offset byte : ℕ) → Type 0
 WritesByte old new at byte = (offset : ℕ) → byte_at new offset ≡ (if offset == at then byte else byte_at old offset)
 
+-- how many numbers of a list aren't 0
+abbrev pub some_in : List ℕ → ℕ
+some_in [] = 0
+some_in (n ∷ rest) = (if n == 0 then 0 else 1) + some_in rest
+
 -- what holds of each table and its frames
 pub record IsWellKept (kept : Kept) : Type 0 where
   pub whole : length kept.table ≡ 2 ^ 16
   pub frames : length kept.frames % page_size ≡ 0
+  -- each frame belongs to a page
+  pub counted : length kept.frames ≡ some_in kept.table * page_size
   pub within : (page : ℕ) → slice_index kept.table page * page_size ≤ length kept.frames
   -- no frame belongs to two pages
   pub apart : (i j : ℕ) → 0 < slice_index kept.table i → slice_index kept.table i ≡ slice_index kept.table j → i ≡ j

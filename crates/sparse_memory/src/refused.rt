@@ -29,8 +29,9 @@ pub(crate) fn zero_table(alloc: Global, count: usize) -> Result<Vec<u32>, Memory
     }
 }
 
-/// Makes frames longer by one page of zeros: one more than its place.
+/// Makes frames longer by one page of zeros: one more than its place. Only the allocator refuses that.
 pub(crate) fn add_frame(frames: &mut Vec<u8>) -> Result<u32, MemoryRefused>
+    requires room { length frames.old.items < 65536 * 65536 }
     ensures frame { IfOk result (λ frame. frame ≡ length frames.old.items / 65536 + 1) }
     ensures length { OnOk result (length frames.new.items ≡ length frames.old.items + 65536) }
     ensures front { OnOk result ((k : ℕ) → k < length frames.old.items → slice_index frames.new.items k ≡ slice_index frames.old.items k) }
@@ -38,11 +39,9 @@ pub(crate) fn add_frame(frames: &mut Vec<u8>) -> Result<u32, MemoryRefused>
     ensures err { OnErr result (frames.new.items ≡ frames.old.items) }
 {
     let size = frames.len();
-    match (u32::try_from(size / PAGE + 1), size.checked_add(PAGE)) {
-        (Ok(frame), Some(len)) => match frames.resize(len, 0) {
-            Ok(()) => Ok(frame),
-            Err(error) => Err(MemoryRefused::of(error)),
-        },
-        _ => Err(MemoryRefused::of(AllocError)),
+    let frame = (size / PAGE + 1) as u32;
+    match frames.resize(size + PAGE, 0) {
+        Ok(()) => Ok(frame),
+        Err(error) => Err(MemoryRefused::of(error)),
     }
 }

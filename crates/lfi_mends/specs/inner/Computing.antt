@@ -1,5 +1,5 @@
 -- Instructions that only compute, into a register that a mend may write.
-use Rattle.std.specs.Prelude.{ℕ, ◌==◌, ◌||◌, ◌&&◌, not, Bool, false}
+use Rattle.std.specs.Prelude.{ℕ, ◌==◌, ◌||◌, ◌&&◌, not, Bool, true, false}
 use Rattle.a64_word.specs.declared.instruction.Instruction.{Instruction}
 use Rattle.a64_word.specs.declared.instruction.Instruction.TheVariants as instructions
 use Rattle.a64_word.specs.declared.operands.Width.{Width}
@@ -12,7 +12,7 @@ use Rattle.lfi_mends.specs.Registers.{is_reserved}
 abbrev pub may_compute : Width → ℕ → Bool
 may_compute width register = not (is_reserved register) || (register == registers.offset && not (is_x width))
 
--- an instruction that computes such a register, and no sp
+-- an instruction that computes such a register, and no sp; or flags alone
 abbrev pub is_computing : Instruction → Bool
 is_computing (instructions.AddSubImmediate i) = may_compute i.width i.rd && not (i.rd == 31)
 is_computing (instructions.LogicalImmediate i) = may_compute i.width i.rd && not (i.rd == 31)
@@ -21,6 +21,7 @@ is_computing (instructions.Bitfield i) = may_compute i.width i.rd
 is_computing (instructions.LogicalShifted i) = may_compute i.width i.rd
 is_computing (instructions.AddSubShifted i) = may_compute i.width i.rd
 is_computing (instructions.AddSubExtended i) = may_compute i.width i.rd && not (i.rd == 31)
+is_computing (instructions.ConditionalCompare i) = true
 is_computing (instructions.ConditionalSelect i) = may_compute i.width i.rd
 is_computing (instructions.TwoSource i) = may_compute i.width i.rd
 is_computing (instructions.CountLeadingZeros i) = may_compute i.width i.rd

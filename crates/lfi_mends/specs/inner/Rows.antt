@@ -2,7 +2,9 @@
 use Rattle.std.specs.Prelude.{ℕ, ℤ, pos, negsuc, ◌-◌, ◌/◌, ◌%◌, ◌==◌, ◌&&◌, not, if◌then◌else◌, Bool, true, false, List, [], ◌∷◌, ◌++◌}
 use Rattle.a64_word.specs.declared.instruction.Instruction.{Instruction}
 use Rattle.a64_word.specs.declared.instruction.Instruction.TheVariants as instructions
+use Rattle.a64_word.specs.declared.operands.Width.{Width}
 use Rattle.a64_word.specs.declared.operands.Width.TheVariants as widths
+use Rattle.a64_word.specs.declared.operands.PairMode.TheVariants as pair_modes
 use Rattle.a64_word.specs.declared.operands.IndexExtend.TheVariants as indexes
 use Rattle.a64_word.specs.declared.operands.Extend.TheVariants as extends
 use Rattle.a64_word.specs.Operands.{size_code}
@@ -65,3 +67,30 @@ changed_of subtract imm12 rn =
 abbrev pub changing : (before : Bool) → Size → Transfer → (rt rn : ℕ) → (below : Bool) → (bytes : ℕ) → List Instruction
 changing true size transfer rt rn below bytes = changed_of below bytes rn ∷ access_of size transfer rn rt ∷ []
 changing false size transfer rt rn below bytes = access_of size transfer rn rt ∷ changed_of below bytes rn ∷ []
+
+-- ADD Xd, X21, Wm, UXTW
+abbrev pub guard_of : (rd rm : ℕ) → Instruction
+guard_of rd rm =
+    instructions.AddSubExtended (record { width = widths.X; subtract = false; set_flags = false; extend = extends.Uxtw; amount = 0; rm = rm; rn = 21; rd = rd })
+
+-- two registers at x18
+abbrev pub pair_of : Width → (load : Bool) → (rt2 rt : ℕ) → Instruction
+pair_of width load rt2 rt =
+    instructions.Pair (record { width = width; load = load; mode = pair_modes.Offset; imm7 = pos 0; rt2 = rt2; rn = 18; rt = rt })
+
+-- a pair at a base and a distance
+abbrev pub paired : (sum : ℕ) → Width → (load : Bool) → (rt2 rt rn : ℕ) → (below : Bool) → (bytes : ℕ) → List Instruction
+paired sum width load rt2 rt rn below bytes = sums sum rn below bytes ++ guard_of 18 (index_of sum rn bytes) ∷ pair_of width load rt2 rt ∷ []
+
+-- a pair at a base alone, which is changed before it or after it
+abbrev pub changing_pair : (before : Bool) → Width → (load : Bool) → (rt2 rt rn : ℕ) → (below : Bool) → (bytes : ℕ) → List Instruction
+changing_pair true width load rt2 rt rn below bytes = changed_of below bytes rn ∷ guard_of 18 rn ∷ pair_of width load rt2 rt ∷ []
+changing_pair false width load rt2 rt rn below bytes = guard_of 18 rn ∷ pair_of width load rt2 rt ∷ changed_of below bytes rn ∷ []
+
+-- LDAR and STLR at x18
+abbrev pub ordered_of : Size → (load : Bool) → (rt : ℕ) → Instruction
+ordered_of size load rt = instructions.Ordered (record { size = size; load = load; rn = 18; rt = rt })
+
+-- an ordered access at a base
+abbrev pub in_order : Size → (load : Bool) → (rt rn : ℕ) → List Instruction
+in_order size load rt rn = sums 22 rn false 0 ++ guard_of 18 (index_of 22 rn 0) ∷ ordered_of size load rt ∷ []

@@ -1,5 +1,5 @@
 -- What the pass over quiet words tells.
-use Rattle.std.specs.Prelude.{◌≡◌, ℕ, ◌+◌, ◌-◌, ◌*◌, ◌^◌, ◌<◌, ◌≤◌, ◌⊎◌, if◌then◌else◌, nat_lt, ℤ, pos, negsuc, List, length, Some, None, slice_get, slice_index}
+use Rattle.std.specs.Prelude.{◌≡◌, ℕ, ◌+◌, ◌-◌, ◌*◌, ◌/◌, ◌^◌, ◌<◌, ◌≤◌, ◌⊎◌, if◌then◌else◌, ◌==◌, nat_lt, ℤ, pos, negsuc, List, length, Some, None, slice_get, slice_index}
 use Rattle.a64_word.specs.inner.Bits.{bits_at}
 use Rattle.lfi_module.specs.declared.profile.Profile.{Profile}
 use Rattle.lfi_rules.specs.declared.needs.Need.{Need}
@@ -20,6 +20,13 @@ in_profile profile (Probe count) = Probe (window profile)
 -- the number that bits stand for in two's complement, of which half stand for numbers below 0
 abbrev pub signed_of : (half bits : ℕ) → ℤ
 signed_of half bits = if nat_lt bits half then pos bits else negsuc (2 * half - 1 - bits)
+
+-- of a direct branch, by bits 25 to 30 of its word: at which bit its offset begins, and half of the numbers that this may be
+abbrev pub low_of : (kind : ℕ) → ℕ
+low_of kind = if kind / 2 == 5 then 0 else 5
+
+abbrev pub half_of : (kind : ℕ) → ℕ
+half_of kind = if kind / 2 == 5 then 33554432 else (if kind == 27 then 8192 else 262144)
 
 -- The field of a direct branch that holds its offset, and half of the numbers that it may hold: imm26, imm14 or imm19.
 pub data IsOffset (word bits half : ℕ) : Type 0 where

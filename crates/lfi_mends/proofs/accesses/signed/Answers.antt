@@ -1,15 +1,16 @@
 use Rattle.std.proofs.Common.{rules, ◌≡◌, ◌≢◌, ℤ, pos, negsuc, true, ap, ◌∙◌, ◌++◌, sym, subst, arith, SFits, w32}
-use Rattle.std.specs.Prelude.{◌||◌, not}
+use Rattle.std.specs.Prelude.{◌||◌}
 use Rattle.std.proofs.Math.Facts.{to_z-of_z}
-use Rattle.std.proofs.lemmas.Bool.{and_parts, not-true}
+use Rattle.std.proofs.lemmas.Bool.{and_parts}
 use Rattle.a64_word.specs.Operands.{IsSigned}
 use Rattle.a64_word.specs.declared.instruction.Instruction.TheVariants.{SignedOffset}
 use Rattle.a64_word.specs.declared.operands.IndexMode.TheVariants.{Unscaled, PreIndex, PostIndex}
 use Rattle.lfi_mends.specs.Mends.{mended}
-use Rattle.lfi_mends.specs.Outcomes.{DoesTheSame, is_unscaled}
-use Rattle.lfi_mends.specs.Registers.{is_reserved, is_free}
+use Rattle.lfi_mends.specs.Outcomes.{DoesTheSame, is_unscaled, moves_itself}
+use Rattle.lfi_mends.specs.Registers.{is_free}
 use Rattle.lfi_mends.specs.inner.Rows.{accessed}
 use Rattle.lfi_mends.proofs.Summed.{signed_same}
+use Rattle.lfi_mends.proofs.Beside.{no_offset}
 use Rattle.lfi_mends.proofs.Changed.{pre_same, post_same, free_base}
 use Rattle.lfi_mends.proofs.accesses.signed.Goals as goal
 
@@ -24,9 +25,9 @@ returns-in-Unscaled-clause-does c = λ plain.
     let far = c.distance_of-distance.ensures in
     let is = mended c.plain.result in
     let near = far.near in
-    let free = not-true (is_reserved i.rt) (and_parts (not (is_reserved i.rt)) (is_unscaled i.mode || is_free i.rn) plain).0 in
+    let free = (and_parts (moves_itself i.transfer i.rt) (is_unscaled i.mode || is_free i.rn) plain).0 in
     subst (λ mode. DoesTheSame is (SignedOffset (record { size = i.size; transfer = i.transfer; mode = mode; imm9 = i.imm9; rn = i.rn; rt = i.rt }))) (sym c.in-Unscaled.is)
-    (signed_same i.size i.transfer i.imm9 i.rn i.rt d.below d.bytes is (far.is ∙ to_z-of_z {w = w32} (fits i.imm9 c.requires.legal.1)) (omega (arith, near)) far.some free
+    (signed_same i.size i.transfer i.imm9 i.rn i.rt d.below d.bytes is (far.is ∙ to_z-of_z {w = w32} (fits i.imm9 c.requires.legal.1)) (omega (arith, near)) far.some (no_offset i.transfer i.rt free)
     (c.plain.ensures.items free ∙ ap (λ l. l ++ accessed i.size i.transfer i.rt i.rn d.below d.bytes) c.new.ensures.items))
 
 pub returns-in-PreIndex-clause-does : goal.returns-in-PreIndex-clause-does
@@ -36,8 +37,8 @@ returns-in-PreIndex-clause-does c = λ plain.
     let far = c.distance_of-distance.ensures in
     let is = mended c.changing.result in
     let near = far.near in
-    let tests = and_parts (not (is_reserved i.rt)) (is_unscaled i.mode || is_free i.rn) plain in
-    let free = not-true (is_reserved i.rt) tests.0 in
+    let tests = and_parts (moves_itself i.transfer i.rt) (is_unscaled i.mode || is_free i.rn) plain in
+    let free = tests.0 in
     let free_rn : is_free i.rn ≡ true = subst (λ mode. (is_unscaled mode || is_free i.rn) ≡ true) c.in-PreIndex.is tests.1 in
     let changes : i.mode ≢ Unscaled = λ e. let same : PreIndex ≡ Unscaled = sym c.in-PreIndex.is ∙ e in cc in
     let base = free_base i.rn i.rt free_rn (c.requires.legal.2 changes) in
@@ -52,8 +53,8 @@ returns-in-PostIndex-clause-does c = λ plain.
     let far = c.distance_of-distance.ensures in
     let is = mended c.changing-in-PostIndex.result in
     let near = far.near in
-    let tests = and_parts (not (is_reserved i.rt)) (is_unscaled i.mode || is_free i.rn) plain in
-    let free = not-true (is_reserved i.rt) tests.0 in
+    let tests = and_parts (moves_itself i.transfer i.rt) (is_unscaled i.mode || is_free i.rn) plain in
+    let free = tests.0 in
     let free_rn : is_free i.rn ≡ true = subst (λ mode. (is_unscaled mode || is_free i.rn) ≡ true) c.in-PostIndex.is tests.1 in
     let changes : i.mode ≢ Unscaled = λ e. let same : PostIndex ≡ Unscaled = sym c.in-PostIndex.is ∙ e in cc in
     let base = free_base i.rn i.rt free_rn (c.requires.legal.2 changes) in

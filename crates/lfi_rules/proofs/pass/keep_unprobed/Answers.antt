@@ -1,6 +1,6 @@
 use Rattle.std.proofs.Common.{◌≡◌, ℕ, ◌+◌, ◌≤◌, List, arith, inl, inr}
 use Rattle.lfi_rules.proofs.Untold.{kept_none, kept_more, kept_all}
-use Rattle.lfi_rules.proofs.pass.keep_unprobed.Goals.{then-not-probes_late, else-not-probes_late}
+use Rattle.lfi_rules.proofs.pass.keep_unprobed.Goals.{then-not-is_probed, else-not-is_probed}
 use Rattle.lfi_rules.proofs.pass.keep_unprobed.Goals as goal
 
 pub loop-at-init : goal.loop-at-init
@@ -15,14 +15,14 @@ loop-at-preserved g c =
     let kept : ℕ = c.loop-at.left in
     let few : kept ≤ c.loop-at.at = c.loop-at.invariant.few in
     record {
-      few = elim c.if-not-probes_late.branch [
-        | then-not-probes_late b ↦ let e : c.if-not-probes_late.left ≡ kept + 1 = b.left-is in omega arith
-        | else-not-probes_late b ↦ let e : c.if-not-probes_late.left ≡ kept = b.left-is in omega arith
+      few = elim c.if-not-is_probed.branch [
+        | then-not-is_probed b ↦ let e : c.if-not-is_probed.left ≡ kept + 1 = b.left-is in omega arith
+        | else-not-is_probed b ↦ let e : c.if-not-is_probed.left ≡ kept = b.left-is in omega arith
       ];
-      marks = kept_more c.args.region.profile ws c.args.region.first c.args.region.n c.args.places.now c.args.count c.loop-at.at c.loop-at.places kept c.if-not-probes_late.left
-          c.loop-at-test.true c.requires.count c.loop-at.auto.places few c.loop-at.invariant.marks (elim c.if-not-probes_late.branch [
-            | then-not-probes_late b ↦ inl b.left-is
-            | else-not-probes_late b ↦ inr (b.left-is, c.probes_late.ensures b.if-not-probes_late.false)
+      marks = kept_more c.args.region.profile ws c.args.region.first c.args.region.n c.args.places.now c.args.count c.loop-at.at c.loop-at.places kept c.if-not-is_probed.left
+          c.loop-at-test.true c.requires.count c.loop-at.auto.places few c.loop-at.invariant.marks (elim c.if-not-is_probed.branch [
+            | then-not-is_probed b ↦ inl b.left-is
+            | else-not-is_probed b ↦ inr (b.left-is, c.is_probed.ensures b.if-not-is_probed.false)
           ]);
     }
 

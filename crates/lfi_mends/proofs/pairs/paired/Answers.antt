@@ -1,0 +1,66 @@
+use Rattle.std.proofs.Common.{rules, ◌≡◌, ◌≢◌, eqb, true, false, refl, sym, subst, inl, inr, ◌∙◌}
+use Rattle.std.specs.Prelude.{◌&&◌, ◌||◌, not}
+use Rattle.std.proofs.lemmas.Bool.{and_parts, or_cases, not-true}
+use Rattle.a64_word.specs.declared.instruction.Instruction.TheVariants.{Pair}
+use Rattle.a64_word.specs.declared.operands.PairMode.{PairMode}
+use Rattle.a64_word.specs.declared.operands.PairMode.TheVariants as modes
+use Rattle.lfi_mends.specs.Mends.{mended}
+use Rattle.lfi_mends.specs.Outcomes.{DoesTheSame, is_offset, is_scratch, moves_both}
+use Rattle.lfi_mends.specs.Registers.{is_free, is_reserved}
+use Rattle.lfi_mends.specs.inner.Rows as rows
+use Rattle.lfi_mends.proofs.Standing.{unreserved}
+use Rattle.lfi_mends.proofs.Changed.{free_base}
+use Rattle.lfi_mends.proofs.Paired.{pair_same}
+use Rattle.lfi_mends.proofs.ChangedPairs.{pre_pair_same, post_pair_same}
+use Rattle.lfi_mends.proofs.pairs.paired.Goals as goal
+
+no_change : modes.PreIndex ≢ modes.Offset
+no_change e = cc
+
+no_change_after : modes.PostIndex ≢ modes.Offset
+no_change_after e = cc
+
+pub returns-clause-does : goal.returns-clause-does
+returns-clause-does c = λ plain.
+    let i = c.args.i.now in
+    let d = c.distance.result in
+    let far = c.distance.ensures in
+    let is = mended c.placed.result in
+    let tests = and_parts (moves_both i.rt2 i.rt) (is_offset i.mode && not (eqb i.rn 22) || is_free i.rn) plain in
+    let no_offset : eqb i.rn 22 ≡ false = elim (or_cases (is_offset i.mode && not (eqb i.rn 22)) (is_free i.rn) tests.1) [
+      | inl offset ↦ not-true (eqb i.rn 22) (and_parts (is_offset i.mode) (not (eqb i.rn 22)) offset).1
+      | inr free ↦ (unreserved i.rn (not-true (is_reserved i.rn) (and_parts (not (is_reserved i.rn)) (not (eqb i.rn 31)) free).0)).offset
+    ] in
+    let sum : c.in-Some.sum ≡ 22 = c.in-Some.ensures.offset tests.0 no_offset in
+    let at_offset : i.mode ≡ modes.Offset → DoesTheSame is (Pair (record { width = i.width; load = i.load; mode = modes.Offset; imm7 = i.imm7; rt2 = i.rt2; rn = i.rn; rt = i.rt })) =
+    λ mode. pair_same i.width i.load i.imm7 i.rt2 i.rn i.rt d.below d.bytes is far.is far.near far.some tests.0
+    (subst (λ r. is ≡ rows.paired r i.width i.load i.rt2 i.rt i.rn d.below d.bytes) sum (c.placed.ensures.items mode tests.0)) in
+    let free_of : is_offset i.mode ≡ false → is_free i.rn ≡ true =
+    λ changes. elim (or_cases (is_offset i.mode && not (eqb i.rn 22)) (is_free i.rn) tests.1) [
+      | inl offset ↦ let yes : is_offset i.mode ≡ true = (and_parts (is_offset i.mode) (not (eqb i.rn 22)) offset).0 in let no : true ≡ false = sym yes ∙ changes in cc
+      | inr free ↦ free
+    ] in
+    let before : i.mode ≡ modes.PreIndex → DoesTheSame is (Pair (record { width = i.width; load = i.load; mode = modes.PreIndex; imm7 = i.imm7; rt2 = i.rt2; rn = i.rn; rt = i.rt })) =
+    λ mode.
+    let free = free_of (subst (λ m. is_offset m ≡ false) (sym mode) refl) in
+    let only = c.requires.legal.2 (λ e. no_change (sym mode ∙ e)) in
+    let one = free_base i.rn i.rt free only.0 in
+    let two = free_base i.rn i.rt2 free only.1 in
+    pre_pair_same i.width i.load i.imm7 i.rt2 i.rn i.rt d.below d.bytes is far.is far.near far.some tests.0 one.stack one.base (search rules) one.apart two.apart
+    (c.placed.ensures.before mode free tests.0) in
+    let behind : i.mode ≡ modes.PostIndex → DoesTheSame is (Pair (record { width = i.width; load = i.load; mode = modes.PostIndex; imm7 = i.imm7; rt2 = i.rt2; rn = i.rn; rt = i.rt })) =
+    λ mode.
+    let free = free_of (subst (λ m. is_offset m ≡ false) (sym mode) refl) in
+    let only = c.requires.legal.2 (λ e. no_change_after (sym mode ∙ e)) in
+    let one = free_base i.rn i.rt free only.0 in
+    let two = free_base i.rn i.rt2 free only.1 in
+    let first = (unreserved i.rn (not-true (is_reserved i.rn) (and_parts (not (is_reserved i.rn)) (not (eqb i.rn 31)) free).0)).first_address in
+    let kept : is_scratch i.rn ≡ false = rw (first, no_offset) refl in
+    post_pair_same i.width i.load i.imm7 i.rt2 i.rn i.rt d.below d.bytes is far.is far.near far.some tests.0 one.stack first no_offset kept (search rules) one.apart two.apart
+    (c.placed.ensures.after mode free tests.0) in
+    by_mode (λ m. DoesTheSame is (Pair (record { width = i.width; load = i.load; mode = m; imm7 = i.imm7; rt2 = i.rt2; rn = i.rn; rt = i.rt }))) i.mode at_offset before behind
+  where
+    by_mode : (F : PairMode → Type 0) (m : PairMode) → (m ≡ modes.Offset → F modes.Offset) → (m ≡ modes.PreIndex → F modes.PreIndex) → (m ≡ modes.PostIndex → F modes.PostIndex) → F m
+    by_mode F modes.Offset a b c = a refl
+    by_mode F modes.PreIndex a b c = b refl
+    by_mode F modes.PostIndex a b c = c refl

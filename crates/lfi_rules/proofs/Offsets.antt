@@ -1,0 +1,58 @@
+-- Where a direct branch's offset stands in its word.
+use Rattle.std.proofs.Common.{◌≡◌, ℕ, ◌-◌, ◌*◌, ◌/◌, ◌^◌, ◌<◌, ◌≤◌, eqb, eqb-true, refl, sym, ◌∙◌, arith, inl, inr}
+use Rattle.std.specs.Prelude.{bit_and}
+use Rattle.std.proofs.lemmas.Bool.{cases_Bool, eqb-false}
+use Rattle.std.proofs.lemmas.Nat.{and_mask, mod_below}
+use Rattle.a64_word.specs.inner.Bits.{bits_at}
+use Rattle.lfi_rules.specs.inner.Passing.{low_of, half_of, IsOffset, of_branch, of_bit_test, of_other}
+
+pub low_small : (kind : ℕ) → low_of kind ≤ 5
+low_small kind = elim (cases_Bool (eqb (kind / 2) 5)) [
+  | inl branch ↦ rw branch (omega arith)
+  | inr other ↦ rw other (omega arith)
+]
+
+pub half_large : (kind : ℕ) → 8192 ≤ half_of kind
+half_large kind = elim (cases_Bool (eqb (kind / 2) 5)) [
+  | inl branch ↦ rw branch (omega arith)
+  | inr other ↦ elim (cases_Bool (eqb kind 27)) [
+    | inl test ↦ rw (other, test) (omega arith)
+    | inr rest ↦ rw (other, rest) (omega arith)
+  ]
+]
+
+pub half_small : (kind : ℕ) → half_of kind ≤ 33554432
+half_small kind = elim (cases_Bool (eqb (kind / 2) 5)) [
+  | inl branch ↦ rw branch (omega arith)
+  | inr other ↦ elim (cases_Bool (eqb kind 27)) [
+    | inl test ↦ rw (other, test) (omega arith)
+    | inr rest ↦ rw (other, rest) (omega arith)
+  ]
+]
+
+-- The bits from there on are the offset's.
+pub field_at : (w kind low half : ℕ) → kind ≡ bits_at w 25 6 → low ≡ low_of kind → half ≡ half_of kind → IsOffset w (bit_and (w / 2 ^ low) (2 * half - 1)) half
+field_at w kind low half e l h =
+    let upper : bits_at w 26 5 ≡ kind / 2 = omega (arith, e) in
+    elim (cases_Bool (eqb (kind / 2) 5)) [
+      | inl branch ↦
+          let low_is : low ≡ 0 = l ∙ rw branch refl in
+          let half_is : half ≡ 33554432 = h ∙ rw branch refl in
+          of_branch (upper ∙ eqb-true (kind / 2) 5 branch) (rw (low_is, half_is) (and_mask (w / 2 ^ 0) 26)) half_is
+      | inr other ↦
+          let low_is : low ≡ 5 = l ∙ rw other refl in
+          elim (cases_Bool (eqb kind 27)) [
+            | inl test ↦
+                let half_is : half ≡ 8192 = h ∙ rw (other, test) refl in
+                of_bit_test (sym e ∙ eqb-true kind 27 test) (rw (low_is, half_is) (and_mask (w / 2 ^ 5) 14)) half_is
+            | inr rest ↦
+                let half_is : half ≡ 262144 = h ∙ rw (other, rest) refl in
+                of_other (λ five. eqb-false (kind / 2) 5 other (sym upper ∙ five)) (λ number. eqb-false kind 27 rest (e ∙ number))
+                (rw (low_is, half_is) (and_mask (w / 2 ^ 5) 19)) half_is
+          ]
+    ]
+
+pub field_fits : (w bits half : ℕ) → IsOffset w bits half → bits < 2 * half
+field_fits w bits half (of_branch a b h) = let small = mod_below (w / 2 ^ 0) (2 ^ 26) (omega arith) in omega (arith, b, h, small)
+field_fits w bits half (of_bit_test a b h) = let small = mod_below (w / 2 ^ 5) (2 ^ 14) (omega arith) in omega (arith, b, h, small)
+field_fits w bits half (of_other a c b h) = let small = mod_below (w / 2 ^ 5) (2 ^ 19) (omega arith) in omega (arith, b, h, small)
