@@ -3,7 +3,7 @@ _lfiload() {
     local word=${COMP_WORDS[COMP_CWORD]} before=${COMP_WORDS[COMP_CWORD - 1]} offered=
     COMPREPLY=()
     if ((COMP_CWORD == 1)); then
-        offered='check load serve run disassemble pack unpack --help --version'
+        offered='check load serve run disassemble pack unpack info --help --version'
         mapfile -t COMPREPLY < <(compgen -W "$offered" -- "$word")
         return
     fi
@@ -81,6 +81,7 @@ _lfiload() {
         disassemble) offered='--check --profile --help' ;;
         pack) offered='--module --entry --profile --pages --help' ;;
         unpack) offered='--help' ;;
+        info) offered='--help' ;;
     esac
     mapfile -t COMPREPLY < <(compgen -W "$offered" -- "$word")
 }

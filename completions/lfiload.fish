@@ -41,3 +41,6 @@ complete -c lfiload -n '__fish_seen_subcommand_from pack' -F
 complete -c lfiload -n __fish_use_subcommand -a unpack -d 'Writes the code of an image'
 complete -c lfiload -n '__fish_seen_subcommand_from unpack' -s h -l help -d 'Print help'
 complete -c lfiload -n '__fish_seen_subcommand_from unpack' -F
+complete -c lfiload -n __fish_use_subcommand -a info -d 'Tells what files are, and what they hold'
+complete -c lfiload -n '__fish_seen_subcommand_from info' -s h -l help -d 'Print help'
+complete -c lfiload -n '__fish_seen_subcommand_from info' -F

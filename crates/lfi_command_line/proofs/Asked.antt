@@ -18,10 +18,10 @@ use Rattle.clap.specs.declared.error.Error.{Error}
 use Rattle.clap.specs.declared.error.kind.ErrorKind.{ErrorKind}
 use Rattle.clap.specs.declared.error.kind.ErrorKind.TheVariants as kind
 use Rattle.lfi_command_line.specs.declared.fault.LineFault.{LineFault}
-use Rattle.lfi_command_line.specs.declared.fault.LineFault.TheVariants.{NoMemory, Help, Wrong, TooManyStreams, TooManyModules, NoPages, Flawed}
+use Rattle.lfi_command_line.specs.declared.fault.LineFault.TheVariants.{NoMemory, Help, Wrong, NoPages, Flawed}
 use Rattle.lfi_command_line.specs.Apps.{lfiload_app}
 use Rattle.lfi_command_line.specs.CommandLine.{AreTakenFor, IsLineFault, IsFlag, IsNumber, IsNumberIfAny, IsNumberOr, fault_by, fault_from, is_help}
-use Rattle.lfi_command_line.specs.inner.Given.{AreTakenBy, IsFaultOfCheck, IsFaultOfLoad, IsFaultOfPack, IsNumberGiven}
+use Rattle.lfi_command_line.specs.inner.Given.{AreTakenBy, IsNoMemory, IsFaultOfPack, IsNumberGiven}
 use Rattle.lfi_command_line.proofs.Needs.{AllGive, Asks, asks, picked, shape_named}
 
 module _ {Z : Type 0} where
@@ -141,26 +141,27 @@ given_for words m name given taken met rows = given_of words name given (taken_f
 -- the name that is left, where the words name none of the others
 last_of : (p : Option (Text × List Row)) → Asks p → (option_map (λ p. p.0) p ≡ Some (codes "check") → ⊥) → (option_map (λ p. p.0) p ≡ Some (codes "load") → ⊥)
     → (option_map (λ p. p.0) p ≡ Some (codes "serve") → ⊥) → (option_map (λ p. p.0) p ≡ Some (codes "disassemble") → ⊥) → (option_map (λ p. p.0) p ≡ Some (codes "pack") → ⊥)
-    → (option_map (λ p. p.0) p ≡ Some (codes "unpack") → ⊥) → option_map (λ p. p.0) p ≡ Some (codes "run")
-last_of None asks not_check not_load not_serve not_disassemble not_pack not_unpack = absurd asks
-last_of (Some p) asks not_check not_load not_serve not_disassemble not_pack not_unpack =
+    → (option_map (λ p. p.0) p ≡ Some (codes "unpack") → ⊥) → (option_map (λ p. p.0) p ≡ Some (codes "info") → ⊥) → option_map (λ p. p.0) p ≡ Some (codes "run")
+last_of None asks not_check not_load not_serve not_disassemble not_pack not_unpack not_info = absurd asks
+last_of (Some p) asks not_check not_load not_serve not_disassemble not_pack not_unpack not_info =
     named (bytes_eq (codes "check") p.0) refl (bytes_eq (codes "load") p.0) refl (bytes_eq (codes "serve") p.0) refl (bytes_eq (codes "run") p.0) refl
-    (bytes_eq (codes "disassemble") p.0) refl (bytes_eq (codes "pack") p.0) refl (bytes_eq (codes "unpack") p.0) refl asks
+    (bytes_eq (codes "disassemble") p.0) refl (bytes_eq (codes "pack") p.0) refl (bytes_eq (codes "unpack") p.0) refl (bytes_eq (codes "info") p.0) refl asks
   where
     same : (name : Text) → bytes_eq name p.0 ≡ true → Some p.0 ≡ Some name
     same name is = ap Some (sym ((bytes_eq-Decides name p.0).0 is))
 
     named : (a : Bool) → bytes_eq (codes "check") p.0 ≡ a → (b : Bool) → bytes_eq (codes "load") p.0 ≡ b → (c : Bool) → bytes_eq (codes "serve") p.0 ≡ c
         → (d : Bool) → bytes_eq (codes "run") p.0 ≡ d → (f : Bool) → bytes_eq (codes "disassemble") p.0 ≡ f → (g : Bool) → bytes_eq (codes "pack") p.0 ≡ g
-        → (h : Bool) → bytes_eq (codes "unpack") p.0 ≡ h → AllGive (picked a b c d f g h) p.1 → Some p.0 ≡ Some (codes "run")
-    named true is b _ c _ d _ f _ g _ h _ give = absurd (not_check (same (codes "check") is))
-    named false _ true is c _ d _ f _ g _ h _ give = absurd (not_load (same (codes "load") is))
-    named false _ false _ true is d _ f _ g _ h _ give = absurd (not_serve (same (codes "serve") is))
-    named false _ false _ false _ true is f _ g _ h _ give = same (codes "run") is
-    named false _ false _ false _ false _ true is g _ h _ give = absurd (not_disassemble (same (codes "disassemble") is))
-    named false _ false _ false _ false _ false _ true is h _ give = absurd (not_pack (same (codes "pack") is))
-    named false _ false _ false _ false _ false _ false _ true is give = absurd (not_unpack (same (codes "unpack") is))
-    named false _ false _ false _ false _ false _ false _ false _ give = absurd give
+        → (h : Bool) → bytes_eq (codes "unpack") p.0 ≡ h → (j : Bool) → bytes_eq (codes "info") p.0 ≡ j → AllGive (picked a b c d f g h j) p.1 → Some p.0 ≡ Some (codes "run")
+    named true is b _ c _ d _ f _ g _ h _ j _ give = absurd (not_check (same (codes "check") is))
+    named false _ true is c _ d _ f _ g _ h _ j _ give = absurd (not_load (same (codes "load") is))
+    named false _ false _ true is d _ f _ g _ h _ j _ give = absurd (not_serve (same (codes "serve") is))
+    named false _ false _ false _ true is f _ g _ h _ j _ give = same (codes "run") is
+    named false _ false _ false _ false _ true is g _ h _ j _ give = absurd (not_disassemble (same (codes "disassemble") is))
+    named false _ false _ false _ false _ false _ true is h _ j _ give = absurd (not_pack (same (codes "pack") is))
+    named false _ false _ false _ false _ false _ false _ true is j _ give = absurd (not_unpack (same (codes "unpack") is))
+    named false _ false _ false _ false _ false _ false _ false _ true is give = absurd (not_info (same (codes "info") is))
+    named false _ false _ false _ false _ false _ false _ false _ false _ give = absurd give
 
 -- Of a subcommand that the parser didn't meet the words don't have the name.
 not_met : (words : List Text) (m : ArgMatches) (name : Text) → AreTakenBy words m → (subcommand_name_of m ≡ Some name → ⊥)
@@ -170,11 +171,12 @@ not_met words m name taken other is = other (sym (name_met m _ taken.1) ∙ is)
 -- Where the parser met none of the others, it met `run`.
 pub run_met : (words : List Text) (m : ArgMatches) → AreTakenBy words m → (subcommand_name_of m ≡ Some (codes "check") → ⊥) → (subcommand_name_of m ≡ Some (codes "load") → ⊥)
     → (subcommand_name_of m ≡ Some (codes "serve") → ⊥) → (subcommand_name_of m ≡ Some (codes "disassemble") → ⊥) → (subcommand_name_of m ≡ Some (codes "pack") → ⊥)
-    → (subcommand_name_of m ≡ Some (codes "unpack") → ⊥) → subcommand_name_of m ≡ Some (codes "run")
-run_met words m taken check load serve disassemble pack unpack =
+    → (subcommand_name_of m ≡ Some (codes "unpack") → ⊥) → (subcommand_name_of m ≡ Some (codes "info") → ⊥) → subcommand_name_of m ≡ Some (codes "run")
+run_met words m taken check load serve disassemble pack unpack info =
     sym (name_met m _ taken.1)
     ∙ last_of (subcommand_of lfiload_app words) (asks words taken.0) (not_met words m (codes "check") taken check) (not_met words m (codes "load") taken load)
     (not_met words m (codes "serve") taken serve) (not_met words m (codes "disassemble") taken disassemble) (not_met words m (codes "pack") taken pack) (not_met words m (codes "unpack") taken unpack)
+    (not_met words m (codes "info") taken info)
 
 -- a number in a range, or one that is in it
 pub number_most : (default least most : ℕ) (o : Option Text) (n : ℕ) → default ≤ most → IsNumberOr default least most o n → n ≤ most
@@ -186,27 +188,15 @@ pub number_first : (o : Option Text) (n : ℕ) → (n ≡ 2 → ⊥) → IsNumbe
 number_first None n other is = is
 number_first (Some text) n other is = (let not_two : n ≢ 2 = other in let least = is.2 in let most = is.3 in omega arith)
 
--- what is wrong with what is given to `check` is wrong with the words
-pub check_fault : (words : List Text) (fault : LineFault) → IsFaultOfCheck fault → IsLineFault words fault
-check_fault words fault is = subst (IsLineFault words) (sym is) tt
-
--- what is wrong with what is given to `load` is wrong with the words
-pub load_fault : (words : List Text) (given : List Row) (fault : LineFault) → AreTakenFor words (codes "load") given → IsFaultOfLoad given fault → IsLineFault words fault
-load_fault words given NoMemory taken is = tt
-load_fault words given TooManyStreams taken is = (given, is.0, taken, is.1, is.2)
-load_fault words given (Help error) taken is = absurd is
-load_fault words given (Wrong error) taken is = absurd is
-load_fault words given TooManyModules taken is = absurd is
-load_fault words given NoPages taken is = absurd is
-load_fault words given (Flawed flaw) taken is = absurd is
+-- want of memory is a fault of any words
+pub no_memory : (words : List Text) (fault : LineFault) → IsNoMemory fault → IsLineFault words fault
+no_memory words fault is = subst (IsLineFault words) (sym is) tt
 
 -- what is wrong with what is given to `pack` is wrong with the words
 pub pack_fault : (words : List Text) (given : List Row) (fault : LineFault) → AreTakenFor words (codes "pack") given → IsFaultOfPack given fault → IsLineFault words fault
 pack_fault words given NoMemory taken is = tt
-pack_fault words given TooManyModules taken is = (given, is.0, is.1, taken, is.2, is.3, is.4)
 pack_fault words given (Help error) taken is = absurd is
 pack_fault words given (Wrong error) taken is = absurd is
-pack_fault words given TooManyStreams taken is = absurd is
 pack_fault words given NoPages taken is = (given, is.0, taken, is.1, is.2)
 pack_fault words given (Flawed flaw) taken is = absurd is
 

@@ -37,6 +37,9 @@ pack_shape = head_or whole.top (drop 5 whole.subs)
 abbrev unpack_shape : Shape
 unpack_shape = head_or whole.top (drop 6 whole.subs)
 
+abbrev info_shape : Shape
+info_shape = head_or whole.top (drop 7 whole.subs)
+
 -- the subcommand of this name
 abbrev pub shape_named : Text → Option Shape
 shape_named name = find (λ s. bytes_eq s.name name) whole.subs
@@ -51,45 +54,47 @@ Asks None = ⊥
 Asks (Some p) = AllGive (shape_named p.0) p.1
 
 -- by which name it is
-abbrev pub picked : (check load serve run' disassemble pack unpack : Bool) → Option Shape
-picked check load serve run' disassemble pack unpack =
+abbrev pub picked : (check load serve run' disassemble pack unpack info : Bool) → Option Shape
+picked check load serve run' disassemble pack unpack info =
     cond check (Some check_shape) (cond load (Some load_shape) (cond serve (Some serve_shape)
-    (cond run' (Some run_shape) (cond disassemble (Some disassemble_shape) (cond pack (Some pack_shape) (cond unpack (Some unpack_shape) None))))))
+    (cond run' (Some run_shape) (cond disassemble (Some disassemble_shape) (cond pack (Some pack_shape) (cond unpack (Some unpack_shape) (cond info (Some info_shape) None)))))))
 
 subcommand_asks : (stop : Option (Text × List Text)) → is_some (entered whole stop) ≡ true → entered_fault whole stop ≡ [] → Asks (entered whole stop)
 subcommand_asks None some none = absurd (true≢false (sym some))
 subcommand_asks (Some p) some none =
     go (answers_to p.0 (label_of check_shape)) (answers_to p.0 (label_of load_shape)) (answers_to p.0 (label_of serve_shape))
-    (answers_to p.0 (label_of run_shape)) (answers_to p.0 (label_of disassemble_shape)) (answers_to p.0 (label_of pack_shape)) (answers_to p.0 (label_of unpack_shape)) some none
+    (answers_to p.0 (label_of run_shape)) (answers_to p.0 (label_of disassemble_shape)) (answers_to p.0 (label_of pack_shape)) (answers_to p.0 (label_of unpack_shape))
+    (answers_to p.0 (label_of info_shape)) some none
   where
-    go : (a b c d f g h : Bool) → is_some (option_map (λ s. rows_at s p.1) (picked a b c d f g h)) ≡ true
-        → option_map_or (λ s. level_fault s [] nothing_held p.1 false []) (picked a b c d f g h) [] ≡ [] → Asks (option_map (λ s. rows_at s p.1) (picked a b c d f g h))
-    go true b c d f g h has e =
+    go : (a b c d f g h j : Bool) → is_some (option_map (λ s. rows_at s p.1) (picked a b c d f g h j)) ≡ true
+        → option_map_or (λ s. level_fault s [] nothing_held p.1 false []) (picked a b c d f g h j) [] ≡ [] → Asks (option_map (λ s. rows_at s p.1) (picked a b c d f g h j))
+    go true b c d f g h j has e =
         level_gives check_shape p.1
         (inr (inr (inl (refl, tt, refl))), (inr (inr (inl (refl, tt, refl))), (inl (refl, refl, refl), (inr (inl (refl, refl, tt)), (inr (inr (inr (inl refl))), tt)))))
         (inr refl, (inr refl, (inl refl, (inl refl, (inl refl, tt))))) e
-    go false true c d f g h has e =
+    go false true c d f g h j has e =
         level_gives load_shape p.1
         (inl (refl, refl, refl), (inl (refl, refl, tt), (inr (inl (refl, refl, tt)), (inr (inr (inl (refl, tt, refl))), (inr (inr (inr (inl refl))), tt)))))
         (inl refl, (inl refl, (inl refl, (inr refl, (inl refl, tt))))) e
-    go false false true d f g h has e =
+    go false false true d f g h j has e =
         level_gives serve_shape p.1
         (inl (refl, refl, tt), (inl (refl, refl, refl), (inl (refl, refl, refl), (inl (refl, refl, refl), (inl (refl, refl, tt), (inr (inr (inl (refl, tt, refl))), (inr (inr (inr (inl refl))), tt)))))))
         (inl refl, (inl refl, (inl refl, (inl refl, (inl refl, (inr refl, (inl refl, tt))))))) e
-    go false false false true f g h has e =
+    go false false false true f g h j has e =
         level_gives run_shape p.1
         (inl (refl, refl, refl), (inl (refl, refl, tt), (inr (inr (inr (inl refl))), tt)))
         (inl refl, (inl refl, (inl refl, tt))) e
-    go false false false false true g h has e =
+    go false false false false true g h j has e =
         level_gives disassemble_shape p.1
         (inr (inr (inl (refl, tt, refl))), (inl (refl, refl, refl), (inl (refl, refl, tt), (inr (inr (inr (inl refl))), tt))))
         (inr refl, (inl refl, (inl refl, (inl refl, tt)))) e
-    go false false false false false true h has e =
+    go false false false false false true h j has e =
         level_gives pack_shape p.1
         (inl (refl, refl, refl), (inl (refl, refl, refl), (inl (refl, refl, refl), (inl (refl, refl, tt), (inr (inl (refl, refl, tt)), (inr (inr (inr (inl refl))), tt))))))
         (inl refl, (inl refl, (inl refl, (inl refl, (inl refl, (inl refl, tt)))))) e
-    go false false false false false false true has e = level_gives unpack_shape p.1 (inl (refl, refl, tt), (inr (inr (inr (inl refl))), tt)) (inl refl, (inl refl, tt)) e
-    go false false false false false false false has e = absurd (true≢false (sym has))
+    go false false false false false false true j has e = level_gives unpack_shape p.1 (inl (refl, refl, tt), (inr (inr (inr (inl refl))), tt)) (inl refl, (inl refl, tt)) e
+    go false false false false false false false true has e = level_gives info_shape p.1 (inr (inl (refl, refl, tt)), (inr (inr (inr (inl refl))), tt)) (inl refl, (inl refl, tt)) e
+    go false false false false false false false false has e = absurd (true≢false (sym has))
 
 needed : (has : Bool) (rows : List Row) → check_fault whole.top rows has ≡ [] → has ≡ true
 needed true rows e = refl

@@ -70,14 +70,18 @@ pack_app = with_rule (with_rule (with_rule (with_rule (with_rule (new_app (codes
 abbrev pub unpack_app : App
 unpack_app = with_rule (new_app (codes "unpack")) (required_rule (codes "IMAGE"))
 
+-- `info FILE..`
+abbrev pub info_app : App
+info_app = with_rule (new_app (codes "info")) (several_rule (codes "FILE"))
+
 -- the program without its subcommands: one has to be there, `help` is none, and it has a version
 abbrev pub bare_app : App
 bare_app = on_top (λ s. record s { has_version = true; subcommand_required = true; disable_help_subcommand = true }) (new_app (codes "lfiload"))
 
 -- the program
 abbrev pub lfiload_app : App
-lfiload_app = with_subcommand (with_subcommand (with_subcommand (with_subcommand (with_subcommand (with_subcommand (with_subcommand bare_app
-    check_app.top) load_app.top) serve_app.top) run_app.top) disassemble_app.top) pack_app.top) unpack_app.top
+lfiload_app = with_subcommand (with_subcommand (with_subcommand (with_subcommand (with_subcommand (with_subcommand (with_subcommand (with_subcommand bare_app
+    check_app.top) load_app.top) serve_app.top) run_app.top) disassemble_app.top) pack_app.top) unpack_app.top) info_app.top
 
 -- the parser's command is the one described, and none of its arguments is global
 abbrev pub Makes : App → Command → Type 0

@@ -1,5 +1,5 @@
 -- What the words of the command line ask for, and what is wrong with them. (docs/COMMANDS.md)
-use Rattle.std.specs.Prelude.{◌≡◌, ⊤, ℕ, ◌+◌, ◌≤◌, ◌<◌, ◌&&◌, if◌then◌else◌, Bool, List, [], codes, length, map, Option, Some, None, true, false, option_map}
+use Rattle.std.specs.Prelude.{◌≡◌, ⊤, ℕ, ◌≤◌, ◌&&◌, if◌then◌else◌, Bool, List, [], codes, length, map, Option, Some, None, true, false, option_map}
 use Rattle.clap.specs.Words.{IsAmong, Row, Text, all_of, fault_of, first_of, kind_of, one_of, subcommand_of}
 use Rattle.std.specs.Str.{bytes_eq}
 use Rattle.std.specs.Str.Parse.{IsNumeral, digits_value, without_leading_plus}
@@ -11,12 +11,12 @@ use Rattle.lfi_module.specs.Numbers.{small_page, large_page}
 use Rattle.lfi_module.specs.Profiles.{profile_number, is_two}
 use Rattle.lfi_command_line.specs.Apps.{lfiload_app}
 use Rattle.lfi_command_line.specs.declared.line.Line.{Line}
-use Rattle.lfi_command_line.specs.declared.line.Line.TheVariants.{Check, Load, Serve, Run, Disassemble, Pack, Unpack}
+use Rattle.lfi_command_line.specs.declared.line.Line.TheVariants.{Check, Load, Serve, Run, Disassemble, Pack, Unpack, Info}
 use Rattle.lfi_command_line.specs.declared.options.Explain.{Explain}
 use Rattle.lfi_command_line.specs.declared.options.Explain.TheVariants.{Nothing, First, All}
 use Rattle.lfi_command_line.specs.declared.options.ReportOptions.{ReportOptions}
 use Rattle.lfi_command_line.specs.declared.fault.LineFault.{LineFault}
-use Rattle.lfi_command_line.specs.declared.fault.LineFault.TheVariants.{NoMemory, Help, Wrong, TooManyStreams, TooManyModules, NoPages, Flawed}
+use Rattle.lfi_command_line.specs.declared.fault.LineFault.TheVariants.{NoMemory, Help, Wrong, NoPages, Flawed}
 use Rattle.lfi_command_line.specs.Flaws.{flaw_of}
 
 -- the text is a number in this range in decimal digits, perhaps with a plus before them
@@ -69,7 +69,7 @@ abbrev pub IsAskedBy : (name : Text) → List Row → Line → Type 0
 IsAskedBy name given (Check asked) = (name ≡ codes "check") × (all_of (codes "FILE") given ≡ Some (map (λ s. s.now) asked.files.items)) × (1 ≤ length asked.files.items)
     × IsExplain given asked.explain × IsProfile given asked.profile
 IsAskedBy name given (Load asked) = (name ≡ codes "load") × IsReportAsked given asked.report × IsNumberOr 2 1 8 (first_of (codes "verifiers") given) asked.verifiers
-    × (all_of (codes "STREAM") given ≡ Some (map (λ s. s.now) asked.streams.items)) × (1 ≤ length asked.streams.items) × (length asked.streams.items ≤ 8)
+    × (all_of (codes "STREAM") given ≡ Some (map (λ s. s.now) asked.streams.items)) × (1 ≤ length asked.streams.items)
 IsAskedBy name given (Serve asked) = (name ≡ codes "serve") × IsReportAsked given asked.report × (first_of (codes "socket") given ≡ Some asked.socket.now)
     × ((text : Text) × (first_of (codes "connections") given ≡ Some text) × IsNumber 1 8 text asked.connections)
     × IsNumberOr 2 1 8 (first_of (codes "verifiers") given) asked.verifiers × IsNumberIfAny 1 86400 (first_of (codes "seconds") given) asked.seconds
@@ -79,29 +79,21 @@ IsAskedBy name given (Disassemble asked) = (name ≡ codes "disassemble") × (fi
     × IsProfile given asked.profile
 IsAskedBy name given (Pack asked) = (name ≡ codes "pack") × IsNumberOr 0 0 15 (first_of (codes "module") given) asked.first
     × IsNumberOr 0 0 4194303 (first_of (codes "entry") given) asked.entry × IsProfile given asked.profile × (pages_named (first_of (codes "pages") given) asked.profile ≡ Some asked.pages)
-    × (all_of (codes "CODE") given ≡ Some (map (λ s. s.now) asked.codes.items)) × (1 ≤ length asked.codes.items) × (asked.first + length asked.codes.items ≤ 16)
+    × (all_of (codes "CODE") given ≡ Some (map (λ s. s.now) asked.codes.items)) × (1 ≤ length asked.codes.items)
 IsAskedBy name given (Unpack asked) = (name ≡ codes "unpack") × (first_of (codes "IMAGE") given ≡ Some asked.image.now)
+IsAskedBy name given (Info asked) = (name ≡ codes "info") × (all_of (codes "FILE") given ≡ Some (map (λ s. s.now) asked.files.items)) × (1 ≤ length asked.files.items)
 
 -- Nothing is wrong with the words for the parser, which takes them for this subcommand, with what is given to it.
 abbrev pub AreTakenFor : List Text → (name : Text) → List Row → Type 0
 AreTakenFor words name given = (fault_of lfiload_app words ≡ []) × (subcommand_of lfiload_app words ≡ Some (name, given))
 
--- the words ask for this line, and nothing is wrong with them for the parser
+-- The words ask for this line, and nothing is wrong with them for the parser; whether it can be carried out `flaw_of` says.
 abbrev pub IsLine : List Text → Line → Type 0
 IsLine words line = (name : Text) × (given : List Row) × AreTakenFor words name given × IsAskedBy name given line
 
 -- a wish for help, which is no mistake
 abbrev pub is_help : ErrorKind → Bool
 is_help = elim [ kind.DisplayHelp ↦ true | kind.DisplayVersion ↦ true | _ ↦ false ]
-
--- they name more than 8 streams
-abbrev pub NameTooMany : List Text → Type 0
-NameTooMany words = (given : List Row) × (streams : List Text) × AreTakenFor words (codes "load") given × (all_of (codes "STREAM") given ≡ Some streams) × (8 < length streams)
-
--- they ask for modules above the last one
-abbrev pub NameTooManyModules : List Text → Type 0
-NameTooManyModules words = (given : List Row) × (number : ℕ) × (files : List Text) × AreTakenFor words (codes "pack") given
-    × IsNumberOr 0 0 15 (first_of (codes "module") given) number × (all_of (codes "CODE") given ≡ Some files) × (16 < number + length files)
 
 -- they ask for pages of a size that there isn't by the profile which they name
 abbrev pub NameNoPages : List Text → Type 0
@@ -112,8 +104,6 @@ abbrev pub IsLineFault : List Text → LineFault → Type 0
 IsLineFault words NoMemory = ⊤
 IsLineFault words (Help error) = IsAmong (kind_of error) (fault_of lfiload_app words) × (is_help (kind_of error) ≡ true)
 IsLineFault words (Wrong error) = IsAmong (kind_of error) (fault_of lfiload_app words) × (is_help (kind_of error) ≡ false)
-IsLineFault words TooManyStreams = NameTooMany words
-IsLineFault words TooManyModules = NameTooManyModules words
 IsLineFault words NoPages = NameNoPages words
 IsLineFault words (Flawed flaw) = (line : Line) × IsLine words line × (flaw_of line ≡ Some flaw)
 

@@ -3,7 +3,7 @@
 ghost use Rattle.std.specs.Prelude.{◌≡◌, IfOk, false, codes};
 ghost use Rattle.clap.specs.Words.{App, Rule, rule_of, with_rule, with_subcommand};
 ghost use Rattle.clap.specs.declared.builder.value_parser.ValueParser.TheVariants.{Unsigned};
-ghost use Rattle.lfi_command_line.specs.Apps.{Makes, needed, required_rule, several_rule, option_rule, number_rule, profile_rule, flag_rule, check_app, load_app, serve_app, run_app, disassemble_app, pack_app, unpack_app, bare_app, lfiload_app};
+ghost use Rattle.lfi_command_line.specs.Apps.{Makes, needed, required_rule, several_rule, option_rule, number_rule, profile_rule, flag_rule, check_app, load_app, serve_app, run_app, disassemble_app, pack_app, unpack_app, info_app, bare_app, lfiload_app};
 
 use crate::help;
 use clap::builder::ValueParser;
@@ -15,7 +15,7 @@ use std::alloc::{AllocError, Global};
 const MOST_STEPS: u64 = 1_000_000_000;
 
 /// The most connections that `serve` is asked for, and streams that `load` is given.
-pub(crate) const MOST_CONNECTIONS: u64 = CONNECTIONS as u64;
+const MOST_CONNECTIONS: u64 = CONNECTIONS as u64;
 
 /// The most verifiers that are asked for.
 const MOST_VERIFIERS: u64 = VERIFIERS as u64;
@@ -24,7 +24,7 @@ const MOST_VERIFIERS: u64 = VERIFIERS as u64;
 const MOST_SECONDS: u64 = 86_400;
 
 /// The last module's number.
-pub(crate) const LAST_MODULE: u64 = ModuleNumber::COUNT as u64 - 1;
+const LAST_MODULE: u64 = ModuleNumber::COUNT as u64 - 1;
 
 /// The number of the last profile.
 const LAST_PROFILE: u64 = 2;
@@ -276,6 +276,19 @@ fn unpack_command<'a>(alloc: Global) -> Result<Command<'a>, AllocError>
     with(Ok(unpack), required_argument(alloc, "IMAGE", help::IMAGE))
 }
 
+/// The command `info` and its words.
+fn info_command<'a>(alloc: Global) -> Result<Command<'a>, AllocError>
+    ensures { IfOk result (Makes info_app) }
+{
+    let info = Command::new(alloc, "info")
+        .about("Tells what files are, and what they hold")
+        .after_help(help::INFO);
+    with(
+        Ok(info),
+        several_arguments(alloc, "FILE", help::FILES_OF_ANY_KIND),
+    )
+}
+
 /// The program's command, without its subcommands.
 fn bare_command<'a>(alloc: Global) -> Command<'a>
     ensures { Makes bare_app result }
@@ -298,5 +311,6 @@ pub(crate) fn command<'a>(alloc: Global) -> Result<Command<'a>, AllocError>
     let run = with_subcommand(serve, run_command(alloc));
     let disassemble = with_subcommand(run, disassemble_command(alloc));
     let pack = with_subcommand(disassemble, pack_command(alloc));
-    with_subcommand(pack, unpack_command(alloc))
+    let unpack = with_subcommand(pack, unpack_command(alloc));
+    with_subcommand(unpack, info_command(alloc))
 }

@@ -20,12 +20,6 @@ pub enum LineFault {
     /// They are wrong: the parser's text.
     #[error("{0}")]
     Wrong(Error),
-    /// They name more than 8 streams.
-    #[error("at most 8 streams")]
-    TooManyStreams,
-    /// They ask for modules above the last one, 15.
-    #[error("at most 16 modules")]
-    TooManyModules,
     /// They name pages of a size that is neither small, nor large by the second profile.
     #[error("pages are small, or large with --profile 2")]
     NoPages,

@@ -2,9 +2,11 @@
 
 ghost use Rattle.std.specs.Prelude.{◌≡◌, ◌<◌, Some, suc, if◌then◌else◌, codes, map, option_map};
 ghost use Rattle.std.specs.Str.{bytes_eq};
-ghost use Rattle.lfi_command_line.specs.Flaws.{flaw_of, flaw_of_files, flaw_of_socket, flaw_text, input_count, is_empty_path};
+ghost use Rattle.lfi_command_line.specs.Flaws.{flaw_of, flaw_of_files, flaw_of_load, flaw_of_pack, flaw_of_socket, flaw_text, input_count, is_empty_path};
 
 use crate::line::Line;
+use crate::options::{LoadOptions, PackOptions};
+use lfi_module::{CONNECTIONS, ModuleNumber};
 use std::fmt;
 
 /// The path that names the standard input.
@@ -13,6 +15,10 @@ const STANDARD_INPUT: &str = "-";
 /// Why a line can't be carried out that the parser takes.
 #[derive(Clone, Copy, Debug, PartialEq, Eq)]
 pub enum Flaw {
+    /// More than 8 streams are named.
+    TooManyStreams,
+    /// It asks for modules above the last one, 15.
+    TooManyModules,
     /// The folder of images is an empty path.
     NoFolder,
     /// The socket's path is empty.
@@ -26,6 +32,8 @@ impl fmt::Display for Flaw {
 
     fn fmt<W: fmt::Write>(&self, f: &mut fmt::Formatter<W>) -> fmt::Result {
         match self {
+            Flaw::TooManyStreams => write!(f, "at most 8 streams"),
+            Flaw::TooManyModules => write!(f, "at most 16 modules"),
             Flaw::NoFolder => write!(f, "--out names no folder"),
             Flaw::NoSocket => write!(f, "--socket names no path"),
             Flaw::InputTwice => write!(f, "- can be named once"),
@@ -92,15 +100,38 @@ fn flaw_of_socket(folder: Option<&str>, socket: &str) -> Option<Flaw>
     }
 }
 
+/// The flaw of a line that asks for this load.
+fn flaw_of_load(load: &LoadOptions<'_>) -> Option<Flaw>
+    ensures { result ≡ flaw_of_load load.now }
+{
+    if load.streams.len() > CONNECTIONS {
+        Some(Flaw::TooManyStreams)
+    } else {
+        flaw_of_files(load.report.out, &load.streams)
+    }
+}
+
+/// The flaw of a line that asks for this stream.
+fn flaw_of_pack(pack: &PackOptions<'_>) -> Option<Flaw>
+    ensures { result ≡ flaw_of_pack pack.now }
+{
+    if pack.first.saturating_add(pack.codes.len()) > ModuleNumber::COUNT {
+        Some(Flaw::TooManyModules)
+    } else {
+        flaw_of_files(None, &pack.codes)
+    }
+}
+
 /// Why a line can't be carried out.
 pub(crate) fn flaw_of(line: &Line<'_>) -> Option<Flaw>
     ensures { result ≡ flaw_of line.now }
 {
     match line {
-        Line::Load(load) => flaw_of_files(load.report.out, &load.streams),
+        Line::Load(load) => flaw_of_load(load),
         Line::Serve(serve) => flaw_of_socket(serve.report.out, serve.socket),
-        Line::Pack(pack) => flaw_of_files(None, &pack.codes),
+        Line::Pack(pack) => flaw_of_pack(pack),
         Line::Check(check) => flaw_of_files(None, &check.files),
+        Line::Info(info) => flaw_of_files(None, &info.files),
         Line::Run(_) | Line::Disassemble(_) | Line::Unpack(_) => None,
     }
 }

@@ -3,14 +3,13 @@
 ghost use Rattle.std.specs.Prelude.{◌≡◌, ℕ, IfOk, IfErr, true, is_some, codes, option_map};
 ghost use Rattle.clap.specs.Words.{first_of, one_of, rows_of, found_of};
 ghost use Rattle.lfi_command_line.specs.CommandLine.{IsAskedBy, IsFlag, IsProfile, IsNumberIfAny, IsNumberOr, IsReportAsked, explain_by, pages_named};
-ghost use Rattle.lfi_command_line.specs.inner.Given.{IsNumberGiven, IsFaultOfCheck, IsFaultOfLoad, IsFaultOfPack};
+ghost use Rattle.lfi_command_line.specs.inner.Given.{IsNumberGiven, IsNoMemory, IsFaultOfPack};
 
-use crate::commands::{LAST_MODULE, MOST_CONNECTIONS};
 use crate::fault::LineFault;
 use crate::line::Line;
 use crate::options::{
-    CheckOptions, DisassembleOptions, Explain, LoadOptions, PackOptions, ReportOptions, RunOptions,
-    ServeOptions, UnpackOptions,
+    CheckOptions, DisassembleOptions, Explain, InfoOptions, LoadOptions, PackOptions,
+    ReportOptions, RunOptions, ServeOptions, UnpackOptions,
 };
 use clap::ArgMatches;
 use lfi_module::{PageSize, Profile};
@@ -18,12 +17,6 @@ use std::alloc::Global;
 
 /// How many verifiers there are where nothing is said of them.
 const VERIFIERS: u64 = 2;
-
-/// The most streams.
-const MOST_STREAMS: usize = MOST_CONNECTIONS as usize;
-
-/// How many modules there are.
-const MODULES: usize = LAST_MODULE as usize + 1;
 
 /// Whether a flag is given.
 fn is_given(matches: &ArgMatches<'_>, id: &str) -> bool
@@ -54,7 +47,7 @@ pub(crate) fn check_line<'a>(alloc: Global, check: &ArgMatches<'a>) -> Result<Li
     requires file { is_some (first_of (codes "FILE") (rows_of (found_of check.now))) ≡ true }
     requires profile { IsNumberGiven 1 2 (codes "profile") (rows_of (found_of check.now)) }
     ensures line { IfOk result (IsAskedBy (codes "check") (rows_of (found_of check.now))) }
-    ensures fault { IfErr result IsFaultOfCheck }
+    ensures fault { IfErr result IsNoMemory }
 {
     let files = Vec::from_slice(alloc, check.get_strs("FILE").unwrap())?;
     Ok(Line::Check(CheckOptions {
@@ -62,6 +55,20 @@ pub(crate) fn check_line<'a>(alloc: Global, check: &ArgMatches<'a>) -> Result<Li
         explain: explain_by(is_given(check, "explain"), is_given(check, "all")),
         profile: profile_of(check),
     }))
+}
+
+/// What `info` asks for.
+///
+/// # Errors
+///
+/// Where there is no memory to list the files.
+pub(crate) fn info_line<'a>(alloc: Global, info: &ArgMatches<'a>) -> Result<Line<'a>, LineFault>
+    requires { is_some (first_of (codes "FILE") (rows_of (found_of info.now))) ≡ true }
+    ensures line { IfOk result (IsAskedBy (codes "info") (rows_of (found_of info.now))) }
+    ensures fault { IfErr result IsNoMemory }
+{
+    let files = Vec::from_slice(alloc, info.get_strs("FILE").unwrap())?;
+    Ok(Line::Info(InfoOptions { files }))
 }
 
 /// The number that is given to this argument, or the other where none is.
@@ -106,18 +113,14 @@ fn report_options<'a>(matches: &ArgMatches<'a>) -> ReportOptions<'a>
 ///
 /// # Errors
 ///
-/// Where there are more than 8 streams, or no memory to list them.
+/// Where there is no memory to list the streams.
 pub(crate) fn load_line<'a>(alloc: Global, load: &ArgMatches<'a>) -> Result<Line<'a>, LineFault>
     requires streams { is_some (first_of (codes "STREAM") (rows_of (found_of load.now))) ≡ true }
     requires verifiers { IsNumberGiven 1 8 (codes "verifiers") (rows_of (found_of load.now)) }
     ensures line { IfOk result (IsAskedBy (codes "load") (rows_of (found_of load.now))) }
-    ensures fault { IfErr result (IsFaultOfLoad (rows_of (found_of load.now))) }
+    ensures fault { IfErr result IsNoMemory }
 {
-    let paths = load.get_strs("STREAM").unwrap();
-    if paths.len() > MOST_STREAMS {
-        return Err(LineFault::TooManyStreams);
-    }
-    let streams = Vec::from_slice(alloc, paths)?;
+    let streams = Vec::from_slice(alloc, load.get_strs("STREAM").unwrap())?;
     Ok(Line::Load(LoadOptions {
         verifiers: number_or(load, "verifiers", VERIFIERS) as usize,
         streams,
@@ -200,8 +203,7 @@ fn pages_named(name: Option<&str>, profile: Profile) -> Option<PageSize>
 ///
 /// # Errors
 ///
-/// Where there are more files than modules from the first one's number on, pages of no such size, or no memory to list the
-/// files.
+/// Where there are pages of no such size, or no memory to list the files.
 pub(crate) fn pack_line<'a>(alloc: Global, pack: &ArgMatches<'a>) -> Result<Line<'a>, LineFault>
     requires codes { is_some (first_of (codes "CODE") (rows_of (found_of pack.now))) ≡ true }
     requires module { IsNumberGiven 0 15 (codes "module") (rows_of (found_of pack.now)) }
@@ -212,15 +214,11 @@ pub(crate) fn pack_line<'a>(alloc: Global, pack: &ArgMatches<'a>) -> Result<Line
 {
     let first = number_or(pack, "module", 0) as usize;
     let entry = number_or(pack, "entry", 0) as u32;
-    let paths = pack.get_strs("CODE").unwrap();
-    if first + paths.len() > MODULES {
-        return Err(LineFault::TooManyModules);
-    }
     let profile = profile_of(pack);
     let Some(pages) = pages_named(pack.get_str("pages"), profile) else {
         return Err(LineFault::NoPages);
     };
-    let codes = Vec::from_slice(alloc, paths)?;
+    let codes = Vec::from_slice(alloc, pack.get_strs("CODE").unwrap())?;
     Ok(Line::Pack(PackOptions {
         first,
         entry,

@@ -4,7 +4,8 @@
 pub const PROGRAM: &str = "Exit status:
   0  check: the code of each file is lawful. load, serve: each module is complete or unused, and no
      connection has a fault. run: the run ended with a status, at BRK, or when all steps were used.
-     disassemble, pack, unpack: all was written.
+     disassemble, pack, unpack: all was written. info: each file is code, or a stream or an image
+     without a fault.
   1  It isn't so: the printed lines say why.
   2  The words of the command line are wrong.
   3  A device failed, or memory was refused: a line on the standard error says which, and a second
@@ -19,6 +20,9 @@ pub const FILE: &str = "plain code words, the lowest byte first";
 
 /// Of several.
 pub const FILES: &str = "one file or more, each with plain code words, the lowest byte first";
+
+/// Of several of any kind.
+pub const FILES_OF_ANY_KIND: &str = "one file or more: code, streams, images";
 
 /// Of `--explain`.
 pub const EXPLAIN: &str =
@@ -262,3 +266,24 @@ On the standard error:
   lfiload: no memory               There was no memory for it (status 3).
 
 Example: lfiload unpack module-00.img > module.code";
+
+/// Of `info`: its lines.
+pub const INFO: &str = "Prints for each file what it is, and what it holds:
+  code, N words           Plain code words; check judges them.
+  image                   Its slot, base, words, entry and profile, a line each, and `lawful`.
+  image refused, fault F  As run tells it (status 1).
+  stream                  A line for each message follows, by the byte at which it begins:
+    byte B: module M open, N words, entry W, profile P, small pages
+    byte B: module M page I, L bytes
+    byte B: module M close
+    byte B: fault F, TEXT  The stream's fault (status 1).
+  an ELF file; TEXT       And how its code is taken out (status 1).
+  no code, N bytes        None of these (status 1).
+Where several files are named, the path of each and a colon stand before its first line, and the
+status is the worst of theirs. Each is read whole.
+
+On the standard error:
+  lfiload: cannot read PATH  The file can't be read (status 3).
+  lfiload: no memory         There was no memory for it (status 3).
+
+Example: lfiload info module-00.img both.stream";

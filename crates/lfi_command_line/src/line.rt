@@ -10,11 +10,12 @@ use crate::commands::command;
 use crate::fault::LineFault;
 use crate::flaw::flaw_of;
 use crate::given::{
-    check_line, disassemble_line, load_line, pack_line, run_line, serve_line, unpack_line,
+    check_line, disassemble_line, info_line, load_line, pack_line, run_line, serve_line,
+    unpack_line,
 };
 use crate::options::{
-    CheckOptions, DisassembleOptions, LoadOptions, PackOptions, RunOptions, ServeOptions,
-    UnpackOptions,
+    CheckOptions, DisassembleOptions, InfoOptions, LoadOptions, PackOptions, RunOptions,
+    ServeOptions, UnpackOptions,
 };
 use clap::ArgMatches;
 use std::alloc::Global;
@@ -29,6 +30,7 @@ pub enum Line<'a> {
     Disassemble(DisassembleOptions<'a>),
     Pack(PackOptions<'a>),
     Unpack(UnpackOptions<'a>),
+    Info(InfoOptions<'a>),
 }
 
 /// What the parser makes of the words.
@@ -63,6 +65,9 @@ fn line_of<'a>(alloc: Global, matches: &ArgMatches<'a>) -> Result<Line<'a>, Line
     if let Some(unpack) = matches.subcommand_matches("unpack") {
         return Ok(unpack_line(unpack));
     }
+    if let Some(info) = matches.subcommand_matches("info") {
+        return info_line(alloc, info);
+    }
     Ok(run_line(matches.subcommand_matches("run").unwrap()))
 }
 
@@ -73,8 +78,8 @@ fn line_of<'a>(alloc: Global, matches: &ArgMatches<'a>) -> Result<Line<'a>, Line
 ///
 /// # Errors
 ///
-/// Why there is no command to carry out: help was asked for, the words are wrong, they name too much, or nothing, or there
-/// was no memory to read them.
+/// Why there is no command to carry out: help was asked for, the words are wrong, what they ask for can't be carried out
+/// (`Flaw`), or there was no memory to read them.
 pub fn read_line<'a>(alloc: Global, words: &'a [String]) -> Result<Line<'a>, LineFault>
     ensures line { IfOk result (IsLine (map string_bytes words.now)) }
     ensures sound { IfOk result (λ line. flaw_of line ≡ None) }

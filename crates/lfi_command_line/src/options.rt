@@ -22,6 +22,13 @@ pub struct CheckOptions<'a> {
     pub profile: Profile,
 }
 
+/// `info`: what these files are, and what they hold.
+#[derive(Drop)]
+pub struct InfoOptions<'a> {
+    /// The paths of the files, at least one.
+    pub files: Vec<&'a str>,
+}
+
 /// What is asked for beside a report.
 #[derive(Clone, Copy)]
 pub struct ReportOptions<'a> {

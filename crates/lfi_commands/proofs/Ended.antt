@@ -1,9 +1,9 @@
 -- A line that is carried out is no wrong words.
 use Rattle.std.proofs.Common.{◌≡◌, ◌∙◌, ◌⊎◌, ℕ, zero, suc, List, length, nat_lt, cond, Bool, true, false, Option, Some, None, Result, Ok, Err, IfOk, IfErr, OnErr, inl, inr, refl, subst, sym}
 use Rattle.lfi_command_line.specs.declared.line.Line.{Line}
-use Rattle.lfi_command_line.specs.declared.line.Line.TheVariants.{Check, Load, Serve, Run, Disassemble, Pack, Unpack}
+use Rattle.lfi_command_line.specs.declared.line.Line.TheVariants.{Check, Load, Serve, Run, Disassemble, Pack, Unpack, Info}
 use Rattle.lfi_command_line.specs.declared.options.CheckOptions.{CheckOptions}
-use Rattle.lfi_command_line.specs.CommandLine.{AreWrong, IsLine}
+use Rattle.lfi_command_line.specs.CommandLine.{AreWrong}
 use Rattle.lfi_image_file.specs.declared.fault.ImageFault.{ImageFault}
 use Rattle.lfi_image_file.specs.declared.fault.ImageFault.TheVariants as image_fault
 use Rattle.lfi_confinement.specs.declared.cause.Cause.TheVariants as causes
@@ -17,7 +17,14 @@ use Rattle.lfi_code.specs.declared.verdict.Verdict.TheVariants.{Lawful, Refused,
 use Rattle.lfi_file_commands.specs.declared.ending.Ending.{Ending}
 use Rattle.lfi_file_commands.specs.declared.ending.Ending.TheVariants.{Well, NotWell, WrongWords, Failed}
 use Rattle.lfi_file_commands.specs.Checking.{ending_of, verdict_of}
-use Rattle.lfi_file_commands.specs.Explaining.{AreChecked, ChecksAll, ChecksOne, StopsAtOutput}
+use Rattle.lfi_file_commands.specs.Explaining.{ChecksOne, ChecksPath, paths_of}
+use Rattle.lfi_file_commands.specs.Info.{IsInfo, TellsNamed, TellsOne, ending_of_fault, fault_of}
+use Rattle.lfi_file_commands.specs.Info as infos
+use Rattle.lfi_file_commands.specs.Kinds.{file_kind}
+use Rattle.lfi_file_commands.specs.Several.{AreDone, DoesEach}
+use Rattle.lfi_file_commands.specs.declared.kind.FileKind.{FileKind}
+use Rattle.lfi_file_commands.specs.declared.kind.FileKind.TheVariants as kinds
+use Rattle.lfi_frame.specs.declared.fault.FrameFault.{FrameFault}
 use Rattle.lfi_file_commands.specs.Listing.{EndsListing}
 use Rattle.lfi_file_commands.specs.Unpacking.{HasUnpacked}
 use Rattle.lfi_file_commands.specs.declared.no_code.NoCode.{NoCode}
@@ -29,7 +36,7 @@ use Rattle.lfi_file_commands.specs.Running.{EndsRun}
 use Rattle.lfi_file_commands.specs.Failures.{failure_line, is_of_output, Told, TellsLines}
 use Rattle.lfi_file_commands.specs.declared.failure.Failure.{Failure}
 use Rattle.lfi_commands.proofs.Failing.{fails_by}
-use Rattle.lfi_commands.specs.Runs.{CarriesOut, FailsAs, Runs, TellsFailure, TellsFlaw, TellsNoPages, TellsTooMany, TellsTooManyModules}
+use Rattle.lfi_commands.specs.Runs.{CarriesOut, FailsAs, IsSoundLine, Runs, TellsFailure, TellsFlaw, TellsNoPages}
 use Rattle.lfi_file_commands.specs.declared.failure.Failure.TheVariants.{NoMemory}
 
 well_ends : WrongWords ≡ Well → ⊥
@@ -37,6 +44,13 @@ well_ends ends = cc
 
 failed_ends : WrongWords ≡ Failed → ⊥
 failed_ends ends = cc
+
+not_well_ends : WrongWords ≡ NotWell → ⊥
+not_well_ends ends = cc
+
+by_stream : (fault : Option FrameFault) → WrongWords ≡ ending_of_fault fault → ⊥
+by_stream None ends = cc
+by_stream (Some fault) ends = cc
 
 by_verdict : (verdict : Verdict) → WrongWords ≡ ending_of verdict → ⊥
 by_verdict (Lawful words) ends = cc
@@ -84,19 +98,33 @@ by_one : (name : List ℕ) (asked : CheckOptions) (path : List ℕ) (bytes : Opt
 by_one name asked path bytes old new ending (inl judged) is = by_verdict (verdict_of judged.finding) (sym is ∙ judged.ends)
 by_one name asked path bytes old new ending (inr unread) is = failed_ends (sym is ∙ unread.5)
 
-by_checked : (asked : CheckOptions) (file_at : List ℕ → Option (List ℕ)) (count : ℕ) (old new : Left) (ending : Ending) → AreChecked asked file_at count old new ending → ending ≡ WrongWords → ⊥
-by_checked asked file_at zero old new ending checked is = well_ends (sym is ∙ checked.1)
-by_checked asked file_at (suc k) old new ending checked is =
-    chosen (nat_lt (number_of checked.1) (number_of checked.2)) checked.1 checked.2 (by_checked asked file_at k old checked.0 checked.1 checked.4)
-    (by_one _ asked checked.3 (file_at checked.3) checked.0 new checked.2 checked.6) (sym is ∙ checked.7)
+by_done : (One : List ℕ → Left → Left → Ending → Type 0) (paths : List (List ℕ)) → ((path : List ℕ) (old new : Left) (ending : Ending) → One path old new ending → ending ≡ WrongWords → ⊥)
+    → (count : ℕ) (old new : Left) (ending : Ending) → AreDone One paths count old new ending → ending ≡ WrongWords → ⊥
+by_done One paths one zero old new ending done is = well_ends (sym is ∙ done.1)
+by_done One paths one (suc k) old new ending done is =
+    chosen (nat_lt (number_of done.1) (number_of done.2)) done.1 done.2 (by_done One paths one k old done.0 done.1 done.4)
+    (one done.3 done.0 new done.2 done.6) (sym is ∙ done.7)
 
 unless_lost : (is_lost : Bool) (told : Ending) → EndsUnlessLost is_lost told WrongWords → (told ≡ WrongWords → ⊥) → ⊥
 unless_lost true told ends not_told = failed_ends ends
 unless_lost false told ends not_told = not_told (sym ends)
 
-by_check : (asked : CheckOptions) (file_at : List ℕ → Option (List ℕ)) (old new : Left) → ChecksAll asked file_at old new WrongWords ⊎ StopsAtOutput asked file_at old new WrongWords → ⊥
-by_check asked file_at old new (inl all) = unless_lost new.is_lost all.0 all.2 (by_checked asked file_at (length asked.files.items) old new all.0 all.1)
-by_check asked file_at old new (inr stops) = failed_ends stops.7
+by_each : (One : List ℕ → Left → Left → Ending → Type 0) (paths : List (List ℕ)) → ((path : List ℕ) (old new : Left) (ending : Ending) → One path old new ending → ending ≡ WrongWords → ⊥)
+    → (old new : Left) → DoesEach One paths old new WrongWords → ⊥
+by_each One paths one old new (inl all) = unless_lost new.is_lost all.0 all.2 (by_done One paths one (length paths) old new all.0 all.1)
+by_each One paths one old new (inr stops) = failed_ends stops.7
+
+by_info : (kind : FileKind) (bytes text : List ℕ) (ending : Ending) → IsInfo kind bytes text ending → ending ≡ WrongWords → ⊥
+by_info kinds.Elf bytes text ending info is = not_well_ends (sym is ∙ info.1)
+by_info kinds.Image bytes text ending (inl image) is = well_ends (sym is ∙ image.4)
+by_info kinds.Image bytes text ending (inr refused) is = by_fault refused.0 (sym is ∙ refused.3)
+by_info kinds.Stream bytes text ending info is = by_stream (fault_of info.1) (sym is ∙ info.4)
+by_info kinds.Plain bytes text ending (inl code) is = well_ends (sym is ∙ code.2)
+by_info kinds.Plain bytes text ending (inr other) is = not_well_ends (sym is ∙ other.2)
+
+by_told : (name path : List ℕ) (known : Option (List ℕ)) (old new : Left) (ending : Ending) → TellsNamed name path known old new ending → ending ≡ WrongWords → ⊥
+by_told name path known old new ending (inl told) is = by_info (file_kind told.info.bytes) told.info.bytes told.text ending told.info.info is
+by_told name path known old new ending (inr unread) is = failed_ends (sym is ∙ unread.5)
 
 by_listing : (other : Option NoCode) (is_lost : Bool) → EndsListing other is_lost WrongWords → ⊥
 by_listing None is_lost ends = well_ends ends
@@ -108,7 +136,7 @@ by_unpack bytes old new (inl written) = well_ends written.6
 by_unpack bytes old new (inr told) = by_run new.is_lost (image_run.Refused told.0) told.5
 
 by_line : (line : Line) (file_at : List ℕ → Option (List ℕ)) (old new : Left) → CarriesOut line file_at old new WrongWords → ⊥
-by_line (Check asked) file_at old new carried = by_check asked file_at old new carried.did
+by_line (Check asked) file_at old new carried = by_each (ChecksPath asked file_at) (paths_of asked) (λ path was now ending one is. by_one _ asked path (file_at path) was now ending one is) old new carried.did
 by_line (Load asked) file_at old new carried = by_load carried.report true carried.told.all carried.told.ends
 by_line (Serve asked) file_at old new carried =
     let told = carried.told in
@@ -118,8 +146,9 @@ by_line (Run asked) file_at old new carried = by_run new.is_lost carried.run car
 by_line (Disassemble asked) file_at old new carried = by_listing carried.other new.is_lost carried.ends
 by_line (Pack asked) file_at old new carried = carried.found
 by_line (Unpack asked) file_at old new carried = by_unpack (file_at asked.image.now) old new carried
+by_line (Info asked) file_at old new carried = by_each (TellsOne asked file_at) (infos.paths_of asked) (λ path was now ending one is. by_told _ path (file_at path) was now ending one is) old new carried
 
-pub runs_line : (words : List (List ℕ)) (file_at : List ℕ → Option (List ℕ)) (old new : Left) (line : Line) (ending : Ending) → IsLine words line → CarriesOut line file_at old new ending
+pub runs_line : (words : List (List ℕ)) (file_at : List ℕ → Option (List ℕ)) (old new : Left) (line : Line) (ending : Ending) → IsSoundLine words line → CarriesOut line file_at old new ending
     → Runs words file_at old new ending
 runs_line words file_at old new line Well is carried = inr (line, is, carried)
 runs_line words file_at old new line NotWell is carried = (line, is, carried)
@@ -132,7 +161,7 @@ module _ (words : List (List ℕ)) (file_at : List ℕ → Option (List ℕ)) (o
   AreWrongOf lost =
       let old = left out put was errors in
       let new = left out put lost told in
-      AreWrong words ⊎ (TellsTooMany words old new ⊎ (TellsTooManyModules words old new ⊎ (TellsNoPages words old new ⊎ TellsFlaw words old new)))
+      AreWrong words ⊎ (TellsNoPages words old new ⊎ TellsFlaw words old new)
 
   pub ends_wrong : (lost : Bool) (ending : Ending) → EndsUnlessLost lost WrongWords ending → AreWrongOf lost → Runs words file_at (left out put was errors) (left out put lost told) ending
   ends_wrong true ending ends wrong = subst (Runs words file_at (left out put was errors) (left out put true told)) (sym ends) (inl (NoMemory, tt, tt, refl, λ other. refl))
@@ -142,7 +171,7 @@ pub runs_failed : (words : List (List ℕ)) (file_at : List ℕ → Option (List
 runs_failed words file_at old new ending is tells = subst (Runs words file_at old new) (sym is) (inl tells)
 
 -- a line that was carried out, or of which a failure is told
-pub runs_ended : (words : List (List ℕ)) (file_at : List ℕ → Option (List ℕ)) (line : Line) (came : Result Ending Failure) (old mid new : Left) (ending : Ending) → IsLine words line
+pub runs_ended : (words : List (List ℕ)) (file_at : List ℕ → Option (List ℕ)) (line : Line) (came : Result Ending Failure) (old mid new : Left) (ending : Ending) → IsSoundLine words line
     → IfOk came (CarriesOut line file_at old mid) → IfOk came (λ well. (ending ≡ well) × (new ≡ mid)) → IfErr came (FailsAs line)
     → IfErr came (λ failure. is_of_output failure ≡ false → mid.out ≡ old.out) → OnErr came (OnlyOutput old mid)
     → IfErr came (λ failure. (ending ≡ Failed) × TellsLines (failure_line failure) mid new) → Runs words file_at old new ending

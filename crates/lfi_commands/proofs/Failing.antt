@@ -1,17 +1,16 @@
 -- Failures of what a line asks for.
 use Rattle.std.proofs.Common.{◌≡◌, ℕ, List, true, inr, sym, true≢false}
 use Rattle.lfi_command_line.specs.declared.line.Line.{Line}
-use Rattle.lfi_command_line.specs.CommandLine.{IsLine}
 use Rattle.lfi_file_commands.specs.declared.failure.Target.TheVariants.{StandardOutput, File}
 use Rattle.lfi_file_commands.specs.declared.failure.Failure.{Failure}
 use Rattle.lfi_file_commands.specs.declared.failure.Failure.TheVariants.{CannotRead, CannotWrite, CannotListen, NoMemory, NoThread}
 use Rattle.lfi_file_commands.specs.Failures.{failure_of_load, is_of_output, FailsLoading, FailsServing, IsOfLoad, IsOfReadingOne}
 use Rattle.lfi_signals.specs.declared.refusal.LoadError.{LoadError}
 use Rattle.lfi_signals.specs.declared.refusal.LoadError.TheVariants as load_error
-use Rattle.lfi_commands.specs.Runs.{FailsAs, FailsBy}
+use Rattle.lfi_commands.specs.Runs.{FailsAs, FailsBy, IsSoundLine}
 
 -- a failure of what a line asks for is one of the words that ask for the line
-pub fails_by : (words : List (List ℕ)) (line : Line) (failure : Failure) → IsLine words line → FailsAs line failure → FailsBy words failure
+pub fails_by : (words : List (List ℕ)) (line : Line) (failure : Failure) → IsSoundLine words line → FailsAs line failure → FailsBy words failure
 fails_by words line (CannotRead told cause) is fails = (line, is, fails)
 fails_by words line (CannotWrite StandardOutput cause) is fails = inr (line, is, fails)
 fails_by words line (CannotWrite (File path) cause) is fails = (line, is, fails)

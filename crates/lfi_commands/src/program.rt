@@ -16,7 +16,7 @@ use crate::loading::{load, serve};
 use lfi_command_line::{Line, LineFault, LoadOptions, ReportOptions, ServeOptions, read_line};
 use lfi_file_commands::{
     DeviceCause, Disk, Ending, Failure, ImageStore, Outputs, ended, open_all, run_check,
-    run_disassemble, run_pack, run_run, run_unpack, tell_failure, write_asked_images,
+    run_disassemble, run_info, run_pack, run_run, run_unpack, tell_failure, write_asked_images,
 };
 use lfi_module::CONNECTIONS;
 use lfi_signals::ReadErrors;
@@ -216,6 +216,7 @@ fn run_files<'a, D: Disk, P: ImageStore, O: Write, E: Write>(
         Line::Disassemble(asked) => run_disassemble(alloc, disk, asked, outputs),
         Line::Unpack(asked) => run_unpack(alloc, disk, asked, outputs),
         Line::Pack(asked) => run_pack(alloc, disk, asked, outputs),
+        Line::Info(asked) => Ok(run_info(alloc, disk, asked, outputs)),
         Line::Load(_) | Line::Serve(_) => unreachable!(),
     }
 }
@@ -266,14 +267,6 @@ fn tell_fault<P: ImageStore, O: Write, E: Write>(
         },
         LineFault::Wrong(text) => {
             errors.write_text(text);
-            errors.unless_lost(Ending::WrongWords)
-        }
-        LineFault::TooManyStreams => {
-            errors.write_line("lfiload: at most 8 streams");
-            errors.unless_lost(Ending::WrongWords)
-        }
-        LineFault::TooManyModules => {
-            errors.write_line("lfiload: at most 16 modules");
             errors.unless_lost(Ending::WrongWords)
         }
         LineFault::NoPages => {

@@ -5,7 +5,7 @@ use crate::runs::{
 };
 use std::{fs, io};
 
-const RUNS: [Run; 7] = [
+const RUNS: [Run; 8] = [
     Run {
         line: "lfiload check files.tmp/ret.code",
         status: WELL,
@@ -34,6 +34,12 @@ const RUNS: [Run; 7] = [
         line: "lfiload load --out files.tmp --explain files.tmp/one_ret.stream",
         status: WELL,
         out: "module 0: complete, 1 words\nstrays 0\nmodule 0: from connection 0\n",
+        err: "",
+    },
+    Run {
+        line: "lfiload info files.tmp/module-00.img files.tmp/one_ret.stream",
+        status: WELL,
+        out: "files.tmp/module-00.img: image\n  slot 0\n  base 0x0000000100000000\n  words 1\n  entry 0\n  profile 1\n  lawful\nfiles.tmp/one_ret.stream: stream\n  byte 0: module 0 open, 1 words, entry 0, profile 1, small pages\n  byte 12: module 0 page 0, 4 bytes\n  byte 28: module 0 close\n",
         err: "",
     },
     Run {

@@ -8,6 +8,7 @@ use Rattle.std.proofs.lemmas.List.{length-append, append-nil, append_assoc}
 use Rattle.lfi_module.specs.declared.profile.Profile.{Profile}
 use Rattle.lfi_explain.specs.declared.explanation.Explanation.{Explanation}
 use Rattle.lfi_explain.specs.declared.listing.ListedWord.{ListedWord}
+use Rattle.lfi_explain.specs.declared.listing.Marks.{Marks}
 use Rattle.lfi_explain.specs.Explanations.{AreTold, IsToldAt, one_or_none, mended_among}
 use Rattle.lfi_explain.specs.Mendings.{is_mended}
 use Rattle.lfi_explain.specs.Listings.{AreListed, IsListed}
@@ -22,7 +23,7 @@ pub told_more : (profile : Profile) (ws : List ℕ) (slot k : ℕ) (before : Lis
     → AreTold profile ws slot (k + 1) (before ++ one_or_none here)
 told_more profile ws slot k before here told at = rw add-one (before, here, told, at, refl)
 
-pub listed_more : (marks : Bool) (profile : Profile) (ws : List ℕ) (slot k : ℕ) (before : List ListedWord) (here : ListedWord) → AreListed marks profile ws slot k before → IsListed marks profile ws slot k here
+pub listed_more : (marks : Marks) (profile : Profile) (ws : List ℕ) (slot k : ℕ) (before : List ListedWord) (here : ListedWord) → AreListed marks profile ws slot k before → IsListed marks profile ws slot k here
     → AreListed marks profile ws slot (k + 1) (before ++ here ∷ [])
 listed_more marks profile ws slot k before here listed at = rw add-one (before, here, listed, at, refl)
 

@@ -10,6 +10,7 @@ use Rattle.lfi_rules.specs.Texts.{fault_text}
 use Rattle.lfi_rules.specs.Faults.{IsLeastAt}
 use Rattle.lfi_explain.specs.declared.opener.Opener.{Opener}
 use Rattle.lfi_explain.specs.declared.explanation.Explanation.{Explanation}
+use Rattle.lfi_explain.specs.declared.explanation.KnownFault.{KnownFault}
 use Rattle.lfi_explain.specs.Spellings.{IsSpelling, located_text, is_nothing}
 use Rattle.lfi_explain.specs.Openers.{IsOpenerIf, IsNextOpener}
 use Rattle.lfi_explain.specs.Sentences.{unmet_in, sentence_text}
@@ -42,14 +43,14 @@ told_text e =
 abbrev pub explanation_text : Explanation → List ℕ
 explanation_text e = told_text e ++ codes "\n  mend: " ++ mending_text e
 
--- It tells this fault of a module of n words in a slot, which goes by a profile and has this word at the fault's place, and this one before it.
-pub record ExplainsWord (profile : Profile) (slot n : ℕ) (fault : Fault) (word : ℕ) (earlier : Option ℕ) (e : Explanation) : Type 0 where
-  pub same_fault : e.fault ≡ fault
-  pub same_slot : e.slot ≡ slot
-  pub count : e.words ≡ n
-  pub at : IsSpelling profile word e.at
-  pub before : IsNextOpener profile earlier e.opener
-  pub mend : MendsWord profile fault.rule word earlier None e.mend
+-- It tells this fault of its module, by the word at the fault's place and the one before it.
+pub record ExplainsWord (known : KnownFault) (e : Explanation) : Type 0 where
+  pub same_fault : e.fault ≡ known.fault
+  pub same_slot : e.slot ≡ known.slot
+  pub count : e.words ≡ known.words
+  pub at : IsSpelling known.profile known.word e.at
+  pub before : IsNextOpener known.profile known.before e.opener
+  pub mend : MendsWord known.profile known.fault.rule known.word known.before None e.mend
 
 -- It tells this fault of the words of a module in a slot, and names the word that opens what is open at the fault's place.
 pub record Explains (profile : Profile) (ws : List ℕ) (slot : ℕ) (fault : Fault) (e : Explanation) : Type 0 where

@@ -1,5 +1,5 @@
 -- The lines of a listing.
-use Rattle.std.specs.Prelude.{◌≡◌, ℕ, zero, suc, ◌-◌, nat_lt, ℤ, Bool, true, false, List, [], ◌∷◌, ◌++◌, length, flat_map, replicate, slice_get, codes, decimal, Option, Some, None, if◌then◌else◌}
+use Rattle.std.specs.Prelude.{◌≡◌, ℕ, zero, suc, ◌-◌, nat_lt, ℤ, List, [], ◌∷◌, ◌++◌, length, flat_map, replicate, slice_get, codes, decimal, Option, Some, None, if◌then◌else◌}
 use Rattle.std.specs.Fmt.{signed_decimal}
 use Rattle.std.specs.Io.KnownBytes.{Appends}
 use Rattle.lfi_module.specs.declared.profile.Profile.{Profile}
@@ -9,6 +9,8 @@ use Rattle.lfi_rules.specs.declared.rule.Rule.{Rule}
 use Rattle.lfi_rules.specs.Faults.{IsLeastAt}
 use Rattle.lfi_rules.specs.Rules.{is_inside, rule_number}
 use Rattle.lfi_explain.specs.declared.listing.ListedWord.{ListedWord}
+use Rattle.lfi_explain.specs.declared.listing.Marks.{Marks}
+use Rattle.lfi_explain.specs.declared.listing.Marks.TheVariants.{NoMarks, BrokenRules}
 use Rattle.lfi_explain.specs.Spellings.{IsSpelling, located_text, opened_by, target_by}
 use Rattle.lfi_explain.specs.Sentences.{meeting_text}
 
@@ -46,12 +48,12 @@ listed_text listed =
     ++ mark_text listed.broken
 
 -- The word at place k is marked with the least rule that it breaks, where it breaks one and marks are asked for; no other word is marked.
-abbrev pub IsMark : (marks : Bool) → Profile → List ℕ → (k : ℕ) → Option Rule → Type 0
-IsMark true profile ws k broken = IsLeastAt profile ws (length ws) k broken
-IsMark false profile ws k broken = broken ≡ None
+abbrev pub IsMark : (marks : Marks) → Profile → List ℕ → (k : ℕ) → Option Rule → Type 0
+IsMark BrokenRules profile ws k broken = IsLeastAt profile ws (length ws) k broken
+IsMark NoMarks profile ws k broken = broken ≡ None
 
 -- It is the word at place k of the words of a module in a slot.
-pub record IsListed (marks : Bool) (profile : Profile) (ws : List ℕ) (slot k : ℕ) (listed : ListedWord) : Type 0 where
+pub record IsListed (marks : Marks) (profile : Profile) (ws : List ℕ) (slot k : ℕ) (listed : ListedWord) : Type 0 where
   pub same_slot : listed.located.slot ≡ slot
   pub place : listed.located.place ≡ k
   pub spelling : (word : ℕ) → slice_get ws k ≡ Some word → IsSpelling profile word listed.located.spelling
@@ -59,7 +61,7 @@ pub record IsListed (marks : Bool) (profile : Profile) (ws : List ℕ) (slot k :
   pub mark : IsMark marks profile ws k listed.broken
 
 -- the words at the first `count` places, in order
-abbrev pub AreListed : (marks : Bool) → Profile → List ℕ → (slot count : ℕ) → List ListedWord → Type 0
+abbrev pub AreListed : (marks : Marks) → Profile → List ℕ → (slot count : ℕ) → List ListedWord → Type 0
 AreListed marks profile ws slot zero all = all ≡ []
 AreListed marks profile ws slot (suc k) all =
     (before : List ListedWord) × (here : ListedWord) × AreListed marks profile ws slot k before × IsListed marks profile ws slot k here
@@ -70,5 +72,5 @@ abbrev pub listed_line : ListedWord → List ℕ
 listed_line listed = listed_text listed ++ codes "\n"
 
 -- A line was written for each word, with a mark where that is asked for.
-abbrev pub WritesListing : (marks : Bool) → Profile → List ℕ → (slot : ℕ) → (old new : Option (List ℕ)) → Type 0
+abbrev pub WritesListing : (marks : Marks) → Profile → List ℕ → (slot : ℕ) → (old new : Option (List ℕ)) → Type 0
 WritesListing marks profile ws slot old new = (all : List ListedWord) × AreListed marks profile ws slot (length ws) all × Appends old new (flat_map listed_line all)

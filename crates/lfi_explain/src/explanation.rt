@@ -18,6 +18,23 @@ use lfi_module::{ModuleNumber, Profile, WordCount};
 use lfi_rules::{Fault, Need, Rule};
 use std::fmt;
 
+/// A fault of a module of which two words are known: the one at the fault's place and the one before it.
+#[derive(Clone, Copy)]
+pub struct KnownFault {
+    /// The slot in which the module lies.
+    pub slot: ModuleNumber,
+    /// How many words the module has.
+    pub words: WordCount,
+    /// The profile that it goes by.
+    pub profile: Profile,
+    /// The place, and the rule that its word breaks.
+    pub fault: Fault,
+    /// The word at the place.
+    pub word: u32,
+    /// The word before it; `None` at the module's first place.
+    pub before: Option<u32>,
+}
+
 /// A fault, with the words that it speaks of.
 #[derive(Clone, Copy)]
 pub struct Explanation {
@@ -118,25 +135,18 @@ impl fmt::Display for Explanation {
     }
 }
 
-/// What is told of a fault of a module of so many words in a slot, by a profile: of the word at its place, and of the one
-/// before it, if there is one. A need that was opened before that is told without its word.
-pub fn explain_word(
-    slot: ModuleNumber,
-    words: WordCount,
-    fault: Fault,
-    word: u32,
-    before: Option<u32>,
-    profile: Profile,
-) -> Explanation
-    ensures { spec.ExplainsWord profile slot words fault word before result }
+/// What is told of a fault of which this is known. A need that was opened before the two words is told without its word.
+pub fn explain_word(known: &KnownFault) -> Explanation
+    ensures { spec.ExplainsWord known.now result }
 {
+    let profile = known.profile;
     Explanation {
-        fault,
-        slot,
-        words: words.number(),
-        at: Spelling::of(word, profile),
-        opener: next_opener(before, profile),
-        mend: mend_word(profile, fault.rule, word, before, None),
+        fault: known.fault,
+        slot: known.slot,
+        words: known.words.number(),
+        at: Spelling::of(known.word, profile),
+        opener: next_opener(known.before, profile),
+        mend: mend_word(profile, known.fault.rule, known.word, known.before, None),
     }
 }
 

@@ -23,8 +23,8 @@
 //! - **`mask_of` is a function beside the relation `IsMask`**, since what is printed has to be a function of the
 //!   instruction. `gives_mask` is its test.
 //! - **An `Explanation` keeps the decoded words** (`Spelling`) **and the mend**, so that its text is a function of its
-//!   fields: what `mend_of` answers is said by a relation. `explain_word` is for words that are known alone, as those of a
-//!   module that came in pages. There no next word is known, and so there is no mend of RBIT before CLZ.
+//!   fields: what `mend_of` answers is said by a relation. `explain_word` is for a fault of which two words are known
+//!   (`KnownFault`), as in a module that came in pages. Without the next word there is no mend of RBIT before CLZ.
 //! - **What a word breaks, by its place, is asked of lfi_rules** (`broken_at`), which has the order of the rules;
 //!   lfi_explain tells it. It decodes the words before anew at each place: explanations are asked for by hand.
 //! - **All refusals are told, not only the first of each cause**: a word after one that opens a need may be told for
@@ -53,9 +53,9 @@ mod refusals;
 mod sentence;
 mod spelling;
 
-pub use explanation::{Explanation, explain, explain_word};
+pub use explanation::{Explanation, KnownFault, explain, explain_word};
 pub use group::Group;
-pub use listing::{ListedWord, write_listing};
+pub use listing::{ListedWord, Marks, write_listing};
 pub use located::Located;
 pub use mend_of_word::mend_word;
 pub use opener::Opener;

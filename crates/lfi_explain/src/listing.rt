@@ -17,6 +17,15 @@ use std::alloc::Global;
 use std::fmt;
 use std::io::{self, Write};
 
+/// Which words of a listing are marked.
+#[derive(Clone, Copy, PartialEq, Eq)]
+pub enum Marks {
+    /// None.
+    NoMarks,
+    /// Each that breaks a rule, with the least of those that it breaks.
+    BrokenRules,
+}
+
 /// A word of a listing.
 #[derive(Clone, Copy)]
 pub struct ListedWord {
@@ -117,16 +126,15 @@ impl fmt::Display for ListedWord {
     }
 }
 
-/// With which rule the word at a place of a module is marked, where marks are asked for.
-fn mark_at<L: Words>(words: &L, place: usize, marks: bool, profile: Profile) -> Option<Rule>
+/// With which rule the word at a place of a module is marked.
+fn mark_at<L: Words>(words: &L, place: usize, marks: Marks, profile: Profile) -> Option<Rule>
     requires inside { place < length (L.words words.now) }
     requires most { length (L.words words.now) ≤ most_words }
     ensures { spec.IsMark marks profile (L.words words.now) place result }
 {
-    if marks {
-        broken_at(words, place, profile)
-    } else {
-        None
+    match marks {
+        Marks::BrokenRules => broken_at(words, place, profile),
+        Marks::NoMarks => None,
     }
 }
 
@@ -135,7 +143,7 @@ fn listed_at<L: Words>(
     words: &L,
     slot: ModuleNumber,
     place: usize,
-    marks: bool,
+    marks: Marks,
     profile: Profile,
 ) -> ListedWord
     requires inside { place < length (L.words words.now) }
@@ -162,8 +170,7 @@ fn write_listed<W: Write>(listed: ListedWord, out: &mut W) -> io::Result<()>
     writeln!(out, "{listed}")
 }
 
-/// Writes a line for each word of a module in a slot, in order. Where marks are asked for, each word that breaks a rule is marked
-/// with the least of those that it breaks.
+/// Writes a line for each word of a module in a slot, in order, with these marks.
 ///
 /// # Errors
 ///
@@ -172,7 +179,7 @@ pub fn write_listing<L: Words, W: Write>(
     alloc: Global,
     words: &L,
     slot: ModuleNumber,
-    marks: bool,
+    marks: Marks,
     profile: Profile,
     out: &mut W,
 ) -> io::Result<()>

@@ -1,5 +1,5 @@
 -- What is said of bytes that are known, carried to what is left of a file.
-use Rattle.std.proofs.Common.{◌≡◌, ◌∙◌, ℕ, ◌*◌, ◌<◌, ◌≤◌, ◌++◌, codes, Bool, true≢false, is_some, List, Option, Some, None, IfSome, ap, arith, length, length-take, option_map, refl, subst, sym, take}
+use Rattle.std.proofs.Common.{◌≡◌, ◌∙◌, ℕ, ◌*◌, ◌<◌, ◌≤◌, ◌++◌, codes, Bool, true≢false, is_some, List, Option, Some, None, IfSome, Result, Ok, Err, IfOk, ap, arith, length, length-take, option_map, refl, subst, sym, take}
 use Rattle.lfi_image_file.specs.Files.{FileOf}
 use Rattle.lfi_image_file.specs.Reading.{IsFault}
 use Rattle.lfi_module.specs.Numbers.{most_words}
@@ -21,7 +21,12 @@ use Rattle.lfi_file_commands.specs.Checking.{IsFound, other_of, verdict_of}
 use Rattle.lfi_file_commands.specs.Explaining.{WritesFault, WritesFinding, WritesRefused}
 use Rattle.lfi_file_commands.specs.Kinds.{IsNoCode, file_kind, kind_by_first}
 use Rattle.lfi_file_commands.specs.Listing.{WritesWords}
-use Rattle.lfi_file_commands.specs.inner.Whole.{IsFoundOf, IsOther}
+use Rattle.lfi_explain.specs.declared.listing.Marks.{Marks}
+use Rattle.a64_word.specs.Words.{words_of}
+use Rattle.lfi_file_commands.specs.declared.packing.NoModule.{NoModule}
+use Rattle.lfi_file_commands.specs.declared.packing.NoModule.TheVariants as no_module
+use Rattle.lfi_file_commands.specs.Packing.{IsNoModule}
+use Rattle.lfi_file_commands.specs.inner.Whole.{IsFoundOf, IsNoModuleOf, IsOther, IsReadTo, Lists}
 use Rattle.std.specs.Io.KnownBytes.{Appends}
 use Rattle.std.proofs.lemmas.List.{take-take}
 
@@ -58,7 +63,7 @@ finding_known name profile All more known (findings.Lawful n) old new same write
 finding_known name profile All more known (findings.Refused fault) old new same writes = refused_known name profile All more known fault old new same writes
 finding_known name profile All more known (findings.NoCode n) old new same writes = writes
 
-pub words_known : (marks : Bool) (profile : Profile) (more known : Option (List ℕ)) (other : Option NoCode) (old new : Option (List ℕ)) → Knows more known
+pub words_known : (marks : Marks) (profile : Profile) (more known : Option (List ℕ)) (other : Option NoCode) (old new : Option (List ℕ)) → Knows more known
     → WritesWords marks profile more other old new → WritesWords marks profile known other old new
 words_known marks profile more known None old new same finds = (finds.0, carried (λ all. all ≡ finds.0) more known same finds.1, finds.2, finds.3)
 words_known marks profile more known (Some n) old new same finds = (carried (λ all. IsNoCode all n) more known same finds.0, finds.1)
@@ -104,6 +109,41 @@ pub other_left : (left : Option (List ℕ)) (bytes : List ℕ) (n : NoCode) → 
 other_left None bytes n same is = tt
 other_left (Some all) bytes n same is = other_all all n (subst (λ xs. IsOther xs n) same is)
 
+code_left : (left : Option (List ℕ)) (bytes : List ℕ) → IfSome (option_map (take 16777217) left) (λ all. bytes ≡ all) → IsCode bytes → IfSome left (λ all. all ≡ bytes)
+code_left None bytes same code = tt
+code_left (Some all) bytes same code = sym (same ∙ all_code all 16777217 (omega arith) (subst IsCode same code))
+
+-- what is read up to one byte more than code can have
+pub read_to : (left : Option (List ℕ)) (bytes : List ℕ) → IfSome (option_map (take 16777217) left) (λ all. bytes ≡ all) → IsReadTo left bytes
+read_to left bytes same = record { code = code_left left bytes same; other = λ n is. other_left left bytes n same is }
+
+found_code : (profile : Profile) (left : Option (List ℕ)) (bytes : List ℕ) (verdict : Verdict) → IfSome left (λ all. all ≡ bytes) → Checks profile bytes verdict → IfSome left (λ all. Checks profile all verdict)
+found_code profile None bytes verdict same checks = tt
+found_code profile (Some all) bytes verdict same checks = subst (λ xs. Checks profile xs verdict) (sym same) checks
+
+-- what is found of what was read is found of what was left
+pub found_read : (profile : Profile) (left : Option (List ℕ)) (bytes : List ℕ) (finding : Finding) → IsReadTo left bytes → IsFoundOf profile bytes finding → IfSome left (λ all. IsFound profile all finding)
+found_read profile left bytes (findings.Lawful n) to is = found_code profile left bytes (Lawful n) (to.code is.0) is
+found_read profile left bytes (findings.Refused fault) to is = found_code profile left bytes (Refused fault) (to.code is.0) is
+found_read profile left bytes (findings.NoCode n) to is = to.other n is
+
+-- and what is written of it is written of that
+pub finding_read : (name : List ℕ) (profile : Profile) (how : Explain) (left : Option (List ℕ)) (bytes : List ℕ) (finding : Finding) (old new : Option (List ℕ)) → IsReadTo left bytes
+    → IsFoundOf profile bytes finding → WritesFinding name profile how (Some bytes) finding old new → WritesFinding name profile how left finding old new
+finding_read name profile Nothing left bytes finding old new to is writes = writes
+finding_read name profile First left bytes (findings.Lawful n) old new to is writes = writes
+finding_read name profile First left bytes (findings.Refused fault) old new to is writes = refused_known name profile First (Some bytes) left fault old new (known_as left bytes (to.code is.0)) writes
+finding_read name profile First left bytes (findings.NoCode n) old new to is writes = writes
+finding_read name profile All left bytes (findings.Lawful n) old new to is writes = writes
+finding_read name profile All left bytes (findings.Refused fault) old new to is writes = refused_known name profile All (Some bytes) left fault old new (known_as left bytes (to.code is.0)) writes
+finding_read name profile All left bytes (findings.NoCode n) old new to is writes = writes
+
+-- and so is what is listed of it
+pub words_read : (marks : Marks) (profile : Profile) (left : Option (List ℕ)) (bytes : List ℕ) (other : Option NoCode) (old new : Option (List ℕ)) → IsReadTo left bytes
+    → Lists marks profile bytes other old new → WritesWords marks profile left other old new
+words_read marks profile left bytes None old new to lists = (bytes, to.code lists.0, lists.0, lists.1)
+words_read marks profile left bytes (Some n) old new to lists = (to.other n lists.0, lists.1)
+
 found_all : (profile : Profile) (all : List ℕ) (finding : Finding) → IsFoundOf profile (take 16777217 all) finding → IsFound profile all finding
 found_all profile all (findings.Lawful n) is = checks_all profile all 16777217 (Lawful n) (omega arith) is
 found_all profile all (findings.Refused fault) is = checks_all profile all 16777217 (Refused fault) (omega arith) is
@@ -125,3 +165,22 @@ found_by profile None finding code checks = tt
 found_by profile (Some bytes) (findings.Lawful n) code checks = checks
 found_by profile (Some bytes) (findings.Refused fault) code checks = checks
 found_by profile (Some bytes) (findings.NoCode n) code checks = absurd (true≢false (ap is_some code))
+
+when_code : (P : List ℕ → Type 0) (left : Option (List ℕ)) (bytes : List ℕ) → IfSome left (λ all. all ≡ bytes) → P bytes → IfSome left P
+when_code P None bytes same holds = tt
+when_code P (Some all) bytes same holds = subst P (sym same) holds
+
+-- why what was read is no module is why the file isn't
+pub no_module_read : (entry : ℕ) (path : List ℕ) (left : Option (List ℕ)) (file_at : List ℕ → Option (List ℕ)) (bytes : List ℕ) (told : NoModule) → Knows left (file_at path)
+    → IsReadTo left bytes → IsNoModuleOf entry path bytes told → IsNoModule entry path file_at told
+no_module_read entry path left file_at bytes (no_module.BadLength named n) knows to is = (is.0, carried (λ all. IsNoCode all n) left (file_at path) knows (to.other n is.1))
+no_module_read entry path left file_at bytes (no_module.NoEntry named word) knows to is = (
+  is.0,
+  is.1,
+  carried (λ all. IsCode all × (length (words_of all) ≤ entry)) left (file_at path) knows (when_code (λ all. IsCode all × (length (words_of all) ≤ entry)) left bytes (to.code is.2) (is.2, is.3)),
+)
+
+-- where two facts hold of a value, a third does
+pub if_both : {X Y : Type 0} (r : Result X Y) (P Q R : X → Type 0) → ((x : X) → P x → Q x → R x) → IfOk r P → IfOk r Q → IfOk r R
+if_both (Ok x) P Q R both p q = both x p q
+if_both (Err e) P Q R both p q = tt

@@ -4,6 +4,7 @@ mod Checks
 pub mod Failing
 pub mod Fates
 mod FirstBytes
+mod Infos
 mod Inputs
 pub mod Joined
 mod Paths

@@ -1,6 +1,6 @@
 -- What is written of code that is judged, with what is explained of it. Source: this project's profile,
 -- docs/COMMANDS.md.
-use Rattle.std.specs.Prelude.{◌≡◌, ◌⊎◌, ℕ, zero, suc, List, ◌++◌, length, map, slice_get, Option, Some, IfSome, codes}
+use Rattle.std.specs.Prelude.{◌≡◌, ◌⊎◌, ℕ, List, ◌++◌, length, map, Option, Some, IfSome, codes}
 use Rattle.std.specs.Io.KnownBytes.{Appends}
 use Rattle.a64_word.specs.Words.{words_of}
 use Rattle.lfi_module.specs.declared.profile.Profile.{Profile}
@@ -13,20 +13,17 @@ use Rattle.lfi_command_line.specs.declared.options.Explain.{Explain}
 use Rattle.lfi_command_line.specs.declared.options.Explain.TheVariants.{Nothing, First, All}
 use Rattle.lfi_code.specs.declared.verdict.Verdict.TheVariants as verdicts
 use Rattle.lfi_code.specs.Checking.{Checks, verdict_text}
-use Rattle.lfi_file_commands.specs.declared.device_cause.DeviceCause.{DeviceCause}
 use Rattle.lfi_file_commands.specs.declared.ending.Ending.{Ending}
-use Rattle.lfi_file_commands.specs.declared.ending.Ending.TheVariants.{Well, Failed}
+use Rattle.lfi_file_commands.specs.declared.ending.Ending.TheVariants.{Failed}
 use Rattle.lfi_file_commands.specs.declared.failure.Failure.{Failure}
-use Rattle.lfi_file_commands.specs.declared.failure.Failure.TheVariants.{CannotWrite}
-use Rattle.lfi_file_commands.specs.declared.failure.Target.TheVariants.{StandardOutput}
 use Rattle.lfi_file_commands.specs.declared.finding.Finding.{Finding}
 use Rattle.lfi_file_commands.specs.declared.finding.Finding.TheVariants as findings
 use Rattle.lfi_file_commands.specs.declared.kind.FileKind.{FileKind}
-use Rattle.lfi_file_commands.specs.Checking.{IsFound, TellsOf, ending_of, name_before, other_of, verdict_of, worst}
-use Rattle.lfi_file_commands.specs.Endings.{EndsUnlessLost}
+use Rattle.lfi_file_commands.specs.Checking.{IsFound, TellsOf, ending_of, name_before, other_of, verdict_of}
 use Rattle.lfi_file_commands.specs.Failures.{IsOfReading, Told, failure_line}
 use Rattle.lfi_file_commands.specs.Kinds.{file_kind, kind_line}
 use Rattle.lfi_file_commands.specs.Left.{Left}
+use Rattle.lfi_file_commands.specs.Several.{DoesEach}
 
 -- The explanation of a fault of this code, told as that of module 0, was written behind a name, and then the line of the file's kind.
 abbrev pub ExplainsFault : (name : List ℕ) → FileKind → Profile → (code : List ℕ) → Fault → (old new : Option (List ℕ)) → Type 0
@@ -79,23 +76,10 @@ ChecksOne name asked path bytes old new ending = HasJudged name asked path bytes
 abbrev pub paths_of : CheckOptions → List (List ℕ)
 paths_of asked = map (λ path. path.now) asked.files.items
 
--- what came of the first files, so many of them, one after another; the ending is the worst of theirs
-abbrev pub AreChecked : CheckOptions → (List ℕ → Option (List ℕ)) → (count : ℕ) → (old new : Left) → Ending → Type 0
-AreChecked asked file_at zero old new ending = (new ≡ old) × (ending ≡ Well)
-AreChecked asked file_at (suc k) old new ending =
-    (mid : Left) × (before here : Ending) × (path : List ℕ) × AreChecked asked file_at k old mid before × (slice_get (paths_of asked) k ≡ Some path)
-    × ChecksOne (name_before (length asked.files.items) path) asked path (file_at path) mid new here × (ending ≡ worst before here)
-
--- all of them were
-abbrev pub ChecksAll : CheckOptions → (List ℕ → Option (List ℕ)) → (old new : Left) → Ending → Type 0
-ChecksAll asked file_at old new ending = (all : Ending) × AreChecked asked file_at (length asked.files.items) old new all × EndsUnlessLost new.is_lost all ending
-
--- those before one were, of which the output failed; that was told, unless it is lost, and the run has failed
-abbrev pub StopsAtOutput : CheckOptions → (List ℕ → Option (List ℕ)) → (old new : Left) → Ending → Type 0
-StopsAtOutput asked file_at old new ending =
-    (k : ℕ) × (mid : Left) × (before : Ending) × (cause : DeviceCause) × AreChecked asked file_at k old mid before
-    × Told new.is_lost mid.errors new.errors (failure_line (CannotWrite StandardOutput cause)) × (new.put ≡ mid.put) × (ending ≡ Failed)
+-- the same, behind its name where there are several
+abbrev pub ChecksPath : CheckOptions → (List ℕ → Option (List ℕ)) → (path : List ℕ) → (old new : Left) → Ending → Type 0
+ChecksPath asked file_at path = ChecksOne (name_before (length asked.files.items) path) asked path (file_at path)
 
 -- What `lfiload check` did, as it was asked for.
 pub record HasChecked (asked : CheckOptions) (file_at : List ℕ → Option (List ℕ)) (old new : Left) (ending : Ending) : Type 0 where
-  pub did : ChecksAll asked file_at old new ending ⊎ StopsAtOutput asked file_at old new ending
+  pub did : DoesEach (ChecksPath asked file_at) (paths_of asked) old new ending

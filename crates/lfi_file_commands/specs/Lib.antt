@@ -2,6 +2,7 @@ pub mod Left
 pub mod Causes
 pub mod Kinds
 pub mod Checking
+pub mod Several
 pub mod Explaining
 pub mod Listing
 pub mod Failures
@@ -13,4 +14,5 @@ pub mod Refused
 pub mod Running
 pub mod Packing
 pub mod Unpacking
+pub mod Info
 pub mod inner

@@ -1,19 +1,20 @@
 -- What `lfiload load --explain` tells of refused modules. Source: this project's profile, docs/COMMANDS.md.
 use Rattle.std.specs.Prelude.{◌≡◌, ℕ, List, [], ◌∷◌, ◌++◌, Option, Some, None, codes, decimal}
-use Rattle.lfi_model.specs.declared.outcome.Outcome.{Outcome}
-use Rattle.lfi_model.specs.declared.outcome.Outcome.TheVariants as outcome_kind
-use Rattle.lfi_place.specs.declared.report.ImageState.{ImageState}
-use Rattle.lfi_place.specs.declared.report.ImageState.TheVariants as image_kind
 use Rattle.lfi_place.specs.declared.report.ModuleReport.{ModuleReport}
-use Rattle.lfi_place.specs.declared.refused.RefusedWord.{RefusedWord}
+use Rattle.lfi_place.specs.declared.refused.RefusedModule.{RefusedModule}
 use Rattle.lfi_explain.specs.declared.explanation.Explanation.{Explanation}
+use Rattle.lfi_explain.specs.declared.explanation.KnownFault.{KnownFault}
 use Rattle.lfi_explain.specs.Explanations.{ExplainsWord, explanation_line}
 
+-- what a report knows of a refused module's fault
+abbrev pub known_of : RefusedModule → KnownFault
+known_of m =
+    record { slot = m.slot; words = m.extent.words; profile = m.extent.profile; fault = m.refusal.fault; word = m.refusal.word.word; before = m.refusal.word.before }
+
 -- A refused module's fault is explained by the refused word, in the module's own slot; of any other module nothing is told.
-abbrev pub IsRefusal : Outcome → ImageState → Option RefusedWord → Option Explanation → Type 0
-IsRefusal (outcome_kind.Refused fault) (image_kind.Part b) (Some refused) told =
-    (e : Explanation) × (told ≡ Some e) × ExplainsWord b.extent.profile b.slot b.extent.words fault refused.word refused.before e
-IsRefusal outcome state refused told = told ≡ None
+abbrev pub IsRefusal : Option RefusedModule → Option Explanation → Type 0
+IsRefusal (Some refused) told = (e : Explanation) × (told ≡ Some e) × ExplainsWord (known_of refused) e
+IsRefusal None told = told ≡ None
 
 -- the lines of a refused module
 abbrev pub refusal_lines : Option Explanation → List ℕ
@@ -21,7 +22,7 @@ refusal_lines (Some e) = codes "module " ++ decimal e.slot ++ codes ": " ++ expl
 refusal_lines None = []
 
 abbrev pub TellsOfRefused : ModuleReport → List ℕ → Type 0
-TellsOfRefused report text = (told : Option Explanation) × IsRefusal report.outcome report.image report.refused told × (text ≡ refusal_lines told)
+TellsOfRefused report text = (told : Option Explanation) × IsRefusal report.refused told × (text ≡ refusal_lines told)
 
 -- the lines of the refused modules, in order
 abbrev pub TellRefused : List ModuleReport → List ℕ → Type 0

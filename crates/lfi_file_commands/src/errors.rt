@@ -89,7 +89,7 @@ impl<W: Write> Errors<W> {
     }
 
     /// Tells by a line that the code in a file is no module.
-    pub fn tell_no_module(&mut self, no_module: NoModule<'_>)
+    pub(crate) fn tell_no_module(&mut self, no_module: NoModule<'_>)
         ensures told { Told (is_lost_of self.new) (W.contents (writer_of self.old)) (W.contents (writer_of self.new)) (no_module_line no_module.entry) }
         ensures lost { is_lost_of self.old ≡ true → is_lost_of self.new ≡ true }
     {

@@ -7,13 +7,14 @@ ghost use Rattle.lfi_module.specs.Numbers.{most_words};
 ghost use Rattle.lfi_rules.specs.Faults.{FirstFault};
 ghost use Rattle.lfi_rules.specs.Texts.{fault_text};
 ghost use Rattle.lfi_explain.specs.Explanations.{explanation_text};
-ghost use Rattle.lfi_code.specs.declared.verdict.Verdict.TheVariants.{BadLength};
+ghost use Rattle.lfi_code.specs.declared.verdict.Verdict.TheVariants.{BadLength, Lawful};
 ghost use Rattle.lfi_code.specs.Checking.{IsCode, verdict_text};
 ghost use Rattle.lfi_file_commands.specs.Checking.{naming_text, IsFound};
 ghost use Rattle.lfi_file_commands.specs.Failures.{is_of_a_write};
-ghost use Rattle.lfi_file_commands.specs.Kinds.{kind_line};
+ghost use Rattle.lfi_file_commands.specs.Kinds.{file_kind, kind_line};
 ghost use Rattle.lfi_file_commands.specs.Explaining.{ExplainsFault, TellsRefusals, WritesFault, WritesFinding};
 ghost use Rattle.lfi_file_commands.specs.Listing.{WritesWords};
+ghost use Rattle.lfi_file_commands.specs.inner.Whole.{IsFoundOf, Lists};
 
 use crate::checking::{CommandFault, write_verdict};
 use crate::device_cause::DeviceCause;
@@ -22,12 +23,12 @@ use crate::kind::{FileKind, KindLine};
 use crate::naming::Naming;
 use crate::no_code::NoCode;
 use crate::texts::{write_line, write_text};
-use crate::whole::{Reading, read_code};
-use lfi_code::{Code, Verdict, judge_code};
+use crate::whole::read_whole;
+use lfi_code::{Code, Verdict};
 use lfi_command_line::Explain;
-use lfi_explain::{Explanation, explain, write_listing, write_refusals};
+use lfi_explain::{Explanation, Marks, explain, write_listing, write_refusals};
 use lfi_module::{ModuleNumber, Profile};
-use lfi_rules::Fault;
+use lfi_rules::{Fault, check_all};
 use std::alloc::Global;
 use std::io::{self, Read, Write};
 
@@ -124,40 +125,42 @@ fn write_fault<W: Write>(
     }
 }
 
-/// Judges code, and writes what is found of it.
+/// Writes the line of lawful code of so many words, behind the name.
+fn write_lawful<W: Write>(
+    alloc: Global,
+    name: Naming<'_>,
+    words: u32,
+    writer: &mut W,
+) -> Result<Finding, CommandFault>
+    ensures written { IfOk result (λ finding. (finding ≡ Finding.Lawful words) × Appends (W.contents writer.old) (W.contents writer.new) (naming_text name.entry ++ verdict_text (Lawful words) ++ codes "\n")) }
+    ensures fault { IfErr result (λ fault. is_of_a_write fault ≡ true) }
+{
+    match write_verdict(alloc, name, Verdict::Lawful { words }, writer) {
+        Ok(()) => Ok(Finding::Lawful { words }),
+        Err(fault) => Err(fault),
+    }
+}
+
+/// Judges code, and writes what is found of it, with what stands around it.
 fn write_judged<W: Write>(
     alloc: Global,
-    bytes: &[u8],
-    name: Naming<'_>,
-    profile: Profile,
+    code: &Code<'_>,
+    around: Around<'_>,
     how: Explain,
     writer: &mut W,
 ) -> Result<Finding, CommandFault>
-    requires { IsCode bytes.now }
-    ensures found { IfOk result (IsFound profile bytes.now) }
-    ensures written { IfOk result (λ finding. WritesFinding (naming_text name.entry) profile how (Some bytes.now) finding (W.contents writer.old) (W.contents writer.new)) }
+    requires code { IsCode code.now }
+    requires kind { around.kind ≡ file_kind code.now }
+    ensures found { IfOk result (IsFoundOf around.entry.profile code.now) }
+    ensures written { IfOk result (λ finding. WritesFinding (naming_text around.entry.name) around.entry.profile how (Some code.now) finding (W.contents writer.old) (W.contents writer.new)) }
     ensures fault { IfErr result (λ fault. is_of_a_write fault ≡ true) }
 {
-    match judge_code(bytes, profile) {
-        Verdict::Lawful { words } => {
-            match write_verdict(alloc, name, Verdict::Lawful { words }, writer) {
-                Ok(()) => Ok(Finding::Lawful { words }),
-                Err(fault) => Err(fault),
-            }
-        }
-        Verdict::Refused(fault) => {
-            let kind = FileKind::of(bytes);
-            let around = Around {
-                name,
-                kind,
-                profile,
-            };
-            match write_fault(alloc, &Code::of(bytes), around, fault, how, writer) {
-                Ok(()) => Ok(Finding::Refused(fault)),
-                Err(error) => Err(CommandFault::NotWritten(DeviceCause::of(&error))),
-            }
-        }
-        Verdict::BadLength => unreachable!(),
+    match check_all(code, around.profile) {
+        None => write_lawful(alloc, around.name, code.len_words() as u32, writer),
+        Some(fault) => match write_fault(alloc, code, around, fault, how, writer) {
+            Ok(()) => Ok(Finding::Refused(fault)),
+            Err(error) => Err(CommandFault::NotWritten(DeviceCause::of(&error))),
+        },
     }
 }
 
@@ -196,6 +199,38 @@ fn write_other<W: Write>(
     }
 }
 
+/// Judges these bytes as code, and writes what is found, behind the name.
+fn write_found<W: Write>(
+    alloc: Global,
+    bytes: &[u8],
+    profile: Profile,
+    how: Explain,
+    name: Naming<'_>,
+    writer: &mut W,
+) -> Result<Finding, CommandFault>
+    ensures found { IfOk result (IsFoundOf profile bytes.now) }
+    ensures written { IfOk result (λ finding. WritesFinding (naming_text name.entry) profile how (Some bytes.now) finding (W.contents writer.old) (W.contents writer.new)) }
+    ensures fault { IfErr result (λ fault. is_of_a_write fault ≡ true) }
+{
+    match Code::new(bytes) {
+        Some(code) => {
+            let around = Around {
+                name,
+                kind: FileKind::of(bytes),
+                profile,
+            };
+            write_judged(alloc, &code, around, how, writer)
+        }
+        None => {
+            let no_code = NoCode::of(bytes);
+            match write_other(alloc, no_code, name, how, writer) {
+                Ok(()) => Ok(Finding::NoCode(no_code)),
+                Err(fault) => Err(fault),
+            }
+        }
+    }
+}
+
 /// Judges the code that a reader has left, up to its end, and writes what is found, behind the name: its line, with the first
 /// fault explained, or each word that breaks a rule, where it is refused; and what the file is, where it isn't lawful and
 /// begins as another one. The code is kept in memory meanwhile.
@@ -203,7 +238,7 @@ fn write_other<W: Write>(
 /// # Errors
 ///
 /// Where a read or the write fails, or there is no memory for the code.
-pub fn check_explained<R: Read + Drop, W: Write>(
+pub(crate) fn check_explained<R: Read + Drop, W: Write>(
     alloc: Global,
     reader: R,
     profile: Profile,
@@ -215,29 +250,25 @@ pub fn check_explained<R: Read + Drop, W: Write>(
     ensures written { IfOk result (λ finding. WritesFinding (naming_text name.entry) profile how (R.remaining reader) finding (W.contents writer.old) (W.contents writer.new)) }
     ensures unwritten { IfErr result (λ fault. is_of_a_write fault ≡ false → writer.new ≡ writer.old) }
 {
-    match read_code(alloc, reader) {
-        Ok(Reading::Code(bytes)) => write_judged(alloc, &bytes, name, profile, how, writer),
-        Ok(Reading::Other(no_code)) => match write_other(alloc, no_code, name, how, writer) {
-            Ok(()) => Ok(Finding::NoCode(no_code)),
-            Err(fault) => Err(fault),
-        },
+    match read_whole(alloc, reader) {
+        Ok(bytes) => write_found(alloc, &bytes, profile, how, name, writer),
         Err(fault) => Err(fault),
     }
 }
 
-/// Writes a line for each word of this code, with marks where they are asked for.
+/// Writes a line for each word of this code, with these marks.
 fn write_words<W: Write>(
     alloc: Global,
-    bytes: &[u8],
-    marks: bool,
+    code: &Code<'_>,
+    marks: Marks,
     profile: Profile,
     writer: &mut W,
 ) -> Result<Option<NoCode>, CommandFault>
-    requires { IsCode bytes.now }
-    ensures listed { IfOk result (λ other. WritesWords marks profile (Some bytes.now) other (W.contents writer.old) (W.contents writer.new)) }
+    requires { IsCode code.now }
+    ensures listed { IfOk result (λ other. Lists marks profile code.now other (W.contents writer.old) (W.contents writer.new)) }
     ensures fault { IfErr result (λ fault. is_of_a_write fault ≡ true) }
 {
-    match write_listing(alloc, &Code::of(bytes), slot(), marks, profile, writer) {
+    match write_listing(alloc, code, slot(), marks, profile, writer) {
         Ok(()) => Ok(None),
         Err(error) => Err(CommandFault::NotWritten(DeviceCause::of(&error))),
     }
@@ -258,9 +289,26 @@ fn write_bad_length<W: Write>(
     }
 }
 
+/// Writes a line for each word of these bytes as code, or one line, where they aren't code.
+fn write_listed<W: Write>(
+    alloc: Global,
+    bytes: &[u8],
+    marks: Marks,
+    profile: Profile,
+    writer: &mut W,
+) -> Result<Option<NoCode>, CommandFault>
+    ensures listed { IfOk result (λ other. Lists marks profile bytes.now other (W.contents writer.old) (W.contents writer.new)) }
+    ensures fault { IfErr result (λ fault. is_of_a_write fault ≡ true) }
+{
+    match Code::new(bytes) {
+        Some(code) => write_words(alloc, &code, marks, profile, writer),
+        None => write_bad_length(alloc, NoCode::of(bytes), writer),
+    }
+}
+
 /// Writes a line for each word of the code that a reader has left, up to its end: its place, address, text, where it branches
-/// to, what it opens, and a mark where it breaks a rule and marks are asked for; or one line, where that isn't code. It gives
-/// what is known of what isn't code.
+/// to, what it opens, and the mark that is asked for; or one line, where that isn't code. It gives what is known of what isn't
+/// code.
 ///
 /// # Errors
 ///
@@ -268,16 +316,15 @@ fn write_bad_length<W: Write>(
 pub fn disassemble<R: Read + Drop, W: Write>(
     alloc: Global,
     reader: R,
-    marks: bool,
+    marks: Marks,
     profile: Profile,
     writer: &mut W,
 ) -> Result<Option<NoCode>, CommandFault>
     ensures listed { IfOk result (λ other. WritesWords marks profile (R.remaining reader) other (W.contents writer.old) (W.contents writer.new)) }
     ensures unwritten { IfErr result (λ fault. is_of_a_write fault ≡ false → writer.new ≡ writer.old) }
 {
-    match read_code(alloc, reader) {
-        Ok(Reading::Code(bytes)) => write_words(alloc, &bytes, marks, profile, writer),
-        Ok(Reading::Other(no_code)) => write_bad_length(alloc, no_code, writer),
+    match read_whole(alloc, reader) {
+        Ok(bytes) => write_listed(alloc, &bytes, marks, profile, writer),
         Err(fault) => Err(fault),
     }
 }

@@ -2,9 +2,10 @@
 
 ghost use Rattle.std.specs.Prelude.{◌≡◌, ℕ, IfOk, IfErr, IfSome, OnErr, false, length};
 ghost use Rattle.lfi_file_commands.specs.Checking.{naming_text, IsFound};
-ghost use Rattle.lfi_file_commands.specs.Explaining.{AreChecked, ChecksOne, HasChecked, WritesFinding};
+ghost use Rattle.lfi_file_commands.specs.Explaining.{ChecksOne, ChecksPath, HasChecked, WritesFinding, paths_of};
 ghost use Rattle.lfi_file_commands.specs.Failures.{is_of_a_write};
 ghost use Rattle.lfi_file_commands.specs.Left.{Left, OnlyOutput};
+ghost use Rattle.lfi_file_commands.specs.Several.{AreDone};
 
 use crate::checking::{CommandFault, check_file};
 use crate::device_cause::DeviceCause;
@@ -87,8 +88,8 @@ fn check_files<D: Disk, P: ImageStore, O: Write, E: Write>(
     asked: &CheckOptions<'_>,
     outputs: &mut Outputs<P, O, E>,
 ) -> Result<Ending, DeviceCause>
-    ensures all { IfOk result (AreChecked asked.now (D.file_at disk.now) (length asked.now.files.items) outputs.old outputs.new) }
-    ensures part { OnErr result ((k : ℕ) × (mid : Left) × (before : Ending) × AreChecked asked.now (D.file_at disk.now) k outputs.old mid before × OnlyOutput mid outputs.new) }
+    ensures all { IfOk result (AreDone (ChecksPath asked.now (D.file_at disk.now)) (paths_of asked.now) (length asked.now.files.items) outputs.old outputs.new) }
+    ensures part { OnErr result ((k : ℕ) × (mid : Left) × (before : Ending) × AreDone (ChecksPath asked.now (D.file_at disk.now)) (paths_of asked.now) k outputs.old mid before × OnlyOutput mid outputs.new) }
 {
     let paths = asked.files.as_slice();
     let mut worst = Ending::Well;

@@ -1,6 +1,6 @@
-//! The commands of `lfiload` that start no thread, `check`, `run`, `disassemble`, `pack` and `unpack`, over any reader, disk
-//! and outputs; and what all commands share: failures and their texts, where they are told, files and images that are read
-//! and put, and how a run ends.
+//! The commands of `lfiload` that start no thread, `check`, `run`, `disassemble`, `pack`, `unpack` and `info`, over any reader,
+//! disk and outputs; and what all commands share: failures and their texts, where they are told, files and images that are
+//! read and put, and how a run ends.
 //!
 //! # How data flows
 //!
@@ -29,11 +29,12 @@
 //!   `check` reads all bytes whatever it says, up to one more than can be code.
 //! - **What is explained is read whole**, since an explanation has the word before. `check` without flags keeps no code.
 //! - **Each byte that code prints is written at its call.** A write that fails ends the run there, with the status 255.
-//! - **`check` of several files tells of each by itself**: one that can't be read is no failure of the command.
+//! - **`check` and `info` tell of each of several files by itself**: one that can't be read is no failure of the command.
+//! - **`info` reads a file whole**, and cuts a stream by the plain program's `first_message`: nobody asks it to be fast.
 //! - **`pack` reads all its files before it writes**, so that one which is no code leaves nothing on the output. It then ends
 //!   with 1, as code that is refused: nothing failed.
 //! - **Why a device failed is told by the kind of the system's error**, since a library's text is in no contract.
-//! - **Where values live that have to be dropped, an early return is a `match` and not a `?`**: its proof costs less.
+//! - **Where values live that are dropped, an early return is a `match` and not a `?`**: its proof costs less.
 #![tactic(auto)]
 
 mod checking;
@@ -45,6 +46,7 @@ mod explaining;
 mod failure;
 mod finding;
 mod images;
+mod info;
 mod judging;
 mod kind;
 mod naming;
@@ -64,17 +66,17 @@ pub use device_cause::DeviceCause;
 pub use disk::{Disk, ImageStore, SystemDisk, SystemStore};
 pub use ending::Ending;
 pub use errors::{Errors, ended, tell_failure, tell_unread_arguments};
-pub use explaining::{check_explained, disassemble};
+pub use explaining::disassemble;
 pub use failure::{Failure, Target};
 pub use finding::Finding;
 pub use images::write_asked_images;
+pub use info::run_info;
 pub use judging::run_check;
 pub use kind::{FileKind, KindLine};
 pub use naming::Naming;
 pub use no_code::NoCode;
 pub use opening::open_all;
 pub use outputs::Outputs;
-pub use packing::NoModule;
 pub use refused::write_refused;
 pub use running::{run_disassemble, run_pack, run_run};
 pub use texts::write_text;

@@ -1,18 +1,18 @@
 //! Code files that are packed as a stream, a module each.
 
-ghost use Rattle.std.specs.Prelude.{◌≡◌, ◌<◌, ◌≤◌, ◌+◌, Some, true, map, length, slice_get, IfOk, IfErr, IfSome, OnOk};
+ghost use Rattle.std.specs.Prelude.{◌≡◌, ◌<◌, ◌≤◌, ◌+◌, Some, None, true, map, length, slice_get, IfOk, IfErr, IfSome, OnOk};
 ghost use Rattle.lfi_module.specs.Pages.{HasPages};
 ghost use Rattle.a64_word.specs.Words.{words_of};
 ghost use Rattle.lfi_code.specs.Checking.{IsCode};
 ghost use Rattle.lfi_file_commands.specs.Packing as spec;
-ghost use Rattle.lfi_file_commands.specs.inner.Whole.{StopsAt, StopsAtOne, WritesModule};
+ghost use Rattle.lfi_file_commands.specs.inner.Whole.{IsNoModuleOf, StopsAt, StopsAtOne, WritesModule};
 
 use crate::device_cause::DeviceCause;
 use crate::disk::Disk;
 use crate::failure::Failure;
 use crate::no_code::{BadLength, NoCode};
 use crate::opening::{open, path_at};
-use crate::whole::{Reading, read_code};
+use crate::whole::read_whole;
 use lfi_code::Code;
 use lfi_command_line::PackOptions;
 use lfi_module::{Extent, ModuleNumber, WordCount};
@@ -53,6 +53,21 @@ pub(crate) enum Stop<'a> {
     Failed(Failure<'a>),
 }
 
+/// Why these bytes of the file at this path are no module that is entered at this word, where they are none.
+fn no_module<'a>(path: &'a str, bytes: &[u8], entry: u32) -> Option<NoModule<'a>>
+    ensures some { IfSome result (IsNoModuleOf entry path.entry.now bytes.now) }
+    ensures none { result ≡ None → IsCode bytes.now × (entry < length (words_of bytes.now)) }
+{
+    match Code::new(bytes) {
+        Some(code) if (entry as usize) < code.len_words() => None,
+        Some(_) => Some(NoModule::NoEntry { path, entry }),
+        None => Some(NoModule::BadLength {
+            path,
+            no_code: NoCode::of(bytes),
+        }),
+    }
+}
+
 /// The code in the file at this path, as a module that is entered at this word.
 fn read_module<'a, D: Disk>(
     alloc: Global,
@@ -68,17 +83,14 @@ fn read_module<'a, D: Disk>(
         Ok(reader) => reader,
         Err(failure) => return Err(Stop::Failed(failure)),
     };
-    let code = match read_code(alloc, reader) {
-        Ok(Reading::Code(code)) => code,
-        Ok(Reading::Other(no_code)) => {
-            return Err(Stop::NoModule(NoModule::BadLength { path, no_code }));
-        }
+    let bytes = match read_whole(alloc, reader) {
+        Ok(bytes) => bytes,
         Err(fault) => return Err(Stop::Failed(Failure::of(fault, path))),
     };
-    if entry as usize >= Code::of(&code).len_words() {
-        return Err(Stop::NoModule(NoModule::NoEntry { path, entry }));
+    match no_module(path, &bytes, entry) {
+        Some(no_module) => Err(Stop::NoModule(no_module)),
+        None => Ok(bytes),
     }
-    Ok(code)
 }
 
 /// The code in the files at these paths, in their order, up to the first that is no module.

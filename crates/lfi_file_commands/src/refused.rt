@@ -1,37 +1,38 @@
 //! What is told of refused modules.
 
-ghost use Rattle.std.specs.Prelude.{ℕ, List, IfOk, OnOk};
+ghost use Rattle.std.specs.Prelude.{◌≡◌, ℕ, List, IfOk, OnOk};
 ghost use Rattle.std.specs.Io.KnownBytes.{Appends};
-ghost use Rattle.lfi_file_commands.specs.Refused.{IsRefusal, refusal_lines, TellRefused};
+ghost use Rattle.lfi_file_commands.specs.Refused.{IsRefusal, known_of, refusal_lines, TellRefused};
 
 use crate::texts::write_line;
-use lfi_explain::{Explanation, explain_word};
-use lfi_model::Outcome;
-use lfi_place::{ImageState, ModuleReport};
+use lfi_explain::{Explanation, KnownFault, explain_word};
+use lfi_place::{ModuleReport, RefusedModule};
 use std::alloc::Global;
 use std::io::{self, Write};
 
-/// What is told of a module's fault, where it was refused.
-fn refusal_of(report: &ModuleReport) -> Option<Explanation>
-    ensures { IsRefusal report.now.outcome report.now.image report.now.refused result }
+/// What is known of a refused module's fault.
+fn known_of(refused: &RefusedModule) -> KnownFault
+    ensures { result ≡ known_of refused.now }
 {
-    let Outcome::Refused(fault) = report.outcome else {
-        return None;
-    };
-    let ImageState::Part(builder) = &report.image else {
-        return None;
-    };
-    let Some(refused) = report.refused else {
-        return None;
-    };
-    Some(explain_word(
-        builder.slot(),
-        builder.extent().words(),
-        fault,
-        refused.word,
-        refused.before,
-        builder.extent().profile(),
-    ))
+    let refusal = refused.refusal;
+    KnownFault {
+        slot: refused.slot,
+        words: refused.extent.words(),
+        profile: refused.extent.profile(),
+        fault: refusal.fault,
+        word: refusal.word.word,
+        before: refusal.word.before,
+    }
+}
+
+/// What is told of a module's fault, where it was refused.
+fn refusal_of(refused: &Option<RefusedModule>) -> Option<Explanation>
+    ensures { IsRefusal refused.now result }
+{
+    match refused {
+        Some(refused) => Some(explain_word(&known_of(refused))),
+        None => None,
+    }
 }
 
 /// Writes what is told of a module, if anything is.
@@ -61,7 +62,7 @@ pub fn write_refused<W: Write>(
     ensures { IfOk result (λ _. (text : List ℕ) × TellRefused modules.now text × Appends (W.contents out.old) (W.contents out.new) text) }
 {
     for report in modules {
-        write_refusal(alloc, refusal_of(report), out)?;
+        write_refusal(alloc, refusal_of(&report.refused), out)?;
     }
     Ok(())
 }

@@ -6,7 +6,7 @@ ghost use Rattle.lfi_file_commands.specs.Errors.{is_lost_of, writer_of};
 ghost use Rattle.lfi_file_commands.specs.Checking.{TellsOf};
 ghost use Rattle.lfi_file_commands.specs.Failures.{is_of_output, FailsOn, IsOfReading};
 ghost use Rattle.lfi_file_commands.specs.Left.{OnlyOutput};
-ghost use Rattle.lfi_file_commands.specs.Listing.{EndsListing, HasListed};
+ghost use Rattle.lfi_file_commands.specs.Listing.{EndsListing, HasListed, marks_by};
 ghost use Rattle.lfi_file_commands.specs.Packing.{codes_of, AreModules, HasPacked, WritesStream};
 ghost use Rattle.lfi_file_commands.specs.Running.{HasRun};
 
@@ -20,6 +20,7 @@ use crate::opening::open;
 use crate::outputs::Outputs;
 use crate::packing::{NoModule, Stop, read_modules, write_stream};
 use lfi_command_line::{DisassembleOptions, PackOptions, RunOptions};
+use lfi_explain::Marks;
 use lfi_run::run_image;
 use std::alloc::Global;
 use std::io::Write;
@@ -44,6 +45,17 @@ fn end_listing<E>(other: Option<NoCode>, errors: &Errors<E>) -> Ending
     }
 }
 
+/// The marks of a listing, by the flag.
+fn marks_by(marks: bool) -> Marks
+    ensures { result ≡ marks_by marks }
+{
+    if marks {
+        Marks::BrokenRules
+    } else {
+        Marks::NoMarks
+    }
+}
+
 /// Lists the words of the code in a file, and marks those that break a rule where that is asked for.
 ///
 /// # Errors
@@ -65,7 +77,13 @@ pub fn run_disassemble<'a, D: Disk, P: ImageStore, O: Write, E: Write>(
         Ok(reader) => reader,
         Err(failure) => return Err(failure),
     };
-    match disassemble(alloc, reader, asked.marks, asked.profile, &mut outputs.out) {
+    match disassemble(
+        alloc,
+        reader,
+        marks_by(asked.marks),
+        asked.profile,
+        &mut outputs.out,
+    ) {
         Ok(other) => {
             tell_other(path, other, &mut outputs.errors);
             Ok(end_listing(other, &outputs.errors))

@@ -18,9 +18,6 @@ use lfi_module::{Extent, ModuleNumber, PageSize, Profile, WordCount};
 /// The bytes of a header.
 pub const HEADER_BYTES: usize = 12;
 
-/// The bytes of an instruction word, of which a payload is a whole number.
-const WORD_BYTES: u32 = 4;
-
 /// What a message is about, by the first byte of its header.
 #[derive(Clone, Copy, PartialEq, Eq)]
 pub(crate) enum MessageKind {
@@ -167,6 +164,6 @@ impl Header {
     fn is_page_length(&self, size: PageSize) -> bool
         ensures { result ≡ is_page_length size self.now.b }
     {
-        self.b != 0 && self.b <= size.bytes() && self.b % WORD_BYTES == 0
+        self.b != 0 && self.b <= size.bytes() && self.b as usize % size_of::<u32>() == 0
     }
 }

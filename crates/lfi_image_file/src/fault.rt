@@ -4,6 +4,7 @@ ghost use Rattle.std.specs.Prelude.{◌≡◌, Some};
 ghost use Rattle.lfi_image_file.specs.Faults.{number_of, fault_text};
 
 use lfi_rules::Fault;
+use std::error::Error;
 use std::fmt;
 
 /// Why an image file was not read, or not written. Its numbers are those of reports (docs/PROFILE.md, "Faults").
@@ -70,3 +71,12 @@ impl fmt::Display for ImageFault {
         }
     }
 }
+
+impl fmt::Debug for ImageFault {
+    /// Writes the same, since a fault of code has no other text.
+    fn fmt<W: fmt::Write>(&self, f: &mut fmt::Formatter<W>) -> fmt::Result {
+        write!(f, "{self}")
+    }
+}
+
+impl Error for ImageFault {}

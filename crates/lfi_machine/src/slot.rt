@@ -12,6 +12,8 @@ use lfi_image::CompleteImage;
 use lfi_rules::map::{CODE_OFFSET, ENTRY_STEP, FIRST_ENTRY, SLOT_BYTES, TABLE_BYTES};
 use sparse_memory::{MemoryRefused, SparseMemory};
 use std::alloc::Global;
+use std::error::Error;
+use std::fmt;
 use std::marker::Model;
 
 /// How bytes are accessed.
@@ -37,7 +39,7 @@ impl Access {
 }
 
 /// What may go wrong when the runtime writes a byte.
-#[derive(Clone, Copy, PartialEq, Eq)]
+#[derive(Clone, Copy, Debug, PartialEq, Eq)]
 pub enum DataFault {
     /// The byte may not be written.
     NotWritable,
@@ -56,6 +58,17 @@ impl DataFault {
         }
     }
 }
+
+impl fmt::Display for DataFault {
+    fn fmt<W: fmt::Write>(&self, f: &mut fmt::Formatter<W>) -> fmt::Result {
+        match self {
+            DataFault::NotWritable => f.write_str("the byte may not be written"),
+            DataFault::NoMemory => f.write_str("no memory"),
+        }
+    }
+}
+
+impl Error for DataFault {}
 
 /// How many bytes an access of a size has.
 #[inline(always)]

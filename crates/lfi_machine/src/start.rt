@@ -10,9 +10,11 @@ use a64_semantics::Registers;
 use lfi_image::CompleteImage;
 use lfi_rules::map::{CODE_OFFSET, SLOT_BYTES, STACK_REACH};
 use lfi_rules::registers::{BASE, FIRST_ADDRESS, LINK, OFFSET, SECOND_ADDRESS, THIRD_ADDRESS};
+use std::error::Error;
+use std::fmt;
 
 /// Why a machine isn't made.
-#[derive(Clone, Copy, PartialEq, Eq)]
+#[derive(Clone, Copy, Debug, PartialEq, Eq)]
 pub enum StartFault {
     /// x21 isn't the slot's base.
     Base,
@@ -46,6 +48,22 @@ impl StartFault {
         }
     }
 }
+
+impl fmt::Display for StartFault {
+    fn fmt<W: fmt::Write>(&self, f: &mut fmt::Formatter<W>) -> fmt::Result {
+        match self {
+            StartFault::Base => f.write_str("x21 is not the slot's base"),
+            StartFault::Address => f.write_str("x18, x23, x24 or x30 is not in the slot"),
+            StartFault::Offset => f.write_str("x22 is not below 2^32"),
+            StartFault::Stack => f.write_str("sp is too far from the slot"),
+            StartFault::Pc => f.write_str("pc is not in the slot"),
+            StartFault::Flags => f.write_str("the flags are not below 16"),
+            StartFault::NoMemory => f.write_str("no memory"),
+        }
+    }
+}
+
+impl Error for StartFault {}
 
 /// Whether an address lies in the slot that begins at a base.
 fn is_in_slot(base: u64, address: u64) -> bool

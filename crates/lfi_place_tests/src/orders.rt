@@ -76,6 +76,19 @@ fn ends_of(image: &CompleteImage) -> Option<[u32; 4]> {
     }
 }
 
+/// The word that a module was refused for; none where what is told beside it isn't that of this module.
+fn refused_for(report: &ModuleReport) -> Option<RefusedWord> {
+    match (&report.refused, &report.image) {
+        (Some(told), ImageState::Part(builder))
+            if told.slot == module()
+                && told.extent == builder.extent()
+                && report.outcome == Outcome::Refused(told.refusal.fault) => {
+            Some(told.refusal.word)
+        }
+        _ => None,
+    }
+}
+
 /// What a report tells.
 fn told(report: ModuleReport) -> Seen {
     let (placed, whole) = match &report.image {
@@ -86,7 +99,7 @@ fn told(report: ModuleReport) -> Seen {
     Seen {
         outcome: report.outcome,
         placed,
-        refused: report.refused,
+        refused: refused_for(&report),
         whole,
     }
 }

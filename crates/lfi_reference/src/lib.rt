@@ -42,7 +42,7 @@ pub mod words;
 
 pub use connection::{Connection, connection_of};
 pub use load::{Loaded, load_module};
-pub use message::PlainMessage;
+pub use message::{PlainExtent, PlainMessage, first_message};
 pub use report::{PlainReport, PlainStream, report_on};
-pub use rest::PlainRest;
+pub use rest::{PlainRest, rest_at};
 pub use share::{PlainItem, PlainKind, PlainShare};

@@ -1,9 +1,11 @@
 //! Why a load can't be carried out.
 
 use std::alloc::{AllocError, AllocFailed};
+use std::error::Error;
+use std::fmt;
 
 /// Why a load can't be carried out.
-#[derive(Clone, Copy, PartialEq, Eq)]
+#[derive(Clone, Copy, Debug, PartialEq, Eq)]
 pub enum LoadError {
     /// There is no memory for the stage, for what a connection's reads give, or for the handles of
     /// threads.
@@ -11,6 +13,17 @@ pub enum LoadError {
     /// A thread can't be started.
     NoThread,
 }
+
+impl fmt::Display for LoadError {
+    fn fmt<W: fmt::Write>(&self, f: &mut fmt::Formatter<W>) -> fmt::Result {
+        match self {
+            LoadError::NoMemory => f.write_str("no memory"),
+            LoadError::NoThread => f.write_str("no thread"),
+        }
+    }
+}
+
+impl Error for LoadError {}
 
 impl From<AllocError> for LoadError {
     ghost use Rattle.std.specs.Prelude.{◌≡◌};

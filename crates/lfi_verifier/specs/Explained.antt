@@ -27,6 +27,6 @@ later words place after = if nat_lt (place + 1) words then Some after else None
 -- The text begins with the explanation of this fault by a profile, by the word at its place and the one before it, as far as there was room, and is otherwise as it was; the size is that of the whole explanation.
 pub record TellsFault (profile : Profile) (slot words : ℕ) (found : Fault) (word before : ℕ) (old new : List ℕ) (told : ℕ) : Type 0 where
   pub explanation : Explanation
-  pub explains : ExplainsWord profile slot words found word (earlier found.word before) explanation
+  pub explains : ExplainsWord (record { slot = slot; words = words; profile = profile; fault = found; word = word; before = earlier found.word before }) explanation
   pub text : new ≡ take (length old) (explanation_text explanation) ++ drop (length (explanation_text explanation)) old
   pub size : told ≡ length (explanation_text explanation)

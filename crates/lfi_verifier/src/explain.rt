@@ -16,7 +16,7 @@ use crate::fault::{LfiFault, fault_of};
 use crate::profile::profile_of;
 use crate::status::Status;
 use arrayvec::ArrayString;
-use lfi_explain::{Explanation, explain_word};
+use lfi_explain::{Explanation, KnownFault, explain_word};
 use lfi_module::{ModuleNumber, WordCount};
 use std::fmt::Write;
 
@@ -83,15 +83,14 @@ pub extern "C" fn lfi_explain(
     let Some(Some(found)) = fault_of(*fault) else {
         return Status::BadState.number();
     };
-    let slot = ModuleNumber::at(module as usize);
-    let explanation = explain_word(
-        slot,
-        WordCount::of(words),
-        found,
+    let explanation = explain_word(&KnownFault {
+        slot: ModuleNumber::at(module as usize),
+        words: WordCount::of(words),
+        profile: by,
+        fault: found,
         word,
-        earlier(found.word, before),
-        by,
-    );
+        before: earlier(found.word, before),
+    });
     let Some(whole) = text_of(&explanation) else {
         return Status::NoRoom.number();
     };

@@ -1,39 +1,26 @@
 -- What is given to a subcommand. Only private clauses and proofs use it.
-use Rattle.std.specs.Prelude.{◌≡◌, ⊤, ℕ, ◌+◌, ◌<◌, List, [], codes, length, Some, None}
-use Rattle.clap.specs.Words.{IsUnsignedIn, Row, Text, all_of, fault_of, first_of, one_of, subcommand_of, subcommand_rows_of}
+use Rattle.std.specs.Prelude.{◌≡◌, ⊤, ℕ, List, [], codes, Some, None}
+use Rattle.clap.specs.Words.{IsUnsignedIn, Row, Text, fault_of, first_of, one_of, subcommand_of, subcommand_rows_of}
 use Rattle.lfi_command_line.specs.declared.fault.LineFault.{LineFault}
-use Rattle.lfi_command_line.specs.declared.fault.LineFault.TheVariants.{NoMemory, Help, Wrong, TooManyStreams, TooManyModules, NoPages, Flawed}
+use Rattle.lfi_command_line.specs.declared.fault.LineFault.TheVariants.{NoMemory, Help, Wrong, NoPages, Flawed}
 use Rattle.clap.specs.declared.parser.matches.ArgMatches.{ArgMatches}
 use Rattle.lfi_command_line.specs.Apps.{lfiload_app}
 use Rattle.lfi_module.specs.declared.profile.Profile.{Profile}
-use Rattle.lfi_command_line.specs.CommandLine.{IsNumberOr, IsProfile, pages_named}
+use Rattle.lfi_command_line.specs.CommandLine.{IsProfile, pages_named}
 
 -- what is given to this argument, if anything, is a number in the range
 abbrev pub IsNumberGiven : (least most : ℕ) → (id : Text) → List Row → Type 0
 IsNumberGiven least most id given = (text : Text) → first_of id given ≡ Some text → (one_of id given ≡ Some text) × IsUnsignedIn least most text
 
--- there are more than 8 streams, or no memory for a list of them
-abbrev pub IsFaultOfLoad : List Row → LineFault → Type 0
-IsFaultOfLoad given NoMemory = ⊤
-IsFaultOfLoad given TooManyStreams = (streams : List Text) × (all_of (codes "STREAM") given ≡ Some streams) × (8 < length streams)
-IsFaultOfLoad given (Help error) = ⊥
-IsFaultOfLoad given (Wrong error) = ⊥
-IsFaultOfLoad given TooManyModules = ⊥
-IsFaultOfLoad given NoPages = ⊥
-IsFaultOfLoad given (Flawed flaw) = ⊥
-
 -- there is no memory for a list of the files
-abbrev pub IsFaultOfCheck : LineFault → Type 0
-IsFaultOfCheck fault = fault ≡ NoMemory
+abbrev pub IsNoMemory : LineFault → Type 0
+IsNoMemory fault = fault ≡ NoMemory
 
--- there are more files than modules from the first one's number on, pages of a size that there isn't, or no memory for a list of them
+-- there are pages of a size that there isn't, or no memory for a list of the files
 abbrev pub IsFaultOfPack : List Row → LineFault → Type 0
 IsFaultOfPack given NoMemory = ⊤
-IsFaultOfPack given TooManyModules = (number : ℕ) × (files : List Text) × IsNumberOr 0 0 15 (first_of (codes "module") given) number
-    × (all_of (codes "CODE") given ≡ Some files) × (16 < number + length files)
 IsFaultOfPack given (Help error) = ⊥
 IsFaultOfPack given (Wrong error) = ⊥
-IsFaultOfPack given TooManyStreams = ⊥
 IsFaultOfPack given (Flawed flaw) = ⊥
 IsFaultOfPack given NoPages = (profile : Profile) × IsProfile given profile × (pages_named (first_of (codes "pages") given) profile ≡ None)
 

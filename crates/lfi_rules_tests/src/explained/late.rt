@@ -3,7 +3,7 @@
 use crate::explained::listings::listed;
 use crate::explained::rules::refused;
 use crate::row::Row;
-use lfi_explain::{explain, explain_word};
+use lfi_explain::{KnownFault, explain, explain_word};
 use lfi_module::{ModuleNumber, Profile, WordCount};
 use lfi_rules::{Fault, Rule};
 use std::alloc::Global;
@@ -85,14 +85,14 @@ fn of_a_late_word_alone(rt: HostRuntime) -> Result<(), Fail> {
         word: 2,
         rule: Rule::NeedMet,
     };
-    let told = explain_word(
-        ModuleNumber::at(0),
-        WordCount::of(4),
+    let told = explain_word(&KnownFault {
+        slot: ModuleNumber::at(0),
+        words: WordCount::of(4),
+        profile: Profile::Two,
         fault,
-        0xF90007E0,
-        Some(NOP),
-        Profile::Two,
-    );
+        word: 0xF90007E0,
+        before: Some(NOP),
+    });
     assert!(rt; told.to_string(rt.alloc())?.as_str() == ALONE);
     Ok(())
 }

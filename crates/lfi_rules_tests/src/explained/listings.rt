@@ -1,6 +1,6 @@
 //! Listings: the first words of the compiled example, and branches in and out of a module.
 use crate::row::Row;
-use lfi_explain::write_listing;
+use lfi_explain::{Marks, write_listing};
 use lfi_module::{ModuleNumber, Profile};
 use std::alloc::Global;
 use std::test::Fail;
@@ -46,7 +46,7 @@ pub fn listed(alloc: Global, words: &[u32], profile: Profile) -> Result<Vec<u8>,
         alloc,
         &Row(words),
         ModuleNumber::at(0),
-        false,
+        Marks::NoMarks,
         profile,
         &mut out,
     )?;

@@ -2,7 +2,7 @@
 ghost use Rattle.std.specs.Prelude.{◌<◌};
 
 use crate::row::Row;
-use lfi_explain::{explain, explain_word, write_refusals};
+use lfi_explain::{KnownFault, explain, explain_word, write_refusals};
 use lfi_module::{ModuleNumber, Profile, WordCount};
 use lfi_rules::{Fault, Rule};
 use std::alloc::{AllocError, Global};
@@ -282,22 +282,22 @@ fn of_words_alone(rt: HostRuntime) -> Result<(), Fail> {
         word: 0,
         rule: Rule::TargetInside,
     };
-    let seam = explain_word(
-        ModuleNumber::at(3),
+    let seam = explain_word(&KnownFault {
+        slot: ModuleNumber::at(3),
         words,
-        unmet,
-        0xD503201F,
-        Some(0xF94006BE),
-        Profile::One,
-    );
-    let start = explain_word(
-        ModuleNumber::at(0),
+        profile: Profile::One,
+        fault: unmet,
+        word: 0xD503201F,
+        before: Some(0xF94006BE),
+    });
+    let start = explain_word(&KnownFault {
+        slot: ModuleNumber::at(0),
         words,
-        outside,
-        0x14000801,
-        None,
-        Profile::Two,
-    );
+        profile: Profile::Two,
+        fault: outside,
+        word: 0x14000801,
+        before: None,
+    });
     assert!(rt; seam.to_string(rt.alloc())?.as_str() == AT_A_SEAM);
     assert!(rt; start.to_string(rt.alloc())?.as_str() == AT_THE_START);
     Ok(())

@@ -8,4 +8,5 @@ returns c =
     let run' = c.with_subcommand-run.ensures _ _ serve c.run_command.ensures in
     let disassemble = c.with_subcommand-disassemble.ensures _ _ run' c.disassemble_command.ensures in
     let pack = c.with_subcommand-pack.ensures _ _ disassemble c.pack_command.ensures in
-    c.with_subcommand.ensures _ _ pack c.unpack_command.ensures
+    let unpack = c.with_subcommand-unpack.ensures _ _ pack c.unpack_command.ensures in
+    c.with_subcommand.ensures _ _ unpack c.info_command.ensures

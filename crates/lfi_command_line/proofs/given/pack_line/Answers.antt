@@ -12,32 +12,17 @@ overflow_cast-entry c =
     (c.number_or-entry.ensures 0 4194303 c.requires.entry) in
     omega (arith, most)
 
-pub unwrap-paths-requires : goal.unwrap-paths-requires
-unwrap-paths-requires c =
+pub unwrap-requires : goal.unwrap-requires
+unwrap-requires c =
     let all = all_given (codes "CODE") (rows_of (found_of c.args.pack.now)) c.requires.codes in
     some_of_text _ c.get_strs.result _ (c.get_strs.ensures ∙ raw_values-rows (found_of c.args.pack.now) (codes "CODE")) (ap is_some all.1)
 
-pub overflow_add-first : goal.overflow_add-first
-overflow_add-first c =
-    let most = number_most 0 0 15 (first_of (codes "module") (rows_of (found_of c.args.pack.now))) c.number_or-first.result (omega arith)
-    (c.number_or-first.ensures 0 15 c.requires.«module») in
-    let bound = c.unwrap-paths.type_inv in
-    omega (arith, most, bound)
-
-pub returns-then-first-paths-gt-MODULES-clause-fault : goal.returns-then-first-paths-gt-MODULES-clause-fault
-returns-then-first-paths-gt-MODULES-clause-fault c =
-    let paths = c.unwrap-paths.result.now in
-    let same : all_of (codes "CODE") (rows_of (found_of c.args.pack.now)) ≡ Some (map (λ s. s.now) paths) =
-    sym (raw_values-rows (found_of c.args.pack.now) (codes "CODE")) ∙ sym c.get_strs.ensures ∙ ap (option_map (λ s. map (λ v. v.now) s.now)) c.unwrap-paths.ensures in
-    let count = map_length (λ s. s.now) paths in
-    (c.number_or-first.result, map (λ s. s.now) paths, c.number_or-first.ensures 0 15 c.requires.«module», same, omega (count, c.if-first-paths-gt-MODULES.true, arith))
-
 pub returns-clause-line : goal.returns-clause-line
 returns-clause-line c =
-    let paths = c.unwrap-paths.result.now in
+    let paths = c.unwrap.result.now in
     let all = all_given (codes "CODE") (rows_of (found_of c.args.pack.now)) c.requires.codes in
     let same : all_of (codes "CODE") (rows_of (found_of c.args.pack.now)) ≡ Some (map (λ s. s.now) paths) =
-    sym (raw_values-rows (found_of c.args.pack.now) (codes "CODE")) ∙ sym c.get_strs.ensures ∙ ap (option_map (λ s. map (λ v. v.now) s.now)) c.unwrap-paths.ensures in
+    sym (raw_values-rows (found_of c.args.pack.now) (codes "CODE")) ∙ sym c.get_strs.ensures ∙ ap (option_map (λ s. map (λ v. v.now) s.now)) c.unwrap.ensures in
     let items : c.in_ok-codes.codes.items ≡ paths = c.in_ok-codes.ensures.items in
     let values : all.0 ≡ map (λ s. s.now) paths = some_same (sym all.1 ∙ same) in
     let count : length all.0 ≡ length paths = ap length values ∙ map_length (λ s. s.now) paths in (
@@ -48,7 +33,6 @@ returns-clause-line c =
       ap (λ o. pages_named o c.profile_of-profile.result) (sym (first_value-rows (found_of c.args.pack.now) (codes "pages")) ∙ sym c.get_str.ensures) ∙ sym c.pages_named.ensures ∙ c.in-Some.is,
       same ∙ ap (λ xs. Some (map (λ s. s.now) xs)) (sym items),
       rw items (omega (count, all.2, arith)),
-      rw items (omega (c.if-first-paths-gt-MODULES.false, arith)),
     )
 
 pub returns-in_default-clause-fault : goal.returns-in_default-clause-fault

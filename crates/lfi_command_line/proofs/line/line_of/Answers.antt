@@ -1,7 +1,7 @@
 use Rattle.std.proofs.Common.{◌≡◌, IfSome, List, Some, refl, sym, subst, codes, option_map, true≢false}
 use Rattle.std.proofs.lemmas.Result.{IfOk-weaker, IfErr-weaker}
 use Rattle.clap.specs.Words.{Text, found_of, rows_of, subcommand_rows_of}
-use Rattle.lfi_command_line.proofs.Asked.{check_fault, given_for, load_fault, pack_fault, run_met, taken_for}
+use Rattle.lfi_command_line.proofs.Asked.{given_for, no_memory, pack_fault, run_met, taken_for}
 use Rattle.lfi_command_line.proofs.line.line_of.Goals as goal
 
 pub check_line-requires : goal.check_line-requires
@@ -10,7 +10,7 @@ check_line-requires c =
     record { file = given.1.1.1.0.0 refl; profile = given.1.1.0.1 }
 
 pub returns-in-Some-clause-fault : goal.returns-in-Some-clause-fault
-returns-in-Some-clause-fault c = λ words by_words. IfErr-weaker c.check_line.result _ _ (λ fault by. check_fault words fault by) c.check_line.ensures.fault
+returns-in-Some-clause-fault c = λ words by_words. IfErr-weaker c.check_line.result _ _ (λ fault by. no_memory words fault by) c.check_line.ensures.fault
 
 pub returns-in-Some-clause-line : goal.returns-in-Some-clause-line
 returns-in-Some-clause-line c = λ words by_words.
@@ -34,8 +34,7 @@ returns-in-Some-subcommand_matches-clause-line c = λ words by_words.
 
 pub returns-in-Some-subcommand_matches-clause-fault : goal.returns-in-Some-subcommand_matches-clause-fault
 returns-in-Some-subcommand_matches-clause-fault c = λ words by_words.
-    let taken = taken_for words c.args.matches.now (codes "load") _ by_words (c.in-Some-subcommand_matches.ensures.found.0 refl) c.in-Some-subcommand_matches.ensures.rows in
-    IfErr-weaker c.load_line.result _ _ (λ fault by. load_fault words (rows_of (found_of c.in-Some-subcommand_matches.load.now)) fault taken by) c.load_line.ensures.fault
+    IfErr-weaker c.load_line.result _ _ (λ fault by. no_memory words fault by) c.load_line.ensures.fault
 
 pub serve_line-requires-clause-socket : goal.serve_line-requires-clause-socket
 serve_line-requires-clause-socket c =
@@ -117,6 +116,19 @@ returns-in-Some-subcommand_matches-5-clause-line c = λ words by_words.
     let taken = taken_for words c.args.matches.now (codes "unpack") _ by_words (c.in-Some-subcommand_matches-5.ensures.found.0 refl) c.in-Some-subcommand_matches-5.ensures.rows in
     (codes "unpack", rows_of (found_of c.in-Some-subcommand_matches-5.unpack.now), taken, c.unpack_line.ensures)
 
+pub info_line-requires : goal.info_line-requires
+info_line-requires c =
+    let given = given_for c.requires.taken.0 c.args.matches.now (codes "info") _ c.requires.taken.1 (c.in-Some-subcommand_matches-6.ensures.found.0 refl) c.in-Some-subcommand_matches-6.ensures.rows in
+    given.0.0 refl
+
+pub returns-in-Some-subcommand_matches-6-clause-fault : goal.returns-in-Some-subcommand_matches-6-clause-fault
+returns-in-Some-subcommand_matches-6-clause-fault c = λ words by_words. IfErr-weaker c.info_line.result _ _ (λ fault by. no_memory words fault by) c.info_line.ensures.fault
+
+pub returns-in-Some-subcommand_matches-6-clause-line : goal.returns-in-Some-subcommand_matches-6-clause-line
+returns-in-Some-subcommand_matches-6-clause-line c = λ words by_words.
+    let taken = taken_for words c.args.matches.now (codes "info") _ by_words (c.in-Some-subcommand_matches-6.ensures.found.0 refl) c.in-Some-subcommand_matches-6.ensures.rows in
+    IfOk-weaker c.info_line.result _ _ (λ line by. (codes "info", rows_of (found_of c.in-Some-subcommand_matches-6.info.now), taken, by)) c.info_line.ensures.line
+
 pub unwrap-requires : goal.unwrap-requires
 unwrap-requires c =
     let words : List Text = c.requires.taken.0 in
@@ -124,8 +136,8 @@ unwrap-requires c =
     let met = run_met words matches c.requires.taken.1 (λ is. absurd (true≢false (sym (c.in_default.ensures.found.1 is))))
     (λ is. absurd (true≢false (sym (c.in_default-subcommand_matches.ensures.found.1 is)))) (λ is. absurd (true≢false (sym (c.in_default-subcommand_matches-2.ensures.found.1 is))))
     (λ is. absurd (true≢false (sym (c.in_default-subcommand_matches-3.ensures.found.1 is)))) (λ is. absurd (true≢false (sym (c.in_default-subcommand_matches-4.ensures.found.1 is))))
-    (λ is. absurd (true≢false (sym (c.in_default-subcommand_matches-5.ensures.found.1 is)))) in
-    c.subcommand_matches-7.ensures.found.1 met
+    (λ is. absurd (true≢false (sym (c.in_default-subcommand_matches-5.ensures.found.1 is)))) (λ is. absurd (true≢false (sym (c.in_default-subcommand_matches-6.ensures.found.1 is)))) in
+    c.subcommand_matches-8.ensures.found.1 met
 
 pub run_line-requires-clause-image : goal.run_line-requires-clause-image
 run_line-requires-clause-image c =
@@ -134,9 +146,9 @@ run_line-requires-clause-image c =
     let met = run_met words matches c.requires.taken.1 (λ is. absurd (true≢false (sym (c.in_default.ensures.found.1 is))))
     (λ is. absurd (true≢false (sym (c.in_default-subcommand_matches.ensures.found.1 is)))) (λ is. absurd (true≢false (sym (c.in_default-subcommand_matches-2.ensures.found.1 is))))
     (λ is. absurd (true≢false (sym (c.in_default-subcommand_matches-3.ensures.found.1 is)))) (λ is. absurd (true≢false (sym (c.in_default-subcommand_matches-4.ensures.found.1 is))))
-    (λ is. absurd (true≢false (sym (c.in_default-subcommand_matches-5.ensures.found.1 is)))) in
+    (λ is. absurd (true≢false (sym (c.in_default-subcommand_matches-5.ensures.found.1 is)))) (λ is. absurd (true≢false (sym (c.in_default-subcommand_matches-6.ensures.found.1 is)))) in
     let rows = rows_of (found_of c.unwrap.result.now) in
-    let at_rows = subst (λ o. IfSome o (λ m. option_map (λ p. p.1) (subcommand_rows_of matches) ≡ Some (rows_of (found_of m.now)))) c.unwrap.ensures c.subcommand_matches-7.ensures.rows in
+    let at_rows = subst (λ o. IfSome o (λ m. option_map (λ p. p.1) (subcommand_rows_of matches) ≡ Some (rows_of (found_of m.now)))) c.unwrap.ensures c.subcommand_matches-8.ensures.rows in
     let given = given_for words matches (codes "run") rows c.requires.taken.1 met at_rows in
     given.1.0.0 refl
 
@@ -147,9 +159,9 @@ run_line-requires-clause-steps c =
     let met = run_met words matches c.requires.taken.1 (λ is. absurd (true≢false (sym (c.in_default.ensures.found.1 is))))
     (λ is. absurd (true≢false (sym (c.in_default-subcommand_matches.ensures.found.1 is)))) (λ is. absurd (true≢false (sym (c.in_default-subcommand_matches-2.ensures.found.1 is))))
     (λ is. absurd (true≢false (sym (c.in_default-subcommand_matches-3.ensures.found.1 is)))) (λ is. absurd (true≢false (sym (c.in_default-subcommand_matches-4.ensures.found.1 is))))
-    (λ is. absurd (true≢false (sym (c.in_default-subcommand_matches-5.ensures.found.1 is)))) in
+    (λ is. absurd (true≢false (sym (c.in_default-subcommand_matches-5.ensures.found.1 is)))) (λ is. absurd (true≢false (sym (c.in_default-subcommand_matches-6.ensures.found.1 is)))) in
     let rows = rows_of (found_of c.unwrap.result.now) in
-    let at_rows = subst (λ o. IfSome o (λ m. option_map (λ p. p.1) (subcommand_rows_of matches) ≡ Some (rows_of (found_of m.now)))) c.unwrap.ensures c.subcommand_matches-7.ensures.rows in
+    let at_rows = subst (λ o. IfSome o (λ m. option_map (λ p. p.1) (subcommand_rows_of matches) ≡ Some (rows_of (found_of m.now)))) c.unwrap.ensures c.subcommand_matches-8.ensures.rows in
     let given = given_for words matches (codes "run") rows c.requires.taken.1 met at_rows in
     given.0.0 refl
 
@@ -160,9 +172,9 @@ run_line-requires-clause-number c =
     let met = run_met words matches c.requires.taken.1 (λ is. absurd (true≢false (sym (c.in_default.ensures.found.1 is))))
     (λ is. absurd (true≢false (sym (c.in_default-subcommand_matches.ensures.found.1 is)))) (λ is. absurd (true≢false (sym (c.in_default-subcommand_matches-2.ensures.found.1 is))))
     (λ is. absurd (true≢false (sym (c.in_default-subcommand_matches-3.ensures.found.1 is)))) (λ is. absurd (true≢false (sym (c.in_default-subcommand_matches-4.ensures.found.1 is))))
-    (λ is. absurd (true≢false (sym (c.in_default-subcommand_matches-5.ensures.found.1 is)))) in
+    (λ is. absurd (true≢false (sym (c.in_default-subcommand_matches-5.ensures.found.1 is)))) (λ is. absurd (true≢false (sym (c.in_default-subcommand_matches-6.ensures.found.1 is)))) in
     let rows = rows_of (found_of c.unwrap.result.now) in
-    let at_rows = subst (λ o. IfSome o (λ m. option_map (λ p. p.1) (subcommand_rows_of matches) ≡ Some (rows_of (found_of m.now)))) c.unwrap.ensures c.subcommand_matches-7.ensures.rows in
+    let at_rows = subst (λ o. IfSome o (λ m. option_map (λ p. p.1) (subcommand_rows_of matches) ≡ Some (rows_of (found_of m.now)))) c.unwrap.ensures c.subcommand_matches-8.ensures.rows in
     let given = given_for words matches (codes "run") rows c.requires.taken.1 met at_rows in
     given.0.1
 
@@ -172,8 +184,8 @@ returns-clause-line c = λ words by_words.
     let met = run_met words matches by_words (λ is. absurd (true≢false (sym (c.in_default.ensures.found.1 is))))
     (λ is. absurd (true≢false (sym (c.in_default-subcommand_matches.ensures.found.1 is)))) (λ is. absurd (true≢false (sym (c.in_default-subcommand_matches-2.ensures.found.1 is))))
     (λ is. absurd (true≢false (sym (c.in_default-subcommand_matches-3.ensures.found.1 is)))) (λ is. absurd (true≢false (sym (c.in_default-subcommand_matches-4.ensures.found.1 is))))
-    (λ is. absurd (true≢false (sym (c.in_default-subcommand_matches-5.ensures.found.1 is)))) in
+    (λ is. absurd (true≢false (sym (c.in_default-subcommand_matches-5.ensures.found.1 is)))) (λ is. absurd (true≢false (sym (c.in_default-subcommand_matches-6.ensures.found.1 is)))) in
     let rows = rows_of (found_of c.unwrap.result.now) in
-    let at_rows = subst (λ o. IfSome o (λ m. option_map (λ p. p.1) (subcommand_rows_of matches) ≡ Some (rows_of (found_of m.now)))) c.unwrap.ensures c.subcommand_matches-7.ensures.rows in
+    let at_rows = subst (λ o. IfSome o (λ m. option_map (λ p. p.1) (subcommand_rows_of matches) ≡ Some (rows_of (found_of m.now)))) c.unwrap.ensures c.subcommand_matches-8.ensures.rows in
     let taken = taken_for words matches (codes "run") rows by_words met at_rows in
     (codes "run", rows, taken, c.run_line.ensures)

@@ -23,6 +23,16 @@ returns-in-Check g c =
       untold = tt;
     }
 
+pub returns-in-Info : goal.returns-in-Info
+returns-in-Info g c =
+    let did = c.run_info in
+    record {
+      found = subst (λ line. CarriesOut line (g.D.Disk.file_at c.args.disk.now) c.args.outputs.now did.new.outputs did.result) (sym c.in-Info.is) did.ensures;
+      failure = tt;
+      output = tt;
+      untold = tt;
+    }
+
 pub returns-in-Disassemble : goal.returns-in-Disassemble
 returns-in-Disassemble g c =
     let did = c.run_disassemble in

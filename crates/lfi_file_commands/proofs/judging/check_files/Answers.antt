@@ -1,9 +1,10 @@
 use Rattle.std.proofs.Common.{rules, ◌≡◌, ◌∙◌, ℕ, Bor, List, Some, ap, length, refl, slice_get, subst}
 use Rattle.std.specs.Prelude.{option_map}
 use Rattle.std.proofs.lemmas.Option.{slice_get-map}
-use Rattle.lfi_file_commands.specs.Explaining.{AreChecked, ChecksOne}
+use Rattle.lfi_file_commands.specs.Explaining.{ChecksOne, ChecksPath, paths_of}
+use Rattle.lfi_file_commands.specs.Several.{AreDone}
 use Rattle.lfi_file_commands.specs.Checking.{name_before, naming_text}
-use Rattle.lfi_file_commands.proofs.Checks.{checked_more}
+use Rattle.lfi_file_commands.proofs.Checks.{done_more}
 use Rattle.lfi_file_commands.proofs.judging.check_files.Goals as goal
 
 pub loop-number-init : goal.loop-number-init
@@ -22,7 +23,7 @@ loop-number-preserved g c =
     c.name_of-name.ensures ∙ ap (λ (ps : List (Bor (List ℕ))). name_before (length ps) path) files in
     let found = subst (λ (ps : List (Bor (List ℕ))). slice_get ps k ≡ Some c.path_at-path.result) files c.path_at-path.ensures in
     let one = subst (λ name. ChecksOne name asked path (at path) mid new c.in-Ok.here) name c.in-Ok.ensures.found in
-    checked_more asked at k c.args.outputs.now mid new c.loop-number.worst c.in-Ok.here path c.worse-worst.result c.loop-number.invariant
+    done_more (ChecksPath asked at) (paths_of asked) k c.args.outputs.now mid new c.loop-number.worst c.in-Ok.here path c.worse-worst.result c.loop-number.invariant
     (slice_get-map (λ (p : Bor (List ℕ)). p.now) asked.files.items k ∙ ap (option_map (λ p. p.now)) found) one c.worse-worst.ensures
 
 pub returns-clause-all : goal.returns-clause-all
@@ -30,7 +31,7 @@ returns-clause-all g c =
     let asked = c.args.asked.now in
     let same : c.loop-number.number ≡ length c.as_slice-paths.result.now = search rules in
     let all = same ∙ ap (λ (ps : List (Bor (List ℕ))). length ps) c.as_slice-paths.ensures.value in
-    subst (λ n. AreChecked asked (g.D.Disk.file_at c.args.disk.now) n c.args.outputs.now c.loop-number.outputs c.loop-number.worst) all c.loop-number.invariant
+    subst (λ n. AreDone (ChecksPath asked (g.D.Disk.file_at c.args.disk.now)) (paths_of asked) n c.args.outputs.now c.loop-number.outputs c.loop-number.worst) all c.loop-number.invariant
 
 pub returns-in-Err-clause-part : goal.returns-in-Err-clause-part
 returns-in-Err-clause-part g c = (c.loop-number.number, c.loop-number.outputs, c.loop-number.worst, c.loop-number.invariant, c.in-Err.ensures.untold)

@@ -1,5 +1,6 @@
-use Rattle.lfi_file_commands.specs.Explaining.{AreChecked}
+use Rattle.lfi_file_commands.specs.Explaining.{ChecksPath, paths_of}
+use Rattle.lfi_file_commands.specs.Several.{AreDone}
 use Rattle.lfi_file_commands.proofs.judging.check_files.Given as goal
 
 abbrev pub invariant-loop-number : goal.invariant-loop-number
-invariant-loop-number g l = AreChecked l.fn.asked (g.D.Disk.file_at l.fn.disk) l.number l.initial.outputs l.outputs l.worst
+invariant-loop-number g l = AreDone (ChecksPath l.fn.asked (g.D.Disk.file_at l.fn.disk)) (paths_of l.fn.asked) l.number l.initial.outputs l.outputs l.worst

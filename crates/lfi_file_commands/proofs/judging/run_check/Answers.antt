@@ -1,4 +1,7 @@
-use Rattle.std.proofs.Common.{◌∙◌, ap, inl, inr, subst}
+use Rattle.std.proofs.Common.{◌∙◌, ap, inl, inr, subst, sym}
+use Rattle.std.proofs.lemmas.List.{length-map}
+use Rattle.lfi_file_commands.specs.Explaining.{ChecksPath, paths_of}
+use Rattle.lfi_file_commands.specs.Several.{AreDone}
 use Rattle.lfi_file_commands.specs.Endings.{EndsUnlessLost}
 use Rattle.lfi_file_commands.specs.Errors.{is_lost_of, writer_of}
 use Rattle.lfi_file_commands.specs.declared.failure.Target.TheVariants.{StandardOutput}
@@ -8,7 +11,12 @@ use Rattle.lfi_file_commands.proofs.judging.run_check.Goals as goal
 
 pub returns-in-Ok : goal.returns-in-Ok
 returns-in-Ok g c = record {
-  did = inl (c.in-Ok.worst, c.in-Ok.ensures.all, subst (λ (left : _). EndsUnlessLost left.is_lost c.in-Ok.worst c.unless_lost.result) c.outputs.view_is c.unless_lost.ensures);
+  did = inl (
+    c.in-Ok.worst,
+    subst (λ n. AreDone (ChecksPath c.args.asked.now (g.D.Disk.file_at c.args.disk.now)) (paths_of c.args.asked.now) n c.args.outputs.now c.check_files.new.outputs c.in-Ok.worst)
+        (sym (length-map c.args.asked.now.files.items (λ path. path.now))) c.in-Ok.ensures.all,
+    subst (λ (left : _). EndsUnlessLost left.is_lost c.in-Ok.worst c.unless_lost.result) c.outputs.view_is c.unless_lost.ensures,
+  );
 }
 
 pub returns-in-Err : goal.returns-in-Err

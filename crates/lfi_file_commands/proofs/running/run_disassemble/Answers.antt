@@ -1,7 +1,7 @@
 use Rattle.std.proofs.Common.{refl, subst}
 use Rattle.lfi_file_commands.specs.Errors.{is_lost_of, writer_of}
 use Rattle.lfi_file_commands.specs.Left.{left}
-use Rattle.lfi_file_commands.specs.Listing.{HasListed}
+use Rattle.lfi_file_commands.specs.Listing.{HasListed, WritesWords, marks_by}
 use Rattle.lfi_file_commands.proofs.Explained.{words_known}
 use Rattle.lfi_file_commands.proofs.running.run_disassemble.Goals as goal
 
@@ -16,8 +16,9 @@ returns-in-Ok-disassemble-clause-found g c =
     subst (λ old. HasListed asked file old new c.end_listing.result) c.outputs.view_is
     (record {
       other = c.in-Ok-disassemble.other;
-      listed = words_known asked.marks asked.profile (g.D.Reader.Read.remaining c.in-Ok.reader) file c.in-Ok-disassemble.other
-          (g.O.Write.contents inside.out) (g.O.Write.contents c.disassemble.new.writer) c.in-Ok.ensures.reader c.in-Ok-disassemble.ensures.listed;
+      listed = words_known (marks_by asked.marks) asked.profile (g.D.Reader.Read.remaining c.in-Ok.reader) file c.in-Ok-disassemble.other
+          (g.O.Write.contents inside.out) (g.O.Write.contents c.disassemble.new.writer) c.in-Ok.ensures.reader
+          (subst (λ marks. WritesWords marks asked.profile (g.D.Reader.Read.remaining c.in-Ok.reader) c.in-Ok-disassemble.other (g.O.Write.contents inside.out) (g.O.Write.contents c.disassemble.new.writer)) c.marks_by.ensures c.in-Ok-disassemble.ensures.listed);
       put = refl;
       told = c.tell_other.ensures.told;
       ends = c.end_listing.ensures;
