@@ -1,19 +1,8 @@
 -- Lines by what they need; and the report on a load, of which some text was told before.
-use Rattle.std.proofs.Common.{◌≡◌, ◌≤◌, ◌+◌, ◌&&◌, ℕ, List, [], Bool, true, false, nat_lt, if◌then◌else◌, Option, Some, None, length, map, option_map, codes, arith, inl, inr, refl}
-use Rattle.std.proofs.lemmas.Bool.{ltb-false}
-use Rattle.std.specs.Str.{bytes_eq}
+use Rattle.std.proofs.Common.{◌≡◌, ℕ, List, [], Bool, Option, refl}
 use Rattle.std.specs.Io.KnownBytes.{Appends}
 use Rattle.std.specs.declared.io.ErrorKind.{ErrorKind}
 use Rattle.std.proofs.KnownBytes.{Appends-trans}
-use Rattle.lfi_module.specs.Numbers.{small_page, large_page}
-use Rattle.lfi_module.specs.Pages.{HasPages}
-use Rattle.lfi_module.specs.Profiles.{is_two}
-use Rattle.lfi_module.specs.declared.profile.Profile.{Profile}
-use Rattle.lfi_command_line.specs.CommandLine.{IsLine, IsNumberOr, pages_named}
-use Rattle.lfi_command_line.specs.Flaws.{flaw_of, flaw_of_files}
-use Rattle.std.specs.Prelude.{find, option_and_then, slice_get}
-use Rattle.lfi_command_line.specs.declared.flaw.Flaw.{Flaw}
-use Rattle.lfi_command_line.specs.declared.flaw.Flaw.TheVariants.{TooManyStreams, TooManyModules}
 use Rattle.lfi_command_line.specs.declared.line.Line.{Line}
 use Rattle.lfi_command_line.specs.declared.line.Line.TheVariants.{Check, Load, Serve, Run, Disassemble, Pack, Unpack, Info}
 use Rattle.lfi_command_line.specs.declared.options.LoadOptions.{LoadOptions}
@@ -69,42 +58,3 @@ for_files (Disassemble asked) no_load no_serve within = within
 for_files (Pack asked) no_load no_serve within = within
 for_files (Unpack asked) no_load no_serve within = within
 for_files (Info asked) no_load no_serve within = within
-
--- where there is no flaw of too many, there are no more than so many
-few_of : (most n : ℕ) (flaw : Flaw) (other : Option Flaw) (b : Bool) → nat_lt most n ≡ b → (if b then Some flaw else other) ≡ None → n ≤ most
-few_of most n flaw other true is none = absurd (cc)
-few_of most n flaw other false is none = ltb-false most n is
-
-number_within : (default least most : ℕ) (o : Option (List ℕ)) (n : ℕ) → least ≤ default → default ≤ most → IsNumberOr default least most o n → (least ≤ n) × (n ≤ most)
-number_within default least most None n from to is = (omega (arith, from, is), omega (arith, to, is))
-number_within default least most (Some text) n from to is = (is.2, is.3)
-
-large_or_none : (large two : Bool) (profile : Profile) (pages : ℕ) → is_two profile ≡ two → (if large && two then Some large_page else None) ≡ Some pages → HasPages profile pages
-large_or_none true true profile pages by is = inr (by, cc)
-large_or_none true false profile pages by is = absurd (cc)
-large_or_none false two profile pages by is = absurd (cc)
-
-small_or_large : (small large : Bool) (profile : Profile) (pages : ℕ) → (if small then Some small_page else if large && is_two profile then Some large_page else None) ≡ Some pages → HasPages profile pages
-small_or_large true large profile pages is = inl (cc)
-small_or_large false large profile pages is = large_or_none large (is_two profile) profile pages refl is
-
-pages_fit : (name : Option (List ℕ)) (profile : Profile) (pages : ℕ) → pages_named name profile ≡ Some pages → HasPages profile pages
-pages_fit None profile pages is = inl (cc)
-pages_fit (Some text) profile pages is = small_or_large (bytes_eq text (codes "small")) (bytes_eq text (codes "large")) profile pages is
-
--- a line without a flaw is in its range
-pub in_range : (words : List (List ℕ)) (line : Line) → IsLine words line → flaw_of line ≡ None → IsInRange line
-in_range words (Check asked) is sound = tt
-in_range words (Load asked) is sound =
-    let n : ℕ = length asked.streams.items in
-    let others : Option Flaw = flaw_of_files (option_map (λ s. s.now) asked.report.out) (map (λ s. s.now) asked.streams.items) in
-    (number_within 2 1 8 _ asked.verifiers (omega arith) (omega arith) is.3.2, (is.3.4, few_of 8 n TooManyStreams others (nat_lt 8 n) refl sound))
-in_range words (Serve asked) is sound = (number_within 2 1 8 _ asked.verifiers (omega arith) (omega arith) is.3.4, (is.3.3.2.2, is.3.3.2.3))
-in_range words (Run asked) is sound = tt
-in_range words (Disassemble asked) is sound = tt
-in_range words (Pack asked) is sound =
-    let n : ℕ = asked.first + length asked.codes.items in
-    let others : Option Flaw = flaw_of_files None (map (λ s. s.now) asked.codes.items) in
-    (few_of 16 n TooManyModules others (nat_lt 16 n) refl sound, pages_fit (option_and_then (λ r. slice_get r.values 0) (find (λ r. bytes_eq r.id (codes "pages")) is.1)) asked.profile asked.pages is.3.4)
-in_range words (Unpack asked) is sound = tt
-in_range words (Info asked) is sound = tt

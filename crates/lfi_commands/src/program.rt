@@ -1,7 +1,8 @@
 //! The program, from its words to its ending.
 
 ghost use Rattle.std.specs.Prelude.{◌≡◌, ◌≤◌, [], ℕ, List, Option, IfOk, IfErr, OnErr, false, true, length, map, string_bytes};
-ghost use Rattle.lfi_command_line.specs.CommandLine.{IsLineFault};
+ghost use Rattle.lfi_command_line.specs.CommandLine.{IsLine, IsLineFault};
+ghost use Rattle.lfi_command_line.specs.Flaws.{flaw_of};
 ghost use Rattle.lfi_file_commands.specs.Failures.{is_of_output, FailsLoading, FailsServing};
 ghost use Rattle.lfi_file_commands.specs.Left.{OnlyOutput};
 ghost use Rattle.lfi_commands.specs.Loading.{streams_of, HasLoaded, TellsReport};
@@ -280,6 +281,19 @@ fn tell_fault<P: ImageStore, O: Write, E: Write>(
     }
 }
 
+/// What the words of the command line ask for. Its numbers are in their ranges.
+fn line_of<'a>(alloc: Global, words: &'a [String]) -> Result<Line<'a>, LineFault>
+    ensures line { IfOk result (IsLine (map string_bytes words.now)) }
+    ensures sound { IfOk result (λ line. flaw_of line ≡ None) }
+    ensures range { IfOk result IsInRange }
+    ensures fault { IfErr result (IsLineFault (map string_bytes words.now)) }
+{
+    match read_line(alloc, words) {
+        Ok(line) => Ok(line),
+        Err(fault) => Err(fault),
+    }
+}
+
 /// Carries out what the words of the command line ask for, of which the first is the program's name: reads files of the disk,
 /// writes the answer and the images, and tells what went wrong. While modules are loaded, the notices are told of those that
 /// are refused.
@@ -300,7 +314,7 @@ pub fn run_words<
 ) -> Ending
     ensures { Runs (map string_bytes words.now) (D.file_at disk.now) outputs.old outputs.new result }
 {
-    match read_line(alloc, words) {
+    match line_of(alloc, words) {
         Ok(line) => {
             let came = run(rt, alloc, disk, notices, &line, outputs);
             ended(came, outputs)

@@ -1,10 +1,6 @@
 use Rattle.std.proofs.Common.{map, string_bytes}
-use Rattle.lfi_commands.proofs.Carried.{in_range}
 use Rattle.lfi_commands.proofs.Ended.{runs_ended}
 use Rattle.lfi_commands.proofs.program.run_words.Goals as goal
-
-pub run-came-requires : goal.run-came-requires
-run-came-requires g c = in_range (map string_bytes c.args.words.now) c.in-Ok.line c.in-Ok.ensures.line c.in-Ok.ensures.sound
 
 pub returns-in-Ok : goal.returns-in-Ok
 returns-in-Ok g c =
