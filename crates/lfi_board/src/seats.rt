@@ -55,6 +55,17 @@ pub struct SequencerSeat {
     ghost one: { (seat.me.0 ≡ hand_of seat.me.0 ∷ []) × (seat.me.1 ≡ []) },
 }
 
+impl SequencerSeat {
+    ghost use Rattle.lfi_board.specs.Known.{module_of};
+
+    /// The module that it ends.
+    pub fn module(&self) -> ModuleNumber
+        ensures { result ≡ module_of self.now }
+    {
+        self.of
+    }
+}
+
 /// A watcher's seat: it sees how many receivers have ended.
 #[derive(Drop)]
 pub struct WatchSeat {

@@ -13,7 +13,7 @@ use Rattle.lfi_place.specs.declared.sequencer.SequencerTurn.TheVariants.{Worked,
 use Rattle.lfi_place.specs.declared.verifier.Verifier.{Verifier}
 use Rattle.lfi_place.specs.Handed.{take_pass_of, lane_puts_of, hand_of, HandsOn, SameLanes, AreLanes, put_in}
 use Rattle.lfi_place.specs.Lanes.{new_row}
-use Rattle.lfi_place.specs.Turns.{lane_pass_of, sequence_of, IsSequenced, LaneTaken}
+use Rattle.lfi_place.specs.Turns.{lane_pass_of, seat_module_of, IsSequenced, LaneTaken}
 use Rattle.lfi_parts.specs.Workers.{IsVerifier, IsSequencer}
 
 -- the pass of each lane of a new row
@@ -69,11 +69,10 @@ verifier_looked intake lanes k old new is pass row hand = record {
       (subst (λ (r : List (PassView ItemView)). Hands (take_pass_of old).items (put_in r) (hand_of new)) (sym row) (subst (λ (o : Option ItemView). Hands (take_pass_of old).items (put_in (lane_puts_of old)) o) (sym hand) is.hands_on));
 }
 
-pub new_sequencer : (lane : QueueId) (m : ℕ) (s : Sequencer) → (sequence_of s).«module» ≡ m → lane_pass_of s ≡ new_pass lane 0 → IsSequenced s → IsSequencer lane m s
+pub new_sequencer : (lane : QueueId) (m : ℕ) (s : Sequencer) → seat_module_of s ≡ m → lane_pass_of s ≡ new_pass lane 0 → IsSequenced s → IsSequencer lane m s
 new_sequencer lane m s numbered pass tie = record {
-  numbered = numbered;
   takes = subst (λ (p : PassView ItemView). IsPass lane 1 0 p) (sym pass) (omega arith, refl, refl);
-  seated = s.seated ∙ numbered;
+  seated = numbered;
   sequenced = tie;
 }
 
@@ -81,12 +80,11 @@ pass_stays : (did : SequencerTurn) (lane : QueueId) (old new : PassView ItemView
 pass_stays Worked lane old new h is = (is.0, ap (λ (p : PassView ItemView). p.queue) h.1 ∙ is.1, ap (λ (p : PassView ItemView). p.number) h.1 ∙ is.2)
 pass_stays Idle lane old new h is = (is.0, ap (λ (p : PassView ItemView). p.queue) h ∙ is.1, ap (λ (p : PassView ItemView). p.number) h ∙ is.2)
 
-pub sequencer_stays : (lane : QueueId) (m : ℕ) (old new : Sequencer) (did : SequencerTurn) → IsSequencer lane m old → LaneTaken did (lane_pass_of old) (lane_pass_of new) → (IsSequenced old → IsSequenced new) → (sequence_of new).«module» ≡ (sequence_of old).«module»
+pub sequencer_stays : (lane : QueueId) (m : ℕ) (old new : Sequencer) (did : SequencerTurn) → IsSequencer lane m old → LaneTaken did (lane_pass_of old) (lane_pass_of new) → (IsSequenced old → IsSequenced new) → seat_module_of new ≡ seat_module_of old
     → IsSequencer lane m new
 sequencer_stays lane m old new did is took tie same = record {
-  numbered = same ∙ is.numbered;
   takes = pass_stays did lane (lane_pass_of old) (lane_pass_of new) took is.takes;
-  seated = new.seated ∙ same ∙ is.numbered;
+  seated = same ∙ is.seated;
   sequenced = tie is.sequenced;
 }
 

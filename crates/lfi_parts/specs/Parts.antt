@@ -9,6 +9,7 @@ use Rattle.lfi_place.specs.Turns.{seat_of as sequencer_seat_of}
 use Rattle.lfi_receive.specs.declared.receiver.Receiver.{Receiver}
 use Rattle.lfi_receive.specs.Receivers.{pass_of, seat_of}
 use Rattle.lfi_parts.specs.Workers.{AreWorkers}
+use Rattle.lfi_parts.specs.declared.shared.Parts.{Parts}
 use Rattle.lfi_parts.specs.declared.shared.Shared.{Shared}
 use Rattle.lfi_parts.specs.Shares.{intake_of, board_at, lanes_of}
 
@@ -38,3 +39,7 @@ pub record AreReceivers (shared : Shared) (receivers : List Receiver) : Type 0 w
 pub record AreAllParts (shared : Shared) (receivers : List Receiver) (verifiers : List Verifier) (sequencers : List Sequencer) : Type 0 where
   pub receivers_are : AreReceivers shared receivers
   pub others_are : AreOthers shared verifiers sequencers
+
+-- the same of parts that are one value
+abbrev pub ArePartsOf : Shared → Parts → Type 0
+ArePartsOf shared parts = AreAllParts shared parts.receivers.items parts.verifiers.items parts.sequencers.items

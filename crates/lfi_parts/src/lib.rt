@@ -3,11 +3,11 @@
 //!
 //! # How data flows
 //!
-//! All parts of one stage take turns at what they share (`Shared`): the intake, the lanes, the board. Whoever has them
-//! turns them in any order, on any threads. Here is what is known of them all the while, and no code.
+//! All parts of one stage (`Parts`) take turns at what they share (`Shared`): the intake, the lanes, the board. Whoever has
+//! them turns them in any order, on any threads. Here is what is known of them all the while, and no code.
 //!
 //! What that is is told by specs/: Workers and Parts say whose a verifier, a sequencer and a receiver is and where their seats are, Shares what
-//! contracts see of what they share, Fresh which of them have done nothing yet. The laws in `laws` and `parts` say that
+//! contracts see of what they share, Fresh which of them have done nothing yet. The laws in `laws` and `turns` say that
 //! a single turn keeps what settling a stage asks of its part.
 //!
 //! # What it may not know
@@ -25,8 +25,9 @@
 #![tactic(auto)]
 
 mod laws;
-pub mod parts;
 mod shared;
+mod turns;
 
 pub use laws::{all_parts_stay, receiver_stays, seat_stays};
-pub use shared::Shared;
+pub use shared::{Parts, Shared};
+pub use turns::{lanes_of_a_verifier, parts_are_new, parts_stay};

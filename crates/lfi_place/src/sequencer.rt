@@ -1,14 +1,14 @@
 //! A module's sequencer: it takes judged items from the module's lane, places them in order, and
 //! tells the board how the module ends.
 
-ghost use Rattle.std.specs.Prelude.{◌≡◌, ◌+◌, [], IfOk};
+ghost use Rattle.std.specs.Prelude.{◌≡◌, List, [], IfOk};
+ghost use Rattle.lfi_model.specs.Item.{ItemView};
 ghost use Rattle.lfi_board.specs.Known.{board_id, sequencer_board, module_of};
 ghost use Rattle.lfi_place.specs.declared.sequencer.SequencerTurn.TheVariants.{Worked, Idle};
 
 use crate::sequence::{Sequence, Told};
 use lfi_board::{Board, SequencerSeat};
 use lfi_model::Judged;
-use lfi_module::ModuleNumber;
 use lfi_queues::{Lane, LaneTake};
 use page_buf::PoolMember;
 use std::alloc::{AllocError, Global};
@@ -27,61 +27,53 @@ pub enum SequencerTurn {
 #[derive(Drop)]
 pub struct Sequencer {
     pub(crate) pass: LaneTake<Judged>,
-    pub(crate) seat: SequencerSeat,
     pub(crate) sequence: Sequence,
-    pub ghost seated: { module_of seat ≡ sequence.«module» },
 }
 
 impl Sequencer {
-    ghost use Rattle.lfi_place.specs.Sequenced.{module_number_of};
+    ghost use Rattle.lfi_place.specs.Sequenced.{Sequenced};
     ghost use Rattle.lfi_place.specs.Turns.{lane_pass_of, member_of, seat_of, sequence_of, told_of_sequencer, IsSequenced, LaneTaken, TellsBoard};
 
-    /// The sequencer of a module, with its pass of the module's lane, its seat of the board, and the
-    /// pool to which it gives the pages that it doesn't place. No item has come. The memory for the module's pages is reserved, and so is a place for each
-    /// item.
+    /// The sequencer of the seat's module, with its pass of the module's lane, its seat at the board, and the pool to which it
+    /// gives the pages that it doesn't place. No item has come. The memory for the module's pages is reserved, and so is a
+    /// place for each item.
     ///
     /// # Errors
     ///
     /// `AllocError` where memory is refused.
     pub fn new(
         alloc: Global,
-        module: ModuleNumber,
         pass: LaneTake<Judged>,
         seat: SequencerSeat,
         pool: PoolMember,
     ) -> Result<Sequencer, AllocError>
         requires fresh { pass.items ≡ [] }
-        requires seat { module_of seat ≡ «module» }
         ensures pass { IfOk result (λ s. lane_pass_of s ≡ pass) }
         ensures seat { IfOk result (λ s. seat_of s ≡ seat) }
-        ensures module { IfOk result (λ s. module_number_of (sequence_of s) ≡ «module») }
         ensures sequenced { IfOk result IsSequenced }
         ensures pool { IfOk result (λ s. (member_of s).pool ≡ pool.pool) }
     {
-        let sequence = Sequence::new(alloc, module, pool)?;
-        Ok(Sequencer {
-            pass,
-            seat,
-            sequence,
-        })
+        let sequence = Sequence::new(alloc, seat, pool)?;
+        Ok(Sequencer { pass, sequence })
     }
 
     /// Tells the board what is to be told, where nothing was told before.
     fn tell(&mut self, board: &Board, before: Told)
-        requires { sequencer_board self.old.seat ≡ board_id board.now }
-        ensures tells { TellsBoard before (told_of_sequencer self.new) self.old.seat self.new.seat }
-        ensures board { (sequencer_board self.new.seat ≡ sequencer_board self.old.seat) × (module_of self.new.seat ≡ module_of self.old.seat) }
+        requires { sequencer_board (seat_of self.old) ≡ board_id board.now }
+        ensures tells { TellsBoard before (told_of_sequencer self.old) (seat_of self.old) (seat_of self.new) }
+        ensures board { (sequencer_board (seat_of self.new) ≡ sequencer_board (seat_of self.old)) × (module_of (seat_of self.new) ≡ module_of (seat_of self.old)) }
         ensures pass { self.new.pass ≡ self.old.pass }
-        ensures sequence { self.new.sequence ≡ self.old.sequence }
+        ensures told { told_of_sequencer self.new ≡ told_of_sequencer self.old }
+        ensures tie { (taken : List ItemView) → Sequenced self.old.sequence taken → Sequenced self.new.sequence taken }
     {
         match before {
             Told::Nothing => match self.sequence.told() {
                 Told::Nothing => {}
                 Told::Refused => {
-                    board.refuse(&mut self.seat);
+                    board.refuse(&mut self.sequence.seat);
                 }
                 Told::Finished => {
-                    board.finish(&mut self.seat);
+                    board.finish(&mut self.sequence.seat);
                 }
             },
             Told::Refused => {}
@@ -99,7 +91,6 @@ impl Sequencer {
         ensures tie { IsSequenced self.old → IsSequenced self.new }
         ensures tells { TellsBoard (told_of_sequencer self.old) (told_of_sequencer self.new) (seat_of self.old) (seat_of self.new) }
         ensures board { (sequencer_board (seat_of self.new) ≡ sequencer_board (seat_of self.old)) × (module_of (seat_of self.new) ≡ module_of (seat_of self.old)) }
-        ensures module { module_number_of (sequence_of self.new) ≡ module_number_of (sequence_of self.old) }
     {
         match lane.take(rt, &mut self.pass) {
             Some(item) => {
@@ -112,17 +103,12 @@ impl Sequencer {
         }
     }
 
-    /// Its pass of its lane, its seat, and what it holds.
-    pub fn into_parts(self) -> (LaneTake<Judged>, SequencerSeat, Sequence)
+    /// Its pass of its lane, and what it holds.
+    pub fn into_parts(self) -> (LaneTake<Judged>, Sequence)
         ensures pass { result.0 ≡ lane_pass_of self }
-        ensures seat { result.1 ≡ seat_of self }
-        ensures sequence { result.2 ≡ sequence_of self }
+        ensures sequence { result.1 ≡ sequence_of self }
     {
-        let Sequencer {
-            pass,
-            seat,
-            sequence,
-        } = self;
-        (pass, seat, sequence)
+        let Sequencer { pass, sequence } = self;
+        (pass, sequence)
     }
 }

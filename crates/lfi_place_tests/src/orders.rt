@@ -1,6 +1,7 @@
 //! Sequences: the items of a module in every order, twice, past an End, and of other words.
 
-use crate::items::{NOP, Part, UNKNOWN, WORDS, extent_of, item_of, mark, module, pooled};
+use crate::items::{NOP, Part, UNKNOWN, WORDS, extent_of, item_of, mark, pooled};
+use lfi_board::Board;
 use lfi_image::CompleteImage;
 use lfi_model::{Outcome, Reason};
 use lfi_module::{Extent, PageSize, Profile, WordCount};
@@ -111,7 +112,9 @@ type Extents = [Extent; 2];
 fn placed(rt: &(impl Abort + AllocGlobal), extents: Extents, parts: &[Part]) -> (Seen, u64) {
     let mut member = PoolMember::new(rt.alloc()).expect(rt, "no pool");
     let other = member.another().expect(rt, "no other member");
-    let mut sequence = Sequence::new(rt.alloc(), module(), other).expect(rt, "no sequence");
+    let (_, mut seats) = Board::new(rt.alloc(), 1, 1).expect(rt, "no board");
+    let seat = seats.sequencers.swap_remove(3);
+    let mut sequence = Sequence::new(rt.alloc(), seat, other).expect(rt, "no sequence");
     let [mut extent, later] = extents;
     for part in parts {
         sequence.handle(item_of(rt, extent, *part).judge());

@@ -46,7 +46,7 @@ impl Row {
         let put = puts.swap_remove(0);
         let take = takes.swap_remove(0);
         let member = PoolMember::new(rt.alloc()).expect(rt, "no pool");
-        let made = Sequencer::new(rt.alloc(), module(), take, of, member);
+        let made = Sequencer::new(rt.alloc(), take, of, member);
         Row {
             board,
             seat,

@@ -5,11 +5,11 @@ ghost use Rattle.std.specs.Prelude.{◌≡◌, ◌+◌, ◌≤◌, ◌<◌, [], 
 ghost use Rattle.lfi_queues.specs.Passes.{new_passes, IsSamePass, GetsItem, FindsNone, AsksAgain};
 ghost use Rattle.lfi_queues.specs.Taken.{MatchTaken};
 
-use crate::auxiliary::Auxiliary;
 use crate::making::{HomeOf, NoItems, new_owners, new_takers, put_passes, take_passes};
 use crate::part::{Home, Owner, PartPuts};
 use crate::pass::Next;
 use crate::round::TakeEnds;
+use lfi_auxiliary::Auxiliary;
 use std::alloc::{AllocError, Global};
 use std::collections::LinkedList;
 use std::marker::Model;

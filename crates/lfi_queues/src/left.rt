@@ -10,11 +10,11 @@ ghost use Rattle.lfi_queues.specs.inner.Owners.{part_of};
 ghost use Rattle.lfi_queues.specs.inner.Parts.{IsWhole, take_pass, TakesFrom};
 ghost use Rattle.lfi_queues.specs.inner.Remains.{Looked, AreAtPart, LearnedAt, AreTakersOf, LeftAt, HasTakenBelow, LeftIn, Opens, AreOpened, wants};
 
-use crate::auxiliary::{Auxiliary, Reading};
 use crate::intake::{Intake, PutPass, TakePass};
 use crate::log::{All, OneTaker};
 use crate::part::{Owner, PartLook, PartTakes, TakeEnd};
 use crate::round::TakeEnds;
+use lfi_auxiliary::{Auxiliary, Reading};
 use std::array;
 use std::collections::LinkedList;
 

@@ -16,8 +16,8 @@
 //!
 //! # Decisions
 //!
-//! - **What a pass did is a ghost value of no bytes** (`auxiliary`), since a contract has to speak of all that it put or took,
-//!   and the program is to store none of it. `Auxiliary::of` reads the value off what the program has, by a proof by hand.
+//! - **What a pass did is a ghost value of no bytes** (`Auxiliary`), since a contract has to speak of all that it put or took,
+//!   and the program is to store none of it.
 //! - **A queue's contracts speak of passes, and never of what it holds**, which other threads change at any time. Each call
 //!   says what it adds to its own pass's list; the rule below it, kept by every atomic step, ties all lists; and `rest`,
 //!   handed all passes, reads the tie off.
@@ -35,7 +35,6 @@
 //!   calls take none, nor does a receiver's turn, which so returns, by its contract.
 #![tactic(auto)]
 
-pub mod auxiliary;
 mod intake;
 mod lane;
 mod laws;

@@ -8,12 +8,12 @@ ghost use Rattle.lfi_queues.specs.inner.Delivery.{log, next_taker, one_more_take
 ghost use Rattle.lfi_queues.specs.inner.Parts.{new_end, intake_id, IsNewTaker, AreNewTakers};
 ghost use Rattle.lfi_queues.specs.inner.Owners.{part_of, parts_of, IsNewOwner, AreNewOwners};
 
-use crate::auxiliary::{Auxiliary, Reading};
 use crate::intake::{PutPass, ROOM, TakePass};
 use crate::log::NewTaker;
 use crate::part::{Home, Owner, TakeEnd, Tally};
 use crate::round::TakeEnds;
 use crossbeam_deque::Worker;
+use lfi_auxiliary::{Auxiliary, Reading};
 use std::alloc::{AllocError, Global};
 use std::collections::LinkedList;
 

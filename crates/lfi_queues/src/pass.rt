@@ -7,9 +7,9 @@ ghost use Rattle.lfi_queues.specs.Passes.{new_pass, new_passes};
 ghost use Rattle.lfi_queues.specs.inner.Delivery.{log, next_putter, one_more_putter, next_taker, one_more_taker};
 ghost use Rattle.lfi_queues.specs.inner.Ports.{queue_id};
 
-use crate::auxiliary::{Auxiliary, Reading};
 use crate::log::{All, Log, NewPutter, NewTaker, Ring};
 use crossbeam_queue::Pass;
+use lfi_auxiliary::{Auxiliary, Reading};
 use std::alloc::{AllocError, Global};
 use std::marker::Model;
 

@@ -6,10 +6,10 @@ ghost use Rattle.lfi_queues.specs.Kept.{Kept};
 ghost use Rattle.lfi_queues.specs.Passes.{OneRing, new_passes, IsSamePass, SeenByPutter, SeenByTaker, AreAllPasses, items_at, with_first, after_rest, IsFirstOf};
 ghost use Rattle.lfi_queues.specs.inner.Ports.{AreOfQueue, AreLaterOf, EndsInFirst, HasTaken, LearnedAll, LearnedAs};
 
-use crate::auxiliary::Auxiliary;
 use crate::log::{All, Log, OnePutter, OneTaker, Puts, Ring, Takes};
 use crate::pass::{LanePut, LaneTake, Next, Same, new_putters, new_takers};
 use crossbeam_queue::Pass;
+use lfi_auxiliary::Auxiliary;
 use std::alloc::{AllocError, Global};
 use std::marker::Model;
 use std::sync::Wait;

@@ -5,11 +5,11 @@ ghost use Rattle.crossbeam_deque.specs.Steals.{MatchSteal};
 ghost use Rattle.lfi_queues.specs.inner.Parts.{SeesEmpty, SeesRetry, Gives};
 ghost use Rattle.lfi_queues.specs.inner.Rounds.{DidParts, DidRound, DidTake};
 
-use crate::auxiliary::{Auxiliary, Reading};
 use crate::intake::Taken;
 use crate::part::{Home, TakeEnd};
 use crate::pass::Next;
 use crossbeam_deque::Steal;
+use lfi_auxiliary::{Auxiliary, Reading};
 use std::collections::LinkedList;
 use std::marker::Model;
 

@@ -1,13 +1,12 @@
 //! A receiver's turn over the input of its connection.
 
-ghost use Rattle.std.specs.Prelude.{◌≡◌, ◌≢◌, ℕ, List, [], ◌↔◌, Some, None, IsSome, true, if◌then◌else◌};
-ghost use Rattle.std.specs.Io.KnownBytes.{Keeps};
+ghost use Rattle.std.specs.Prelude.{◌≡◌, ℕ, List, ◌↔◌, None, IsSome, true, if◌then◌else◌};
 ghost use Rattle.lfi_board.specs.Known.{board_id, board_of, known_by};
 ghost use Rattle.lfi_receive.specs.Turns.{PutsAsTold, CountsAsTold, is_finished};
 ghost use Rattle.lfi_receive.specs.Receivers.{pass_of, seat_of, cause_of, hand_of, strays_at, StandsFor, IsFinished, AfterEnd};
-ghost use Rattle.lfi_receive.specs.Inputs.{unread_of, left_of, has_failed};
+ghost use Rattle.lfi_receive.specs.Inputs.{left_of, has_failed};
 ghost use Rattle.lfi_receive.specs.Pulls.{FailsAs, IsPulled};
-ghost use Rattle.lfi_receive.specs.inner.Fetches.{IsFetched};
+ghost use Rattle.lfi_receive.specs.inner.Fills.{EndsBy};
 ghost use Rattle.lfi_receive.specs.declared.receiver.ReceiverTurn.TheVariants as turn;
 
 use crate::input::{Filled, Input};
@@ -18,16 +17,12 @@ use lfi_queues::Intake;
 use std::io::Read;
 
 impl Receiver {
-    /// Reads once, where no bytes are left to use, and tells the end of the input, or that the read
-    /// failed.
-    fn fetch<R: Read + Drop>(&mut self, input: &mut Input<R>)
+    /// Tells the end of the input, or that a read of it failed, where that is what came of a look for bytes.
+    fn end_at(&mut self, filled: Filled)
         requires { cause_of self.old ≡ None }
-        ensures keeps { Keeps (left_of R.remaining input.old) (left_of R.remaining input.new) }
-        ensures fetched { IsFetched self.old self.new (left_of R.remaining input.new) }
-        ensures some { cause_of self.new ≡ None → unread_of input.new ≢ [] }
-        ensures failure { FailsAs (cause_of self.new) (has_failed input.old) (has_failed input.new) }
+        ensures { EndsBy filled self.old self.new }
     {
-        match input.fill() {
+        match filled {
             Filled::Bytes => {}
             Filled::End => self.end_by(Cause::End),
             Filled::Failed => self.end_by(Cause::Failed),
@@ -55,6 +50,7 @@ impl Receiver {
         ensures hand { IsSome (hand_of self.new) ↔ (result ≡ turn.Blocked) }
         ensures finished { result ≡ turn.Finished → IsFinished self.new }
         ensures ended { IsSome (cause_of self.old) → AfterEnd self.old self.new 0 result }
+        ensures over { IsSome (cause_of self.old) → (bytes : List ℕ) → StandsFor self.old bytes → StandsFor self.new bytes }
         ensures told { (known_by (seat_of self.new)).ended ≡ (if is_finished result then true else (known_by (seat_of self.old)).ended) }
         ensures board { board_of (seat_of self.new) ≡ board_of (seat_of self.old) }
     {
@@ -62,7 +58,7 @@ impl Receiver {
             let (_, did) = self.turn(board, intake, &[]);
             return did;
         }
-        self.fetch(input);
+        self.end_at(input.fill());
         let (used, did) = self.turn(board, intake, input.unread());
         input.use_up(used);
         did

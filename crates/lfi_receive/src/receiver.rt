@@ -43,6 +43,17 @@ pub enum ReceiverTurn {
     Finished,
 }
 
+/// What came of the bytes that a turn went through.
+#[derive(Clone, Copy)]
+enum Parsed {
+    /// An item, which is in the hand.
+    Item,
+    /// A stray.
+    Stray,
+    /// No item yet.
+    More,
+}
+
 /// The receiver of one connection.
 #[derive(Drop)]
 pub struct Receiver {
@@ -68,7 +79,8 @@ impl Receiver {
     ghost use Rattle.lfi_receive.specs.declared.receiver.ReceiverTurn.TheVariants as turn;
     ghost use Rattle.lfi_receive.specs.Turns.{PutsAsTold, CountsAsTold, is_finished};
     ghost use Rattle.lfi_receive.specs.inner.Holding.{made_by, knows, CountsTo, Holds, Brought};
-    ghost use Rattle.lfi_receive.specs.inner.Steps.{bytes_before, Begins, Keeps};
+    ghost use Rattle.lfi_receive.specs.inner.Steps.{bytes_before, is_stray, Begins, Keeps};
+    ghost use Rattle.lfi_receive.specs.declared.receiver.Parsed.TheVariants as parsed;
     ghost use Rattle.lfi_receive.specs.inner.Pages.{coming_of, Fits};
     ghost use Rattle.lfi_model.specs.declared.connection.Cause.TheVariants as cause_kind;
     ghost use Rattle.lfi_receive.specs.Receivers.{pass_of, seat_of, member_of, start_of, claimed_by, cause_of, hand_of, fault_of, strays_at, cause_told, cause_with, StandsFor, IsOver, IsFinished, due_of, EndsLeast, AfterEnd};
@@ -193,6 +205,7 @@ impl Receiver {
         requires due { (due.pages < page_count due.extent.pages due.extent.words) × (due.come ≡ 0) }
         requires running { self.old.cause ≡ None }
         ensures page { Begins due self.old self.new }
+        ensures hand { self.new.hand ≡ self.old.hand }
     {
         match self.memory.page(due.extent.pages()) {
             Ok(page) => self.page = Some(ComingPage::of(due, page)),
@@ -206,18 +219,23 @@ impl Receiver {
     }
 
     /// Payload bytes of the page that is coming: they are kept, and where they end it it comes into the hand.
-    fn payload(&mut self, ended: bool, bytes: &[u8])
+    fn payload(&mut self, ended: bool, bytes: &[u8]) -> Parsed
         requires free { self.old.hand ≡ None }
         requires fits { Fits self.old.page (length bytes.now) «ended» }
-        ensures { Keeps «ended» bytes.now self.old self.new }
+        ensures keeps { Keeps «ended» bytes.now self.old self.new }
+        ensures hand { IsSome self.new.hand ↔ (result ≡ parsed.Item) }
+        ensures stray { is_stray result ≡ false }
+        ensures strays { self.new.strays ≡ self.old.strays }
     {
         let Some(page) = self.page.take() else {
             unreachable!();
         };
         if ended {
             self.hand = Some(page.end(bytes));
+            Parsed::Item
         } else {
             self.page = Some(page.add(bytes));
+            Parsed::More
         }
     }
 
@@ -232,9 +250,9 @@ impl Receiver {
         }
     }
 
-    /// What an event brings comes into the hand, or into the page that is coming. It answers whether it is a stray.
+    /// What an event brings comes into the hand, or into the page that is coming.
     #[inline(always)]
-    fn tell(&mut self, event: Event, bytes: &[u8]) -> bool
+    fn tell(&mut self, event: Event, bytes: &[u8]) -> Parsed
         requires free { self.old.hand ≡ None }
         requires running { self.old.cause ≡ None }
         requires follows { (was : ℕ → Progress) × Follows event was }
@@ -242,32 +260,40 @@ impl Receiver {
         ensures stands { (messages : List Message) (rest : List ℕ) → Brought self.old event messages rest bytes.now → StandsFor self.new (flat_map spelling messages ++ (rest ++ bytes.now)) }
         ensures over { (messages : List Message) (rest : List ℕ) → Brought self.old event messages rest bytes.now → IsOver (claimed_by self.new) self.new.cause (flat_map spelling messages ++ (rest ++ bytes.now)) }
         ensures pass { self.new.pass ≡ self.old.pass }
-        ensures stray { IsTrue result → self.new.hand ≡ None }
+        ensures hand { IsSome self.new.hand ↔ (result ≡ parsed.Item) }
         ensures seat { self.new.seat ≡ self.old.seat }
-        ensures strays { self.new.strays ≡ (if result then min (self.old.strays + 1) (2 ^ 64 - 1) else self.old.strays) }
+        ensures strays { self.new.strays ≡ (if is_stray result then min (self.old.strays + 1) (2 ^ 64 - 1) else self.old.strays) }
     {
         match event {
-            Event::Nothing => {}
-            Event::Open { module, extent } => self.open_module(module, extent),
-            Event::Begin(due) => self.begin(due),
+            Event::Nothing => Parsed::More,
+            Event::Open { module, extent } => {
+                self.open_module(module, extent);
+                Parsed::Item
+            }
+            Event::Begin(due) => {
+                self.begin(due);
+                Parsed::More
+            }
             Event::Code { ended, .. } => self.payload(ended, bytes),
             Event::Stray { .. } => {
                 self.stray();
-                return true;
+                Parsed::Stray
             }
             Event::End {
                 module,
                 extent,
                 pages,
-                reason,
-            } => self.end_module(module, extent, pages, reason),
+                reason: why,
+            } => {
+                self.end_module(module, extent, pages, why);
+                Parsed::Item
+            }
         }
-        false
     }
 
-    /// What these bytes brought, which the feed has told. At an Open the board is asked. It answers whether it is a stray.
+    /// What these bytes brought, which the feed has told. At an Open the board is asked.
     #[inline(always)]
-    fn take(&mut self, board: &Board, got: Got, bytes: &[u8]) -> bool
+    fn take(&mut self, board: &Board, got: Got, bytes: &[u8]) -> Parsed
         requires free { self.old.hand ≡ None }
         requires running { self.old.cause ≡ None }
         requires board { board_of self.old.seat.seat ≡ board_id board.now }
@@ -276,10 +302,10 @@ impl Receiver {
         ensures over { (messages : List Message) (rest : List ℕ) → (got ≢ More → bytes.now ≢ []) → CountsTo self.old.came self.old.feed messages (rest ++ bytes.now) → Holds self.old messages rest → IsTold got self.old.feed messages rest bytes.now → feed_fault self.old.feed ≡ None →
             IsOver (claimed_by self.new) self.new.cause (flat_map spelling messages ++ (rest ++ bytes.now)) }
         ensures pass { self.new.pass ≡ self.old.pass }
-        ensures stray { IsTrue result → self.new.hand ≡ None }
+        ensures hand { IsSome self.new.hand ↔ (result ≡ parsed.Item) }
         ensures board { board_of self.new.seat.seat ≡ board_of self.old.seat.seat }
         ensures ended { (knows self.new).ended ≡ (knows self.old).ended }
-        ensures strays { self.new.strays ≡ (if result then min (self.old.strays + 1) (2 ^ 64 - 1) else self.old.strays) }
+        ensures strays { self.new.strays ≡ (if is_stray result then min (self.old.strays + 1) (2 ^ 64 - 1) else self.old.strays) }
     {
         let is_free = self.seat.is_free(board, &got);
         let coming = self.coming();
@@ -287,10 +313,10 @@ impl Receiver {
         self.tell(event, bytes)
     }
 
-    /// Goes on in the bytes, up to the end of a header or a payload: how many it used, and
-    /// whether they are a stray.
+    /// Goes on in the bytes, up to the end of a header or a payload: how many it used, and what came of
+    /// them.
     #[inline(always)]
-    fn read(&mut self, board: &Board, piece: &[u8]) -> (usize, bool)
+    fn read(&mut self, board: &Board, piece: &[u8]) -> (usize, Parsed)
         requires free { self.old.hand ≡ None }
         requires running { self.old.cause ≡ None }
         requires board { board_of self.old.seat.seat ≡ board_id board.now }
@@ -299,10 +325,10 @@ impl Receiver {
         ensures over { (bytes : List ℕ) → StandsFor self.old bytes → IsOver (claimed_by self.new) self.new.cause (bytes ++ take result.0 piece.now) }
         ensures moves { (bytes : List ℕ) → StandsFor self.old bytes → piece.now ≢ [] → 0 < result.0 }
         ensures pass { self.new.pass ≡ self.old.pass }
-        ensures stray { IsTrue result.1 → self.new.hand ≡ None }
+        ensures hand { IsSome self.new.hand ↔ (result.1 ≡ parsed.Item) }
         ensures board { board_of self.new.seat.seat ≡ board_of self.old.seat.seat }
         ensures ended { (knows self.new).ended ≡ (knows self.old).ended }
-        ensures strays { self.new.strays ≡ (if result.1 then min (self.old.strays + 1) (2 ^ 64 - 1) else self.old.strays) }
+        ensures strays { self.new.strays ≡ (if is_stray result.1 then min (self.old.strays + 1) (2 ^ 64 - 1) else self.old.strays) }
     {
         match self.feed.feed(piece) {
             Ok(Step { used, got }) => {
@@ -311,7 +337,7 @@ impl Receiver {
             }
             Err((used, fault)) => {
                 self.stop(used, fault);
-                (used, false)
+                (used, Parsed::More)
             }
         }
     }
@@ -399,13 +425,11 @@ impl Receiver {
         if self.cause.is_some() {
             return (0, self.turn_ended(board, intake));
         }
-        let (used, stray) = self.read(board, piece);
-        if stray {
-            (used, ReceiverTurn::Stray)
-        } else if self.hand.is_some() {
-            (used, self.put_hand(intake))
-        } else {
-            (used, ReceiverTurn::More)
+        let (used, parsed) = self.read(board, piece);
+        match parsed {
+            Parsed::Item => (used, self.put_hand(intake)),
+            Parsed::Stray => (used, ReceiverTurn::Stray),
+            Parsed::More => (used, ReceiverTurn::More),
         }
     }
 

@@ -115,7 +115,7 @@ module _ (intake : QueueId) (lanes : List QueueId) (verifiers : List Verifier) (
           λ within.
               let lane = there_is lanes m (let count = parts.lane_count in omega arith) in
               let is = parts.sequencers_are m s lane.0 e lane.1 in
-              record { sequence = d.0; at = d.1; numbered = d.2.same ∙ is.numbered; sequenced = d.2.tie is.sequenced },
+              record { sequence = d.0; at = d.1; numbered = d.2.same ∙ is.seated; sequenced = d.2.tie is.sequenced },
         )
 
     taken_from : (m : ℕ) → Taken m

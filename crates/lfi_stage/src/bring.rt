@@ -9,7 +9,7 @@ ghost use Rattle.lfi_stage.specs.Settled.{Settles};
 
 use crate::carry::{carry_hands, drain_intake};
 use crate::drain::drain_lanes;
-use crate::verifiers_apart::{Apart, take_apart};
+use crate::verifiers_apart::{VerifierParts, take_apart};
 use lfi_model::{Item, Judged};
 use lfi_module::{CONNECTIONS, ModuleNumber};
 use lfi_place::{Sequence, Sequencer, Verifier};
@@ -32,7 +32,7 @@ pub(crate) fn bring_all<R: Wait>(
     ensures puts { puts.new ≡ puts.old }
     ensures settles { (takes : ℕ → List ItemView) × Kept (items_at puts.old) takes [] × Settles takes result }
 {
-    let Apart {
+    let VerifierParts {
         mut takes,
         mut rows,
         mut hands,

@@ -76,7 +76,7 @@ fn drain_one<R: Wait>(
     ensures popped { (k : ℕ) → (o : Option (PassView ItemView)) × Popped (row_of rows.old k) o (row_of rows.new k) }
 {
     let mut puts = gather(rows);
-    let (pass, _, mut sequence) = sequencer.into_parts();
+    let (pass, mut sequence) = sequencer.into_parts();
     let mut takes = [Some(pass)];
     drain_lane(rt, lane, &mut puts, &mut takes, &mut sequence);
     sequence

@@ -82,9 +82,8 @@ pub(crate) fn make_sequencers(
     let mut sequencers = Vec::with_capacity(alloc, ModuleNumber::COUNT)?;
     let mut seats = seats.into_iter();
     for pass in takes {
-        let module = ModuleNumber::at(sequencers.len());
         let seat = seats.next().unwrap();
-        sequencers.push(Sequencer::new(alloc, module, pass, seat, pool.another()?)?)?;
+        sequencers.push(Sequencer::new(alloc, pass, seat, pool.another()?)?)?;
     }
     Ok(sequencers)
 }

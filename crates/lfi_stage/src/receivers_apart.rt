@@ -10,13 +10,13 @@ use lfi_queues::PutPass;
 use lfi_receive::Receiver;
 
 /// The passes and the seats of receivers, by the receivers' numbers.
-pub(crate) struct Apart {
+pub(crate) struct ReceiverParts {
     pub(crate) puts: [Option<PutPass<Item>>; PLACES],
     pub(crate) seats: [Option<ReceiverSeat>; PLACES],
 }
 
 /// Takes receivers to pieces.
-pub(crate) fn take_apart(mut receivers: Vec<Receiver>) -> Apart
+pub(crate) fn take_apart(mut receivers: Vec<Receiver>) -> ReceiverParts
     requires few { length receivers.items ≤ 8 }
     ensures { AreApart receivers.items result.puts result.seats }
 {
@@ -28,5 +28,5 @@ pub(crate) fn take_apart(mut receivers: Vec<Receiver>) -> Apart
         set(&mut puts[number], Some(pass));
         set(&mut seats[number], Some(seat));
     }
-    Apart { puts, seats }
+    ReceiverParts { puts, seats }
 }

@@ -9,7 +9,7 @@ use lfi_place::Verifier;
 use lfi_queues::{LanePut, TakePass};
 
 /// The pieces of verifiers, by the verifiers' numbers.
-pub(crate) struct Apart {
+pub(crate) struct VerifierParts {
     /// Their passes of the intake.
     pub(crate) takes: [Option<TakePass<Item>>; PLACES],
     /// Their passes of the lanes, by the lanes' numbers.
@@ -19,7 +19,7 @@ pub(crate) struct Apart {
 }
 
 /// Takes verifiers to pieces.
-pub(crate) fn take_apart(mut verifiers: Vec<Verifier>) -> Apart
+pub(crate) fn take_apart(mut verifiers: Vec<Verifier>) -> VerifierParts
     requires few { length verifiers.items ≤ 8 }
     ensures { AreApart verifiers.items result.takes result.rows result.hands }
 {
@@ -33,5 +33,5 @@ pub(crate) fn take_apart(mut verifiers: Vec<Verifier>) -> Apart
         set(&mut rows[number], Some(lanes));
         set(&mut hands[number], hand);
     }
-    Apart { takes, rows, hands }
+    VerifierParts { takes, rows, hands }
 }

@@ -1,12 +1,12 @@
 -- A new stage is ready for its threads.
-use Rattle.std.proofs.Common.{ℕ}
+use Rattle.std.proofs.Common.{◌≡◌, ℕ, subst}
 use Rattle.lfi_stage.specs.declared.stage.Stage.{Stage}
 use Rattle.lfi_stage.specs.Stages.{IsNew}
 use Rattle.lfi_workers.specs.Running.{AreReady}
 
 -- all parts of a new stage, each verifier with its seat
 pub ready_of : (receivers verifiers : ℕ) (stage : Stage) → IsNew receivers verifiers stage
-    → AreReady stage.shared receivers record { receivers = stage.receivers; verifiers = stage.verifiers; sequencers = stage.sequencers }
+    → AreReady stage.shared receivers stage.parts
 ready_of receivers verifiers stage is =
     let workers = is.parts.others_are.workers in
     record {
@@ -15,3 +15,6 @@ ready_of receivers verifiers stage is =
       counted = is.receiver_count;
       fresh = is.fresh;
     }
+
+pub ready_for : (receivers verifiers count : ℕ) (stage : Stage) → IsNew receivers verifiers stage → receivers ≡ count → AreReady stage.shared count stage.parts
+ready_for receivers verifiers count stage is same = subst (λ n. AreReady stage.shared n stage.parts) same (ready_of receivers verifiers stage is)

@@ -1,5 +1,6 @@
 -- What has been heard, where no more bytes come.
-use Rattle.std.proofs.Common.{◌≡◌, ℕ, List, Option, Some, None, Bool, sym, ap, subst, refl, ◌∙◌}
+use Rattle.std.proofs.Common.{◌≡◌, ◌++◌, ℕ, List, Option, Some, None, IsSome, Bool, sym, ap, subst, refl, ◌∙◌}
+use Rattle.std.proofs.KnownBytes.{Consumes-trans}
 use Rattle.lfi_model.specs.declared.connection.Cause.{Cause}
 use Rattle.lfi_model.specs.declared.connection.Cause.TheVariants as cause_kind
 use Rattle.lfi_board.specs.Calls.{Saw}
@@ -9,10 +10,11 @@ use Rattle.lfi_model.specs.Items.{share_of}
 use Rattle.lfi_receive.specs.declared.receiver.Receiver.{Receiver}
 use Rattle.lfi_receive.specs.declared.input.Input.{Input}
 use Rattle.lfi_receive.specs.Inputs.{left_of}
-use Rattle.lfi_receive.specs.Pulls.{EndsAt}
+use Rattle.lfi_receive.specs.declared.receiver.ReceiverTurn.{ReceiverTurn}
+use Rattle.lfi_receive.specs.Pulls.{EndsAt, IsPulled}
 use Rattle.lfi_queues.specs.Passes.{IsPass}
 use Rattle.lfi_receive.specs.Claims.{is_mine}
-use Rattle.lfi_receive.specs.Receivers.{AsksMemory, IsDuePage, IsFinished, StandsFor, claimed_by, cause_of, pass_of, seat_of}
+use Rattle.lfi_receive.specs.Receivers.{AfterEnd, AsksMemory, IsDuePage, IsFinished, StandsFor, claimed_by, cause_of, pass_of, seat_of}
 use Rattle.lfi_parts.specs.declared.shared.Shared.{Shared}
 use Rattle.lfi_parts.specs.Parts.{IsReceiver}
 use Rattle.lfi_parts.specs.Shares.{intake_of}
@@ -48,6 +50,23 @@ hearing_as remaining whole old new input same hearing = record {
   consumes = hearing.consumes;
   ends = subst (λ o. EndsAt (claimed_by new) o (left_of remaining input) hearing.heard) (sym same.cause) (ends_as (claimed_by old) (claimed_by new) (cause_of old) (left_of remaining input) hearing.heard same.claimed hearing.ends);
 }
+
+-- a turn over an input, or, once that is over, over what is still to be put
+pub hearing_on : {R : Type 0} (remaining : R → Option (List ℕ)) (whole : Option (List ℕ)) (old new : Receiver) (before after : Input R) (did : ReceiverTurn) → IsPulled old new (left_of remaining before) (left_of remaining after)
+    → (IsSome (cause_of old) → (bytes : List ℕ) → StandsFor old bytes → StandsFor new bytes) → (IsSome (cause_of old) → after ≡ before) → (IsSome (cause_of old) → AfterEnd old new 0 did) → IsHearing remaining whole old before → IsHearing remaining whole new after
+hearing_on {R} remaining whole old new before after did pulled stands unread ended hearing = by old.cause refl
+  where
+    by : (o : Option Cause) → old.cause ≡ o → IsHearing remaining whole new after
+    by None is = record {
+      heard = hearing.heard ++ pulled.used;
+      stands = pulled.stands hearing.heard hearing.stands;
+      consumes = Consumes-trans whole (left_of remaining before) (left_of remaining after) hearing.heard pulled.used hearing.consumes pulled.consumes;
+      ends = pulled.over hearing.heard hearing.stands is;
+    }
+    by (Some cause) is =
+        let over : IsSome old.cause = subst (λ o. IsSome o) (sym is) refl in
+        let done = ended over in
+        subst (λ (i : Input R). IsHearing remaining whole new i) (sym (unread over)) (hearing_as remaining whole old new before (record { stands = stands over; cause = done.cause; claimed = done.claimed }) hearing)
 
 pub as_before_on : (one two three : Receiver) → IsAsBefore one two → IsAsBefore two three → IsAsBefore one three
 as_before_on one two three h k = record {

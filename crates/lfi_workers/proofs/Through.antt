@@ -6,13 +6,13 @@ use Rattle.std.specs.Result.{result_and}
 use Rattle.std.specs.declared.result.Result.{Result}
 use Rattle.std.proofs.lemmas.Option.{slice_get_within}
 use Rattle.lfi_receive.specs.declared.receiver.Receiver.{Receiver}
+use Rattle.lfi_parts.specs.declared.shared.Parts.{Parts}
 use Rattle.lfi_parts.specs.declared.shared.Shared.{Shared}
-use Rattle.lfi_parts.specs.Parts.{IsReceiver}
+use Rattle.lfi_parts.specs.Parts.{ArePartsOf, IsReceiver}
 use Rattle.lfi_parts.proofs.Each.{some_at}
 use Rattle.lfi_parts.specs.Fresh.{IsFresh}
 use Rattle.lfi_workers.specs.Heard.{HasHeard}
-use Rattle.lfi_workers.specs.declared.running.Parts.{Parts}
-use Rattle.lfi_workers.specs.Running.{ArePartsOf, AreReady}
+use Rattle.lfi_workers.specs.Running.{AreReady}
 use Rattle.lfi_workers.specs.Seated.{AreVerifiersOf}
 use Rattle.lfi_workers.specs.inner.Workers.{AreSequencersOf}
 

@@ -9,17 +9,13 @@ use Rattle.lfi_receive.specs.declared.receiver.Receiver.{Receiver}
 use Rattle.lfi_receive.specs.declared.input.Input.{Input}
 use Rattle.lfi_place.specs.declared.verifier.Verifier.{Verifier}
 use Rattle.lfi_receive.specs.Inputs.{left_of}
+use Rattle.lfi_parts.specs.declared.shared.Parts.{Parts}
 use Rattle.lfi_parts.specs.declared.shared.Shared.{Shared}
-use Rattle.lfi_parts.specs.Parts.{AreAllParts}
+use Rattle.lfi_parts.specs.Parts.{ArePartsOf}
 use Rattle.lfi_parts.specs.Fresh.{IsFresh}
-use Rattle.lfi_workers.specs.declared.running.Parts.{Parts}
 use Rattle.lfi_workers.specs.declared.serving.Back.{Back}
 use Rattle.lfi_workers.specs.Heard.{HasHeard}
 use Rattle.lfi_workers.specs.Seated.{AreVerifiersOf, HasEnded}
-
--- These are all parts of the stage.
-abbrev pub ArePartsOf : Shared → Parts → Type 0
-ArePartsOf shared parts = AreAllParts shared parts.receivers.items parts.verifiers.items parts.sequencers.items
 
 -- These are all parts of a stage with so many receivers, of which no byte has come.
 pub record AreReady (shared : Shared) (count : ℕ) (parts : Parts) : Type 0 where

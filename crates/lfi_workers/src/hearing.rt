@@ -1,8 +1,7 @@
 //! What a receiver's thread does.
 
-ghost use Rattle.std.specs.Prelude.{◌≡◌, ℕ, List, Option, Some, IsSome};
-ghost use Rattle.lfi_receive.specs.Receivers.{cause_of, IsFinished};
-ghost use Rattle.lfi_receive.specs.declared.receiver.ReceiverTurn.TheVariants as turn;
+ghost use Rattle.std.specs.Prelude.{◌≡◌, ℕ, List, Option, Some};
+ghost use Rattle.lfi_receive.specs.Receivers.{IsFinished};
 ghost use Rattle.lfi_receive.specs.Inputs.{left_of};
 ghost use Rattle.lfi_parts.specs.Parts.{IsReceiver};
 ghost use Rattle.lfi_parts.specs.Fresh.{IsFresh};
@@ -19,37 +18,6 @@ use std::time::Duration;
 
 /// In every so many turns of a receiver its thread looks at the modules' phases.
 const LOOK_TURNS: u32 = 64;
-
-/// One turn of a receiver whose input is over.
-fn put_one(place: Place<'_>, receiver: &mut Receiver) -> ReceiverTurn
-    requires is { IsReceiver place.shared.now place.number receiver.old }
-    requires over { IsSome (cause_of receiver.old) }
-    ensures is { IsReceiver place.entry.shared.now place.entry.number receiver.new }
-    ensures before { IsAsBefore receiver.old receiver.new }
-    ensures finished { result ≡ turn.Finished → IsFinished receiver.new }
-{
-    let shared = place.shared;
-    let (_, did) = receiver.turn(&shared.board, &shared.intake, &[]);
-    did
-}
-
-/// One turn of a receiver over its input, or, once that is over, over what is still to be put.
-fn pull_one<R: Read + Drop>(
-    place: Place<'_>,
-    receiver: &mut Receiver,
-    input: &mut Input<R>,
-) -> ReceiverTurn
-    requires is { IsReceiver place.shared.now place.number receiver.old }
-    ensures is { IsReceiver place.entry.shared.now place.entry.number receiver.new }
-    ensures hearing { (whole : Option (List ℕ)) → IsHearing R.remaining whole receiver.old input.old → IsHearing R.remaining whole receiver.new input.new }
-    ensures finished { result ≡ turn.Finished → IsFinished receiver.new }
-{
-    if receiver.is_over() {
-        return put_one(place, receiver);
-    }
-    let shared = place.shared;
-    receiver.pull(&shared.board, &shared.intake, input)
-}
 
 /// For how many items a receiver calls one more verifier, at the latest, where one waits.
 const EVERY: u32 = 32;
@@ -143,36 +111,14 @@ fn hear_once<S: Wait, R: Read + Drop, N: Notices>(
     if let Some(stopped) = going.ends().stopped() {
         return Some(Leaving::Stopped(stopped));
     }
-    let did = pull_one(place, receiver, input);
+    let shared = place.shared;
+    let did = receiver.pull(&shared.board, &shared.intake, input);
     watch.look_after(place, receiver, did);
     watch.go_on(rt, going.ends(), did);
     if did == ReceiverTurn::Finished {
         return Some(Leaving::Finished);
     }
     None
-}
-
-/// Turns a receiver until its thread is to end. The answer is why.
-fn hear_on<S: Wait, R: Read + Drop, N: Notices>(
-    rt: &S,
-    place: Place<'_>,
-    going: Going<'_>,
-    notices: &N,
-    receiver: &mut Receiver,
-    input: &mut Input<R>,
-) -> Leaving
-    requires is { IsReceiver place.shared.now place.number receiver.old }
-    ensures is { IsReceiver place.entry.shared.now place.entry.number receiver.new }
-    ensures hearing { (whole : Option (List ℕ)) → IsHearing R.remaining whole receiver.old input.old → IsHearing R.remaining whole receiver.new input.new }
-    ensures finished { result ≡ leaving.Finished → IsFinished receiver.new }
-{
-    let mut watch = Watch::new(going.ends(), notices);
-    for _ in rt.forever() {
-        if let Some(leaving) = hear_once(rt, place, going, receiver, input, &mut watch) {
-            return leaving;
-        }
-    }
-    unreachable!()
 }
 
 /// Turns a receiver until it has put all that its input makes and has told the board its end. It
@@ -190,14 +136,22 @@ pub(crate) fn hear<S: Wait, R: Read + Drop, N: Notices>(
     ensures { IsHeardBy place.entry.shared.now place.entry.number (left_of R.remaining input) result }
 {
     let going = ends.wait_for_go(rt);
-    let leaving = hear_on(rt, place, going, notices, &mut receiver, &mut input);
-    drop(input);
-    ends.tell_heard(place.number);
-    match leaving {
-        Leaving::Finished => PartExit::Ended(receiver),
-        Leaving::Stopped(stopped) => {
-            drop(receiver);
-            PartExit::GaveUp(stopped)
+    let mut watch = Watch::new(ends, notices);
+    for _ in rt.forever() {
+        match hear_once(rt, place, going, &mut receiver, &mut input, &mut watch) {
+            None => {}
+            Some(Leaving::Finished) => {
+                drop(input);
+                ends.tell_heard(place.number);
+                return PartExit::Ended(receiver);
+            }
+            Some(Leaving::Stopped(stopped)) => {
+                drop(input);
+                ends.tell_heard(place.number);
+                drop(receiver);
+                return PartExit::GaveUp(stopped);
+            }
         }
     }
+    unreachable!()
 }

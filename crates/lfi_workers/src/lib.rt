@@ -3,10 +3,10 @@
 //!
 //! # How data flows
 //!
-//! `load_in` over readers is handed a scope, what the threads share (`Env`) and all parts (`Parts`); `serve_with` over a door
-//! makes the first two itself. They start the threads, join them, and give the parts back (`Parts`, `Back`). What each thread
-//! promises of its part (promises.rt) is what settling the stage asks for. A receiver's thread tells of refused modules
-//! (`Notices`). What these calls do is told by specs/: Running, Seated (who has a seat at the board) and Heard.
+//! `load_in` over readers and `serve_in` over a door are handed a scope, what the threads share (`Env`) and all parts
+//! (`Parts`). They start the threads, join them, and give the parts back (`Parts`, `Back`). What each thread promises of its
+//! part (promises.rt) is what settling the stage asks for. A receiver's thread tells of refused modules (`Notices`). What these
+//! calls do is told by specs/: Running, Seated (who has a seat at the board) and Heard.
 //!
 //! # What it may not know
 //!
@@ -29,7 +29,7 @@
 //! - **A receiver whose item the intake refuses sleeps, and puts it again**: only memory is refused there, which comes free
 //!   without a call.
 //! - **In `load_in` no input is read until all threads have been started**: a read of a pipe can't be told to stop. In
-//!   `serve_with` reads wait from the first client on, so where a thread is refused all sockets are shut down.
+//!   `serve_in` reads wait from the first client on, so where a thread is refused all sockets are shut down.
 //! - **A thread that is told to stop gives no part back** (`PartExit::GaveUp`), and then there is no report, but why it was
 //!   told to. That of the sequencers gives back what it was told. So one that ends by itself doesn't compile.
 //! - **A connection that wasn't accepted has a receiver and a thread as the others**, with a reader that is at its end, of
@@ -51,5 +51,4 @@ mod verifying;
 pub use env::Env;
 pub use loading::load_in;
 pub use notices::{NoNotices, Notices};
-pub use running::Parts;
-pub use serving::{Back, serve_with};
+pub use serving::{Back, serve_in};

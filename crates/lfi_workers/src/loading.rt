@@ -5,8 +5,9 @@ ghost use Rattle.lfi_workers.specs.Running.{AreBack, AreReady, had_by};
 
 use crate::env::Env;
 use crate::notices::Notices;
-use crate::running::{Parts, join_parts};
+use crate::running::join_parts;
 use crate::starting::{start_receivers, start_sequencers, start_verifiers};
+use lfi_parts::Parts;
 use lfi_place::Gate;
 use lfi_receive::Input;
 use lfi_signals::LoadError;

@@ -1,4 +1,4 @@
-//! The parts of a stage before their threads, and how they come back.
+//! How the parts of a stage come back from their threads.
 
 ghost use Rattle.std.specs.Prelude.{◌≡◌, ℕ, Ok, Some, IfOk, length, slice_get};
 ghost use Rattle.lfi_receive.specs.declared.receiver.Receiver.{Receiver};
@@ -13,20 +13,13 @@ ghost use Rattle.lfi_workers.specs.inner.Workers.{AreSequencersOf};
 
 use crate::env::Env;
 use crate::promises::{PartExit, ReceiverThread, SequencersThread, VerifierThread};
+use lfi_parts::Parts;
 use lfi_place::{Sequencer, Verifier};
 use lfi_receive::Receiver;
 use lfi_signals::{LoadError, join_all};
 use std::alloc::Global;
 use std::io::Read;
 use std::thread::{Promise, PromisedHandle, Threads};
-
-/// All parts of a stage, before their threads and after.
-#[derive(Drop)]
-pub struct Parts {
-    pub receivers: Vec<Receiver>,
-    pub verifiers: Vec<Verifier>,
-    pub sequencers: Vec<Sequencer>,
-}
 
 /// The parts of these threads. Where one of them gave up, it is why it was told to; else only memory can
 /// be refused.

@@ -15,18 +15,17 @@ ghost use Rattle.lfi_workers.specs.inner.Places.{AreAt};
 use crate::env::Env;
 use crate::notices::Notices;
 use crate::promises::ReceiverThread;
-use crate::running::{Parts, join_parts};
+use crate::running::join_parts;
 use crate::starting::{start_receiver, start_sequencers, start_verifiers};
 use lfi_module::CONNECTIONS;
-use lfi_parts::Shared;
+use lfi_parts::Parts;
 use lfi_place::Gate;
 use lfi_receive::{Input, Receiver};
-use lfi_signals::{Client, ClientFate, Connection, Door, Ends, LoadError, Streams, Unheard, keep};
+use lfi_signals::{Client, ClientFate, Connection, Door, LoadError, Streams, Unheard, keep};
 use std::fs::Files;
 use std::io::ErrorKind;
 use std::rt::Clock;
 use std::sync::Wait;
-use std::thread;
 use std::thread::{Scope, Threads};
 use std::time::Duration;
 
@@ -127,11 +126,18 @@ fn back_from(
     })
 }
 
-/// Starts the threads of all parts, as the clients come, and joins them. Where it comes to an error, all
-/// connections are ended. Then, or once all clients have come, the door is closed.
-fn serve_in<
+/// All parts of a stage go through their threads, each receiver with a client of the door: starts the threads as the clients
+/// come, and joins them. Where it comes to an error, all connections are ended. Then, or once all clients have come, the door is
+/// closed. The gate is told of each item before and after it is judged, and the notices of refused modules.
+///
+/// # Errors
+///
+/// `NoMemory` where there is no memory for a connection or the handles of threads, and `NoThread` where
+/// a thread can't be started. Of both it is the one that came first.
+pub fn serve_in<
     's,
     'e: 's,
+    'c: 'e,
     S: Threads + Wait + Files + Clock + Sync,
     G: Gate + Sync,
     N: Notices + Sync,
@@ -140,7 +146,7 @@ fn serve_in<
     env: &Env<'e, S, G, N>,
     ready: Parts,
     door: Door<'_, S>,
-    streams: &'e Streams,
+    streams: &'c Streams,
 ) -> Result<Back, LoadError>
     requires ready { (count : ℕ) × AreReady env.now.shared.now count ready }
     ensures { IfOk result (HaveServed env.entry.now.shared.now (length ready.receivers.items) (length ready.verifiers.items) (limit_of_door door.entry)) }
@@ -166,45 +172,4 @@ fn serve_in<
     let back = join_parts(env, receiving, verifying, placing);
     let read_errors = streams.read_errors().kinds();
     back_from(accepted, unheard, back, read_errors, closed.limit())
-}
-
-/// All parts of a stage go through their threads, each receiver with a client of the door, which is
-/// closed once all have come, or where it comes to an error. The gate is told of each item before and
-/// after it is judged, and the notices of refused modules.
-///
-/// # Errors
-///
-/// `NoMemory` where there is no memory for a connection or the handles of threads, and `NoThread` where
-/// a thread can't be started. Of both it is the one that came first.
-pub fn serve_with<'x, S: Threads + Wait + Files + Clock + Sync, G: Gate + Sync, N: Notices + Sync>(
-    rt: &'x S,
-    shared: &'x Shared,
-    ready: Parts,
-    door: Door<'_, S>,
-    gate: &'x G,
-    notices: &'x N,
-) -> Result<Back, LoadError>
-    requires ready { (count : ℕ) × AreReady shared.now count ready }
-    ensures { IfOk result (HaveServed shared.now (length ready.receivers.items) (length ready.verifiers.items) (limit_of_door door.entry)) }
-{
-    let ends = Ends::new(ready.verifiers.len());
-    let streams = Streams::new();
-    let streams = &streams;
-    let env = Env {
-        rt,
-        alloc: *ready.receivers.allocator(),
-        shared,
-        ends: &ends,
-        gate,
-        notices,
-    };
-    let env = &env;
-    thread::scope(
-        thread::scope_env(),
-        rt,
-        move |scope| -> Result<Back, LoadError>
-            requires { (count : ℕ) × AreReady env.now.shared.now count ready }
-            ensures { IfOk result (HaveServed env.entry.now.shared.now (length ready.receivers.items) (length ready.verifiers.items) (limit_of_door door.entry)) }
-        { serve_in(scope, env, ready, door, streams) },
-    )
 }

@@ -7,6 +7,8 @@ use Rattle.lfi_model.specs.Items.{item_of}
 use Rattle.lfi_connection.specs.declared.due_page.DuePage.{DuePage}
 use Rattle.lfi_receive.specs.declared.coming.ComingPage.{ComingPage}
 use Rattle.lfi_receive.specs.declared.receiver.Receiver.{Receiver}
+use Rattle.lfi_receive.specs.declared.receiver.Parsed.{Parsed}
+use Rattle.lfi_receive.specs.declared.receiver.Parsed.TheVariants.{Stray}
 use Rattle.lfi_receive.specs.inner.Pages.{due_page, IsLonger}
 
 -- so many bytes before the one to which these were counted, modulo 2^64
@@ -27,3 +29,7 @@ KeepsPage (Some c) false bytes old new = (d : ComingPage) × (new ≡ record old
 
 abbrev pub Keeps : (ended : Bool) → List ℕ → (old new : Receiver) → Type 0
 Keeps ended bytes old new = KeepsPage old.page ended bytes old new
+
+-- what came of bytes is a stray
+abbrev pub is_stray : Parsed → Bool
+is_stray = elim [ Stray ↦ true | parsed ↦ false ]

@@ -29,7 +29,7 @@ fn receive<R: Read + Drop>(stage: &mut Stage, number: usize, input: &mut Input<R
     ensures { IsPair stage.new }
 {
     let shared = &stage.shared;
-    stage.receivers[number].pull(&shared.board, &shared.intake, input)
+    stage.parts.receivers[number].pull(&shared.board, &shared.intake, input)
 }
 
 /// Turns a receiver over its input until it has put all of it, or the intake refuses an item, or so
@@ -60,7 +60,7 @@ pub fn phase(stage: &mut Stage, number: usize, module: ModuleNumber) -> Phase
     ensures { IsPair stage.new }
 {
     let shared = &stage.shared;
-    stage.receivers[number].look(&shared.board, module)
+    stage.parts.receivers[number].look(&shared.board, module)
 }
 
 /// One turn of a verifier, of which this gate is told.
@@ -70,7 +70,7 @@ fn verify<S: Wait, G: Gate>(rt: &S, stage: &mut Stage, number: usize, gate: &G) 
     ensures { IsPair stage.new }
 {
     let shared = &stage.shared;
-    stage.verifiers[number].turn(rt, &shared.intake, &shared.lanes, gate)
+    stage.parts.verifiers[number].turn(rt, &shared.intake, &shared.lanes, gate)
 }
 
 /// Turns a verifier until a turn isn't Worked, or so often: how many were, and what the last one did.
@@ -102,7 +102,7 @@ pub fn place<S: Wait>(rt: &S, stage: &mut Stage, number: usize) -> SequencerTurn
     ensures { IsPair stage.new }
 {
     let shared = &stage.shared;
-    stage.sequencers[number].turn(rt, &shared.lanes[number], &shared.board)
+    stage.parts.sequencers[number].turn(rt, &shared.lanes[number], &shared.board)
 }
 
 /// One turn of each sequencer.
@@ -131,13 +131,14 @@ pub fn go_on<S: Wait>(rt: &S, stage: &mut Stage, number: usize, rounds: usize)
 pub fn settled_report<S: Wait>(rt: &S, stage: Stage) -> Report
     requires { IsPair stage }
 {
-    let Stage {
-        receivers,
-        verifiers,
-        sequencers,
+    let Stage { parts, shared } = stage;
+    settle(
+        rt,
+        parts.receivers,
+        parts.verifiers,
+        parts.sequencers,
         shared,
-    } = stage;
-    settle(rt, receivers, verifiers, sequencers, shared)
+    )
 }
 
 /// What is told once all is settled.

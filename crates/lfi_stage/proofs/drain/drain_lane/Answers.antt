@@ -2,6 +2,7 @@ use Rattle.std.proofs.Common.{◌≡◌, ◌-◌, ◌<◌, ◌∙◌, ℕ, List,
 use Rattle.lfi_model.specs.Item.{ItemView}
 use Rattle.lfi_queues.specs.Passes.{QueueId, PassView, pass_at, items_at, AreAllPasses, after_rest, with_first}
 use Rattle.lfi_queues.proofs.Rest.{item_count, rest_smaller, still_all, other_place, first_taken}
+use Rattle.lfi_board.specs.Known.{module_of}
 use Rattle.lfi_place.specs.Sequenced.{Sequenced}
 use Rattle.lfi_stage.proofs.drain.drain_lane.Goals as goal
 
@@ -30,5 +31,5 @@ loop-item-preserved g c =
       takes = subst (λ t. AreAllPasses q q.takers t) (sym takes) (still_all q q.takers c.loop-item.takes (Some x) i.takes);
       others = λ k later. ap (λ t. pass_at t k) takes ∙ other_place c.loop-item.takes (λ p. after_rest p (Some x)) k later ∙ i.others k later;
       tie = λ was. subst (λ l. Sequenced c.handle.new.self l) (sym first) (c.handle.ensures.tie (items_at c.loop-item.takes 0) (i.tie was));
-      same = c.handle.ensures.same ∙ i.same;
+      same = ap module_of c.handle.ensures.same ∙ i.same;
     }

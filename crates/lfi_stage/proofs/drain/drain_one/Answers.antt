@@ -4,7 +4,7 @@ use Rattle.std.specs.Option.{option_map_or}
 use Rattle.lfi_model.specs.Item.{ItemView}
 use Rattle.lfi_queues.specs.Passes.{QueueId, PassView, IsPass, items_at, pass_at}
 use Rattle.lfi_place.specs.declared.sequence.Sequence.{Sequence}
-use Rattle.lfi_place.specs.Sequenced.{Sequenced}
+use Rattle.lfi_place.specs.Sequenced.{Sequenced, module_number_of}
 use Rattle.lfi_stage.specs.inner.Rows.{row_of, last_items, only_first}
 use Rattle.lfi_stage.proofs.Last.{last_popped, first_only, kept_as}
 use Rattle.lfi_stage.proofs.drain.drain_one.Goals as goal
@@ -29,7 +29,7 @@ returns-clause-drained g c =
           (λ k. ap (λ (o : Option (PassView ItemView)). option_map_or (λ pass. pass.items) o []) (sym (last_popped (row_of c.args.rows.now k) (row_of c.gather-puts.new.rows k) _ (c.gather-puts.ensures k))))
           (first_only c.drain_lane.new.takes (λ k later. d.others k later ∙ none (Some c.into_parts-pass.result.0) k later)) d.kept;
       tie = λ was. d.tie (subst (λ (s : Sequence). Sequenced s c.into_parts-pass.result.0.items) (sym parts.sequence) (subst (λ (p : PassView ItemView). Sequenced c.args.sequencer.sequence p.items) (sym parts.pass) was));
-      same = d.same ∙ ap (λ (s : Sequence). s.«module») parts.sequence;
+      same = d.same ∙ ap module_number_of parts.sequence;
     }
 
 pub returns-clause-popped : goal.returns-clause-popped

@@ -6,7 +6,7 @@ use Rattle.lfi_place.specs.Come.{Come}
 use Rattle.lfi_place.specs.declared.report.ImageState.TheVariants.{Absent}
 use Rattle.lfi_place.specs.declared.report.ModuleReport.{ModuleReport}
 use Rattle.lfi_place.specs.declared.sequence.Sequence.{Sequence}
-use Rattle.lfi_place.specs.Sequenced.{Sequenced}
+use Rattle.lfi_place.specs.Sequenced.{Sequenced, module_number_of}
 use Rattle.lfi_place.specs.Tells.{Tells, HasEnd}
 use Rattle.lfi_stage.proofs.reports.into_reports.Goals as goal
 
@@ -14,6 +14,6 @@ pub returns : goal.returns
 returns c = λ m in_range.
     let e : ModuleReport = record { outcome = Unused; image = Absent; refused = None } in
     let made = c.map.ensures.items.at m None e in_range in
-    let told : (s : Sequence) (taken items : List ItemView) → get_or c.args.sequences m None ≡ Some s → Sequenced s taken → Come taken items → HasEnd items → Tells s.«module» (get_or c.map.result m e) items = made.2.met in
+    let told : (s : Sequence) (taken items : List ItemView) → get_or c.args.sequences m None ≡ Some s → Sequenced s taken → Come taken items → HasEnd items → Tells (module_number_of s) (get_or c.map.result m e) items = made.2.met in
     let long = c.map.ensures.items.long in
     (get_or c.map.result m e, slice_get-get_or c.map.result m e (omega arith), λ taken items has come ended. subst (λ k. Tells k (get_or c.map.result m e) items) has.numbered (told has.sequence taken items has.at has.sequenced come ended))

@@ -1,22 +1,38 @@
-use Rattle.std.proofs.Common.{[], sym, subst}
+use Rattle.std.proofs.Common.{rules, [], sym, subst}
 use Rattle.std.proofs.KnownBytes.{Consumes-nil}
 use Rattle.lfi_receive.specs.Inputs.{left_of}
 use Rattle.lfi_receive.specs.Pulls.{EndsAt}
 use Rattle.lfi_receive.specs.Receivers.{claimed_by}
-use Rattle.lfi_workers.specs.inner.Hearing.{IsHearing}
 use Rattle.lfi_workers.proofs.Hears.{has_heard}
 use Rattle.lfi_workers.proofs.hearing.hear.Goals as goal
 
-pub returns-in-Finished : goal.returns-in-Finished
-returns-in-Finished g c =
+pub loop-init : goal.loop-init
+loop-init g c =
+    let whole = left_of g.R.Read.remaining c.args.input in
+    let fresh = c.requires.fresh in
+    record {
+      can_next = tt;
+      is_finite = tt;
+      is = c.requires.is;
+      hearing = record {
+        heard = [];
+        stands = fresh.stands;
+        consumes = Consumes-nil whole;
+        ends = subst (λ o. EndsAt (claimed_by c.args.receiver) o whole []) (sym fresh.running) tt;
+      };
+    }
+
+pub loop-preserved : goal.loop-preserved
+loop-preserved g c = record {
+  can_next = tt;
+  is_finite = tt;
+  is = c.hear_once.ensures.is;
+  hearing = c.hear_once.ensures.hearing (left_of g.R.Read.remaining c.args.input) c.loop.invariant.hearing;
+}
+
+pub returns-in-Some-Finished : goal.returns-in-Some-Finished
+returns-in-Some-Finished g c =
     let remaining = g.R.Read.remaining in
     let whole = left_of remaining c.args.input in
-    let fresh = c.requires.fresh in
-    let begun : IsHearing remaining whole c.args.receiver c.args.input = record {
-      heard = [];
-      stands = fresh.stands;
-      consumes = Consumes-nil whole;
-      ends = subst (λ o. EndsAt (claimed_by c.args.receiver) o whole []) (sym fresh.running) tt;
-    } in
-    let last : IsHearing remaining whole c.hear_on-leaving.new.receiver c.hear_on-leaving.new.input = c.hear_on-leaving.ensures.hearing whole begun in
-    (c.hear_on-leaving.ensures.is, has_heard remaining whole c.hear_on-leaving.new.receiver c.hear_on-leaving.new.input last (c.hear_on-leaving.ensures.finished c.in-Finished.is))
+    let did = c.hear_once in
+    (did.ensures.is, has_heard remaining whole did.new.receiver did.new.input (did.ensures.hearing whole c.loop.invariant.hearing) (did.ensures.finished (search rules)))

@@ -1,8 +1,18 @@
-use Rattle.lfi_workers.proofs.Hears.{hearing_as}
+use Rattle.lfi_workers.proofs.Hears.{hearing_as, hearing_on}
 use Rattle.lfi_workers.proofs.hearing.hear_once.Goals as goal
 
 pub returns-then-eq-clause-hearing : goal.returns-then-eq-clause-hearing
-returns-then-eq-clause-hearing g c = λ whole hearing. hearing_as g.R.Read.remaining whole c.pull_one-did.new.receiver c.look_after.new.receiver c.pull_one-did.new.input c.look_after.ensures.before (c.pull_one-did.ensures.hearing whole hearing)
+returns-then-eq-clause-hearing g c = λ whole hearing.
+    let did = c.pull-did in
+    let pulled = did.ensures in
+    let remaining = g.R.Read.remaining in
+    hearing_as remaining whole did.new.self c.look_after.new.receiver did.new.input c.look_after.ensures.before
+    (hearing_on remaining whole c.args.receiver.now did.new.self c.args.input.now did.new.input did.result pulled.pulled pulled.over pulled.unread pulled.ended hearing)
 
 pub returns-clause-hearing : goal.returns-clause-hearing
-returns-clause-hearing g c = λ whole hearing. hearing_as g.R.Read.remaining whole c.pull_one-did.new.receiver c.look_after.new.receiver c.pull_one-did.new.input c.look_after.ensures.before (c.pull_one-did.ensures.hearing whole hearing)
+returns-clause-hearing g c = λ whole hearing.
+    let did = c.pull-did in
+    let pulled = did.ensures in
+    let remaining = g.R.Read.remaining in
+    hearing_as remaining whole did.new.self c.look_after.new.receiver did.new.input c.look_after.ensures.before
+    (hearing_on remaining whole c.args.receiver.now did.new.self c.args.input.now did.new.input did.result pulled.pulled pulled.over pulled.unread pulled.ended hearing)

@@ -55,7 +55,7 @@ loop-number-preserved g c =
         lanes = i.lanes;
         count = length-set ss m _ ∙ i.count;
         are = λ n q lane. (λ e at_lane. set_each (λ j w. (l : QueueId) → slice_get lanes j ≡ Some l → IsSequencer l j w) ss m t (λ j w e l. i.are j w l e)
-            (λ l at_l. sequencer_stays l m s t c.turn.result (i.are m s l at at_l) c.turn.ensures.takes c.turn.ensures.tie c.turn.ensures.module) n q e lane at_lane);
+            (λ l at_l. sequencer_stays l m s t c.turn.result (i.are m s l at at_l) c.turn.ensures.takes c.turn.ensures.tie c.turn.ensures.board.1) n q e lane at_lane);
         seats = set_each (λ j w. sequencer_board (seat_of w) ≡ board_id (board_at c.args.shared.now)) ss m t i.seats (c.turn.ensures.board.0 ∙ i.seats m s at);
       };
       left = λ n past. set_other ss m n t (λ e. omega arith) ∙ inv.left n (omega arith);

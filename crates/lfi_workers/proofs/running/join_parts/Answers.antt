@@ -7,7 +7,7 @@ use Rattle.lfi_receive.specs.Inputs.{left_of}
 use Rattle.lfi_parts.specs.Parts.{IsReceiver}
 use Rattle.lfi_workers.specs.Heard.{HasHeard}
 use Rattle.lfi_workers.specs.Seated.{AreVerifiersOf, IsVerifierOf, HasEnded}
-use Rattle.lfi_workers.specs.declared.running.Parts.{Parts}
+use Rattle.lfi_parts.specs.declared.shared.Parts.{Parts}
 use Rattle.lfi_workers.specs.inner.Workers.{AreSequencersOf}
 use Rattle.lfi_workers.proofs.running.join_parts.Goals as goal
 

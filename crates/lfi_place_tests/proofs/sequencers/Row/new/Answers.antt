@@ -1,16 +1,8 @@
 use Rattle.std.proofs.Common.{rules, ap, sym, ◌∙◌, arith}
-use Rattle.lfi_board.specs.Known.{sequencer_board, module_of}
+use Rattle.lfi_board.specs.Known.{sequencer_board}
 use Rattle.lfi_place_tests.proofs.Given.{brought}
-use Rattle.lfi_place_tests.proofs.Seats.{seat_on, module_at}
+use Rattle.lfi_place_tests.proofs.Seats.{seat_on}
 use Rattle.lfi_place_tests.proofs.sequencers.Row.new.Goals as goal
-
-pub new-made-requires-clause-seat : goal.new-made-requires-clause-seat
-new-made-requires-clause-seat g c =
-    let made = c.expect-board.result in
-    let seats = brought _ c.new.result made c.expect-board.ensures c.new.ensures.sequencers in
-    let seat = c.swap_remove-of in
-    let of = module_at made.0 1 0 3 made.1.sequencers.items seat.result seats.1 (omega (arith, seats.0)) in
-    ap module_of seat.ensures.value ∙ of ∙ sym c.module-2.ensures
 
 pub invariant_of-result : goal.invariant_of-result
 invariant_of-result g c =

@@ -26,7 +26,7 @@ returns-in-Open-clause-stands c = λ ms rest b.
 pub returns-in-End-clause-stands : goal.returns-in-End-clause-stands
 returns-in-End-clause-stands c = λ ms rest b.
     subst (λ z. StandsFor z (flat_map spelling ms ++ (rest ++ c.args.bytes.now))) (sym c.end_module.ensures)
-    (on_end c.args.self.now c.in-End.«module» c.in-End.extent c.in-End.pages c.in-End.reason ms rest c.args.bytes.now c.requires.running c.requires.free (subst (λ e. Brought c.args.self.now e ms rest c.args.bytes.now) c.in-End.is b))
+    (on_end c.args.self.now c.in-End.«module» c.in-End.extent c.in-End.pages c.in-End.why ms rest c.args.bytes.now c.requires.running c.requires.free (subst (λ e. Brought c.args.self.now e ms rest c.args.bytes.now) c.in-End.is b))
 
 pub returns-in-Begin-clause-stands : goal.returns-in-Begin-clause-stands
 returns-in-Begin-clause-stands c = λ ms rest b.
@@ -40,7 +40,7 @@ pub returns-in-Code-clause-stands : goal.returns-in-Code-clause-stands
 returns-in-Code-clause-stands c = λ ms rest b.
     let r = c.args.self.now in
     on_code r c.payload.new.self c.in-Code.page c.in-Code.ended ms rest c.args.bytes.now c.requires.running c.requires.free
-    (subst (λ e. Continues e (coming_of r.page) (length c.args.bytes.now)) c.in-Code.is c.requires.continues) c.payload.ensures (subst (λ e. Brought r e ms rest c.args.bytes.now) c.in-Code.is b)
+    (subst (λ e. Continues e (coming_of r.page) (length c.args.bytes.now)) c.in-Code.is c.requires.continues) c.payload.ensures.keeps (subst (λ e. Brought r e ms rest c.args.bytes.now) c.in-Code.is b)
 
 pub returns-in-Code-clause-over : goal.returns-in-Code-clause-over
-returns-in-Code-clause-over c = λ ms rest b. not_over _ _ _ (code_runs c.args.self.now c.payload.new.self c.args.self.now.page c.in-Code.ended c.args.bytes.now c.payload.ensures c.requires.running)
+returns-in-Code-clause-over c = λ ms rest b. not_over _ _ _ (code_runs c.args.self.now c.payload.new.self c.args.self.now.page c.in-Code.ended c.args.bytes.now c.payload.ensures.keeps c.requires.running)

@@ -8,7 +8,7 @@ use Rattle.lfi_threads_tests.proofs.reports.turned.place.Goals as goal
 pub turn-requires-clause-lane : goal.turn-requires-clause-lane
 turn-requires-clause-lane g c =
     let workers = c.requires.pair.parts.others_are.workers in
-    let ss = c.args.stage.now.sequencers.items in
+    let ss = c.args.stage.now.parts.sequencers.items in
     let lanes = lanes_of c.args.stage.now.shared in
     let m : ℕ = c.args.number in
     let s = c.index_mut.result.now in
@@ -21,7 +21,7 @@ turn-requires-clause-lane g c =
 pub turn-requires-clause-board : goal.turn-requires-clause-board
 turn-requires-clause-board g c =
     let others = c.requires.pair.parts.others_are in
-    let ss = c.args.stage.now.sequencers.items in
+    let ss = c.args.stage.now.parts.sequencers.items in
     let m : ℕ = c.args.number in
     let s = c.index_mut.result.now in
     let few = c.requires.number in
@@ -33,7 +33,7 @@ returns g c =
     let p = c.requires.pair in
     let stage = c.args.stage.now in
     let others = p.parts.others_are in
-    let ss = stage.sequencers.items in
+    let ss = stage.parts.sequencers.items in
     let m : ℕ = c.args.number in
     let s = c.index_mut.result.now in
     let t = c.turn.new.self in
@@ -43,7 +43,7 @@ returns g c =
     record {
       receiver_count = p.receiver_count;
       verifier_count = p.verifier_count;
-      parts = with_sequencer stage.shared stage.receivers.items stage.verifiers.items ss m t p.parts
-          (λ lane at_lane. sequencer_stays lane m s t c.turn.result (others.workers.sequencers_are m s lane at at_lane) c.turn.ensures.takes c.turn.ensures.tie c.turn.ensures.module)
+      parts = with_sequencer stage.shared stage.parts.receivers.items stage.parts.verifiers.items ss m t p.parts
+          (λ lane at_lane. sequencer_stays lane m s t c.turn.result (others.workers.sequencers_are m s lane at at_lane) c.turn.ensures.takes c.turn.ensures.tie c.turn.ensures.board.1)
           (c.turn.ensures.board.0 ∙ others.seats m s at);
     }

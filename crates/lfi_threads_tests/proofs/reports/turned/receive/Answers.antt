@@ -8,7 +8,7 @@ pub returns : goal.returns
 returns g c =
     let p = c.requires.pair in
     let s = c.args.stage.now in
-    let rs = s.receivers.items in
+    let rs = s.parts.receivers.items in
     let k : ℕ = c.args.number in
     let r = c.index_mut.result.now in
     let within : k < length rs = (let count = p.receiver_count in let few = c.requires.number in omega arith) in
@@ -17,5 +17,5 @@ returns g c =
     record {
       receiver_count = length-set rs k _ ∙ p.receiver_count;
       verifier_count = p.verifier_count;
-      parts = with_receiver s.shared rs s.verifiers.items s.sequencers.items k c.pull.new.self p.parts is;
+      parts = with_receiver s.shared rs s.parts.verifiers.items s.parts.sequencers.items k c.pull.new.self p.parts is;
     }

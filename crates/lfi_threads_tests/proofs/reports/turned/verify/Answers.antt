@@ -10,7 +10,7 @@ pub returns : goal.returns
 returns g c =
     let p = c.requires.pair in
     let s = c.args.stage.now in
-    let vs = s.verifiers.items in
+    let vs = s.parts.verifiers.items in
     let k : ℕ = c.args.number in
     let v = c.index_mut.result.now in
     let within : k < length vs = (let count = p.verifier_count in let few = c.requires.number in omega arith) in
@@ -20,5 +20,5 @@ returns g c =
     record {
       receiver_count = p.receiver_count;
       verifier_count = length-set vs k _ ∙ p.verifier_count;
-      parts = with_verifier s.shared s.receivers.items vs s.sequencers.items k c.turn.new.self p.parts is;
+      parts = with_verifier s.shared s.parts.receivers.items vs s.parts.sequencers.items k c.turn.new.self p.parts is;
     }

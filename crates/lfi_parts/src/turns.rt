@@ -8,15 +8,14 @@ ghost use Rattle.lfi_place.specs.declared.sequencer.SequencerTurn.{SequencerTurn
 ghost use Rattle.lfi_place.specs.declared.verifier.Verifier.{Verifier};
 ghost use Rattle.lfi_place.specs.Handed.{take_pass_of, lane_puts_of, hand_of, HandsOn, SameLanes, AreLanes};
 ghost use Rattle.lfi_place.specs.Lanes.{new_row};
-ghost use Rattle.lfi_place.specs.Sequenced.{module_number_of};
-ghost use Rattle.lfi_place.specs.Turns.{lane_pass_of, sequence_of, IsSequenced, LaneTaken};
+ghost use Rattle.lfi_place.specs.Turns.{lane_pass_of, seat_module_of, IsSequenced, LaneTaken};
 ghost use Rattle.lfi_parts.specs.Workers.{IsVerifier, IsSequencer};
 
 /// A new verifier with the new passes of its number is the one of that number; so is a new
 /// sequencer with the new pass of its module's lane.
 pub fn parts_are_new()
     ensures verifier { (intake : QueueId) (lanes : List QueueId) (k : ℕ) (v : Verifier) → k < intake.takers → take_pass_of v ≡ new_pass intake k → lane_puts_of v ≡ new_row lanes k → hand_of v ≡ None → IsVerifier intake lanes k v }
-    ensures sequencer { (lane : QueueId) (m : ℕ) (s : Sequencer) → module_number_of (sequence_of s) ≡ m → lane_pass_of s ≡ new_pass lane 0 → IsSequenced s → IsSequencer lane m s }
+    ensures sequencer { (lane : QueueId) (m : ℕ) (s : Sequencer) → seat_module_of s ≡ m → lane_pass_of s ≡ new_pass lane 0 → IsSequenced s → IsSequencer lane m s }
 {}
 
 /// After a turn they are so still; a verifier also where it only looked at the board.
@@ -25,7 +24,7 @@ pub fn parts_stay()
         → (HandsOn (take_pass_of old).items old → HandsOn (take_pass_of new).items new) → IsVerifier intake lanes k new }
     ensures looked { (intake : QueueId) (lanes : List QueueId) (k : ℕ) (old new : Verifier) → IsVerifier intake lanes k old → take_pass_of new ≡ take_pass_of old → lane_puts_of new ≡ lane_puts_of old → hand_of new ≡ hand_of old → IsVerifier intake lanes k new }
     ensures sequencer { (lane : QueueId) (m : ℕ) (old new : Sequencer) (did : SequencerTurn) → IsSequencer lane m old → LaneTaken did (lane_pass_of old) (lane_pass_of new) → (IsSequenced old → IsSequenced new)
-        → module_number_of (sequence_of new) ≡ module_number_of (sequence_of old) → IsSequencer lane m new }
+        → seat_module_of new ≡ seat_module_of old → IsSequencer lane m new }
 {}
 
 /// The passes of a verifier are of these lanes, as its turns ask.

@@ -1,5 +1,5 @@
 use Rattle.lfi_parts.proofs.Kept.{new_verifier, new_sequencer}
-use Rattle.lfi_parts.proofs.parts.parts_are_new.Goals as goal
+use Rattle.lfi_parts.proofs.turns.parts_are_new.Goals as goal
 
 pub returns-clause-verifier : goal.returns-clause-verifier
 returns-clause-verifier c = new_verifier

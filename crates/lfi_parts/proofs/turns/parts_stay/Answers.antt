@@ -1,5 +1,5 @@
 use Rattle.lfi_parts.proofs.Kept.{verifier_stays, verifier_looked, sequencer_stays}
-use Rattle.lfi_parts.proofs.parts.parts_stay.Goals as goal
+use Rattle.lfi_parts.proofs.turns.parts_stay.Goals as goal
 
 pub returns-clause-verifier : goal.returns-clause-verifier
 returns-clause-verifier c = verifier_stays

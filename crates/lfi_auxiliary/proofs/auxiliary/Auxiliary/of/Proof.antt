@@ -21,11 +21,11 @@ use denote.Ref.{shr_vals, shr_Tells}
 use denote.Triple.Walked.{Stays, stay_dropped, walk_of, Goes-dropped}
 use denote.Shadow.{makes_shadow}
 use Rattle.atomic_table.proofs.Walks.{proved, leaves}
-use Rattle.lfi_queues.specs.contracts.auxiliary.Auxiliary as Aux
-use Rattle.lfi_queues.specs.contracts.auxiliary.Auxiliary.of.{ended, clauses}
-use Rattle.lfi_queues.specs.contracts.auxiliary.Auxiliary.of.Key.{name as #self}
-use Rattle.lfi_queues.proofs.auxiliary.Auxiliary.of.Statement.{statement}
-use Rattle.lfi_queues.proofs.auxiliary.Auxiliary.of.Code as code
+use Rattle.lfi_auxiliary.specs.contracts.auxiliary.Auxiliary as Aux
+use Rattle.lfi_auxiliary.specs.contracts.auxiliary.Auxiliary.of.{ended, clauses}
+use Rattle.lfi_auxiliary.specs.contracts.auxiliary.Auxiliary.of.Key.{name as #self}
+use Rattle.lfi_auxiliary.proofs.auxiliary.Auxiliary.of.Statement.{statement}
+use Rattle.lfi_auxiliary.proofs.auxiliary.Auxiliary.of.Code as code
 
 pub of_spec : {M : Type 1} → statement M
 of_spec 𝓤 𝓛 𝓜 𝓡 wired U T Y LU L LY g d _ =
