@@ -49,6 +49,7 @@ impl<'a, N> Watch<'a, N> {
     /// What follows a turn that did this: verifiers are called for an item, not for each at once
     /// where one of them is awake. An item is refused only where memory is, which comes free without a
     /// call: so its thread asks for it again after a time.
+    #[inline(always)]
     fn go_on<S: Wait>(&mut self, rt: &S, ends: &Ends, did: ReceiverTurn) {
         match did {
             ReceiverTurn::Put => self.items.brought_to_sleepers(),
@@ -62,6 +63,7 @@ impl<'a, N> Watch<'a, N> {
 
     /// Whether it is time to look at the modules' phases, after a turn that did this: where there
     /// was nothing else to do, at the end, and now and then.
+    #[inline(always)]
     fn is_due(&mut self, did: ReceiverTurn) -> bool {
         self.turns = self.turns.wrapping_add(1);
         did == ReceiverTurn::Blocked
@@ -72,6 +74,7 @@ impl<'a, N> Watch<'a, N> {
 
 impl<N: Notices> Watch<'_, N> {
     /// Looks at the modules' phases, where it is time to.
+    #[inline(always)]
     fn look_after(&mut self, place: Place<'_>, receiver: &mut Receiver, did: ReceiverTurn)
         requires is { IsReceiver place.shared.now place.number receiver.old }
         ensures is { IsReceiver place.entry.shared.now place.entry.number receiver.new }
