@@ -1,6 +1,6 @@
 //! Sequences: the items of a module in every order, twice, past an End, and of other words.
 
-use crate::items::{NOP, Part, UNKNOWN, WORDS, extent_of, item_of, mark, pooled};
+use crate::items::{NOP, Part, UNKNOWN, WORDS, extent_of, item_of, mark, module, pooled};
 use lfi_board::Board;
 use lfi_image::CompleteImage;
 use lfi_model::{Outcome, Reason};
