@@ -8,7 +8,7 @@ ghost use Rattle.lfi_file_commands.specs.Left.{OnlyOutput};
 ghost use Rattle.lfi_commands.specs.Loading.{streams_of, HasLoaded, TellsReport};
 ghost use Rattle.lfi_commands.specs.Serving.{HasServedAll, IsLimit, TellsServed};
 ghost use Rattle.lfi_commands.specs.Runs.{FailsAs, CarriesOut, Runs};
-ghost use Rattle.lfi_commands.specs.inner.Ranges.{IsForFiles};
+ghost use Rattle.lfi_commands.specs.inner.Ranges.{IsForFiles, IsInRange};
 
 use crate::clients::{are_all_taken, ending_of_serve, tell_fates, tell_reads};
 use crate::ending::ending_of_load;

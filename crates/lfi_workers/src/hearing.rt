@@ -60,10 +60,17 @@ impl<'a, N> Watch<'a, N> {
         }
     }
 
+    /// Counts a turn that did this. Whether nothing follows it: it brought no item, and it isn't time to look at the modules'
+    /// phases.
+    #[inline(always)]
+    fn passes(&mut self, did: ReceiverTurn) -> bool {
+        self.turns = self.turns.wrapping_add(1);
+        self.turns % LOOK_TURNS != 0 && (did == ReceiverTurn::More || did == ReceiverTurn::Stray)
+    }
+
     /// Whether it is time to look at the modules' phases, after a turn that did this: where there
     /// was nothing else to do, at the end, and now and then.
-    fn is_due(&mut self, did: ReceiverTurn) -> bool {
-        self.turns = self.turns.wrapping_add(1);
+    fn is_due(&self, did: ReceiverTurn) -> bool {
         did == ReceiverTurn::Blocked
             || did == ReceiverTurn::Finished
             || self.turns % LOOK_TURNS == 0
@@ -113,6 +120,9 @@ fn hear_once<S: Wait, R: Read + Drop, N: Notices>(
     }
     let shared = place.shared;
     let did = receiver.pull(&shared.board, &shared.intake, input);
+    if watch.passes(did) {
+        return None;
+    }
     watch.look_after(place, receiver, did);
     watch.go_on(rt, going.ends(), did);
     if did == ReceiverTurn::Finished {

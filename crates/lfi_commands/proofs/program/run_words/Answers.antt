@@ -9,7 +9,7 @@ pub returns-in-Load : goal.returns-in-Load
 returns-in-Load g c =
     let words = map string_bytes c.args.words.now in
     let did = c.run_load-came in
-    runs_ended words (g.D.Disk.file_at c.args.disk.now) (Load c.in-Load.asked.now) did.result c.args.outputs.now did.new.outputs c.ended.new.outputs c.ended.result (subst (λ line. IsLine words line × (flaw_of line ≡ None)) c.in-Load.is (c.in-Ok.ensures.line, c.in-Ok.ensures.sound))
+    runs_ended words (g.D.Disk.file_at c.args.disk.now) (Load c.in-Load.asked) did.result c.args.outputs.now did.new.outputs c.ended.new.outputs c.ended.result (subst (λ line. IsLine words line × (flaw_of line ≡ None)) c.in-Load.is (c.in-Ok.ensures.line, c.in-Ok.ensures.sound))
     did.ensures.found c.ended.ensures.well did.ensures.failure did.ensures.output did.ensures.untold c.ended.ensures.failed
 
 pub returns-in-Serve : goal.returns-in-Serve
@@ -17,11 +17,11 @@ returns-in-Serve g c =
     let words = map string_bytes c.args.words.now in
     let did = c.run_serve-came in
     let end = c.ended-in-Serve in
-    runs_ended words (g.D.Disk.file_at c.args.disk.now) (Serve c.in-Serve.asked.now) did.result c.args.outputs.now did.new.outputs end.new.outputs end.result (subst (λ line. IsLine words line × (flaw_of line ≡ None)) c.in-Serve.is (c.in-Ok.ensures.line, c.in-Ok.ensures.sound))
+    runs_ended words (g.D.Disk.file_at c.args.disk.now) (Serve c.in-Serve.asked) did.result c.args.outputs.now did.new.outputs end.new.outputs end.result (subst (λ line. IsLine words line × (flaw_of line ≡ None)) c.in-Serve.is (c.in-Ok.ensures.line, c.in-Ok.ensures.sound))
     did.ensures.found end.ensures.well did.ensures.failure did.ensures.output did.ensures.untold end.ensures.failed
 
-pub returns-in_default : goal.returns-in_default
-returns-in_default g c =
+pub returns : goal.returns
+returns g c =
     let words = map string_bytes c.args.words.now in
     let did = c.run_files-came in
     let end = c.ended-in_default in
