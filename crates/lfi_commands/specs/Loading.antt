@@ -24,12 +24,12 @@ AreKnown streams bytes = (c : ℕ) (stream : Option (List ℕ)) → slice_get st
 abbrev pub folder_of : ReportOptions → Option (List ℕ)
 folder_of asked = option_map (λ path. path.now) asked.out
 
--- What was done with the report on a load, of whose connections, with streams at these paths, all were taken or not: this text was written, then what is told of its refused modules
+-- What was done with the report on a load, of whose connections, with streams at these paths, all were taken or not: its text was written, then what is told of its refused modules
 -- and of its connections, where that is asked for; its images were put into the folder, where one is named; and it was told of reads that failed, with errors of these kinds. By all that it ends.
-pub record TellsReport (text : List ℕ) (report : Report) (paths : List (List ℕ)) (kinds : List (Option ErrorKind)) (all_taken : Bool) (asked : ReportOptions) (old new : Left) (ending : Ending) : Type 0 where
+pub record TellsReport (report : Report) (paths : List (List ℕ)) (kinds : List (Option ErrorKind)) (all_taken : Bool) (asked : ReportOptions) (old new : Left) (ending : Ending) : Type 0 where
   pub explained : List ℕ
   pub explains : TellsExplained asked.explain report paths explained
-  pub written : Appends old.out new.out (text ++ explained)
+  pub written : Appends old.out new.out (summary_text (summary_of report) ++ explained)
   -- whether all images were put, and what was left then
   pub all : Bool
   pub images : Left
@@ -43,10 +43,10 @@ pub record TellsReport (text : List ℕ) (report : Report) (paths : List (List �
 abbrev pub streams_of : LoadOptions → List (List ℕ)
 streams_of asked = map (λ path. path.now) asked.streams.items
 
--- What `lfiload load` did, as it was asked for: it found one report on the streams, as far as their bytes are known, and did so with it, its text first.
+-- What `lfiload load` did, as it was asked for: it found one report on the streams, as far as their bytes are known, and did so with it.
 pub record HasLoaded (asked : LoadOptions) (file_at : List ℕ → Option (List ℕ)) (old new : Left) (ending : Ending) : Type 0 where
   pub report : Report
   pub loaded : (bytes : ℕ → List ℕ) → AreKnown (map file_at (streams_of asked)) bytes → IsLoaded (length asked.streams.items) asked.verifiers bytes report
   -- the kinds of the errors of reads, as far as they were told
   pub kinds : List (Option ErrorKind)
-  pub told : TellsReport (summary_text (summary_of report)) report (streams_of asked) kinds true asked.report old new ending
+  pub told : TellsReport report (streams_of asked) kinds true asked.report old new ending

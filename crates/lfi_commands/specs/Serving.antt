@@ -1,9 +1,7 @@
 -- What `lfiload serve` finds, writes, puts and tells. Source: this project's profile, docs/COMMANDS.md.
-use Rattle.std.specs.Prelude.{◌≡◌, ℕ, ◌*◌, true, List, [], Option, Some, None}
+use Rattle.std.specs.Prelude.{◌≡◌, ℕ, ◌*◌, true, [], Option, Some, None}
 use Rattle.std.specs.Duration.{as_nanos}
 use Rattle.std.specs.declared.time.Duration.{Duration}
-use Rattle.lfi_model.specs.Texts.{summary_text}
-use Rattle.lfi_stage.specs.Summaries.{summary_of}
 use Rattle.lfi_threads.specs.declared.serve.Served.{Served}
 use Rattle.lfi_threads.specs.Served.{HasServed}
 use Rattle.lfi_file_commands.specs.declared.ending.Ending.{Ending}
@@ -20,20 +18,20 @@ IsLimit None limit = limit ≡ None
 IsLimit (Some seconds) limit = (time : Duration) × (limit ≡ Some time) × (as_nanos time ≡ seconds * 1000000000)
 
 -- What was done with the report on connections that were served: what is done with the report on a load, and then it was told what became of the clients. By all that it ends.
-pub record TellsServed (text : List ℕ) (served : Served) (asked : ReportOptions) (old new : Left) (ending : Ending) : Type 0 where
+pub record TellsServed (served : Served) (asked : ReportOptions) (old new : Left) (ending : Ending) : Type 0 where
   -- what was left before it was told of clients, and how it ends but for those that were cut off
   pub before : Left
   pub by_load : Ending
-  pub reported : TellsReport text served.report [] served.read_errors (are_all_taken served.fates) asked old before by_load
+  pub reported : TellsReport served.report [] served.read_errors (are_all_taken served.fates) asked old before by_load
   pub out : new.out ≡ before.out
   pub put : new.put ≡ before.put
   pub told : Told new.is_lost before.errors new.errors (fate_lines served.fates)
   pub lost : before.is_lost ≡ true → new.is_lost ≡ true
   pub ends : EndsServing (are_all_in_time served.fates) new.is_lost by_load ending
 
--- What `lfiload serve` did, as it was asked for: it found one report on what the connections sent, and what became of the clients, within the limit of time, and did so with it, its text first.
+-- What `lfiload serve` did, as it was asked for: it found one report on what the connections sent, and what became of the clients, within the limit of time, and did so with it.
 pub record HasServedAll (asked : ServeOptions) (old new : Left) (ending : Ending) : Type 0 where
   pub found : Served
   pub served : HasServed asked.connections asked.verifiers found.limit found
   pub limited : IsLimit asked.seconds found.limit
-  pub told : TellsServed (summary_text (summary_of found.report)) found asked.report old new ending
+  pub told : TellsServed found asked.report old new ending

@@ -37,11 +37,11 @@
 mod clients;
 mod ending;
 mod explained;
-mod loading;
 mod notices;
 mod program;
+mod reporting;
 
 pub use ending::ending_of_load;
-pub use loading::load;
 pub use notices::WrittenNotices;
 pub use program::run_words;
+pub use reporting::write_report;

@@ -12,17 +12,17 @@ ghost use Rattle.lfi_commands.specs.inner.Ranges.{IsForFiles, IsInRange};
 
 use crate::clients::{are_all_taken, ending_of_serve, tell_fates, tell_reads};
 use crate::ending::ending_of_load;
-use crate::explained::write_explained;
-use crate::loading::{load, serve};
+use crate::reporting::write_told;
 use lfi_command_line::{Line, LineFault, LoadOptions, ReportOptions, ServeOptions, read_line};
 use lfi_file_commands::{
     DeviceCause, Disk, Ending, Failure, ImageStore, Outputs, ended, open_all, run_check,
     run_disassemble, run_info, run_pack, run_run, run_unpack, tell_failure, write_asked_images,
 };
 use lfi_module::CONNECTIONS;
+use lfi_place::OpenGate;
 use lfi_signals::ReadErrors;
 use lfi_stage::Report;
-use lfi_threads::{Door, Notices, Served, StageSize};
+use lfi_threads::{Door, Notices, Served, StageSize, load_all, serve_on};
 use std::alloc::Global;
 use std::fs::Files;
 use std::io::{ErrorKind, Write};
@@ -44,8 +44,8 @@ struct Sources<'a> {
     all_taken: bool,
 }
 
-/// Writes what is asked for beside the text of a report: what is told of refused modules and of connections, and the whole
-/// images to a folder where one is named. It tells of reads that failed. It gives how the load ends.
+/// Writes the text of a report, then what is asked for beside it: what is told of refused modules and of connections, and the
+/// whole images to a folder where one is named. It tells of reads that failed. It gives how the load ends.
 fn end_load<'a, P: ImageStore, O: Write, E: Write>(
     alloc: Global,
     report: &Report,
@@ -53,15 +53,15 @@ fn end_load<'a, P: ImageStore, O: Write, E: Write>(
     asked: &ReportOptions<'_>,
     outputs: &mut Outputs<P, O, E>,
 ) -> Result<Ending, Failure<'a>>
-    ensures told { IfOk result (TellsReport [] report.now (map (λ path. path.now) sources.now.paths.now) sources.now.kinds sources.now.all_taken asked.now outputs.old outputs.new) }
+    ensures told { IfOk result (TellsReport report.now (map (λ path. path.now) sources.now.paths.now) sources.now.kinds sources.now.all_taken asked.now outputs.old outputs.new) }
     ensures failure { IfErr result (λ failure. is_of_output failure ≡ true) }
     ensures untold { OnErr result (OnlyOutput outputs.old outputs.new) }
 {
-    match write_explained(
+    match write_told(
         alloc,
-        asked.explain,
         report,
         sources.paths,
+        asked.explain,
         &mut outputs.out,
     ) {
         Ok(()) => {
@@ -69,11 +69,13 @@ fn end_load<'a, P: ImageStore, O: Write, E: Write>(
             tell_reads(&report.faults, &sources.kinds, &mut outputs.errors);
             Ok(ending_of_load(report, sources.all_taken, all))
         }
-        Err(error) => Err(Failure::of_output(DeviceCause::of(&error))),
+        Err(failure) => Err(failure),
     }
 }
 
-/// Loads the modules of the streams in files, writes the report, and then what is asked for beside it.
+/// Loads the modules of the streams in files, each up to its end or a read that fails, which is then its connection's fault.
+/// Each stream and each verifier has its thread. It writes the report, and then what is asked for beside it. Where there is no
+/// memory for the stage, or a thread can't be started, nothing is written.
 fn run_load<
     'a,
     S: Threads + Wait + Sync,
@@ -103,14 +105,7 @@ fn run_load<
         Ok(inputs) => inputs,
         Err(failure) => return Err(failure),
     };
-    match load(
-        rt,
-        alloc,
-        inputs,
-        asked.verifiers,
-        notices,
-        &mut outputs.out,
-    ) {
+    match load_all(rt, alloc, inputs, asked.verifiers, &OpenGate, notices) {
         Ok(report) => {
             let sources = Sources {
                 paths,
@@ -119,7 +114,7 @@ fn run_load<
             };
             end_load(alloc, &report, &sources, &asked.report, outputs)
         }
-        Err(failure) => Err(failure),
+        Err(error) => Err(Failure::from(error)),
     }
 }
 
@@ -130,7 +125,7 @@ fn end_serve<'a, P: ImageStore, O: Write, E: Write>(
     asked: &ReportOptions<'_>,
     outputs: &mut Outputs<P, O, E>,
 ) -> Result<Ending, Failure<'a>>
-    ensures told { IfOk result (TellsServed [] served.now asked.now outputs.old outputs.new) }
+    ensures told { IfOk result (TellsServed served.now asked.now outputs.old outputs.new) }
     ensures failure { IfErr result (λ failure. is_of_output failure ≡ true) }
     ensures untold { OnErr result (OnlyOutput outputs.old outputs.new) }
 {
@@ -192,9 +187,9 @@ fn run_serve<
         connections: asked.connections,
         verifiers: asked.verifiers,
     };
-    match serve(rt, alloc, door, size, notices, &mut outputs.out) {
+    match serve_on(rt, alloc, door, size, &OpenGate, notices) {
         Ok(served) => end_serve(alloc, &served, &asked.report, outputs),
-        Err(failure) => Err(failure),
+        Err(error) => Err(Failure::from(error)),
     }
 }
 
@@ -219,36 +214,6 @@ fn run_files<'a, D: Disk, P: ImageStore, O: Write, E: Write>(
         Line::Pack(asked) => run_pack(alloc, disk, asked, outputs),
         Line::Info(asked) => Ok(run_info(alloc, disk, asked, outputs)),
         Line::Load(_) | Line::Serve(_) => unreachable!(),
-    }
-}
-
-/// Carries out what the program is asked for.
-fn run<
-    'a,
-    S: Threads + Wait + Files + Net + Clock + Sync,
-    D: Disk,
-    N: Notices + Sync,
-    P: ImageStore,
-    O: Write,
-    E: Write,
->(
-    rt: &S,
-    alloc: Global,
-    disk: &D,
-    notices: &N,
-    line: &Line<'a>,
-    outputs: &mut Outputs<P, O, E>,
-) -> Result<Ending, Failure<'a>>
-    requires { IsInRange line.now }
-    ensures found { IfOk result (CarriesOut line.now (D.file_at disk.now) outputs.old outputs.new) }
-    ensures failure { IfErr result (FailsAs line.now) }
-    ensures output { IfErr result (λ failure. is_of_output failure ≡ false → outputs.new.out ≡ outputs.old.out) }
-    ensures untold { OnErr result (OnlyOutput outputs.old outputs.new) }
-{
-    match line {
-        Line::Load(asked) => run_load(rt, alloc, disk, notices, asked, outputs),
-        Line::Serve(asked) => run_serve(rt, alloc, notices, asked, outputs),
-        _ => run_files(alloc, disk, line, outputs),
     }
 }
 
@@ -314,11 +279,22 @@ pub fn run_words<
 ) -> Ending
     ensures { Runs (map string_bytes words.now) (D.file_at disk.now) outputs.old outputs.new result }
 {
-    match line_of(alloc, words) {
-        Ok(line) => {
-            let came = run(rt, alloc, disk, notices, &line, outputs);
+    let line = match line_of(alloc, words) {
+        Ok(line) => line,
+        Err(fault) => return tell_fault(&fault, outputs),
+    };
+    match &line {
+        Line::Load(asked) => {
+            let came = run_load(rt, alloc, disk, notices, asked, outputs);
             ended(came, outputs)
         }
-        Err(fault) => tell_fault(&fault, outputs),
+        Line::Serve(asked) => {
+            let came = run_serve(rt, alloc, notices, asked, outputs);
+            ended(came, outputs)
+        }
+        _ => {
+            let came = run_files(alloc, disk, &line, outputs);
+            ended(came, outputs)
+        }
     }
 }

@@ -4,14 +4,15 @@ ghost use Rattle.std.specs.Prelude.{◌≡◌, IfOk, length};
 
 use crate::runs::{FAILED, ONE_RET, ONE_RET_REPORT, RET, begin, run_over, tells};
 use lfi_code::Verdict;
-use lfi_commands::{ending_of_load, load};
+use lfi_commands::{ending_of_load, write_report};
 use lfi_file_commands::{
     CommandFault, DeviceCause, Ending, Errors, Failure, Naming, Target, check, check_file,
 };
 use lfi_model::Outcome;
 use lfi_module::Profile;
+use lfi_place::OpenGate;
 use lfi_receive::Input;
-use lfi_threads::NoNotices;
+use lfi_threads::{NoNotices, load_all};
 use std::alloc::{AllocError, Global};
 use std::fs::{self, File, Files};
 use std::io::{self, Read, Write};
@@ -185,11 +186,12 @@ fn ends_so<S: Threads + Wait + Sync + AllocGlobal>(
 ) -> bool
     requires { length inputs.items ≡ 1 }
 {
-    match load(rt, rt.alloc(), inputs, 1, &NoNotices, out) {
-        Ok(report) => {
-            let complete = report.modules[0].outcome == Outcome::Complete { words: 1 };
-            complete == is_complete && ending_of_load(&report, true, true) == ending
-        }
+    let Ok(report) = load_all(rt, rt.alloc(), inputs, 1, &OpenGate, &NoNotices) else {
+        return false;
+    };
+    let complete = report.modules[0].outcome == Outcome::Complete { words: 1 };
+    match write_report(rt.alloc(), &report, out) {
+        Ok(()) => complete == is_complete && ending_of_load(&report, true, true) == ending,
         Err(_) => false,
     }
 }

@@ -49,7 +49,6 @@ impl<'a, N> Watch<'a, N> {
     /// What follows a turn that did this: verifiers are called for an item, not for each at once
     /// where one of them is awake. An item is refused only where memory is, which comes free without a
     /// call: so its thread asks for it again after a time.
-    #[inline(always)]
     fn go_on<S: Wait>(&mut self, rt: &S, ends: &Ends, did: ReceiverTurn) {
         match did {
             ReceiverTurn::Put => self.items.brought_to_sleepers(),
@@ -61,11 +60,17 @@ impl<'a, N> Watch<'a, N> {
         }
     }
 
+    /// Counts a turn that did this. Whether nothing follows it: it brought no item, and it isn't time to look at the modules'
+    /// phases.
+    #[inline(always)]
+    fn passes(&mut self, did: ReceiverTurn) -> bool {
+        self.turns = self.turns.wrapping_add(1);
+        self.turns % LOOK_TURNS != 0 && (did == ReceiverTurn::More || did == ReceiverTurn::Stray)
+    }
+
     /// Whether it is time to look at the modules' phases, after a turn that did this: where there
     /// was nothing else to do, at the end, and now and then.
-    #[inline(always)]
-    fn is_due(&mut self, did: ReceiverTurn) -> bool {
-        self.turns = self.turns.wrapping_add(1);
+    fn is_due(&self, did: ReceiverTurn) -> bool {
         did == ReceiverTurn::Blocked
             || did == ReceiverTurn::Finished
             || self.turns % LOOK_TURNS == 0
@@ -74,7 +79,6 @@ impl<'a, N> Watch<'a, N> {
 
 impl<N: Notices> Watch<'_, N> {
     /// Looks at the modules' phases, where it is time to.
-    #[inline(always)]
     fn look_after(&mut self, place: Place<'_>, receiver: &mut Receiver, did: ReceiverTurn)
         requires is { IsReceiver place.shared.now place.number receiver.old }
         ensures is { IsReceiver place.entry.shared.now place.entry.number receiver.new }
@@ -116,6 +120,9 @@ fn hear_once<S: Wait, R: Read + Drop, N: Notices>(
     }
     let shared = place.shared;
     let did = receiver.pull(&shared.board, &shared.intake, input);
+    if watch.passes(did) {
+        return None;
+    }
     watch.look_after(place, receiver, did);
     watch.go_on(rt, going.ends(), did);
     if did == ReceiverTurn::Finished {
