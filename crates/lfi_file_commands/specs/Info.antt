@@ -41,6 +41,7 @@ held_text slot base words entry profile =
     codes "image\n  slot " ++ decimal slot ++ codes "\n  base " ++ address_text base ++ codes "\n  words " ++ decimal words ++ codes "\n  entry " ++ decimal entry
     ++ codes "\n  profile " ++ decimal profile ++ codes "\n  lawful\n"
 
+-- the same of an image
 abbrev pub image_text : Image → List ℕ
 image_text image = held_text image.slot (base_of image.slot) (length image.words) image.entry (profile_number image.profile)
 
