@@ -1,4 +1,4 @@
-/* Asks each row of the rules' tables (rows.inc, which checks/c_callers/run writes of crates/lfi_rules_tests) by the calls: in
+/* Asks each row of the rules' tables (rows.inc, which checks/c_callers/run writes of crates/tests_profile) by the calls: in
  * one call, and in pieces of each size that cuts it. */
 #include "lfi_verifier.h"
 #include <stdio.h>

@@ -7,8 +7,8 @@ ghost use Rattle.a64_text.specs.Texts as spec;
 ghost use Rattle.a64_text.specs.inner.Addresses.{based};
 
 use crate::assembly::Assembly;
-use crate::line::{Beside, Line, Then};
-use crate::names::Access;
+use crate::line::{Beside, Statement, Then};
+use crate::names::AccessName;
 use crate::operands::{Based, ExtendedIndex, GeneralRegister, RegisterOrStack};
 use a64_word::{
     IndexExtend, IndexMode, Ordered, Pair, RegisterOffset, SignedOffset, Transfer, UnsignedOffset,
@@ -28,14 +28,14 @@ impl fmt::Display for Assembly<UnsignedOffset> {
 
     /// Writes the instruction, as `ldr w1, [x19]`.
     fn fmt<W: fmt::Write>(&self, f: &mut fmt::Formatter<W>) -> fmt::Result {
-        let name = Access {
+        let name = AccessName {
             unscaled: false,
             transfer: self.0.transfer,
             size: self.0.size,
         };
         let rt = GeneralRegister(name.width(), self.0.rt);
         let address = Based::Offset(self.0.rn, unsigned_offset(&self.0));
-        f.write(Line(name, Then(rt, address)))
+        f.write(Statement(name, Then(rt, address)))
     }
 }
 
@@ -44,7 +44,7 @@ impl fmt::Display for Assembly<Ordered> {
 
     /// Writes the instruction, as `ldar x0, [x18]`.
     fn fmt<W: fmt::Write>(&self, f: &mut fmt::Formatter<W>) -> fmt::Result {
-        let access = Access {
+        let access = AccessName {
             unscaled: false,
             transfer: Transfer::Load,
             size: self.0.size,
@@ -52,7 +52,7 @@ impl fmt::Display for Assembly<Ordered> {
         let name = if self.0.load { "ldar" } else { "stlr" };
         let rt = GeneralRegister(access.width(), self.0.rt);
         let address = Based::Offset(self.0.rn, 0);
-        f.write(Line(Beside(name, access.end()), Then(rt, address)))
+        f.write(Statement(Beside(name, access.end()), Then(rt, address)))
     }
 }
 
@@ -75,13 +75,13 @@ impl fmt::Display for Assembly<SignedOffset> {
 
     /// Writes the instruction, as `str x0, [sp, #-16]!`.
     fn fmt<W: fmt::Write>(&self, f: &mut fmt::Formatter<W>) -> fmt::Result {
-        let name = Access {
+        let name = AccessName {
             unscaled: is_unscaled(self.0.mode),
             transfer: self.0.transfer,
             size: self.0.size,
         };
         let rt = GeneralRegister(name.width(), self.0.rt);
-        f.write(Line(name, Then(rt, signed_address(&self.0))))
+        f.write(Statement(name, Then(rt, signed_address(&self.0))))
     }
 }
 
@@ -120,13 +120,13 @@ impl fmt::Display for Assembly<RegisterOffset> {
 
     /// Writes the instruction, as `ldr x0, [x21, w1, uxtw]`.
     fn fmt<W: fmt::Write>(&self, f: &mut fmt::Formatter<W>) -> fmt::Result {
-        let name = Access {
+        let name = AccessName {
             unscaled: false,
             transfer: self.0.transfer,
             size: self.0.size,
         };
         let rt = GeneralRegister(name.width(), self.0.rt);
-        f.write(Line(name, Then(rt, Indexed(self.0))))
+        f.write(Statement(name, Then(rt, Indexed(self.0))))
     }
 }
 
@@ -155,6 +155,6 @@ impl fmt::Display for Assembly<Pair> {
         let name = if self.0.load { "ldp" } else { "stp" };
         let rt = GeneralRegister(self.0.width, self.0.rt);
         let rt2 = GeneralRegister(self.0.width, self.0.rt2);
-        f.write(Line(name, Then(rt, Then(rt2, pair_address(&self.0)))))
+        f.write(Statement(name, Then(rt, Then(rt2, pair_address(&self.0)))))
     }
 }

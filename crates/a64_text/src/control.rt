@@ -6,7 +6,7 @@ ghost use Rattle.a64_word.specs.declared.instruction.Instruction.{Instruction};
 ghost use Rattle.a64_text.specs.Texts as spec;
 
 use crate::assembly::Assembly;
-use crate::line::{Beside, Line, Then};
+use crate::line::{Beside, Statement, Then};
 use crate::operands::{FromHere, GeneralRegister, Number};
 use a64_word::{
     Branch, BranchRegister, Breakpoint, CompareBranch, ConditionalBranch, TestBranch, Width,
@@ -19,7 +19,7 @@ impl fmt::Display for Assembly<Branch> {
     /// Writes the instruction, as `bl .+8`.
     fn fmt<W: fmt::Write>(&self, f: &mut fmt::Formatter<W>) -> fmt::Result {
         let name = if self.0.link { "bl" } else { "b" };
-        f.write(Line(name, FromHere::words(self.0.offset)))
+        f.write(Statement(name, FromHere::words(self.0.offset)))
     }
 }
 
@@ -29,7 +29,7 @@ impl fmt::Display for Assembly<ConditionalBranch> {
     /// Writes the instruction, as `b.eq .-4`.
     fn fmt<W: fmt::Write>(&self, f: &mut fmt::Formatter<W>) -> fmt::Result {
         let name = Beside("b.", Assembly(self.0.condition));
-        f.write(Line(name, FromHere::words(self.0.offset)))
+        f.write(Statement(name, FromHere::words(self.0.offset)))
     }
 }
 
@@ -40,7 +40,7 @@ impl fmt::Display for Assembly<CompareBranch> {
     fn fmt<W: fmt::Write>(&self, f: &mut fmt::Formatter<W>) -> fmt::Result {
         let name = if self.0.nonzero { "cbnz" } else { "cbz" };
         let rt = GeneralRegister(self.0.width, self.0.rt);
-        f.write(Line(name, Then(rt, FromHere::words(self.0.offset))))
+        f.write(Statement(name, Then(rt, FromHere::words(self.0.offset))))
     }
 }
 
@@ -59,7 +59,7 @@ impl fmt::Display for Assembly<TestBranch> {
         let name = if self.0.nonzero { "tbnz" } else { "tbz" };
         let rt = GeneralRegister(tested_width(self.0.bit), self.0.rt);
         let bit = Number(self.0.bit);
-        f.write(Line(name, Then(rt, Then(bit, FromHere::words(self.0.offset)))))
+        f.write(Statement(name, Then(rt, Then(bit, FromHere::words(self.0.offset)))))
     }
 }
 
@@ -68,7 +68,7 @@ impl fmt::Display for Assembly<BranchRegister> {
 
     /// Writes the instruction, as `ret x30`.
     fn fmt<W: fmt::Write>(&self, f: &mut fmt::Formatter<W>) -> fmt::Result {
-        f.write(Line(Assembly(self.0.kind), GeneralRegister(Width::X, self.0.rn)))
+        f.write(Statement(Assembly(self.0.kind), GeneralRegister(Width::X, self.0.rn)))
     }
 }
 
@@ -77,6 +77,6 @@ impl fmt::Display for Assembly<Breakpoint> {
 
     /// Writes the instruction, as `brk #1`.
     fn fmt<W: fmt::Write>(&self, f: &mut fmt::Formatter<W>) -> fmt::Result {
-        f.write(Line("brk", Number(self.0.imm16)))
+        f.write(Statement("brk", Number(self.0.imm16)))
     }
 }

@@ -15,7 +15,7 @@
 //!   so what is proved of words needn't wait for what is proved of texts.
 //! - A place that an instruction names by its distance is written from the instruction itself, as `.+8`. An offset, a shift
 //!   or an amount of 0 is left out where that changes no bit of the word.
-//! - **A text is one value that owns its parts** (`Line`, `Then`, `Beside`), and is written by value. A `write!` of many
+//! - **A text is one value that owns its parts** (`Statement`, `Then`, `Beside`), and is written by value. A `write!` of many
 //!   parts borrows each of them, and its proof takes twice as long. A value that begins with a literal and has others
 //!   deeper in it isn't covered by the borrow checker yet: such a text stays a `write!`.
 //! - Of an instruction that no word spells the text is one that no assembler takes, or that of another instruction.

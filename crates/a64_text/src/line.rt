@@ -7,9 +7,9 @@ use std::fmt;
 
 /// What an operation is called, and its operands: a space stands between them.
 #[derive(Drop)]
-pub struct Line<N, O>(pub N, pub O);
+pub struct Statement<N, O>(pub N, pub O);
 
-impl<N: fmt::Display, O: fmt::Display> fmt::Display for Line<N, O> {
+impl<N: fmt::Display, O: fmt::Display> fmt::Display for Statement<N, O> {
     ghost output = { λ line. N.output line.0 ++? Some (codes " ") ++? O.output line.1 };
 
     fn fmt<W: fmt::Write>(&self, f: &mut fmt::Formatter<W>) -> fmt::Result {

@@ -5,7 +5,7 @@ ghost use Rattle.a64_word.specs.declared.instruction.Instruction.{Instruction};
 ghost use Rattle.a64_text.specs.Texts as spec;
 
 use crate::assembly::Assembly;
-use crate::line::{Beside, Line, Then};
+use crate::line::{Beside, Statement, Then};
 use crate::names::{Bitwise, Selection, Sum};
 use crate::operands::{
     Compared, Destination, Extended, FromHere, GeneralRegister, Number, RegisterOrStack, ShiftedBy,
@@ -34,7 +34,7 @@ impl fmt::Display for Assembly<AddSubImmediate> {
         };
         let rn = RegisterOrStack(self.0.width, self.0.rn);
         let shift = ShiftedLeft(if self.0.shifted { 12 } else { 0 });
-        f.write(Line(
+        f.write(Statement(
             name,
             Then(rd, Then(rn, Beside(Number(self.0.imm12), shift))),
         ))
@@ -72,7 +72,7 @@ impl fmt::Display for Assembly<LogicalImmediate> {
             register: self.0.rd,
         };
         let rn = GeneralRegister(self.0.width, self.0.rn);
-        f.write(Line(name, Then(rd, Then(rn, Mask(self.0.mask_if_legal())))))
+        f.write(Statement(name, Then(rd, Then(rn, Mask(self.0.mask_if_legal())))))
     }
 }
 
@@ -83,7 +83,7 @@ impl fmt::Display for Assembly<MoveWide> {
     fn fmt<W: fmt::Write>(&self, f: &mut fmt::Formatter<W>) -> fmt::Result {
         let rd = GeneralRegister(self.0.width, self.0.rd);
         let shift = ShiftedLeft(16 * u16::from(self.0.hw));
-        f.write(Line(
+        f.write(Statement(
             Assembly(self.0.kind),
             Then(rd, Beside(Number(self.0.imm16), shift)),
         ))
@@ -105,7 +105,7 @@ impl fmt::Display for Assembly<PcRelative> {
     fn fmt<W: fmt::Write>(&self, f: &mut fmt::Formatter<W>) -> fmt::Result {
         let name = if self.0.page { "adrp" } else { "adr" };
         let rd = GeneralRegister(Width::X, self.0.rd);
-        f.write(Line(name, Then(rd, named_place(&self.0))))
+        f.write(Statement(name, Then(rd, named_place(&self.0))))
     }
 }
 
@@ -118,7 +118,7 @@ impl fmt::Display for Assembly<Bitfield> {
         let rn = GeneralRegister(self.0.width, self.0.rn);
         let immr = Number(self.0.immr);
         let imms = Number(self.0.imms);
-        f.write(Line(Assembly(self.0.kind), Then(rd, Then(rn, Then(immr, imms)))))
+        f.write(Statement(Assembly(self.0.kind), Then(rd, Then(rn, Then(immr, imms)))))
     }
 }
 
@@ -135,7 +135,7 @@ impl fmt::Display for Assembly<LogicalShifted> {
         let rn = GeneralRegister(self.0.width, self.0.rn);
         let rm = GeneralRegister(self.0.width, self.0.rm);
         let shift = ShiftedBy(self.0.shift, self.0.amount);
-        f.write(Line(name, Then(rd, Then(rn, Beside(rm, shift)))))
+        f.write(Statement(name, Then(rd, Then(rn, Beside(rm, shift)))))
     }
 }
 
@@ -152,7 +152,7 @@ impl fmt::Display for Assembly<AddSubShifted> {
         let rn = GeneralRegister(self.0.width, self.0.rn);
         let rm = GeneralRegister(self.0.width, self.0.rm);
         let shift = ShiftedBy(self.0.shift, self.0.amount);
-        f.write(Line(name, Then(rd, Then(rn, Beside(rm, shift)))))
+        f.write(Statement(name, Then(rd, Then(rn, Beside(rm, shift)))))
     }
 }
 
@@ -183,7 +183,7 @@ impl fmt::Display for Assembly<AddSubExtended> {
         let rn = RegisterOrStack(self.0.width, self.0.rn);
         let rm = GeneralRegister(extended_width(self.0.width, self.0.extend), self.0.rm);
         let extended = Extended(self.0.extend, self.0.amount);
-        f.write(Line(name, Then(rd, Then(rn, Then(rm, extended)))))
+        f.write(Statement(name, Then(rd, Then(rn, Then(rm, extended)))))
     }
 }
 
@@ -201,7 +201,7 @@ impl fmt::Display for Assembly<ConditionalCompare> {
         };
         let nzcv = Number(self.0.nzcv);
         let condition = Assembly(self.0.condition);
-        f.write(Line(name, Then(rn, Then(second, Then(nzcv, condition)))))
+        f.write(Statement(name, Then(rn, Then(second, Then(nzcv, condition)))))
     }
 }
 
@@ -218,7 +218,7 @@ impl fmt::Display for Assembly<ConditionalSelect> {
         let rn = GeneralRegister(self.0.width, self.0.rn);
         let rm = GeneralRegister(self.0.width, self.0.rm);
         let condition = Assembly(self.0.condition);
-        f.write(Line(name, Then(rd, Then(rn, Then(rm, condition)))))
+        f.write(Statement(name, Then(rd, Then(rn, Then(rm, condition)))))
     }
 }
 
@@ -230,7 +230,7 @@ impl fmt::Display for Assembly<TwoSource> {
         let rd = GeneralRegister(self.0.width, self.0.rd);
         let rn = GeneralRegister(self.0.width, self.0.rn);
         let rm = GeneralRegister(self.0.width, self.0.rm);
-        f.write(Line(Assembly(self.0.kind), Then(rd, Then(rn, rm))))
+        f.write(Statement(Assembly(self.0.kind), Then(rd, Then(rn, rm))))
     }
 }
 
@@ -241,7 +241,7 @@ impl fmt::Display for Assembly<CountLeadingZeros> {
     fn fmt<W: fmt::Write>(&self, f: &mut fmt::Formatter<W>) -> fmt::Result {
         let rd = GeneralRegister(self.0.width, self.0.rd);
         let rn = GeneralRegister(self.0.width, self.0.rn);
-        f.write(Line("clz", Then(rd, rn)))
+        f.write(Statement("clz", Then(rd, rn)))
     }
 }
 
@@ -255,7 +255,7 @@ impl fmt::Display for Assembly<MultiplyAdd> {
         let rn = GeneralRegister(self.0.width, self.0.rn);
         let rm = GeneralRegister(self.0.width, self.0.rm);
         let ra = GeneralRegister(self.0.width, self.0.ra);
-        f.write(Line(name, Then(rd, Then(rn, Then(rm, ra)))))
+        f.write(Statement(name, Then(rd, Then(rn, Then(rm, ra)))))
     }
 }
 
@@ -268,6 +268,6 @@ impl fmt::Display for Assembly<MultiplyHigh> {
         let rd = GeneralRegister(Width::X, self.0.rd);
         let rn = GeneralRegister(Width::X, self.0.rn);
         let rm = GeneralRegister(Width::X, self.0.rm);
-        f.write(Line(name, Then(rd, Then(rn, rm))))
+        f.write(Statement(name, Then(rd, Then(rn, rm))))
     }
 }

@@ -1,16 +1,16 @@
 -- New seats, one after another.
 use Rattle.std.proofs.Common.{◌≡◌, ℕ, zero, suc, ◌+◌, ◌-◌, ◌<◌, List, [], ◌∷◌, ◌++◌, length, replicate, get_or, set, Some, None, refl, ap, subst, ◌∙◌, arith}
 use Rattle.atomic_table.specs.Seated.{TableId}
-use Rattle.lfi_board.specs.declared.hand.Hand.{Hand}
+use Rattle.lfi_board.specs.declared.knowledge.Knowledge.{Knowledge}
 use Rattle.lfi_board.specs.declared.seats.SequencerSeat.{SequencerSeat}
 use Rattle.lfi_board.specs.declared.seats.ReceiverSeat.{ReceiverSeat}
-use Rattle.lfi_board.specs.Hands.{hand_of, onlooker}
+use Rattle.lfi_board.specs.Knowledge.{knowledge_of, onlooker}
 use Rattle.lfi_board.specs.Rows.{Row, IsNewReceiver, NewReceivers, NewSequencers, AllOn, present}
 
-pub one_less : (count i : ℕ) (h : Hand) → i < count → replicate (count - i) h ≡ h ∷ replicate (count - (i + 1)) h
+pub one_less : (count i : ℕ) (h : Knowledge) → i < count → replicate (count - i) h ≡ h ∷ replicate (count - (i + 1)) h
 one_less count i h lt = let e : count - i ≡ suc (count - (i + 1)) = omega arith in ap (λ k. replicate k h) e
 
-pub NewSequencers-push : (z : TableId) (n i : ℕ) (xs : List SequencerSeat) (x : SequencerSeat) → NewSequencers z n i xs → (x.seat.table_id ≡ z) × (x.of ≡ i + length xs) × (hand_of x.seat.me.0 ≡ onlooker n)
+pub NewSequencers-push : (z : TableId) (n i : ℕ) (xs : List SequencerSeat) (x : SequencerSeat) → NewSequencers z n i xs → (x.seat.table_id ≡ z) × (x.of ≡ i + length xs) × (knowledge_of x.seat.me.0 ≡ onlooker n)
     → NewSequencers z n i (xs ++ x ∷ [])
 NewSequencers-push z n i [] x a p = ((p.0, (let e : i + 0 ≡ i = omega arith in p.1 ∙ e), p.2), tt)
 NewSequencers-push z n i (y ∷ ys) x a p = (a.0, NewSequencers-push z n (suc i) ys x a.1 (p.0, (let e : i + suc (length ys) ≡ suc i + length ys = omega arith in p.1 ∙ e), p.2))

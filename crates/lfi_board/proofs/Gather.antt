@@ -5,8 +5,8 @@ use Rattle.atomic_table.specs.Seated.{TableId}
 use Rattle.lfi_board.specs.declared.seats.ReceiverSeat.{ReceiverSeat}
 use mathlib.Core.Logic.{dite}
 use native.Mathlib.Decide.{ℕ_discrete}
-use Rattle.lfi_board.specs.declared.hand.Hand.{Hand}
-use Rattle.lfi_board.specs.Hands.{hand_of, total, times, onlooker}
+use Rattle.lfi_board.specs.declared.knowledge.Knowledge.{Knowledge}
+use Rattle.lfi_board.specs.Knowledge.{knowledge_of, total, times, onlooker}
 use Rattle.lfi_board.specs.inner.Rule.{View, receiving, claims_of, taken}
 use Rattle.lfi_board.specs.inner.Plays.{AllFollow, Told, board_size}
 use Rattle.lfi_board.specs.Rows.{Row, AllOn, AreSame, MayFollow, OnlyAt, claims_in, claims_at, present}
@@ -34,14 +34,14 @@ on_without z (None ∷ ss) (suc i) a = on_without z ss i a
 on_without z (Some x ∷ ss) (suc i) a = (a.0, on_without z ss i a.1)
 
 module _ (s : ReceiverSeat) (v : View) where
-  gathered_at : (ss : Row) (i : ℕ) (d : Option ReceiverSeat) → i < length ss → get_or ss i d ≡ Some s → gathered (drop i ss) v ≡ gathered (drop (suc i) (set ss i None)) (hand_of s.seat.me.0 ∷ v)
+  gathered_at : (ss : Row) (i : ℕ) (d : Option ReceiverSeat) → i < length ss → get_or ss i d ≡ Some s → gathered (drop i ss) v ≡ gathered (drop (suc i) (set ss i None)) (knowledge_of s.seat.me.0 ∷ v)
   gathered_at [] i d lt e = absurd (omega arith)
   gathered_at (None ∷ ss) zero d lt e = absurd (none-some s e)
-  gathered_at (Some x ∷ ss) zero d lt e = ap (λ (y : ReceiverSeat). gathered ss (hand_of y.seat.me.0 ∷ v)) (some_is x s e)
+  gathered_at (Some x ∷ ss) zero d lt e = ap (λ (y : ReceiverSeat). gathered ss (knowledge_of y.seat.me.0 ∷ v)) (some_is x s e)
   gathered_at (x ∷ ss) (suc i) d lt e = gathered_at ss i d (omega arith) e
 
-  pub gathered_some : (ss : Row) (i : ℕ) (d : Option ReceiverSeat) → i < length ss → get_or ss i d ≡ Some s → gathered (drop i ss) v ≡ gathered (drop (i + 1) (set ss i None)) (hand_of s.seat.me.0 ∷ v)
-  gathered_some ss i d lt e = let k : suc i ≡ i + 1 = omega arith in gathered_at ss i d lt e ∙ ap (λ j. gathered (drop j (set ss i None)) (hand_of s.seat.me.0 ∷ v)) k
+  pub gathered_some : (ss : Row) (i : ℕ) (d : Option ReceiverSeat) → i < length ss → get_or ss i d ≡ Some s → gathered (drop i ss) v ≡ gathered (drop (i + 1) (set ss i None)) (knowledge_of s.seat.me.0 ∷ v)
+  gathered_some ss i d lt e = let k : suc i ≡ i + 1 = omega arith in gathered_at ss i d lt e ∙ ap (λ j. gathered (drop j (set ss i None)) (knowledge_of s.seat.me.0 ∷ v)) k
 
 gathered_gap : (v : View) (ss : Row) (i : ℕ) (d : Option ReceiverSeat) → i < length ss → get_or ss i d ≡ None → gathered (drop i ss) v ≡ gathered (drop (suc i) (set ss i None)) v
 gathered_gap v [] i d lt e = absurd (omega arith)
@@ -68,10 +68,10 @@ same_none (Some x ∷ ss) [] (suc i) d lt e a = absurd a
 same_none (None ∷ ss) (Some y ∷ ts) (suc i) d lt e a = absurd a
 same_none (Some x ∷ ss) (None ∷ ts) (suc i) d lt e a = absurd a
 
-pub same_put : (s t : ReceiverSeat) → (t.seat.table_id ≡ s.seat.table_id) × (hand_of t.seat.me.0 ≡ hand_of s.seat.me.0) → (ss ts : Row) (i : ℕ) (d : Option ReceiverSeat) → i < length ss → get_or ss i d ≡ Some s → AreSame (set ss i None) ts → AreSame ss (set ts i (Some t))
+pub same_put : (s t : ReceiverSeat) → (t.seat.table_id ≡ s.seat.table_id) × (knowledge_of t.seat.me.0 ≡ knowledge_of s.seat.me.0) → (ss ts : Row) (i : ℕ) (d : Option ReceiverSeat) → i < length ss → get_or ss i d ≡ Some s → AreSame (set ss i None) ts → AreSame ss (set ts i (Some t))
 same_put s t p [] ts i d lt e a = absurd (omega arith)
 same_put s t p (None ∷ ss) ts zero d lt e a = absurd (none-some s e)
-same_put s t p (Some x ∷ ss) (None ∷ ts) zero d lt e a = (subst (λ (y : ReceiverSeat). (t.seat.table_id ≡ y.seat.table_id) × (hand_of t.seat.me.0 ≡ hand_of y.seat.me.0)) (sym (some_is x s e)) p, a)
+same_put s t p (Some x ∷ ss) (None ∷ ts) zero d lt e a = (subst (λ (y : ReceiverSeat). (t.seat.table_id ≡ y.seat.table_id) × (knowledge_of t.seat.me.0 ≡ knowledge_of y.seat.me.0)) (sym (some_is x s e)) p, a)
 same_put s t p (Some x ∷ ss) (Some y ∷ ts) zero d lt e a = absurd a
 same_put s t p (Some x ∷ ss) [] zero d lt e a = absurd a
 same_put s t p (None ∷ ss) (None ∷ ts) (suc i) d lt e a = same_put s t p ss ts i d (omega arith) e a
@@ -94,25 +94,25 @@ same_length (Some x ∷ ss) (None ∷ ts) a = absurd a
 -- ---- what all seats together know
 
 module _ (m : ℕ) where
-  claims_here : (s : ReceiverSeat) → claims_of m (hand_of s.seat.me.0) ≡ times m (hand_of s.seat.me.0).claimed
-  claims_here s = ap (λ b. if b then times m (hand_of s.seat.me.0).claimed else 0) s.receives
+  claims_here : (s : ReceiverSeat) → claims_of m (knowledge_of s.seat.me.0) ≡ times m (knowledge_of s.seat.me.0).claimed
+  claims_here s = ap (λ b. if b then times m (knowledge_of s.seat.me.0).claimed else 0) s.receives
 
   pub gathered_claims : (ss : Row) (v : View) → total (claims_of m) (gathered ss v) ≡ claims_by m ss + total (claims_of m) v
   gathered_claims [] v = omega arith
   gathered_claims (None ∷ ss) v = gathered_claims ss v
-  gathered_claims (Some s ∷ ss) v = let r = gathered_claims ss (hand_of s.seat.me.0 ∷ v) in let c = claims_here s in omega arith
+  gathered_claims (Some s ∷ ss) v = let r = gathered_claims ss (knowledge_of s.seat.me.0 ∷ v) in let c = claims_here s in omega arith
 
   pub gathered_follow : (phase : ℕ) (ss : Row) (v : View) → AllFollow (gathered ss v) m phase → MayFollow m phase ss × AllFollow v m phase
   gathered_follow phase [] v a = (tt, a)
   gathered_follow phase (None ∷ ss) v a = gathered_follow phase ss v a
-  gathered_follow phase (Some s ∷ ss) v a = let r = gathered_follow phase ss (hand_of s.seat.me.0 ∷ v) a in ((r.1.0, r.0), r.1.1)
+  gathered_follow phase (Some s ∷ ss) v a = let r = gathered_follow phase ss (knowledge_of s.seat.me.0 ∷ v) a in ((r.1.0, r.0), r.1.1)
 
   -- which seats claimed it doesn't hang on what is the same
   pub same_claims : (ss ts : Row) → AreSame ss ts → claims_by m ts ≡ claims_by m ss
   same_claims [] [] a = refl
   same_claims [] (y ∷ ts) a = absurd a
   same_claims (None ∷ ss) (None ∷ ts) a = same_claims ss ts a
-  same_claims (Some x ∷ ss) (Some y ∷ ts) a = let r = same_claims ss ts a.1 in let c : times m (hand_of y.seat.me.0).claimed ≡ times m (hand_of x.seat.me.0).claimed = ap (λ (h : Hand). times m h.claimed) a.0.1 in omega arith
+  same_claims (Some x ∷ ss) (Some y ∷ ts) a = let r = same_claims ss ts a.1 in let c : times m (knowledge_of y.seat.me.0).claimed ≡ times m (knowledge_of x.seat.me.0).claimed = ap (λ (h : Knowledge). times m h.claimed) a.0.1 in omega arith
   same_claims (None ∷ ss) [] a = absurd a
   same_claims (Some x ∷ ss) [] a = absurd a
   same_claims (None ∷ ss) (Some y ∷ ts) a = absurd a
@@ -123,7 +123,7 @@ module _ (m : ℕ) where
   same_at [] (y ∷ ts) a i = absurd a
   same_at (None ∷ ss) (None ∷ ts) a zero = refl
   same_at (None ∷ ss) (None ∷ ts) a (suc i) = same_at ss ts a i
-  same_at (Some x ∷ ss) (Some y ∷ ts) a zero = ap (λ (h : Hand). times m h.claimed) a.0.1
+  same_at (Some x ∷ ss) (Some y ∷ ts) a zero = ap (λ (h : Knowledge). times m h.claimed) a.0.1
   same_at (Some x ∷ ss) (Some y ∷ ts) a (suc i) = same_at ss ts a.1 i
   same_at (None ∷ ss) [] a i = absurd a
   same_at (Some x ∷ ss) [] a i = absurd a
@@ -167,18 +167,18 @@ module _ (m : ℕ) where
 pub gathered_receivers : (ss : Row) (v : View) → total receiving (gathered ss v) ≡ present ss + total receiving v
 gathered_receivers [] v = omega arith
 gathered_receivers (None ∷ ss) v = gathered_receivers ss v
-gathered_receivers (Some s ∷ ss) v = let r = gathered_receivers ss (hand_of s.seat.me.0 ∷ v) in let c : receiving (hand_of s.seat.me.0) ≡ 1 = ap (λ b. if b then 1 else 0) s.receives in omega arith
+gathered_receivers (Some s ∷ ss) v = let r = gathered_receivers ss (knowledge_of s.seat.me.0 ∷ v) in let c : receiving (knowledge_of s.seat.me.0) ≡ 1 = ap (λ b. if b then 1 else 0) s.receives in omega arith
 
-pub gathered_size : (ss : Row) (h : Hand) (v : View) → (board_size (gathered ss (h ∷ v)) ≡ board_size (h ∷ v)) × (0 < length (gathered ss (h ∷ v)))
+pub gathered_size : (ss : Row) (h : Knowledge) (v : View) → (board_size (gathered ss (h ∷ v)) ≡ board_size (h ∷ v)) × (0 < length (gathered ss (h ∷ v)))
 gathered_size [] h v = (refl, omega arith)
 gathered_size (None ∷ ss) h v = gathered_size ss h v
-gathered_size (Some s ∷ ss) h v = gathered_size ss (hand_of s.seat.me.0) (h ∷ v)
+gathered_size (Some s ∷ ss) h v = gathered_size ss (knowledge_of s.seat.me.0) (h ∷ v)
 
 module _ (m : ℕ) where
-  claims_most : (ss : Row) (i : ℕ) (d : Option ReceiverSeat) (s : ReceiverSeat) → i < length ss → get_or ss i d ≡ Some s → times m (hand_of s.seat.me.0).claimed ≤ claims_by m ss
+  claims_most : (ss : Row) (i : ℕ) (d : Option ReceiverSeat) (s : ReceiverSeat) → i < length ss → get_or ss i d ≡ Some s → times m (knowledge_of s.seat.me.0).claimed ≤ claims_by m ss
   claims_most [] i d s lt e = absurd (omega arith)
   claims_most (None ∷ ss) zero d s lt e = absurd (none-some s e)
-  claims_most (Some x ∷ ss) zero d s lt e = let c : times m (hand_of x.seat.me.0).claimed ≡ times m (hand_of s.seat.me.0).claimed = ap (λ (z : ReceiverSeat). times m (hand_of z.seat.me.0).claimed) (some_is x s e) in omega arith
+  claims_most (Some x ∷ ss) zero d s lt e = let c : times m (knowledge_of x.seat.me.0).claimed ≡ times m (knowledge_of s.seat.me.0).claimed = ap (λ (z : ReceiverSeat). times m (knowledge_of z.seat.me.0).claimed) (some_is x s e) in omega arith
   claims_most (None ∷ ss) (suc i) d s lt e = claims_most ss i d s (omega arith) e
   claims_most (Some x ∷ ss) (suc i) d s lt e = let r = claims_most ss i d s (omega arith) e in omega arith
 
@@ -190,17 +190,17 @@ module _ (m : ℕ) where
   -- the seat at i claimed it, and all together did once
   pub is_mine : m < 16 → (ss : Row) (i : ℕ) (d : Option ReceiverSeat) (s : ReceiverSeat) → i < length ss → get_or ss i d ≡ Some s → get_or s.mine m false ≡ true → claims_by m ss ≡ 1 → claims_at m ss i ≡ 1
   is_mine lt ss i d s inside e mine one =
-      let k : ℕ = times m (hand_of s.seat.me.0).claimed in let most = claims_most ss i d s inside e in
+      let k : ℕ = times m (knowledge_of s.seat.me.0).claimed in let most = claims_most ss i d s inside e in
       ap (claims_in m) (there ss i d (Some s) inside e) ∙ dite (ℕ_discrete k 0) (λ z. absurd (true≢false (sym mine ∙ (s.knows_mine m lt ∙ ap not (eq-eqb k 0 z))))) (λ ne. let one_here : k ≡ 1 = omega arith in one_here)
 
   -- a seat that didn't claim it
-  pub not_mine : m < 16 → (s : ReceiverSeat) → get_or s.mine m false ≡ false → times m (hand_of s.seat.me.0).claimed ≡ 0
-  not_mine lt s mine = let k : ℕ = times m (hand_of s.seat.me.0).claimed in dite (ℕ_discrete k 0) (λ z. z) (λ ne. absurd (true≢false (sym (ap not (ne_eqb k 0 ne)) ∙ (sym (s.knows_mine m lt) ∙ mine))))
+  pub not_mine : m < 16 → (s : ReceiverSeat) → get_or s.mine m false ≡ false → times m (knowledge_of s.seat.me.0).claimed ≡ 0
+  not_mine lt s mine = let k : ℕ = times m (knowledge_of s.seat.me.0).claimed in dite (ℕ_discrete k 0) (λ z. z) (λ ne. absurd (true≢false (sym (ap not (ne_eqb k 0 ne)) ∙ (sym (s.knows_mine m lt) ∙ mine))))
 
-  pub alone : (s : ReceiverSeat) → times m (hand_of s.seat.me.0).claimed ≡ 0 → claims_by m (Some s ∷ []) ≡ 0
+  pub alone : (s : ReceiverSeat) → times m (knowledge_of s.seat.me.0).claimed ≡ 0 → claims_by m (Some s ∷ []) ≡ 0
   alone s z = omega arith
 
-  -- what was told to who has the hands of all receivers
+  -- what was told to who knows what all receivers know
   pub tells_all : (phase n : ℕ) (ss : Row) (v : View) → v ≡ onlooker n ∷ [] → present ss ≡ n → Told (gathered ss v) m phase → (phase < 4) × MayFollow m phase ss × (claims_by m ss ≡ taken phase)
   tells_all phase n ss v is all told =
       let t : Told (gathered ss (onlooker n ∷ [])) m phase = subst (λ (u : View). Told (gathered ss u) m phase) is told in

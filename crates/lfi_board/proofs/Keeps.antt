@@ -8,9 +8,9 @@ use lib.Seq.{set-get_or}
 use prog.Atomic.{either}
 use Rattle.atomic_table.specs.Table.{State, Me, step, keeps, stepped, Allows, Enters, Splits, Joins, opening}
 use Rattle.atomic_table.proofs.Lists.{at_set, at_snoc, set_again, set_else}
-use Rattle.lfi_board.specs.declared.hand.Hand.{Hand}
-use Rattle.lfi_board.specs.declared.hand.Sighting.{Sighting}
-use Rattle.lfi_board.specs.Hands.{total, times, IsSince, receiver_hand, onlooker, hand_of, sees, claims, ends, Follows}
+use Rattle.lfi_board.specs.declared.knowledge.Knowledge.{Knowledge}
+use Rattle.lfi_board.specs.declared.knowledge.SeenWord.{SeenWord}
+use Rattle.lfi_board.specs.Knowledge.{total, times, IsSince, receiver_knowledge, onlooker, knowledge_of, sees, claims, ends, Follows}
 use Rattle.lfi_board.specs.inner.Rule.{View, receiving, claims_of, ending, taken, AllSince, AllKnow, Kept, first_of, rest_of}
 use Rattle.lfi_board.specs.inner.Plays.{sat, claimed, changed, looked, ended, asked, AllFollow, board_size}
 
@@ -75,7 +75,7 @@ module _ (ws : List ℕ) (i x y : ℕ) (inside : i < length ws) (is : x ≡ get_
       (subst (IsSince i p) (sym (get_or-set_same ws i y 0 inside)) (since_trans i p x y (subst (λ (k : ℕ × ℕ). IsSince k.0 p k.1) (λ j. (e j, (ap (λ k. get_or ws k 0) e ∙ sym is) j)) a) since)))
       (λ ne. subst (IsSince word p) (sym (get_or-set_other ws i word y 0 ne)) a)
 
-  all_since_later : (ss : List Sighting) → AllSince ws ss → AllSince (set ws i y) ss
+  all_since_later : (ss : List SeenWord) → AllSince ws ss → AllSince (set ws i y) ss
   all_since_later [] a = tt
   all_since_later (s ∷ ss) a = (since_later s.word s.number a.0, all_since_later ss a.1)
 
@@ -83,7 +83,7 @@ module _ (ws : List ℕ) (i x y : ℕ) (inside : i < length ws) (is : x ≡ get_
   all_know_later n [] a = tt
   all_know_later n (h ∷ hs) a = ((a.0.0, all_since_later h.seen a.0.1), all_know_later n hs a.1)
 
-follows : (ws : List ℕ) (ss : List Sighting) (word found : ℕ) → found ≡ get_or ws word 0 → AllSince ws ss → Follows ss word found
+follows : (ws : List ℕ) (ss : List SeenWord) (word found : ℕ) → found ≡ get_or ws word 0 → AllSince ws ss → Follows ss word found
 follows ws [] word found is a = tt
 follows ws (s ∷ ss) word found is a = ((λ e. subst (λ (k : ℕ × ℕ). IsSince k.0 s.number k.1) (λ j. (e j, (ap (λ k. get_or ws k 0) e ∙ sym is) j)) a.0), follows ws ss word found is a.1)
 
@@ -114,14 +114,14 @@ module _ (n : ℕ) (s : St) (r : Kept n s) (i y id : ℕ) (me : M) (at : get_ele
         (λ (t : (j ≢ id) × (get_elem? s.views j ≡ some v)). all_know_later s.words i x y inside refl since n v (r.known j v t.1)) (at_set s.views id j w v e);
   }
 
-  module _ (one : me.0 ≡ hand_of me.0 ∷ []) where
-    abbrev h : Hand
-    h = hand_of me.0
+  module _ (one : me.0 ≡ knowledge_of me.0 ∷ []) where
+    abbrev h : Knowledge
+    h = knowledge_of me.0
 
     knows : (h.receivers ≡ n) × AllSince s.words h.seen
     knows = (subst (AllKnow n s.words) one (r.known id me.0 at)).0
 
-    was : (f : Hand → ℕ) → total f me.0 ≡ f h + 0
+    was : (f : Knowledge → ℕ) → total f me.0 ≡ f h + 0
     was f = ap (total f) one
 
     follows_here : Follows h.seen i x
@@ -147,7 +147,7 @@ module _ (n : ℕ) (s : St) (r : Kept n s) (i y id : ℕ) (me : M) (at : get_ele
 abbrev delta : ℕ → ℕ → ℕ
 delta m k = if eqb m k then 1 else 0
 
-claims_more : (h : Hand) → h.is_receiver ≡ true → (k m : ℕ) → claims_of k (claims m h) ≡ delta m k + claims_of k h
+claims_more : (h : Knowledge) → h.is_receiver ≡ true → (k m : ℕ) → claims_of k (claims m h) ≡ delta m k + claims_of k h
 claims_more h rc k m = subst (λ (b : Bool). (if b then times k (m ∷ h.claimed) else 0) ≡ delta m k + (if b then times k h.claimed else 0)) (sym rc) refl
 
 by_both : (a b : Bool) → (if a then (if b then 1 else 0) else 0) ≤ (if a then 1 else 0)
@@ -155,13 +155,13 @@ by_both true true = omega arith
 by_both true false = omega arith
 by_both false b = omega arith
 
-ending_le : (h : Hand) → ending h ≤ receiving h
+ending_le : (h : Knowledge) → ending h ≤ receiving h
 ending_le h = by_both h.is_receiver h.ended
 
-ending_before : (h : Hand) → h.is_receiver ≡ true → h.ended ≡ false → ending h ≡ 0
+ending_before : (h : Knowledge) → h.is_receiver ≡ true → h.ended ≡ false → ending h ≡ 0
 ending_before h rc out = λ i. if rc i then (if out i then 1 else 0) else 0
 
-ending_after : (h : Hand) → h.is_receiver ≡ true → (x : ℕ) → ending (ends x h) ≡ 1
+ending_after : (h : Knowledge) → h.is_receiver ≡ true → (x : ℕ) → ending (ends x h) ≡ 1
 ending_after h rc x = ap (λ b. if b then 1 else 0) rc
 
 abbrev when : Bool → ℕ → ℕ
@@ -171,15 +171,15 @@ either_way : (b : Bool) (k : ℕ) → when b 1 ≡ 0 → when b k ≡ 0
 either_way true k e = absurd (omega arith)
 either_way false k e = refl
 
-claims_none : (m : ℕ) (h : Hand) → receiving h ≡ 0 → claims_of m h ≡ 0
+claims_none : (m : ℕ) (h : Knowledge) → receiving h ≡ 0 → claims_of m h ≡ 0
 claims_none m h = either_way h.is_receiver (times m h.claimed)
 
 open_taken : (x to : ℕ) → x ≡ 1 → 2 ≤ to → taken to ≡ taken x
 open_taken x to one two = ap (λ b. if b then 0 else 1) (ne_eqb to 0 (λ e. omega arith)) ∙ sym (ap taken one)
 
-module _ (n slots id m : ℕ) (me : M) (one : me.0 ≡ hand_of me.0 ∷ []) where
-  abbrev mine : Hand
-  mine = hand_of me.0
+module _ (n slots id m : ℕ) (me : M) (one : me.0 ≡ knowledge_of me.0 ∷ []) where
+  abbrev mine : Knowledge
+  mine = knowledge_of me.0
 
   -- the phase that is found stays as it is
   stays : (s : St) (r : Kept n s) → m < 17 → get_elem? s.views id ≡ some me.0 → Kept n (stepped s m (get_or s.words m 0) id me.1 (sees m (get_or s.words m 0) mine ∷ []) keeps)
@@ -274,9 +274,9 @@ module _ (n : ℕ) where
   all_know_append ws [] w a b = b
   all_know_append ws (h ∷ hs) w a b = (a.0, all_know_append ws hs w a.1 b)
 
-  splits : (id : ℕ) (v left right : View) → ((f : Hand → ℕ) → total f left + total f right ≡ total f v) → ((ws : List ℕ) → AllKnow n ws v → AllKnow n ws left × AllKnow n ws right) → Splits (Kept n) id v left right
+  splits : (id : ℕ) (v left right : View) → ((f : Knowledge → ℕ) → total f left + total f right ≡ total f v) → ((ws : List ℕ) → AllKnow n ws v → AllKnow n ws left × AllKnow n ws right) → Splits (Kept n) id v left right
   splits id v left right sums parts s r at =
-      let both : (f : Hand → ℕ) → total (total f) (set s.views id left ++ right ∷ []) ≡ total (total f) s.views = λ f. let a = total_append (total f) (set s.views id left) (right ∷ []) in let b = total_set (total f) s.views id v left at in let c = sums f in omega arith in
+      let both : (f : Knowledge → ℕ) → total (total f) (set s.views id left ++ right ∷ []) ≡ total (total f) s.views = λ f. let a = total_append (total f) (set s.views id left) (right ∷ []) in let b = total_set (total f) s.views id v left at in let c = sums f in omega arith in
       let know = parts s.words (r.known id v at) in record {
         few = r.few;
         wide = r.wide;
@@ -298,7 +298,7 @@ module _ (n : ℕ) where
   pub joins_push : (id : ℕ) (v : View) (other : ℕ) (w : View) → Joins (Kept n) id v other w (w ++ v) []
   joins_push id v other w s r at ne there =
       let held : get_elem? s.views other ≡ some w = sym (set_else s.views id other (w ++ v) ne) ∙ there in
-      let both : (f : Hand → ℕ) → total (total f) (set (set s.views id (w ++ v)) other []) ≡ total (total f) s.views = λ f.
+      let both : (f : Knowledge → ℕ) → total (total f) (set (set s.views id (w ++ v)) other []) ≡ total (total f) s.views = λ f.
       let a = total_set (total f) (set s.views id (w ++ v)) other w [] there in let b = total_set (total f) s.views id v (w ++ v) at in let c = total_append f w v in omega arith in
       let know = all_know_append s.words w v (r.known other w held) (r.known id v at) in record {
         few = r.few;
@@ -312,13 +312,13 @@ module _ (n : ℕ) where
             (at_set (set s.views id (w ++ v)) other j [] u e);
       }
 
-  pub first_receivers : (k : ℕ) → (hand_of (replicate k (receiver_hand k))).receivers ≡ k
+  pub first_receivers : (k : ℕ) → (knowledge_of (replicate k (receiver_knowledge k))).receivers ≡ k
   first_receivers zero = refl
   first_receivers (suc k) = refl
 
-  pub sits : (slots : ℕ) → Enters (Kept n) slots 0 (λ found w. sat (step slots 0 0 0 none) (replicate n (receiver_hand n), []) found (w, []))
+  pub sits : (slots : ℕ) → Enters (Kept n) slots 0 (λ found w. sat (step slots 0 0 0 none) (replicate n (receiver_knowledge n), []) found (w, []))
   sits slots s r _ _ = let w : View = onlooker n ∷ [] in
-      let same : (f : Hand → ℕ) → f (onlooker n) ≡ 0 → total (total f) (s.views ++ w ∷ []) ≡ total (total f) s.views = λ f z. let a = total_append (total f) s.views (w ∷ []) in omega arith in (
+      let same : (f : Knowledge → ℕ) → f (onlooker n) ≡ 0 → total (total f) (s.views ++ w ∷ []) ≡ total (total f) s.views = λ f z. let a = total_append (total f) s.views (w ∷ []) in omega arith in (
         w,
         record {
           few = r.few;
@@ -332,11 +332,11 @@ module _ (n : ℕ) where
         ap (λ (k : ℕ). let v : View = onlooker k ∷ [] in v) (sym (first_receivers n)),
       )
 
-  total_replicate : (f : Hand → ℕ) (k : ℕ) (h : Hand) → total f (replicate k h) ≡ k * f h
+  total_replicate : (f : Knowledge → ℕ) (k : ℕ) (h : Knowledge) → total f (replicate k h) ≡ k * f h
   total_replicate f zero h = omega arith
   total_replicate f (suc k) h = let r = total_replicate f k h in omega arith
 
-  all_know_first : (ws : List ℕ) (k : ℕ) → AllKnow n ws (replicate k (receiver_hand n))
+  all_know_first : (ws : List ℕ) (k : ℕ) → AllKnow n ws (replicate k (receiver_knowledge n))
   all_know_first ws zero = tt
   all_know_first ws (suc k) = ((refl, tt), all_know_first ws k)
 
@@ -344,15 +344,15 @@ module _ (n : ℕ) where
   first_known ws v a zero u e = subst (AllKnow n ws) (some-injective v u e) a
   first_known ws v a (suc j) u e = absurd (some-ne-none u (sym e))
 
-  pub opens : (ws : List ℕ) → n ≤ 8 → length ws ≡ 17 → ((m : ℕ) → get_or ws m 0 ≡ 0) → Kept n (opening ws [] (replicate n (receiver_hand n)))
+  pub opens : (ws : List ℕ) → n ≤ 8 → length ws ≡ 17 → ((m : ℕ) → get_or ws m 0 ≡ 0) → Kept n (opening ws [] (replicate n (receiver_knowledge n)))
   opens ws few wide zeros = record {
     few = few;
     wide = wide;
     phases = λ m l. let z = zeros m in omega arith;
-    claims = λ m l. let t = total_replicate (claims_of m) n (receiver_hand n) in let z : taken (get_or ws m 0) ≡ 0 = ap taken (zeros m) in omega arith;
-    ends = let t = total_replicate ending n (receiver_hand n) in let z = zeros 16 in omega arith;
-    receivers = let t = total_replicate receiving n (receiver_hand n) in omega arith;
-    known = λ j u e. first_known ws (replicate n (receiver_hand n)) (all_know_first ws n) j u e;
+    claims = λ m l. let t = total_replicate (claims_of m) n (receiver_knowledge n) in let z : taken (get_or ws m 0) ≡ 0 = ap taken (zeros m) in omega arith;
+    ends = let t = total_replicate ending n (receiver_knowledge n) in let z = zeros 16 in omega arith;
+    receivers = let t = total_replicate receiving n (receiver_knowledge n) in omega arith;
+    known = λ j u e. first_known ws (replicate n (receiver_knowledge n)) (all_know_first ws n) j u e;
   }
 
 module _ (n slots id m : ℕ) (me : M) where
@@ -365,7 +365,7 @@ module _ (n slots id m : ℕ) (me : M) where
   all_may_follow ws word [] a = tt
   all_may_follow ws word (h ∷ hs) a = (follows ws h.seen word (get_or ws word 0) refl a.0.1, all_may_follow ws word hs a.1)
 
-  -- who has the hands of all receivers learns how often each module was claimed
+  -- who knows what all receivers know learns how often each module was claimed
   pub asks : m < 16 → Allows (Kept n) slots id me m (λ x. x) (asked (step slots m 0 0 none) me)
   asks lt s r _ at _ = let all_follow : (v : View) → AllKnow n s.words v → AllFollow v m (get_or s.words m 0) = λ v a. all_may_follow s.words m v a in (
     me.0,

@@ -2,11 +2,11 @@
 use Rattle.std.specs.Prelude.{ℕ}
 use Rattle.atomic_table.specs.Seated.{TableId}
 use Rattle.lfi_board.specs.declared.board.Board.{Board}
-use Rattle.lfi_board.specs.declared.hand.Hand.{Hand}
+use Rattle.lfi_board.specs.declared.knowledge.Knowledge.{Knowledge}
 use Rattle.lfi_board.specs.declared.seats.ReceiverSeat.{ReceiverSeat}
 use Rattle.lfi_board.specs.declared.seats.SequencerSeat.{SequencerSeat}
 use Rattle.lfi_board.specs.declared.seats.WatchSeat.{WatchSeat}
-use Rattle.lfi_board.specs.Hands.{hand_of}
+use Rattle.lfi_board.specs.Knowledge.{knowledge_of}
 
 -- which board it is
 abbrev pub board_id : Board → TableId
@@ -21,16 +21,16 @@ abbrev pub board_of : ReceiverSeat → TableId
 board_of s = s.seat.table_id
 
 -- what a receiver's seat knows
-abbrev pub known_by : ReceiverSeat → Hand
-known_by s = hand_of s.seat.me.0
+abbrev pub known_by : ReceiverSeat → Knowledge
+known_by s = knowledge_of s.seat.me.0
 
 -- the same of a sequencer's seat, and its module
 abbrev pub sequencer_board : SequencerSeat → TableId
 sequencer_board s = s.seat.table_id
 
 -- what a sequencer's seat knows
-abbrev pub known_by_sequencer : SequencerSeat → Hand
-known_by_sequencer s = hand_of s.seat.me.0
+abbrev pub known_by_sequencer : SequencerSeat → Knowledge
+known_by_sequencer s = knowledge_of s.seat.me.0
 
 -- the module of a sequencer's seat
 abbrev pub module_of : SequencerSeat → ℕ
@@ -41,5 +41,5 @@ abbrev pub watcher_board : WatchSeat → TableId
 watcher_board s = s.seat.table_id
 
 -- what a verifier's seat knows
-abbrev pub known_by_watcher : WatchSeat → Hand
-known_by_watcher s = hand_of s.seat.me.0
+abbrev pub known_by_watcher : WatchSeat → Knowledge
+known_by_watcher s = knowledge_of s.seat.me.0

@@ -1,4 +1,4 @@
-pub mod Hands
+pub mod Knowledge
 pub mod Calls
 pub mod Known
 pub mod Rows

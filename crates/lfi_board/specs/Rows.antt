@@ -5,7 +5,7 @@ use Rattle.lfi_board.specs.declared.board.Board.{Board}
 use Rattle.lfi_board.specs.declared.seats.ReceiverSeat.{ReceiverSeat}
 use Rattle.lfi_board.specs.declared.seats.SequencerSeat.{SequencerSeat}
 use Rattle.lfi_board.specs.declared.seats.WatchSeat.{WatchSeat}
-use Rattle.lfi_board.specs.Hands.{Follows, times, receiver_hand, onlooker}
+use Rattle.lfi_board.specs.Knowledge.{Follows, times, receiver_knowledge, onlooker}
 use Rattle.lfi_board.specs.Known.{board_id, board_receivers, board_of, known_by, sequencer_board, known_by_sequencer, module_of, watcher_board, known_by_watcher}
 
 -- the receivers' seats by their numbers
@@ -14,7 +14,7 @@ Row = List (Option ReceiverSeat)
 
 -- a seat of the board z with n receivers that has done nothing yet
 abbrev pub IsNewReceiver : TableId → ℕ → ReceiverSeat → Type 0
-IsNewReceiver z n s = (board_of s ≡ z) × (known_by s ≡ receiver_hand n)
+IsNewReceiver z n s = (board_of s ≡ z) × (known_by s ≡ receiver_knowledge n)
 
 -- the first k places have such a seat each, and the others none
 abbrev pub NewReceivers : TableId → ℕ → ℕ → Row → Type 0

@@ -1,10 +1,10 @@
 //! The board: a word for each module's phase, and the count of the receivers that have ended.
 
 ghost use Rattle.std.specs.Prelude.{◌≡◌, ◌+◌, ◌<◌, ◌≤◌, false};
-ghost use Rattle.lfi_board.specs.Hands.{ends, ended_word, Follows};
+ghost use Rattle.lfi_board.specs.Knowledge.{ends, ended_word, Follows};
 ghost use Rattle.lfi_board.specs.Calls.{Claimed, Changed, Saw, number_of};
 
-use crate::hand::{Changes, Claims, Ends, Hand, Looks, Phases};
+use crate::knowledge::{Changes, Claims, Ends, Knowledge, Looks, Phases};
 use crate::seats::{Change, Claim, Phase, ReceiverSeat, SequencerSeat, WatchSeat};
 use atomic_table::Table;
 use lfi_module::ModuleNumber;
@@ -26,7 +26,7 @@ const ENDED: usize = ModuleNumber::COUNT;
 /// The phases of the sixteen modules, and how many receivers have ended.
 #[derive(Drop)]
 pub struct Board {
-    pub(crate) table: Table<(), LinkedList<Hand>, u64, Phases, Global>,
+    pub(crate) table: Table<(), LinkedList<Knowledge>, u64, Phases, Global>,
     ghost wide: { table.shared.table_id.words ≡ 17 },
 }
 

@@ -7,13 +7,13 @@ ghost use Rattle.lfi_board.specs.Rows.{AllOn, AllReceivers, AreSame, IsHolder, c
 ghost use Rattle.lfi_board.specs.inner.Gathered.{claims_by, gathered};
 
 use crate::board::Board;
-use crate::hand::{Asks, First, Push, Sit, View, Whole};
+use crate::knowledge::{Asks, First, Push, Sit, View, Whole};
 use crate::seats::ReceiverSeat;
 use atomic_table::Seat;
 use lfi_module::{CONNECTIONS, ModuleNumber};
 
 impl Board {
-    // Loads the phase while `all` has the hands of the seats from `at` on too, and hands them back.
+    // Loads the phase while `all` has what is known of the seats from `at` on too, and gives it back.
     fn ask(
         &self,
         all: &mut Seat<(), View>,
@@ -36,8 +36,8 @@ impl Board {
             Some(held) => {
                 let mine = held.mine;
                 let ReceiverSeat { mut seat, mine: _ } = held;
-                let hand = top.split_seat::<Whole>(&mut seat);
-                top.join_seat::<Push>(all, hand);
+                let known = top.split_seat::<Whole>(&mut seat);
+                top.join_seat::<Push>(all, known);
                 let found = self.ask(all, seats, at + 1, number);
                 let back = top.split_seat::<First>(all);
                 top.join_seat::<Push>(&mut seat, back);

@@ -4,7 +4,7 @@
 //! # How data flows
 //!
 //! A module is free, then claimed by one receiver (`claim`), then refused or finished by its sequencer, each by one
-//! atomic step on one word. What a seat has seen, contracts know as a list of sightings. `holder`, asked with all
+//! atomic step on one word. What a seat has seen, contracts know as a list of seen words. `holder`, asked with all
 //! receivers' seats once the threads have ended, says who claimed a module.
 //!
 //! # What it may not know
@@ -13,7 +13,7 @@
 //!
 //! # Decisions
 //!
-//! - **What a seat knows is a list of sightings**, a word and the number that it held, for phases and the count alike.
+//! - **What a seat knows is a list of seen words**, a word and the number that it held, for phases and the count alike.
 //!   One relation says what a word may hold later (`IsSince`), and each answer is tied by it to all that its seat saw
 //!   before. A board without threads could say more; that other threads may come between is what these clauses leave
 //!   open.
@@ -30,11 +30,11 @@
 #![tactic(auto)]
 
 mod board;
-mod hand;
+mod knowledge;
 mod holds;
 mod makes;
 mod seats;
 
 pub use board::Board;
-pub use hand::{Hand, Sighting};
+pub use knowledge::{Knowledge, SeenWord};
 pub use seats::{Change, Claim, Phase, ReceiverSeat, Seats, SequencerSeat, WatchSeat};

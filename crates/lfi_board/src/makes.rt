@@ -2,12 +2,12 @@
 
 ghost use Rattle.std.specs.Prelude.{◌≡◌, ◌+◌, ◌<◌, ◌≤◌, [], ◌∷◌, IfOk, All, vec_len, replicate};
 ghost use Rattle.lfi_module.specs.Numbers.{module_count};
-ghost use Rattle.lfi_board.specs.Hands.{receiver_hand, hand_of};
+ghost use Rattle.lfi_board.specs.Knowledge.{receiver_knowledge, knowledge_of};
 ghost use Rattle.lfi_board.specs.Known.{board_id, board_receivers};
 ghost use Rattle.lfi_board.specs.Rows.{AllReceivers, NewReceivers, NewSequencers, IsNewWatcher};
 
 use crate::board::Board;
-use crate::hand::{First, Hand, Phases, Sit, View};
+use crate::knowledge::{First, Knowledge, Phases, Sit, View};
 use crate::seats::{ReceiverSeat, Seats, SequencerSeat, WatchSeat};
 use atomic_table::{Seat, Shared, Table};
 use lfi_module::{CONNECTIONS, ModuleNumber};
@@ -15,10 +15,10 @@ use std::alloc::{AllocError, Global};
 use std::array;
 use std::collections::LinkedList;
 
-type Top = Shared<(), LinkedList<Hand>, u64, Phases>;
+type Top = Shared<(), LinkedList<Knowledge>, u64, Phases>;
 
 fn receiver(seat: Seat<(), View>) -> ReceiverSeat
-    requires { seat.me ≡ (receiver_hand (hand_of seat.me.0).receivers ∷ [], []) }
+    requires { seat.me ≡ (receiver_knowledge (knowledge_of seat.me.0).receivers ∷ [], []) }
     ensures { result.seat ≡ seat }
 {
     ReceiverSeat {
@@ -27,13 +27,13 @@ fn receiver(seat: Seat<(), View>) -> ReceiverSeat
     }
 }
 
-// The seats of so many receivers, of which `first` has all hands.
+// The seats of so many receivers, of which `first` knows what all know.
 fn receiver_seats(
     top: &Top,
     mut first: Seat<(), View>,
     count: usize,
 ) -> [Option<ReceiverSeat>; CONNECTIONS]
-    requires first { (first.table_id ≡ top.now.table_id) × (0 < top.now.table_id.words) × (first.me ≡ (replicate count (receiver_hand top.now.key), [])) }
+    requires first { (first.table_id ≡ top.now.table_id) × (0 < top.now.table_id.words) × (first.me ≡ (replicate count (receiver_knowledge top.now.key), [])) }
     requires few { count ≤ 8 }
     ensures { NewReceivers top.now.table_id top.now.key count result }
 {

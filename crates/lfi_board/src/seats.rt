@@ -1,9 +1,9 @@
 //! The seats, and what the board answers them.
 
 ghost use Rattle.std.specs.Prelude.{◌≡◌, ℕ, ◌<◌, true, [], ◌∷◌, slice_index_or, false, ◌==◌, not};
-ghost use Rattle.lfi_board.specs.Hands.{hand_of, times};
+ghost use Rattle.lfi_board.specs.Knowledge.{knowledge_of, times};
 
-use crate::hand::View;
+use crate::knowledge::View;
 use atomic_table::Seat;
 use lfi_module::{CONNECTIONS, ModuleNumber};
 
@@ -42,9 +42,9 @@ pub struct ReceiverSeat {
     pub(crate) seat: Seat<(), View>,
     // The modules for which it was answered `Mine`.
     pub(crate) mine: [bool; ModuleNumber::COUNT],
-    ghost one: { (seat.me.0 ≡ hand_of seat.me.0 ∷ []) × (seat.me.1 ≡ []) },
-    ghost receives: { (hand_of seat.me.0).is_receiver ≡ true },
-    ghost knows_mine: { (m : ℕ) → m < 16 → slice_index_or mine m false ≡ not (times m (hand_of seat.me.0).claimed == 0) },
+    ghost one: { (seat.me.0 ≡ knowledge_of seat.me.0 ∷ []) × (seat.me.1 ≡ []) },
+    ghost receives: { (knowledge_of seat.me.0).is_receiver ≡ true },
+    ghost knows_mine: { (m : ℕ) → m < 16 → slice_index_or mine m false ≡ not (times m (knowledge_of seat.me.0).claimed == 0) },
 }
 
 /// A sequencer's seat: it ends its one module.
@@ -52,7 +52,7 @@ pub struct ReceiverSeat {
 pub struct SequencerSeat {
     pub(crate) seat: Seat<(), View>,
     pub(crate) of: ModuleNumber,
-    ghost one: { (seat.me.0 ≡ hand_of seat.me.0 ∷ []) × (seat.me.1 ≡ []) },
+    ghost one: { (seat.me.0 ≡ knowledge_of seat.me.0 ∷ []) × (seat.me.1 ≡ []) },
 }
 
 impl SequencerSeat {
@@ -70,7 +70,7 @@ impl SequencerSeat {
 #[derive(Drop)]
 pub struct WatchSeat {
     pub(crate) seat: Seat<(), View>,
-    ghost one: { (seat.me.0 ≡ hand_of seat.me.0 ∷ []) × (seat.me.1 ≡ []) },
+    ghost one: { (seat.me.0 ≡ knowledge_of seat.me.0 ∷ []) × (seat.me.1 ≡ []) },
 }
 
 /// All seats of a new board.

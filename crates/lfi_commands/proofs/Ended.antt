@@ -6,14 +6,14 @@ use Rattle.lfi_command_line.specs.declared.options.CheckOptions.{CheckOptions}
 use Rattle.lfi_command_line.specs.CommandLine.{AreWrong}
 use Rattle.lfi_image_file.specs.declared.fault.ImageFault.{ImageFault}
 use Rattle.lfi_image_file.specs.declared.fault.ImageFault.TheVariants as image_fault
-use Rattle.lfi_confinement.specs.declared.cause.Cause.TheVariants as causes
+use Rattle.lfi_confinement.specs.declared.cause.StopCause.TheVariants as causes
 use Rattle.lfi_machine.specs.declared.halt.Halt.{Halt}
 use Rattle.lfi_machine.specs.declared.halt.Halt.TheVariants as halts
-use Rattle.lfi_run.specs.declared.image_run.ImageRun.{ImageRun}
-use Rattle.lfi_run.specs.declared.image_run.ImageRun.TheVariants as image_run
+use Rattle.lfi_run_image.specs.declared.image_run.ImageRun.{ImageRun}
+use Rattle.lfi_run_image.specs.declared.image_run.ImageRun.TheVariants as image_run
 use Rattle.lfi_stage.specs.declared.settlement.Report.{Report}
-use Rattle.lfi_code.specs.declared.verdict.Verdict.{Verdict}
-use Rattle.lfi_code.specs.declared.verdict.Verdict.TheVariants.{Lawful, Refused, BadLength}
+use Rattle.lfi_check.specs.declared.verdict.Verdict.{Verdict}
+use Rattle.lfi_check.specs.declared.verdict.Verdict.TheVariants.{Lawful, Refused, BadLength}
 use Rattle.lfi_file_commands.specs.declared.ending.Ending.{Ending}
 use Rattle.lfi_file_commands.specs.declared.ending.Ending.TheVariants.{Well, NotWell, WrongWords, Failed}
 use Rattle.lfi_file_commands.specs.Checking.{ending_of, verdict_of}
@@ -140,7 +140,7 @@ by_line (Check asked) file_at old new carried = by_each (ChecksPath asked file_a
 by_line (Load asked) file_at old new carried = by_load carried.report true carried.told.all carried.told.ends
 by_line (Serve asked) file_at old new carried =
     let told = carried.told in
-    let fates = carried.found.fates in
+    let fates = carried.found.clients.fates in
     by_serve (are_all_in_time fates) new.is_lost carried.found.report (are_all_taken fates) told.reported.all told.by_load told.reported.ends told.ends
 by_line (Run asked) file_at old new carried = by_run new.is_lost carried.run carried.ends
 by_line (Disassemble asked) file_at old new carried = by_listing carried.other new.is_lost carried.ends

@@ -5,8 +5,8 @@ use Rattle.lfi_file_commands.specs.declared.failure.Target.TheVariants.{Standard
 use Rattle.lfi_file_commands.specs.declared.failure.Failure.{Failure}
 use Rattle.lfi_file_commands.specs.declared.failure.Failure.TheVariants.{CannotRead, CannotWrite, CannotListen, NoMemory, NoThread}
 use Rattle.lfi_file_commands.specs.Failures.{failure_of_load, is_of_output, FailsLoading, FailsServing, IsOfLoad, IsOfReadingOne}
-use Rattle.lfi_signals.specs.declared.refusal.LoadError.{LoadError}
-use Rattle.lfi_signals.specs.declared.refusal.LoadError.TheVariants as load_error
+use Rattle.lfi_sync.specs.declared.refusal.LoadError.{LoadError}
+use Rattle.lfi_sync.specs.declared.refusal.LoadError.TheVariants as load_error
 use Rattle.lfi_commands.specs.Runs.{FailsAs, FailsBy, IsSoundLine}
 
 -- a failure of what a line asks for is one of the words that ask for the line

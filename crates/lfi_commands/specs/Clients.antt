@@ -2,11 +2,11 @@
 use Rattle.std.specs.Prelude.{◌≡◌, ℕ, Bool, true, false, List, [], ◌++◌, Option, Some, None, codes, decimal, get_or, nat_eq}
 use Rattle.std.specs.List.{count_by}
 use Rattle.lfi_model.specs.Texts.{lines_from}
-use Rattle.lfi_signals.specs.declared.fate.Absence.{Absence}
-use Rattle.lfi_signals.specs.declared.fate.Absence.TheVariants.{NotCome, NotTaken}
-use Rattle.lfi_signals.specs.declared.fate.ClientFate.{ClientFate}
-use Rattle.lfi_signals.specs.declared.fate.ClientFate.TheVariants.{Heard, CutOff, Absent}
-use Rattle.lfi_signals.specs.Fates.{is_absent, is_cut_off}
+use Rattle.lfi_sync.specs.declared.fate.Absence.{Absence}
+use Rattle.lfi_sync.specs.declared.fate.Absence.TheVariants.{NotCome, NotTaken}
+use Rattle.lfi_sync.specs.declared.fate.ClientFate.{ClientFate}
+use Rattle.lfi_sync.specs.declared.fate.ClientFate.TheVariants.{Heard, CutOff, Absent}
+use Rattle.lfi_sync.specs.Fates.{is_absent, is_cut_off}
 use Rattle.lfi_file_commands.specs.declared.device_cause.DeviceCause.{DeviceCause}
 use Rattle.std.specs.declared.io.ErrorKind.{ErrorKind}
 use Rattle.lfi_frame.specs.declared.fault.FrameFault.{FrameFault}

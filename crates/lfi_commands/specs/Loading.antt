@@ -3,7 +3,7 @@ use Rattle.std.specs.Prelude.{◌≡◌, ℕ, Bool, true, List, ◌++◌, Option
 use Rattle.std.specs.Io.KnownBytes.{Appends}
 use Rattle.lfi_model.specs.Texts.{summary_text}
 use Rattle.lfi_stage.specs.declared.settlement.Report.{Report}
-use Rattle.lfi_threads.specs.Loaded.{IsLoaded}
+use Rattle.lfi_loader.specs.Loaded.{IsLoaded}
 use Rattle.lfi_stage.specs.Summaries.{summary_of}
 use Rattle.lfi_file_commands.specs.declared.ending.Ending.{Ending}
 use Rattle.std.specs.declared.io.ErrorKind.{ErrorKind}

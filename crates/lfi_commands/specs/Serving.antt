@@ -2,8 +2,8 @@
 use Rattle.std.specs.Prelude.{◌≡◌, ℕ, ◌*◌, true, [], Option, Some, None}
 use Rattle.std.specs.Duration.{as_nanos}
 use Rattle.std.specs.declared.time.Duration.{Duration}
-use Rattle.lfi_threads.specs.declared.serve.Served.{Served}
-use Rattle.lfi_threads.specs.Served.{HasServed}
+use Rattle.lfi_loader.specs.declared.serve.Served.{Served}
+use Rattle.lfi_loader.specs.Served.{HasServed}
 use Rattle.lfi_file_commands.specs.declared.ending.Ending.{Ending}
 use Rattle.lfi_commands.specs.Clients.{are_all_in_time, are_all_taken, fate_lines, EndsServing}
 use Rattle.lfi_commands.specs.Loading.{TellsReport}
@@ -22,16 +22,16 @@ pub record TellsServed (served : Served) (asked : ReportOptions) (old new : Left
   -- what was left before it was told of clients, and how it ends but for those that were cut off
   pub before : Left
   pub by_load : Ending
-  pub reported : TellsReport served.report [] served.read_errors (are_all_taken served.fates) asked old before by_load
+  pub reported : TellsReport served.report [] served.clients.read_errors (are_all_taken served.clients.fates) asked old before by_load
   pub out : new.out ≡ before.out
   pub put : new.put ≡ before.put
-  pub told : Told new.is_lost before.errors new.errors (fate_lines served.fates)
+  pub told : Told new.is_lost before.errors new.errors (fate_lines served.clients.fates)
   pub lost : before.is_lost ≡ true → new.is_lost ≡ true
-  pub ends : EndsServing (are_all_in_time served.fates) new.is_lost by_load ending
+  pub ends : EndsServing (are_all_in_time served.clients.fates) new.is_lost by_load ending
 
 -- What `lfiload serve` did, as it was asked for: it found one report on what the connections sent, and what became of the clients, within the limit of time, and did so with it.
 pub record HasServedAll (asked : ServeOptions) (old new : Left) (ending : Ending) : Type 0 where
   pub found : Served
-  pub served : HasServed asked.connections asked.verifiers found.limit found
-  pub limited : IsLimit asked.seconds found.limit
+  pub served : HasServed asked.connections asked.verifiers found.clients.limit found
+  pub limited : IsLimit asked.seconds found.clients.limit
   pub told : TellsServed found asked.report old new ending

@@ -4,14 +4,14 @@ ghost use Rattle.std.specs.Prelude.{◌≡◌, true};
 ghost use Rattle.std.specs.List.{count_by};
 ghost use Rattle.lfi_file_commands.specs.Errors.{is_lost_of, writer_of};
 ghost use Rattle.lfi_file_commands.specs.Failures.{Told};
-ghost use Rattle.lfi_signals.specs.Fates.{is_absent, is_cut_off};
+ghost use Rattle.lfi_sync.specs.Fates.{is_absent, is_cut_off};
 ghost use Rattle.lfi_commands.specs.Clients.{absent_line, are_all_in_time, are_all_taken, cause_told, fate_line, fate_lines, late_line, not_well, read_line, read_lines, unread_line, EndsServing};
 
 use crate::ending::is_of_a_read;
 use lfi_file_commands::{DeviceCause, Ending, Errors};
 use lfi_frame::FrameFault;
 use lfi_module::CONNECTIONS;
-use lfi_threads::{Absence, ClientFate};
+use lfi_loader::{Absence, ClientFate};
 use std::io::{ErrorKind, Write};
 
 /// Tells by a line that a connection can't be read.

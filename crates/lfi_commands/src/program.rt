@@ -19,10 +19,10 @@ use lfi_file_commands::{
     run_disassemble, run_info, run_pack, run_run, run_unpack, tell_failure, write_asked_images,
 };
 use lfi_module::CONNECTIONS;
-use lfi_place::OpenGate;
-use lfi_signals::ReadErrors;
+use lfi_sequence::OpenGate;
+use lfi_sync::ReadErrors;
 use lfi_stage::Report;
-use lfi_threads::{Door, Notices, Served, StageSize, load_all, serve_on};
+use lfi_loader::{Acceptor, Notices, Served, StageSize, load_all, serve_on};
 use std::alloc::Global;
 use std::fs::Files;
 use std::io::{ErrorKind, Write};
@@ -131,13 +131,13 @@ fn end_serve<'a, P: ImageStore, O: Write, E: Write>(
 {
     let sources = Sources {
         paths: &[],
-        kinds: served.read_errors,
-        all_taken: are_all_taken(&served.fates),
+        kinds: served.clients.read_errors,
+        all_taken: are_all_taken(&served.clients.fates),
     };
     match end_load(alloc, &served.report, &sources, asked, outputs) {
         Ok(by_load) => {
-            tell_fates(&served.fates, &mut outputs.errors);
-            Ok(ending_of_serve(&served.fates, by_load, &outputs.errors))
+            tell_fates(&served.clients.fates, &mut outputs.errors);
+            Ok(ending_of_serve(&served.clients.fates, by_load, &outputs.errors))
         }
         Err(failure) => Err(failure),
     }
@@ -182,12 +182,12 @@ fn run_serve<
             return Err(Failure::CannotListen(asked.socket, DeviceCause::of(&error)));
         }
     };
-    let door = Door::new(rt, &listener, asked.socket, limit_of(asked.seconds));
+    let acceptor = Acceptor::new(rt, &listener, asked.socket, limit_of(asked.seconds));
     let size = StageSize {
         connections: asked.connections,
         verifiers: asked.verifiers,
     };
-    match serve_on(rt, alloc, door, size, &OpenGate, notices) {
+    match serve_on(rt, alloc, acceptor, size, &OpenGate, notices) {
         Ok(served) => end_serve(alloc, &served, &asked.report, outputs),
         Err(error) => Err(Failure::from(error)),
     }

@@ -2,7 +2,7 @@
 
 /// Why a machine stops, with the address or status that belongs to it.
 #[derive(Clone, Copy, PartialEq, Eq)]
-pub enum Cause {
+pub enum StopCause {
     /// An access without permission: the least address of a byte that may not be accessed so.
     NoAccess(u64),
     /// No word of the code begins at pc, which is this.

@@ -10,7 +10,7 @@ ghost use Rattle.lfi_module.specs.Numbers.{base_of, module_count, most_words};
 ghost use Rattle.lfi_rules.specs.Map.{entry_count};
 ghost use Rattle.lfi_confinement.specs.Slots.{base, is_guarded, entry_address, entry_at, word_place, data_offset, Readable, Writable, NoAccess, permission_in, byte_in, memory_of};
 ghost use Rattle.lfi_confinement.specs.Moves.{word_at, performed, given, stop, ask, escape};
-ghost use Rattle.lfi_confinement.specs.declared.cause.Cause.TheVariants as cause;
+ghost use Rattle.lfi_confinement.specs.declared.cause.StopCause.TheVariants as cause;
 ghost use Rattle.lfi_confinement.specs.Edges.{edge_image, with_x0, loads_at_x0, loads_pair_at_x0, with_x30, goes_to};
 
 /// What an escape is, by rows: a byte that is accessed just outside of the guards of slot 0, and a pc just outside of the slot.

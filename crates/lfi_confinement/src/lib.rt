@@ -26,7 +26,7 @@ mod cause;
 mod edges;
 mod laws;
 
-pub use cause::Cause;
+pub use cause::StopCause;
 pub use edges::{
     code_ends_within_a_page, entries_are_called_by_x30, entries_lie_outside,
     entries_stand_in_the_table, escapes_at_the_edges, wide_escapes_at_the_edges,

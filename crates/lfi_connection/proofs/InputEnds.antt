@@ -11,7 +11,7 @@ use Rattle.lfi_frame.specs.Streams.{Message, Rest, short, faulty, unfinished, wh
 use Rattle.lfi_frame.specs.Feeds.{FeedStands, IsAt, IsAtEnd, feed_fault, fault_at}
 use Rattle.lfi_frame.proofs.Cuts.{rest_short}
 use Rattle.lfi_frame.proofs.Feeding.{page_rest}
-use Rattle.lfi_model.specs.declared.connection.Cause.{Cause}
+use Rattle.lfi_model.specs.declared.connection.EndCause.{EndCause}
 use Rattle.lfi_model.specs.declared.connection.Progress.{Progress}
 use Rattle.lfi_model.specs.declared.connection.Progress.TheVariants.{Going}
 use Rattle.lfi_model.specs.Modules.{Member}
@@ -97,7 +97,7 @@ no_fault feed messages rest stands none fault e = by feed.position stands.positi
     by (position.Faulty f) at n = absurd (cc)
 
 -- so its fault, where the input ends, is by what is left open
-fault_without : (rest : Rest) (cause : Cause) (inside : Bool) → ((fault : FrameFault) → rest ≡ faulty fault → ⊥) → fault_of rest cause inside ≡ fault_by_cause cause inside
+fault_without : (rest : Rest) (cause : EndCause) (inside : Bool) → ((fault : FrameFault) → rest ≡ faulty fault → ⊥) → fault_of rest cause inside ≡ fault_by_cause cause inside
 fault_without short cause inside h = refl
 fault_without (faulty fault) cause inside h = absurd (h fault refl)
 fault_without (unfinished m size index len) cause inside h = refl
@@ -138,7 +138,7 @@ going_tells (Some found) P in_range going none = sym (some_passes (λ m. is_goin
 going_tells None P in_range going none = sym (none_pass (λ m. is_going (P m)) modules all_below none)
 
 -- What the connection's fault is where its input is over.
-pub ends : (P : ℕ → Progress) (c : ℕ → Bool) (feed : Feed) (ms : List Message) (rest : List ℕ) (cause : Cause) (r : Result Unit FrameFault) (o : Option OpenModule) → AreAt P (made_of c ms (rest_of rest)) → FeedStands feed ms rest → feed_fault feed ≡ None → IsAtEnd (feed_fault feed) rest r
+pub ends : (P : ℕ → Progress) (c : ℕ → Bool) (feed : Feed) (ms : List Message) (rest : List ℕ) (cause : EndCause) (r : Result Unit FrameFault) (o : Option OpenModule) → AreAt P (made_of c ms (rest_of rest)) → FeedStands feed ms rest → feed_fault feed ≡ None → IsAtEnd (feed_fault feed) rest r
     → IfSome o (λ found. found.number < 16) → IfSome o (λ found. P found.number ≡ Going found.extent found.pages) → IfNone o ((m : ℕ) → m < 16 → is_going (P m) ≡ false)
     → (b : Bool) → (is_err r || is_some o) ≡ b → fault_by_cause cause b ≡ connection_fault ms rest cause c
 ends P c feed ms rest cause r o at stands faultless told in_range going none b is =

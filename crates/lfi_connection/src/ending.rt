@@ -11,7 +11,7 @@ ghost use Rattle.lfi_connection.specs.declared.event.Event.TheVariants.{Nothing}
 use crate::event::Event;
 use crate::progress_table::{ProgressTable, first_going};
 use lfi_frame::{Feed, FrameFault};
-use lfi_model::{Cause, Progress, Reason};
+use lfi_model::{EndCause, Progress, Reason};
 
 /// The End of a module that is open at the connection's fault.
 fn reason_of(fault: FrameFault) -> Reason
@@ -24,14 +24,14 @@ fn reason_of(fault: FrameFault) -> Reason
 }
 
 /// The connection's fault where its input is over for this cause, and a message or a module may be left open.
-fn fault_by(cause: Cause, open: bool) -> Option<FrameFault>
+fn fault_by(cause: EndCause, open: bool) -> Option<FrameFault>
     ensures { result ≡ fault_by_cause cause «open» }
 {
     match cause {
-        Cause::End if open => Some(FrameFault::Ended),
-        Cause::End => None,
-        Cause::Failed => Some(FrameFault::ReadFailed),
-        Cause::Starved => Some(FrameFault::NoMemory),
+        EndCause::End if open => Some(FrameFault::Ended),
+        EndCause::End => None,
+        EndCause::Failed => Some(FrameFault::ReadFailed),
+        EndCause::Starved => Some(FrameFault::NoMemory),
     }
 }
 
@@ -39,7 +39,7 @@ fn fault_by(cause: Cause, open: bool) -> Option<FrameFault>
 pub fn fault_at_end<P: ProgressTable>(
     table: &P,
     feed: &mut Feed,
-    cause: Cause,
+    cause: EndCause,
 ) -> Option<FrameFault>
     ensures { (claimed : ℕ → Bool) (messages : List Message) (rest : List ℕ) → FeedStands feed.old messages rest → feed_fault feed.old ≡ None →
         AreAt (P.progress_at table.now) (made_of claimed messages (rest_of rest)) → result ≡ connection_fault messages rest cause claimed }

@@ -103,9 +103,9 @@ impl fmt::Display for OpenerLine {
 
 /// What is told of a fault, but how it is mended.
 #[derive(Clone, Copy)]
-struct Told(Explanation);
+struct Unmended(Explanation);
 
-impl fmt::Display for Told {
+impl fmt::Display for Unmended {
     ghost output = { λ told. Some (spec.told_text told.0) };
 
     fn fmt<W: fmt::Write>(&self, f: &mut fmt::Formatter<W>) -> fmt::Result {
@@ -131,7 +131,7 @@ impl fmt::Display for Explanation {
     /// Writes lines, without the end of the last: the fault, as `word 16 rule 2`; the word at its address, after that of the
     /// word whose need isn't met; what the rule asks; and how the word is mended, with a line for each instruction of a mend.
     fn fmt<W: fmt::Write>(&self, f: &mut fmt::Formatter<W>) -> fmt::Result {
-        write!(f, "{}\n  mend: {}", Told(*self), Mending(*self))
+        write!(f, "{}\n  mend: {}", Unmended(*self), Mending(*self))
     }
 }
 

@@ -37,7 +37,7 @@
 //!   into an assembler's file. Where there is none, the reason stands in that line. Direct branches, and what the next
 //!   word owes, are told in a sentence: for the first there is no mend, for the second it stands beside another word.
 //! - **A mend meets what is open before the word** (`need_of`), also where the word itself would meet it.
-//! - **`Told` is all but the mend**: one `write!` of both has too many parts for the search.
+//! - **`Unmended` is all but the mend**: one `write!` of both has too many parts for the search.
 #![tactic(auto)]
 
 mod digits;

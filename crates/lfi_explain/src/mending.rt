@@ -134,9 +134,9 @@ impl fmt::Display for Without {
 
 /// What meets a need.
 #[derive(Clone, Copy)]
-struct Met(Need);
+struct MetBy(Need);
 
-impl fmt::Display for Met {
+impl fmt::Display for MetBy {
     ghost output = { λ met. Some (spec.met_text met.0) };
 
     fn fmt<W: fmt::Write>(&self, f: &mut fmt::Formatter<W>) -> fmt::Result {
@@ -165,7 +165,7 @@ impl fmt::Display for Mending {
             Rule::TargetInside => f.write_str(
                 "let it go to a word of the module; code outside is called by ldr x30, [x21, #8j], j being 0 to 511, with blr x30 right after it",
             ),
-            Rule::NeedMet => f.write(Met(owed(&told.at, &told.opener))),
+            Rule::NeedMet => f.write(MetBy(owed(&told.at, &told.opener))),
             _ => match told.mend {
                 Ok(mend) => f.write(Instead { rule, mend }),
                 Err(reason) => f.write(Without(reason)),

@@ -7,12 +7,12 @@ use Rattle.lfi_module.specs.declared.profile.Profile.{Profile}
 use Rattle.lfi_rules.specs.declared.fault.Fault.{Fault}
 use Rattle.lfi_command_line.specs.declared.options.Explain.{Explain}
 use Rattle.lfi_command_line.specs.declared.options.Explain.TheVariants.{Nothing, First, All}
-use Rattle.lfi_code.specs.declared.verdict.Verdict.{Verdict}
-use Rattle.lfi_code.specs.declared.verdict.Verdict.TheVariants.{Lawful, Refused, BadLength}
-use Rattle.lfi_code.specs.Checking.{Checks, IsCode, verdict_text}
-use Rattle.lfi_run.specs.declared.image_run.ImageRun.{ImageRun}
-use Rattle.lfi_run.specs.declared.image_run.ImageRun.TheVariants as image_run
-use Rattle.lfi_run.specs.Runs.{CameOf}
+use Rattle.lfi_check.specs.declared.verdict.Verdict.{Verdict}
+use Rattle.lfi_check.specs.declared.verdict.Verdict.TheVariants.{Lawful, Refused, BadLength}
+use Rattle.lfi_check.specs.Checking.{Checks, IsCode, verdict_text}
+use Rattle.lfi_run_image.specs.declared.image_run.ImageRun.{ImageRun}
+use Rattle.lfi_run_image.specs.declared.image_run.ImageRun.TheVariants as image_run
+use Rattle.lfi_run_image.specs.Runs.{CameOf}
 use Rattle.lfi_file_commands.proofs.Joined.{all_taken}
 use Rattle.lfi_file_commands.specs.declared.finding.Finding.{Finding}
 use Rattle.lfi_file_commands.specs.declared.finding.Finding.TheVariants as findings

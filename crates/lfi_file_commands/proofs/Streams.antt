@@ -7,7 +7,7 @@ use Rattle.lfi_module.specs.declared.profile.Profile.{Profile}
 use Rattle.lfi_command_line.specs.declared.options.PackOptions.{PackOptions}
 use Rattle.lfi_pack.specs.Heard.{IsStream, modules_from}
 use Rattle.lfi_pack.specs.Packs.{IsPacked}
-use Rattle.lfi_code.specs.Checking.{IsCode}
+use Rattle.lfi_check.specs.Checking.{IsCode}
 use Rattle.lfi_file_commands.specs.Packing.{AreModules, AreModulesOf, WritesStream}
 use Rattle.lfi_file_commands.specs.inner.Whole.{WritesModule}
 use Rattle.lfi_file_commands.proofs.Inputs.{grown}

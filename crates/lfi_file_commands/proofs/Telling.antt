@@ -1,7 +1,7 @@
 -- What is told of one module more.
 use Rattle.std.proofs.Common.{◌≡◌, ℕ, ◌+◌, ◌<◌, List, [], ◌∷◌, ◌++◌, length, get_or, take, refl, sym, ◌∙◌, ap, subst, append_assoc}
 use Rattle.std.proofs.lemmas.List.{append-nil, take_more}
-use Rattle.lfi_place.specs.declared.report.ModuleReport.{ModuleReport}
+use Rattle.lfi_sequence.specs.declared.report.ModuleReport.{ModuleReport}
 use Rattle.lfi_file_commands.specs.Refused.{TellsOfRefused, TellRefused}
 
 pub told_more : (xs : List ModuleReport) (x : ModuleReport) (text here : List ℕ) → TellRefused xs text → TellsOfRefused x here → TellRefused (xs ++ x ∷ []) (text ++ here)

@@ -1,9 +1,9 @@
 -- What `lfiload check` does. Source: this project's profile, docs/COMMANDS.md.
 use Rattle.std.specs.Prelude.{◌≡◌, ℕ, ◌==◌, Bool, nat_lt, List, [], ◌++◌, codes, Option, Some, None, if◌then◌else◌}
 use Rattle.lfi_module.specs.declared.profile.Profile.{Profile}
-use Rattle.lfi_code.specs.declared.verdict.Verdict.{Verdict}
-use Rattle.lfi_code.specs.declared.verdict.Verdict.TheVariants as verdicts
-use Rattle.lfi_code.specs.Checking.{Checks}
+use Rattle.lfi_check.specs.declared.verdict.Verdict.{Verdict}
+use Rattle.lfi_check.specs.declared.verdict.Verdict.TheVariants as verdicts
+use Rattle.lfi_check.specs.Checking.{Checks}
 use Rattle.lfi_file_commands.specs.declared.ending.Ending.{Ending}
 use Rattle.lfi_file_commands.specs.declared.ending.Ending.TheVariants.{Well, NotWell}
 use Rattle.lfi_file_commands.specs.declared.naming.Naming.{Naming}

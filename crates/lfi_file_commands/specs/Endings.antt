@@ -1,12 +1,12 @@
 -- How a run ends, by what it found. Source: this project's profile, docs/COMMANDS.md.
 use Rattle.std.specs.Prelude.{◌≡◌, ℕ, Bool, true, false}
 use Rattle.lfi_image_file.specs.declared.fault.ImageFault.TheVariants as image_fault
-use Rattle.lfi_confinement.specs.declared.cause.Cause.{Cause}
-use Rattle.lfi_confinement.specs.declared.cause.Cause.TheVariants as causes
+use Rattle.lfi_confinement.specs.declared.cause.StopCause.{StopCause}
+use Rattle.lfi_confinement.specs.declared.cause.StopCause.TheVariants as causes
 use Rattle.lfi_machine.specs.declared.halt.Halt.{Halt}
 use Rattle.lfi_machine.specs.declared.halt.Halt.TheVariants as halts
-use Rattle.lfi_run.specs.declared.image_run.ImageRun.{ImageRun}
-use Rattle.lfi_run.specs.declared.image_run.ImageRun.TheVariants as image_run
+use Rattle.lfi_run_image.specs.declared.image_run.ImageRun.{ImageRun}
+use Rattle.lfi_run_image.specs.declared.image_run.ImageRun.TheVariants as image_run
 use Rattle.lfi_file_commands.specs.declared.ending.Ending.{Ending}
 use Rattle.lfi_file_commands.specs.declared.ending.Ending.TheVariants.{Well, NotWell, WrongWords, Failed}
 
@@ -15,7 +15,7 @@ abbrev pub number_of : Ending → ℕ
 number_of = elim [ Well ↦ 0 | NotWell ↦ 1 | WrongWords ↦ 2 | Failed ↦ 3 ]
 
 -- by why the machine of an image stops
-abbrev pub ending_of_cause : Cause → Ending
+abbrev pub ending_of_cause : StopCause → Ending
 ending_of_cause (causes.NoAccess address) = NotWell
 ending_of_cause (causes.NoFetch pc) = NotWell
 ending_of_cause (causes.Breakpoint pc) = Well

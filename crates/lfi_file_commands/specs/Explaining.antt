@@ -11,8 +11,8 @@ use Rattle.lfi_explain.specs.Explanations.{Explains, WritesRefusals, explanation
 use Rattle.lfi_command_line.specs.declared.options.CheckOptions.{CheckOptions}
 use Rattle.lfi_command_line.specs.declared.options.Explain.{Explain}
 use Rattle.lfi_command_line.specs.declared.options.Explain.TheVariants.{Nothing, First, All}
-use Rattle.lfi_code.specs.declared.verdict.Verdict.TheVariants as verdicts
-use Rattle.lfi_code.specs.Checking.{Checks, verdict_text}
+use Rattle.lfi_check.specs.declared.verdict.Verdict.TheVariants as verdicts
+use Rattle.lfi_check.specs.Checking.{Checks, verdict_text}
 use Rattle.lfi_file_commands.specs.declared.ending.Ending.{Ending}
 use Rattle.lfi_file_commands.specs.declared.ending.Ending.TheVariants.{Failed}
 use Rattle.lfi_file_commands.specs.declared.failure.Failure.{Failure}

@@ -13,8 +13,8 @@ use Rattle.lfi_file_commands.specs.declared.failure.Target.TheVariants.{Standard
 use Rattle.lfi_file_commands.specs.declared.failure.Failure.{Failure}
 use Rattle.lfi_file_commands.specs.declared.failure.Failure.TheVariants.{CannotRead, CannotWrite, CannotListen, NoMemory, NoThread}
 use Rattle.lfi_file_commands.specs.Left.{Left}
-use Rattle.lfi_signals.specs.declared.refusal.LoadError.{LoadError}
-use Rattle.lfi_signals.specs.declared.refusal.LoadError.TheVariants as load_error
+use Rattle.lfi_sync.specs.declared.refusal.LoadError.{LoadError}
+use Rattle.lfi_sync.specs.declared.refusal.LoadError.TheVariants as load_error
 use Rattle.lfi_file_commands.specs.Causes.{cause_behind, cause_line, cause_of}
 
 -- what can't be written, in words

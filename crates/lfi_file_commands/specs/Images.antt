@@ -4,9 +4,9 @@ use Rattle.std.specs.Prelude.{◌≡◌, ℕ, Bool, true, false, List, [], ◌�
 use Rattle.std.specs.List.{AllByRecursion, filter_map, flat_map}
 use Rattle.lfi_image.specs.Image.{Image}
 use Rattle.lfi_image_file.specs.Files.{file_of}
-use Rattle.lfi_place.specs.declared.report.ImageState.{ImageState}
-use Rattle.lfi_place.specs.declared.report.ImageState.TheVariants.{Absent, Part, Whole}
-use Rattle.lfi_place.specs.declared.report.ModuleReport.{ModuleReport}
+use Rattle.lfi_sequence.specs.declared.report.ImageState.{ImageState}
+use Rattle.lfi_sequence.specs.declared.report.ImageState.TheVariants.{Absent, Part, Whole}
+use Rattle.lfi_sequence.specs.declared.report.ModuleReport.{ModuleReport}
 use Rattle.lfi_file_commands.specs.declared.failure.Failure.{Failure}
 use Rattle.lfi_file_commands.specs.Failures.{failure_lines, IsOfWriting, Told}
 use Rattle.lfi_file_commands.specs.Left.{Left}

@@ -12,9 +12,9 @@ use Rattle.lfi_frame.specs.declared.fault.FrameFault.{FrameFault}
 use Rattle.lfi_frame.specs.declared.fault.FrameFault.TheVariants.{Ended}
 use Rattle.lfi_frame.specs.Faults.{number_of, fault_text}
 use Rattle.lfi_frame.specs.Streams.{Cut, Message, open_message, page_message, close_message, Rest, short, faulty, unfinished, whole, rest_of, spelling}
-use Rattle.lfi_run.specs.declared.image_run.ImageRun.TheVariants.{Refused}
-use Rattle.lfi_run.specs.Texts.{address_text, run_text}
-use Rattle.lfi_code.specs.Checking.{IsCode}
+use Rattle.lfi_run_image.specs.declared.image_run.ImageRun.TheVariants.{Refused}
+use Rattle.lfi_run_image.specs.Texts.{address_text, run_text}
+use Rattle.lfi_check.specs.Checking.{IsCode}
 use Rattle.lfi_command_line.specs.declared.options.InfoOptions.{InfoOptions}
 use Rattle.lfi_file_commands.specs.declared.ending.Ending.{Ending}
 use Rattle.lfi_file_commands.specs.declared.ending.Ending.TheVariants.{Well, NotWell}

@@ -1,7 +1,7 @@
 -- What a file is, by its first bytes, and what is told of one that is to be code and isn't. Source: this project's profile, docs/PROFILE.md; of ELF its
 -- identification, the bytes 7f 45 4c 46.
 use Rattle.std.specs.Prelude.{◌≡◌, ℕ, ◌==◌, ◌&&◌, ◌||◌, Bool, nat_lt, List, [], ◌∷◌, ◌++◌, take, length, codes, decimal, if◌then◌else◌}
-use Rattle.lfi_code.specs.Checking.{IsCode}
+use Rattle.lfi_check.specs.Checking.{IsCode}
 use Rattle.lfi_file_commands.specs.declared.kind.FileKind.{FileKind}
 use Rattle.lfi_file_commands.specs.declared.kind.FileKind.TheVariants.{Elf, Image, Stream, Plain}
 use Rattle.lfi_file_commands.specs.declared.no_code.NoCode.{NoCode}

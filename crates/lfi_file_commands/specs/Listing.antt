@@ -10,7 +10,7 @@ use Rattle.lfi_explain.specs.Listings.{WritesListing}
 use Rattle.lfi_file_commands.specs.declared.ending.Ending.{Ending}
 use Rattle.lfi_file_commands.specs.declared.ending.Ending.TheVariants.{Well, NotWell}
 use Rattle.lfi_file_commands.specs.declared.no_code.NoCode.{NoCode}
-use Rattle.lfi_code.specs.Checking.{IsCode}
+use Rattle.lfi_check.specs.Checking.{IsCode}
 use Rattle.lfi_file_commands.specs.Checking.{TellsOf}
 use Rattle.lfi_file_commands.specs.Endings.{EndsUnlessLost}
 use Rattle.lfi_file_commands.specs.Kinds.{IsNoCode}

@@ -8,7 +8,7 @@ use Rattle.lfi_file_commands.specs.declared.packing.NoModule.{NoModule}
 use Rattle.lfi_file_commands.specs.declared.packing.NoModule.TheVariants.{BadLength, NoEntry}
 use Rattle.lfi_file_commands.specs.declared.ending.Ending.{Ending}
 use Rattle.lfi_file_commands.specs.declared.ending.Ending.TheVariants.{Well, NotWell, WrongWords, Failed}
-use Rattle.lfi_code.specs.Checking.{IsCode}
+use Rattle.lfi_check.specs.Checking.{IsCode}
 use Rattle.lfi_file_commands.specs.Failures.{Told}
 use Rattle.lfi_file_commands.specs.Kinds.{IsNoCode, bad_length_text}
 use Rattle.lfi_file_commands.specs.Left.{Left}

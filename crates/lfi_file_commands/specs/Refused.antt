@@ -1,7 +1,7 @@
 -- What `lfiload load --explain` tells of refused modules. Source: this project's profile, docs/COMMANDS.md.
 use Rattle.std.specs.Prelude.{◌≡◌, ℕ, List, [], ◌∷◌, ◌++◌, Option, Some, None, codes, decimal}
-use Rattle.lfi_place.specs.declared.report.ModuleReport.{ModuleReport}
-use Rattle.lfi_place.specs.declared.refused.RefusedModule.{RefusedModule}
+use Rattle.lfi_sequence.specs.declared.report.ModuleReport.{ModuleReport}
+use Rattle.lfi_sequence.specs.declared.refused.RefusedModule.{RefusedModule}
 use Rattle.lfi_explain.specs.declared.explanation.Explanation.{Explanation}
 use Rattle.lfi_explain.specs.declared.explanation.KnownFault.{KnownFault}
 use Rattle.lfi_explain.specs.Explanations.{ExplainsWord, explanation_line}

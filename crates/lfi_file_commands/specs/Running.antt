@@ -1,8 +1,8 @@
 -- What `lfiload run` finds, writes and tells. Source: this project's profile, docs/COMMANDS.md.
 use Rattle.std.specs.Prelude.{◌≡◌, ℕ, Bool, true, false, List, ◌++◌, Option, codes}
-use Rattle.lfi_run.specs.declared.image_run.ImageRun.{ImageRun}
-use Rattle.lfi_run.specs.Runs.{CameOf}
-use Rattle.lfi_run.specs.Texts.{run_text}
+use Rattle.lfi_run_image.specs.declared.image_run.ImageRun.{ImageRun}
+use Rattle.lfi_run_image.specs.Runs.{CameOf}
+use Rattle.lfi_run_image.specs.Texts.{run_text}
 use Rattle.lfi_file_commands.specs.declared.ending.Ending.{Ending}
 use Rattle.lfi_file_commands.specs.declared.ending.Ending.TheVariants.{Failed}
 use Rattle.lfi_file_commands.specs.Endings.{ending_of_run}

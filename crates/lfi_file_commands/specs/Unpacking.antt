@@ -5,8 +5,8 @@ use Rattle.lfi_image.specs.Image.{Image, IsImage}
 use Rattle.lfi_image_file.specs.declared.fault.ImageFault.{ImageFault}
 use Rattle.lfi_image_file.specs.Files.{FileOf, code_of}
 use Rattle.lfi_image_file.specs.Reading.{IsFault}
-use Rattle.lfi_run.specs.declared.image_run.ImageRun.TheVariants.{Refused}
-use Rattle.lfi_run.specs.Texts.{run_text}
+use Rattle.lfi_run_image.specs.declared.image_run.ImageRun.TheVariants.{Refused}
+use Rattle.lfi_run_image.specs.Texts.{run_text}
 use Rattle.lfi_file_commands.specs.declared.ending.Ending.{Ending}
 use Rattle.lfi_file_commands.specs.declared.ending.Ending.TheVariants.{Well}
 use Rattle.lfi_file_commands.specs.Failures.{Told}

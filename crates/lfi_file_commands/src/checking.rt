@@ -4,7 +4,7 @@ ghost use Rattle.std.specs.Prelude.{◌≡◌, true, false, ◌≤◌, ◌++◌,
 ghost use Rattle.lfi_module.specs.Numbers.{most_words};
 ghost use Rattle.std.specs.Io.KnownBytes.{Appends};
 ghost use Rattle.std.specs.IoError.{error_kind};
-ghost use Rattle.lfi_code.specs.Checking.{Checks, verdict_text};
+ghost use Rattle.lfi_check.specs.Checking.{Checks, verdict_text};
 ghost use Rattle.lfi_file_commands.specs.inner.Whole.{IsFoundOf};
 ghost use Rattle.lfi_file_commands.specs.Checking.{naming_text, verdict_of, IsFound};
 ghost use Rattle.lfi_file_commands.specs.Failures.{fault_of_read, is_of_a_write};
@@ -16,7 +16,7 @@ use crate::no_code::NoCode;
 use crate::pieces::judge_pieces;
 use crate::texts::write_line;
 use a64_word::WORD_BYTES;
-use lfi_code::{Verdict, judge_code};
+use lfi_check::{Verdict, judge_code};
 use lfi_module::{Profile, WordCount};
 use std::alloc::Global;
 use std::error::Error;

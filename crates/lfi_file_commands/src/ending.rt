@@ -4,9 +4,9 @@ ghost use Rattle.std.specs.Prelude.{◌≡◌};
 ghost use Rattle.lfi_file_commands.specs.Checking.{ending_of, worst};
 ghost use Rattle.lfi_file_commands.specs.Endings.{number_of, ending_of_cause, ending_of_run};
 
-use lfi_code::Verdict;
+use lfi_check::Verdict;
 use lfi_image_file::ImageFault;
-use lfi_run::{Cause, Halt, ImageRun};
+use lfi_run_image::{StopCause, Halt, ImageRun};
 
 /// How a run of the program ends.
 #[derive(Clone, Copy, PartialEq, Eq)]
@@ -57,12 +57,12 @@ impl Ending {
     }
 
     /// The ending that a machine gives that stops.
-    fn of_stop(cause: Cause) -> Ending
+    fn of_stop(cause: StopCause) -> Ending
         ensures { result ≡ ending_of_cause cause }
     {
         match cause {
-            Cause::Breakpoint(_) | Cause::Ended(_) => Ending::Well,
-            Cause::NoAccess(_) | Cause::NoFetch(_) | Cause::UnlawfulAnswer => Ending::NotWell,
+            StopCause::Breakpoint(_) | StopCause::Ended(_) => Ending::Well,
+            StopCause::NoAccess(_) | StopCause::NoFetch(_) | StopCause::UnlawfulAnswer => Ending::NotWell,
         }
     }
 

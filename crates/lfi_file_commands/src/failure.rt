@@ -7,7 +7,7 @@ ghost use Rattle.lfi_file_commands.specs.Failures.{failure_line, failure_of_load
 
 use crate::checking::CommandFault;
 use crate::device_cause::DeviceCause;
-use lfi_signals::LoadError;
+use lfi_sync::LoadError;
 use std::alloc::AllocError;
 use std::error::Error;
 use std::{fmt, io};

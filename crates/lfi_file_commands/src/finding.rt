@@ -4,7 +4,7 @@ ghost use Rattle.std.specs.Prelude.{◌≡◌, ◌≢◌, Some, None, IfSome};
 ghost use Rattle.lfi_file_commands.specs.Checking.{other_of, verdict_of};
 
 use crate::no_code::NoCode;
-use lfi_code::Verdict;
+use lfi_check::Verdict;
 use lfi_rules::Fault;
 
 /// What is found of a file that is to be code.

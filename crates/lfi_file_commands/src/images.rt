@@ -11,7 +11,7 @@ use crate::errors::tell_failure;
 use crate::failure::{Failure, Target};
 use crate::outputs::Outputs;
 use lfi_image::CompleteImage;
-use lfi_place::{ImageState, ModuleReport};
+use lfi_sequence::{ImageState, ModuleReport};
 use std::alloc::{AllocError, Global};
 use std::io::Write;
 

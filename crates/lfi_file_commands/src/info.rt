@@ -3,7 +3,7 @@
 ghost use Rattle.std.specs.Prelude.{◌≡◌, ◌≢◌, ◌++◌, ℕ, Some, length, codes, false, IfOk, IfErr, MatchOption, OnOk, OnErr, string_bytes};
 ghost use Rattle.std.specs.Io.KnownBytes.{Appends};
 ghost use Rattle.lfi_frame.specs.Streams.{rest_of, whole};
-ghost use Rattle.lfi_run.specs.Texts.{address_text};
+ghost use Rattle.lfi_run_image.specs.Texts.{address_text};
 ghost use Rattle.lfi_reference.specs.Messages.{Begins, message_of, size_of};
 ghost use Rattle.lfi_file_commands.specs.Kinds.{file_kind, kind_text};
 ghost use Rattle.lfi_file_commands.specs.Checking.{naming_text};
@@ -24,13 +24,13 @@ use crate::naming::{Naming, name_of};
 use crate::opening::{open, path_at};
 use crate::outputs::Outputs;
 use crate::texts::write_text;
-use lfi_code::Code;
+use lfi_check::Code;
 use lfi_command_line::InfoOptions;
 use lfi_frame::FrameFault;
 use lfi_image::CompleteImage;
 use lfi_image_file::read_image;
 use lfi_reference::{PlainMessage, PlainRest, first_message, rest_at};
-use lfi_run::ImageRun;
+use lfi_run_image::ImageRun;
 use std::alloc::{AllocError, Global};
 use std::fmt;
 use std::io::Write;
@@ -97,20 +97,20 @@ impl fmt::Display for Opening {
 
 /// A message, as it is told.
 #[derive(Clone, Copy)]
-enum Told {
+enum ToldMessage {
     Open(u16, Opening),
     /// Its index, and how many bytes it has.
     Page(u16, u32, usize),
     Close(u16),
 }
 
-impl Told {
+impl ToldMessage {
     /// Of this message.
-    fn of(message: &PlainMessage) -> Told
+    fn of(message: &PlainMessage) -> ToldMessage
         ensures { told_text result ≡ spec.message_text (message_of message.now) }
     {
         match message {
-            PlainMessage::Open { module, extent } => Told::Open(
+            PlainMessage::Open { module, extent } => ToldMessage::Open(
                 *module,
                 Opening {
                     words: extent.words,
@@ -126,22 +126,22 @@ impl Told {
                 index,
                 payload,
                 ..
-            } => Told::Page(*module, *index, payload.len()),
-            PlainMessage::Close { module } => Told::Close(*module),
+            } => ToldMessage::Page(*module, *index, payload.len()),
+            PlainMessage::Close { module } => ToldMessage::Close(*module),
         }
     }
 }
 
-impl fmt::Display for Told {
+impl fmt::Display for ToldMessage {
     ghost output = { λ told. Some (told_text told) };
 
     fn fmt<W: fmt::Write>(&self, f: &mut fmt::Formatter<W>) -> fmt::Result {
         match self {
-            Told::Open(module, opening) => write!(f, "module {module} {opening}"),
-            Told::Page(module, index, bytes) => {
+            ToldMessage::Open(module, opening) => write!(f, "module {module} {opening}"),
+            ToldMessage::Page(module, index, bytes) => {
                 write!(f, "module {module} page {index}, {bytes} bytes")
             }
-            Told::Close(module) => write!(f, "module {module} close"),
+            ToldMessage::Close(module) => write!(f, "module {module} close"),
         }
     }
 }
@@ -165,7 +165,7 @@ fn push_message(text: &mut String, at: usize, message: &PlainMessage) -> Result<
     ensures pushed { OnOk result (string_bytes text.new ≡ string_bytes text.old ++ spec.message_line at (message_of message.now)) }
     ensures fault { IfErr result (λ fault. is_of_a_write fault ≡ false) }
 {
-    let told = Told::of(message);
+    let told = ToldMessage::of(message);
     match write!(text, "  byte {at}: {told}\n") {
         Ok(()) => Ok(()),
         Err(AllocError) => Err(CommandFault::NoMemory),

@@ -2,13 +2,13 @@
 
 ghost use Rattle.std.specs.Prelude.{◌≡◌, ◌<◌, Some, IfOk, IfErr, IfSome, length, map, slice_get};
 ghost use Rattle.lfi_file_commands.specs.Failures.{IsOfReading, IsOfReadingOne};
-ghost use Rattle.lfi_signals.specs.Clients.{read_by};
+ghost use Rattle.lfi_sync.specs.Clients.{read_by};
 ghost use Rattle.lfi_file_commands.specs.Opening.{IsInputOf, AreInputsOf};
 
 use crate::disk::Disk;
 use crate::failure::Failure;
 use lfi_receive::Input;
-use lfi_signals::{ReadErrors, Watched};
+use lfi_sync::{ReadErrors, Watched};
 use std::alloc::Global;
 
 /// Opens the file at this path.

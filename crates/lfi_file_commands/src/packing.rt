@@ -3,7 +3,7 @@
 ghost use Rattle.std.specs.Prelude.{◌≡◌, ◌<◌, ◌≤◌, ◌+◌, Some, None, true, map, length, slice_get, IfOk, IfErr, IfSome, OnOk};
 ghost use Rattle.lfi_module.specs.Pages.{HasPages};
 ghost use Rattle.a64_word.specs.Words.{words_of};
-ghost use Rattle.lfi_code.specs.Checking.{IsCode};
+ghost use Rattle.lfi_check.specs.Checking.{IsCode};
 ghost use Rattle.lfi_file_commands.specs.Packing as spec;
 ghost use Rattle.lfi_file_commands.specs.inner.Whole.{IsNoModuleOf, StopsAt, StopsAtOne, WritesModule};
 
@@ -13,7 +13,7 @@ use crate::failure::Failure;
 use crate::no_code::{BadLength, NoCode};
 use crate::opening::{open, path_at};
 use crate::whole::read_whole;
-use lfi_code::Code;
+use lfi_check::Code;
 use lfi_command_line::PackOptions;
 use lfi_module::{Extent, ModuleNumber, WordCount};
 use lfi_pack::{PackFault, pack_module};
@@ -46,7 +46,7 @@ impl fmt::Display for NoModule<'_> {
 
 /// Why code files aren't read as modules.
 #[derive(Drop)]
-pub(crate) enum Stop<'a> {
+pub(crate) enum NotPacked<'a> {
     /// One of them is none.
     NoModule(NoModule<'a>),
     /// One of them can't be read, or there was no memory.
@@ -74,21 +74,21 @@ fn read_module<'a, D: Disk>(
     disk: &D,
     path: &'a str,
     entry: u32,
-) -> Result<Vec<u8>, Stop<'a>>
+) -> Result<Vec<u8>, NotPacked<'a>>
     ensures code { IfOk result (λ code. IfSome (D.file_at disk.now path.now) (λ bytes. bytes ≡ code.items) × IsCode code.items) }
     ensures entry { IfOk result (λ code. entry < length (words_of code.items)) }
     ensures stop { IfErr result (StopsAt entry path.now (D.file_at disk.now)) }
 {
     let reader = match open(disk, path) {
         Ok(reader) => reader,
-        Err(failure) => return Err(Stop::Failed(failure)),
+        Err(failure) => return Err(NotPacked::Failed(failure)),
     };
     let bytes = match read_whole(alloc, reader) {
         Ok(bytes) => bytes,
-        Err(fault) => return Err(Stop::Failed(Failure::of(fault, path))),
+        Err(fault) => return Err(NotPacked::Failed(Failure::of(fault, path))),
     };
     match no_module(path, &bytes, entry) {
-        Some(no_module) => Err(Stop::NoModule(no_module)),
+        Some(no_module) => Err(NotPacked::NoModule(no_module)),
         None => Ok(bytes),
     }
 }
@@ -99,7 +99,7 @@ pub(crate) fn read_modules<'a, D: Disk>(
     disk: &D,
     paths: &[&'a str],
     entry: u32,
-) -> Result<Vec<Vec<u8>>, Stop<'a>>
+) -> Result<Vec<Vec<u8>>, NotPacked<'a>>
     ensures modules { IfOk result (λ files. spec.AreModulesOf entry (map (λ path. D.file_at disk.now path.now) paths.now) (map (λ file. file.items) files.items)) }
     ensures stop { IfErr result (StopsAtOne entry (map (λ path. path.now) paths.now) (D.file_at disk.now)) }
 {
@@ -110,7 +110,7 @@ pub(crate) fn read_modules<'a, D: Disk>(
             Err(stop) => return Err(stop),
         };
         if files.push(file).is_err() {
-            return Err(Stop::Failed(Failure::NoMemory));
+            return Err(NotPacked::Failed(Failure::NoMemory));
         }
     }
     Ok(files)

@@ -3,15 +3,15 @@
 ghost use Rattle.std.specs.Prelude.{◌≡◌, ◌+◌, ◌*◌, ◌%◌, ◌<◌, ◌≤◌, ℕ, List, ◌++◌, length, IfOk, IfErr, IfSome, OnOk, IsTrue, false};
 ghost use Rattle.std.specs.Io.KnownBytes.{Consumes, IsAtEnd};
 ghost use Rattle.lfi_module.specs.Numbers.{most_words};
-ghost use Rattle.lfi_code.specs.Begun.{Begins};
-ghost use Rattle.lfi_code.specs.Checking.{Checks};
+ghost use Rattle.lfi_check.specs.Begun.{Begins};
+ghost use Rattle.lfi_check.specs.Checking.{Checks};
 ghost use Rattle.lfi_file_commands.specs.Failures.{is_of_a_write};
 ghost use Rattle.lfi_file_commands.specs.inner.Pieces.{IsWholeModule};
 
 use crate::checking::CommandFault;
 use crate::device_cause::DeviceCause;
 use a64_word::WORD_BYTES;
-use lfi_code::{Beginning, Verdict};
+use lfi_check::{Beginning, Verdict};
 use lfi_module::Profile;
 use std::alloc::{AllocError, Global};
 use std::io::Read;

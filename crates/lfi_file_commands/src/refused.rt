@@ -6,7 +6,7 @@ ghost use Rattle.lfi_file_commands.specs.Refused.{IsRefusal, known_of, refusal_l
 
 use crate::texts::write_line;
 use lfi_explain::{Explanation, KnownFault, explain_word};
-use lfi_place::{ModuleReport, RefusedModule};
+use lfi_sequence::{ModuleReport, RefusedModule};
 use std::alloc::Global;
 use std::io::{self, Write};
 

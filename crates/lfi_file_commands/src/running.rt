@@ -18,10 +18,10 @@ use crate::failure::Failure;
 use crate::no_code::NoCode;
 use crate::opening::open;
 use crate::outputs::Outputs;
-use crate::packing::{NoModule, Stop, read_modules, write_stream};
+use crate::packing::{NoModule, NotPacked, read_modules, write_stream};
 use lfi_command_line::{DisassembleOptions, PackOptions, RunOptions};
 use lfi_explain::Marks;
-use lfi_run::run_image;
+use lfi_run_image::run_image;
 use std::alloc::Global;
 use std::io::Write;
 
@@ -130,8 +130,8 @@ pub fn run_pack<'a, D: Disk, P: ImageStore, O: Write, E: Write>(
 {
     match read_modules(alloc, disk, asked.codes.as_slice(), asked.entry) {
         Ok(files) => write_packed(asked, &files, &mut outputs.out),
-        Err(Stop::Failed(failure)) => Err(failure),
-        Err(Stop::NoModule(no_module)) => {
+        Err(NotPacked::Failed(failure)) => Err(failure),
+        Err(NotPacked::NoModule(no_module)) => {
             outputs.errors.tell_no_module(no_module);
             Ok(outputs.errors.unless_lost(Ending::NotWell))
         }

@@ -83,7 +83,7 @@ built_more p size count first slot placed tail left pages page built some leaves
       leaves = subst (λ l. LeavesOpen p l left) (sym words) leaves;
     }
 
--- There is a place for another page while words are missing.
+-- There is room for another page while words are missing.
 room_of : (size count k placed : ℕ) → IsPageSize size → placed ≡ size * k → placed < count → k < (count + (size - 1)) / size
 room_of size count k placed (inl small) at room =
     let here : placed ≡ 1024 * k = at ∙ ap (λ s. s * k) small in

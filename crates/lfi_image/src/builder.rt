@@ -8,7 +8,7 @@ ghost use Rattle.lfi_image.specs.Built.{words_in, due, with_placed};
 ghost use Rattle.lfi_image.specs.inner.Builders.{IsBuilt};
 
 use crate::judged::JudgedPage;
-use crate::places::Places;
+use crate::page_memory::PageMemory;
 use lfi_module::{Extent, ModuleNumber, Profile, WordCount};
 use lfi_rules::{Fault, Need, fault_after, leave};
 use page_buf::SealedPage;
@@ -36,24 +36,24 @@ impl Model for Builder {
 }
 
 impl Builder {
-    /// A module with this extent, for this slot. No word is placed, and the places for its pages are reserved.
+    /// A module with this extent, for this slot. No word is placed, and memory for its pages is reserved.
     ///
     /// # Errors
     ///
-    /// Where the places' memory is refused.
+    /// Where that memory is refused.
     pub fn new(alloc: Global, extent: Extent, slot: ModuleNumber) -> Result<Builder, AllocError>
         ensures { IfOk result (λ b. b ≡ record { extent = extent; slot = slot; placed = [] }) }
     {
-        let places = Places::new(alloc, extent.words())?;
-        Ok(Builder::in_places(places, extent, slot))
+        let memory = PageMemory::new(alloc, extent.words())?;
+        Ok(Builder::in_memory(memory, extent, slot))
     }
 
-    /// The same module in places that were reserved before, which are enough: see [`Places::words`]. It takes no memory.
-    pub fn in_places(places: Places, extent: Extent, slot: ModuleNumber) -> Builder
-        requires { extent.words ≤ places }
+    /// The same module in memory that was reserved before, which is enough: see [`PageMemory::words`]. It takes no memory.
+    pub fn in_memory(memory: PageMemory, extent: Extent, slot: ModuleNumber) -> Builder
+        requires { extent.words ≤ memory }
         ensures { result ≡ record { extent = extent; slot = slot; placed = [] } }
     {
-        let Places { pages, words: _ } = places;
+        let PageMemory { pages, words: _ } = memory;
         Builder {
             pages,
             extent,

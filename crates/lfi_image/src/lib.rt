@@ -3,7 +3,7 @@
 //! # How data flows
 //!
 //! A sealed page is judged at its place in a module (`JudgedPage::judge`); page and verdict are kept together from then
-//! on. A `Builder`, made anew or in `Places` that were reserved before the module was known, places judged pages one
+//! on. A `Builder`, made anew or in `PageMemory` that was reserved before the module was known, places judged pages one
 //! after another: `append` answers the first fault of the words placed so far and the page together, the seam's and the
 //! open end's among them, and then hands the page back. Where all words are placed, `finish` gives the `CompleteImage`.
 //!
@@ -23,11 +23,11 @@
 //! - **A refused page comes back as a `SealedPage`**, without its verdict: it is never appended again, and its memory
 //!   can be given back.
 //! - `append`'s fault is that of `fault_after`: the seam's, else the open end's where the page completes the module.
-//! - **`append` and `finish` take no memory**: `new` reserves the places of all pages, the type keeps that the reserve
+//! - **`append` and `finish` take no memory**: `new` reserves memory for all pages, the type keeps that the reserve
 //!   is large enough, and the branch of `append` in which the push would be refused is proved never to come.
 //! - The type of `CompleteImage` keeps `IsImage`. A caller gets it from `words()`, whose clause `lawful` hands it out.
 //! - **A module's pages are small or large**, as its extent says, and its builder and each judged page keep it.
-//! - **Places for a builder can be reserved before the module is known** (`Places`, `Builder::in_places`), so that who
+//! - **Memory for a builder can be reserved before the module is known** (`PageMemory`, `Builder::in_memory`), so that who
 //!   takes modules from others has all memory at its start.
 //! - **An image lends its pages** (`pages`), as words one after another and nothing of their sizes: lfi_image_file writes
 //!   them straight from their memory. It can't change one, and an image is made of placed pages alone.
@@ -35,8 +35,8 @@
 
 mod builder;
 mod judged;
-mod places;
+mod page_memory;
 
 pub use builder::{Builder, CompleteImage};
 pub use judged::JudgedPage;
-pub use places::Places;
+pub use page_memory::PageMemory;

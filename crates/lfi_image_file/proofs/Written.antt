@@ -9,7 +9,7 @@ use Rattle.lfi_image_file.specs.declared.fault.ImageFault.{ImageFault}
 use Rattle.lfi_image_file.specs.declared.fault.ImageFault.TheVariants.{Device}
 use Rattle.lfi_image_file.specs.Files.{code_of}
 use Rattle.lfi_image.specs.Built.{words_in}
-use Rattle.in_full.specs.Beginnings.{AppendsBeginning}
+use Rattle.exact_io.specs.Beginnings.{AppendsBeginning}
 use Rattle.lfi_image_file.specs.inner.Writing.{Writes}
 use Rattle.lfi_image_file.proofs.Pieces.{code_of-append}
 

@@ -18,7 +18,7 @@ const MAGIC: [u8; 4] = [0x4C, 0x46, 0x49, 0x31];
 /// What a header says: how many words there are, which of them is entered, the profile, and the slot. It says nothing of
 /// pages: a file is read by small ones.
 #[derive(Clone, Copy)]
-pub(crate) struct Header {
+pub(crate) struct ImageHeader {
     pub(crate) extent: Extent,
     pub(crate) slot: ModuleNumber,
 }
@@ -62,10 +62,10 @@ pub(crate) fn encode(
     bytes
 }
 
-impl Header {
+impl ImageHeader {
     /// What a header says, or its first fault: magic, profile, counts, base, in this order.
     #[tactic(auto, unfolding(crate::specs::Reading::header_fault))]
-    pub(crate) fn decode(bytes: &[u8]) -> Result<Header, ImageFault>
+    pub(crate) fn decode(bytes: &[u8]) -> Result<ImageHeader, ImageFault>
         requires { length bytes.now ≡ 24 }
         ensures fault { MatchResult result (λ _. header_fault bytes.now ≡ None) (λ fault. header_fault bytes.now ≡ Some fault) }
         ensures count { IfOk result (λ h. h.extent.words ≡ count_in bytes.now) }
@@ -87,7 +87,7 @@ impl Header {
             return Err(ImageFault::Counts);
         };
         match slot_of(LittleEndian::read_u64(&bytes[16..])) {
-            Some(slot) => Ok(Header { extent, slot }),
+            Some(slot) => Ok(ImageHeader { extent, slot }),
             None => Err(ImageFault::Base),
         }
     }

@@ -11,8 +11,8 @@ ghost use Rattle.lfi_image_file.specs.Reading.{IsCodeFault, IsFault, IsUnread, I
 ghost use Rattle.lfi_image_file.specs.inner.Steps.{IsShort, IsNoPage, ReadsPage, IsPageFault, IsRead, IsSameModule};
 
 use crate::fault::ImageFault;
-use crate::header::{HEADER_BYTES, Header};
-use in_full::fill;
+use crate::header::{HEADER_BYTES, ImageHeader};
+use exact_io::fill;
 use lfi_image::{Builder, CompleteImage, JudgedPage};
 use lfi_module::PageSize;
 use page_buf::SealedPage;
@@ -133,7 +133,7 @@ pub fn read_image<R: Read>(alloc: Global, reader: &mut R) -> Result<CompleteImag
 {
     let mut bytes = [0; HEADER_BYTES];
     read_bytes(reader, &mut bytes)?;
-    let header = Header::decode(&bytes)?;
+    let header = ImageHeader::decode(&bytes)?;
     let Ok(mut builder) = Builder::new(alloc, header.extent, header.slot) else {
         return Err(ImageFault::NoMemory);
     };

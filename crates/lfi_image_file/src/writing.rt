@@ -6,12 +6,12 @@ ghost use Rattle.a64_word.specs.Words.{words_of};
 ghost use Rattle.lfi_image_file.specs.Files.{file_of, code_of};
 ghost use Rattle.lfi_image.specs.Built.{words_in};
 ghost use Rattle.lfi_image_file.specs.declared.fault.ImageFault.TheVariants.{Device};
-ghost use Rattle.in_full.specs.Beginnings.{AppendsBeginning};
+ghost use Rattle.exact_io.specs.Beginnings.{AppendsBeginning};
 ghost use Rattle.lfi_image_file.specs.inner.Writing.{Writes};
 
 use crate::fault::ImageFault;
 use crate::header::encode;
-use in_full::write_in_full;
+use exact_io::write_in_full;
 use lfi_image::CompleteImage;
 use page_buf::SealedPage;
 use std::io::Write;

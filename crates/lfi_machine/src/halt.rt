@@ -3,13 +3,13 @@
 ghost use Rattle.std.specs.Prelude.{◌≡◌};
 ghost use Rattle.lfi_machine.specs.Halting.{halt_number};
 
-use lfi_confinement::Cause;
+use lfi_confinement::StopCause;
 
 /// Why a run stops.
 #[derive(Clone, Copy, PartialEq, Eq)]
 pub enum Halt {
     /// The machine stops.
-    Stopped(Cause),
+    Stopped(StopCause),
     /// All steps were used.
     StepsUsed,
     /// Memory was refused for a byte that is written.
@@ -23,11 +23,11 @@ impl Halt {
     {
         match self {
             Halt::StepsUsed => 1,
-            Halt::Stopped(Cause::NoAccess(_)) => 2,
-            Halt::Stopped(Cause::NoFetch(_)) => 3,
-            Halt::Stopped(Cause::Breakpoint(_)) => 4,
-            Halt::Stopped(Cause::Ended(_)) => 5,
-            Halt::Stopped(Cause::UnlawfulAnswer) => 6,
+            Halt::Stopped(StopCause::NoAccess(_)) => 2,
+            Halt::Stopped(StopCause::NoFetch(_)) => 3,
+            Halt::Stopped(StopCause::Breakpoint(_)) => 4,
+            Halt::Stopped(StopCause::Ended(_)) => 5,
+            Halt::Stopped(StopCause::UnlawfulAnswer) => 6,
             Halt::NoMemory => 7,
         }
     }

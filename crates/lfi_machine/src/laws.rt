@@ -2,7 +2,7 @@
 
 ghost use Rattle.std.specs.Prelude.{◌≡◌, ℕ, ◌+◌, length, None};
 ghost use Rattle.a64_semantics.specs.declared.registers.Registers.{Registers};
-ghost use Rattle.lfi_confinement.specs.declared.cause.Cause.{Cause};
+ghost use Rattle.lfi_confinement.specs.declared.cause.StopCause.{StopCause};
 ghost use Rattle.lfi_confinement.specs.Lawful.{Held};
 ghost use Rattle.lfi_confinement.specs.Runs.{Reach, Running, Stopped};
 ghost use Rattle.lfi_machine.specs.declared.halt.Halt.TheVariants as halt;
@@ -17,7 +17,7 @@ use crate::runtime::Runtime;
 pub fn ran_is_reached<R: Runtime>()
     ensures goes_on { (c d : Config) (h k : R) (count : ℕ) → Ran R.answers c h count d k
         → Reach c.owned.image (state c) count (Running (state d)) }
-    ensures stops { (c d : Config) (h k : R) (count : ℕ) (cause : Cause) → RanThenHalts R.answers c h (halt.Stopped cause) count d k
+    ensures stops { (c d : Config) (h k : R) (count : ℕ) (cause : StopCause) → RanThenHalts R.answers c h (halt.Stopped cause) count d k
         → Reach c.owned.image (state c) (count + 1) (Stopped cause) }
     ensures steps_used { (c d : Config) (h k : R) (count : ℕ) → RanThenHalts R.answers c h halt.StepsUsed count d k
         → Reach c.owned.image (state c) count (Running (state d)) }

@@ -5,7 +5,7 @@
 //! `Machine::new` takes an image and registers, and refuses registers that no run may start with (`StartFault`). `run`
 //! decodes the image's words once, as far as the run comes (`decoded`), and goes along words that follow one another up
 //! to the first branch (`step_along`). A step carries out the instruction at pc: by a64_semantics where it accesses no
-//! memory, else by `singles` or `pairs` over `Data`. `Data` is the slot: the table of entries and the code, which are
+//! memory, else by `singles` or `pairs` over `SlotMemory`. `SlotMemory` is the slot: the table of entries and the code, which are
 //! computed from the image's words, and the written bytes, each at its place by `lfi_rules::map`. A branch to an entry of the table
 //! calls the `Runtime`, whose answer the run goes on with, or which ends it. Why a run stopped is a `Halt`.
 //!
@@ -49,8 +49,8 @@ mod step;
 
 pub use halt::Halt;
 pub use laws::{held_is_not_refused, ran_is_reached};
-pub use lfi_confinement::Cause;
+pub use lfi_confinement::StopCause;
 pub use machine::Machine;
 pub use runtime::{Answer, Runtime};
-pub use slot::{Data, DataFault};
+pub use slot::{SlotMemory, DataFault};
 pub use start::{StartFault, start_registers};

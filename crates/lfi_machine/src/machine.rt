@@ -12,7 +12,7 @@ ghost use Rattle.lfi_machine.specs.inner.Rows.{RanRow};
 
 use crate::halt::Halt;
 use crate::runtime::Runtime;
-use crate::slot::Data;
+use crate::slot::SlotMemory;
 use crate::start::{StartFault, refusal};
 use crate::step::{step_on, steps_on};
 use a64_semantics::Registers;
@@ -27,7 +27,7 @@ use std::marker::Model;
 /// A contract sees it as its registers, its image and its bytes.
 #[derive(Drop)]
 pub struct Machine {
-    slot: Data,
+    slot: SlotMemory,
     instructions: Vec<Instruction>,
     registers: Registers,
 }
@@ -72,7 +72,7 @@ impl Machine {
         let Ok(instructions) = Vec::with_capacity(alloc, count as usize) else {
             return Err(StartFault::NoMemory);
         };
-        match Data::new(alloc, image) {
+        match SlotMemory::new(alloc, image) {
             Ok(slot) => Ok(Machine {
                 slot,
                 instructions,
@@ -90,7 +90,7 @@ impl Machine {
     }
 
     /// The memory.
-    pub fn slot(&self) -> &Data
+    pub fn slot(&self) -> &SlotMemory
         ensures { result.now ≡ self.now.owned }
     {
         &self.slot

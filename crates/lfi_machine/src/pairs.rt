@@ -19,7 +19,7 @@ ghost use Rattle.lfi_machine.specs.inner.Addresses.{pair_access};
 
 use crate::halt::Halt;
 use crate::singles::located;
-use crate::slot::{Access, Data};
+use crate::slot::{AccessKind, SlotMemory};
 use a64_semantics::Registers;
 use a64_word::{Pair, PairMode, Size, Width};
 
@@ -62,7 +62,7 @@ fn pair_bytes(width: Width) -> u32
 
 /// Loads a pair from an address.
 #[inline(always)]
-fn load_pair(slot: &Data, registers: &mut Registers, i: &Pair, address: u64) -> Result<(), Halt>
+fn load_pair(slot: &SlotMemory, registers: &mut Registers, i: &Pair, address: u64) -> Result<(), Halt>
     requires load { i.now.load ≡ true }
     requires within { address + pair_bytes i.now.width < 2 ^ 64 }
     ensures { Transfers slot.now slot.now registers.old registers.new
@@ -71,7 +71,7 @@ fn load_pair(slot: &Data, registers: &mut Registers, i: &Pair, address: u64) -> 
 {
     let size = pair_size(i.width);
     let half = register_bytes(i.width);
-    let offset = located(slot, Access::Load, pair_bytes(i.width), address)?;
+    let offset = located(slot, AccessKind::Load, pair_bytes(i.width), address)?;
     let first = slot.load(size, offset);
     let second = slot.load(size, offset + half);
     registers.put(i.rt, i.width, first);
@@ -81,7 +81,7 @@ fn load_pair(slot: &Data, registers: &mut Registers, i: &Pair, address: u64) -> 
 
 /// Stores a pair from an address on.
 #[inline(always)]
-fn store_pair(slot: &mut Data, registers: &Registers, i: &Pair, address: u64) -> Result<(), Halt>
+fn store_pair(slot: &mut SlotMemory, registers: &Registers, i: &Pair, address: u64) -> Result<(), Halt>
     requires { address + pair_bytes i.now.width < 2 ^ 64 }
     ensures transfers { Transfers slot.old slot.new registers.now registers.now
         (record { stores = true; bytes = pair_bytes i.now.width; address = address }) []
@@ -92,7 +92,7 @@ fn store_pair(slot: &mut Data, registers: &Registers, i: &Pair, address: u64) ->
     let size = pair_size(i.width);
     let half = register_bytes(i.width);
     let bytes = pair_bytes(i.width);
-    let offset = located(slot, Access::Store, bytes, address)?;
+    let offset = located(slot, AccessKind::Store, bytes, address)?;
     match slot.keep(offset, bytes) {
         Ok(()) => {
             slot.put(size, offset, registers.x(i.rt));
@@ -106,7 +106,7 @@ fn store_pair(slot: &mut Data, registers: &Registers, i: &Pair, address: u64) ->
 /// The transfer of a pair, at an address.
 #[inline(always)]
 fn transfer_pair(
-    slot: &mut Data,
+    slot: &mut SlotMemory,
     registers: &mut Registers,
     i: &Pair,
     address: u64,
@@ -164,7 +164,7 @@ fn pair_base(registers: &Registers, i: &Pair) -> Option<u64>
 /// A load or store of a pair at an address: its transfer, its new base, and the step to the next word.
 #[inline(always)]
 fn pair_at(
-    slot: &mut Data,
+    slot: &mut SlotMemory,
     registers: &mut Registers,
     i: &Pair,
     address: u64,
@@ -193,7 +193,7 @@ fn pair_at(
 /// Why the machine stops: a byte that may not be accessed, or memory that was refused. No byte and no register has
 /// changed then.
 #[inline(always)]
-pub fn pair(slot: &mut Data, registers: &mut Registers, i: &Pair) -> Result<(), Halt>
+pub fn pair(slot: &mut SlotMemory, registers: &mut Registers, i: &Pair) -> Result<(), Halt>
     requires image { IsImage slot.old.image }
     requires confined { access_move (Instruction.Pair i.now) slot.old registers.old ≢ escape }
     ensures accesses { Accesses (Instruction.Pair i.now) slot.old slot.new registers.old registers.new result }

@@ -1,6 +1,6 @@
 //! What serves the calls of the code.
 
-use crate::slot::Data;
+use crate::slot::SlotMemory;
 use a64_semantics::Registers;
 
 /// What a runtime answers to a call.
@@ -25,7 +25,7 @@ pub trait Runtime {
 
     /// Serves a call of an entry, 0 to 511. The registers are those at the call, with x30 and pc both the address of the word
     /// after it. It may write bytes, where they may be written, and no code.
-    fn call(&mut self, entry: u32, registers: &Registers, slot: &mut Data) -> Answer
+    fn call(&mut self, entry: u32, registers: &Registers, slot: &mut SlotMemory) -> Answer
         requires { entry < entry_count }
         ensures answer { answers self.old entry registers.now slot.old result self.new slot.new }
         ensures image { slot.new.image ≡ slot.old.image };

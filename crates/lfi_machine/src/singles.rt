@@ -18,14 +18,14 @@ ghost use Rattle.lfi_machine.specs.inner.Transfers.{Transfers, denied_in, access
 ghost use Rattle.lfi_machine.specs.inner.Addresses.{unsigned_access, signed_access, index_access, ordered_access};
 
 use crate::halt::Halt;
-use crate::slot::{Access, Data, bytes_of};
+use crate::slot::{AccessKind, SlotMemory, bytes_of};
 use a64_effects::ordered_transfer;
 use a64_semantics::Registers;
 use a64_word::{
     IndexExtend, IndexMode, Ordered, Register, RegisterOffset, SignedOffset, Size, Transfer,
     UnsignedOffset, Width,
 };
-use lfi_confinement::Cause;
+use lfi_confinement::StopCause;
 
 /// What a single access transfers.
 #[derive(Clone, Copy)]
@@ -67,23 +67,23 @@ fn data_width(size: Size, transfer: Transfer) -> Width
 
 /// The offset of bytes that may be accessed so.
 #[inline(always)]
-pub(crate) fn located(slot: &Data, access: Access, bytes: u32, address: u64) -> Result<u32, Halt>
+pub(crate) fn located(slot: &SlotMemory, access: AccessKind, bytes: u32, address: u64) -> Result<u32, Halt>
     requires some { 1 ≤ bytes }
     requires few { bytes ≤ 16 }
     requires within { address + bytes < 2 ^ 64 }
     ensures ok { IfOk result (λ offset. IsLocated slot.now (writes_by access) bytes address offset) }
-    ensures denied { IfErr result (λ halt. (at : ℕ) × (halt ≡ Halt.Stopped (Cause.NoAccess at)) × (denied_in slot.now (record { stores = writes_by access; bytes = bytes; address = address }) ≡ Some at)) }
+    ensures denied { IfErr result (λ halt. (at : ℕ) × (halt ≡ Halt.Stopped (StopCause.NoAccess at)) × (denied_in slot.now (record { stores = writes_by access; bytes = bytes; address = address }) ≡ Some at)) }
 {
     match slot.locate(access, bytes, address) {
         Ok(offset) => Ok(offset),
-        Err(denied) => Err(Halt::Stopped(Cause::NoAccess(denied))),
+        Err(denied) => Err(Halt::Stopped(StopCause::NoAccess(denied))),
     }
 }
 
 /// Stores the lowest bytes of a register from an address on.
 #[inline(always)]
 fn store(
-    slot: &mut Data,
+    slot: &mut SlotMemory,
     registers: &Registers,
     size: Size,
     rt: Register,
@@ -96,7 +96,7 @@ fn store(
     ensures image { slot.new.image ≡ slot.old.image }
 {
     let bytes = bytes_of(size);
-    let offset = located(slot, Access::Store, bytes, address)?;
+    let offset = located(slot, AccessKind::Store, bytes, address)?;
     match slot.keep(offset, bytes) {
         Ok(()) => {
             slot.put(size, offset, registers.x(rt));
@@ -109,7 +109,7 @@ fn store(
 /// The transfer of a single access, at an address.
 #[inline(always)]
 fn transfer(
-    slot: &mut Data,
+    slot: &mut SlotMemory,
     registers: &mut Registers,
     size: Size,
     transfer: Transfer,
@@ -127,7 +127,7 @@ fn transfer(
         Transfer::Store => store(slot, registers, size, rt, address),
         _ => {
             let bytes = bytes_of(size);
-            let offset = located(slot, Access::Load, bytes, address)?;
+            let offset = located(slot, AccessKind::Load, bytes, address)?;
             let value = slot.load(size, offset);
             let value = extended_load(size, transfer, value);
             registers.put(rt, data_width(size, transfer), value);
@@ -158,7 +158,7 @@ fn extended_index(extend: IndexExtend, held: u64) -> u64
 /// A single access at an address: its transfer, its new base, and the step to the next word.
 #[inline(always)]
 fn single(
-    slot: &mut Data,
+    slot: &mut SlotMemory,
     registers: &mut Registers,
     operand: Operand,
     address: u64,
@@ -205,7 +205,7 @@ fn unsigned_address(registers: &Registers, i: &UnsignedOffset) -> u64
 /// changed then.
 #[inline(always)]
 pub fn unsigned_offset(
-    slot: &mut Data,
+    slot: &mut SlotMemory,
     registers: &mut Registers,
     i: &UnsignedOffset,
 ) -> Result<(), Halt>
@@ -260,7 +260,7 @@ fn signed_base(registers: &Registers, i: &SignedOffset) -> Option<u64>
 /// As of [`unsigned_offset`].
 #[inline(always)]
 pub fn signed_offset(
-    slot: &mut Data,
+    slot: &mut SlotMemory,
     registers: &mut Registers,
     i: &SignedOffset,
 ) -> Result<(), Halt>
@@ -301,7 +301,7 @@ fn index_address(registers: &Registers, i: &RegisterOffset) -> u64
 /// As of [`unsigned_offset`].
 #[inline(always)]
 pub fn register_offset(
-    slot: &mut Data,
+    slot: &mut SlotMemory,
     registers: &mut Registers,
     i: &RegisterOffset,
 ) -> Result<(), Halt>
@@ -334,7 +334,7 @@ fn ordered_address(registers: &Registers, i: &Ordered) -> u64
 ///
 /// As of [`unsigned_offset`].
 #[inline(always)]
-pub fn ordered(slot: &mut Data, registers: &mut Registers, i: &Ordered) -> Result<(), Halt>
+pub fn ordered(slot: &mut SlotMemory, registers: &mut Registers, i: &Ordered) -> Result<(), Halt>
     requires image { IsImage slot.old.image }
     requires confined { access_move (Instruction.Ordered i.now) slot.old registers.old ≢ escape }
     ensures accesses { Accesses (Instruction.Ordered i.now) slot.old slot.new registers.old registers.new result }

@@ -18,22 +18,22 @@ use std::marker::Model;
 
 /// How bytes are accessed.
 #[derive(Clone, Copy, PartialEq, Eq)]
-pub(crate) enum Access {
+pub(crate) enum AccessKind {
     /// They are read.
     Load,
     /// They are written.
     Store,
 }
 
-impl Access {
+impl AccessKind {
     /// Whether it reads.
     #[inline(always)]
     fn is_load(self) -> bool
         ensures { result ≡ not (writes_by self) }
     {
         match self {
-            Access::Load => true,
-            Access::Store => false,
+            AccessKind::Load => true,
+            AccessKind::Store => false,
         }
     }
 }
@@ -89,7 +89,7 @@ pub(crate) fn bytes_of(size: Size) -> u32
 ///
 /// A contract sees it as the image and the bytes that were written.
 #[derive(Drop)]
-pub struct Data {
+pub struct SlotMemory {
     image: CompleteImage,
     memory: SparseMemory,
     base: u64,
@@ -97,7 +97,7 @@ pub struct Data {
     first: u64,
 }
 
-impl Model for Data {
+impl Model for SlotMemory {
     ghost use Rattle.std.specs.Prelude.{◌≡◌, length};
     ghost use Rattle.lfi_module.specs.Numbers.{base_of};
     ghost use Rattle.lfi_image.specs.Image.{IsImage};
@@ -111,20 +111,20 @@ impl Model for Data {
     ghost invariant = { λ d. IsImage d.image × (d.base ≡ base_of d.image.slot) × (d.first ≡ data_offset (length d.image.words)) };
 }
 
-impl Data {
+impl SlotMemory {
     /// The slot of an image, in which nothing is written yet.
     ///
     /// # Errors
     ///
     /// Where memory was refused.
-    pub fn new(alloc: Global, image: CompleteImage) -> Result<Data, MemoryRefused>
+    pub fn new(alloc: Global, image: CompleteImage) -> Result<SlotMemory, MemoryRefused>
         ensures image { IfOk result (λ d. d.image ≡ image) }
         ensures zero { IfOk result (λ d. (offset : ℕ) → byte_at d.kept offset ≡ 0) }
     {
         let memory = SparseMemory::new(alloc)?;
         let words = u64::from(image.words().number());
         let base = image.slot().base();
-        Ok(Data {
+        Ok(SlotMemory {
             image,
             memory,
             base,
@@ -149,7 +149,7 @@ impl Data {
     }
 
     /// Whether the byte at an address may be accessed so.
-    pub(crate) fn is_permitted(&self, access: Access, address: u64) -> bool
+    pub(crate) fn is_permitted(&self, access: AccessKind, address: u64) -> bool
         ensures { result ≡ is_permitted (writes_by access) (permission_at self.now.image address) }
     {
         if address < self.base {
@@ -181,7 +181,7 @@ impl Data {
     /// The least address of so many from one on whose byte may not be accessed so, looked for one by one.
     #[inline(never)]
     #[cold]
-    fn first_denied(&self, access: Access, bytes: u32, address: u64) -> Option<u64>
+    fn first_denied(&self, access: AccessKind, bytes: u32, address: u64) -> Option<u64>
         requires { address + bytes < 2 ^ 64 }
         ensures { result ≡ first_denied self.now.image (writes_by access) bytes address }
     {
@@ -196,7 +196,7 @@ impl Data {
 
     /// The least address of so many from one on whose byte may not be accessed so, if there is one.
     #[inline(always)]
-    pub(crate) fn denied(&self, access: Access, bytes: u32, address: u64) -> Option<u64>
+    pub(crate) fn denied(&self, access: AccessKind, bytes: u32, address: u64) -> Option<u64>
         requires few { bytes ≤ 16 }
         requires within { address + bytes < 2 ^ 64 }
         ensures { result ≡ first_denied self.now.image (writes_by access) bytes address }
@@ -214,7 +214,7 @@ impl Data {
     ///
     /// The least address of a byte that may not be accessed so.
     #[inline(always)]
-    pub(crate) fn locate(&self, access: Access, bytes: u32, address: u64) -> Result<u32, u64>
+    pub(crate) fn locate(&self, access: AccessKind, bytes: u32, address: u64) -> Result<u32, u64>
         requires some { 1 ≤ bytes }
         requires few { bytes ≤ 16 }
         requires within { address + bytes < 2 ^ 64 }
@@ -252,7 +252,7 @@ impl Data {
     pub fn read(&self, at: u64) -> Option<u8>
         ensures { SomeIff result (is_permitted false (permission_at self.now.image at) ≡ true) (memory self.now at) }
     {
-        if self.is_permitted(Access::Load, at) {
+        if self.is_permitted(AccessKind::Load, at) {
             Some(self.byte((at - self.base) as u32))
         } else {
             None
@@ -274,7 +274,7 @@ impl Data {
         ensures unchanged { OnErr result (SameBytes self.old.kept self.new.kept) }
         ensures only { KeepsOnly self.old.kept self.new.kept (at - base self.old.image) 1 }
     {
-        if !self.is_permitted(Access::Store, at) {
+        if !self.is_permitted(AccessKind::Store, at) {
             return Err(DataFault::NotWritable);
         }
         let offset = (at - self.base) as u32;

@@ -8,8 +8,8 @@ use Rattle.lfi_model.specs.declared.item.Reason.{Reason}
 use Rattle.lfi_model.specs.declared.item.Reason.TheVariants.{Close, PageFault}
 use Rattle.lfi_model.specs.declared.connection.Progress.{Progress}
 use Rattle.lfi_model.specs.declared.connection.Progress.TheVariants.{Unclaimed, Going, Ended}
-use Rattle.lfi_model.specs.declared.connection.Cause.{Cause}
-use Rattle.lfi_model.specs.declared.connection.Cause.TheVariants.{End as AtEnd, Failed, Starved}
+use Rattle.lfi_model.specs.declared.connection.EndCause.{EndCause}
+use Rattle.lfi_model.specs.declared.connection.EndCause.TheVariants.{End as AtEnd, Failed, Starved}
 use Rattle.lfi_frame.specs.Streams.{Message}
 use Rattle.lfi_frame.specs.Streams.{open_message, page_message, close_message}
 use Rattle.lfi_frame.specs.Streams.{Rest}
@@ -184,22 +184,22 @@ ends_stand m (Going n p) items (Some fault) g = going_on m n p items (End (reaso
 ends_stand m (Going n p) items None g = subst IsModule (sym (append-nil items)) g.numbered
 ends_stand m Ended items fault h = subst IsModule (sym (append-nil items)) h.numbered
 
-stands_at : (messages : List Message) (rest : List ℕ) (cause : Cause) (claimed : ℕ → Bool) (m : ℕ) → Stands (share_at messages rest cause claimed m).progress (share_at messages rest cause claimed m).items
+stands_at : (messages : List Message) (rest : List ℕ) (cause : EndCause) (claimed : ℕ → Bool) (m : ℕ) → Stands (share_at messages rest cause claimed m).progress (share_at messages rest cause claimed m).items
 stands_at messages rest cause claimed m =
     rest_stands m (fold (λ t message. after_message (claimed m) m t t.progress message) nothing_yet (filter (is_of m) messages)) (rest_of rest) (messages_stand (claimed m) m (filter (is_of m) messages) nothing_yet refl)
 
-pub items_numbered : (messages : List Message) (rest : List ℕ) (cause : Cause) (claimed : ℕ → Bool) (m : ℕ) → IsModule (items_of messages rest cause claimed m)
+pub items_numbered : (messages : List Message) (rest : List ℕ) (cause : EndCause) (claimed : ℕ → Bool) (m : ℕ) → IsModule (items_of messages rest cause claimed m)
 items_numbered messages rest cause claimed m =
     let s = share_at messages rest cause claimed m in
     ends_stand m s.progress s.items (connection_fault messages rest cause claimed) (stands_at messages rest cause claimed m)
 
 -- with a message or a module left open there is a fault
-by_cause : (cause : Cause) → (fault : FrameFault) × (fault_by_cause cause true ≡ Some fault)
+by_cause : (cause : EndCause) → (fault : FrameFault) × (fault_by_cause cause true ≡ Some fault)
 by_cause AtEnd = (fault_kind.Ended, refl)
 by_cause Failed = (fault_kind.ReadFailed, refl)
 by_cause Starved = (fault_kind.NoMemory, refl)
 
-fault_sure : (rest : Rest) (cause : Cause) → (fault : FrameFault) × (fault_of rest cause true ≡ Some fault)
+fault_sure : (rest : Rest) (cause : EndCause) → (fault : FrameFault) × (fault_of rest cause true ≡ Some fault)
 fault_sure short cause = by_cause cause
 fault_sure (faulty fault) cause = (fault, refl)
 fault_sure (unfinished m size index len) cause = by_cause cause
@@ -222,7 +222,7 @@ ends_sure m (Going n p) items fault g sure =
 ends_sure m Ended items fault h sure = inr (h.reason, ap end_of (append-nil items) ∙ h.ended)
 
 -- a connection that has ended has ended each of its modules
-pub items_end : (messages : List Message) (rest : List ℕ) (cause : Cause) (claimed : ℕ → Bool) (m : ℕ) → Member modules m →
+pub items_end : (messages : List Message) (rest : List ℕ) (cause : EndCause) (claimed : ℕ → Bool) (m : ℕ) → Member modules m →
     (items_of messages rest cause claimed m ≡ []) ⊎ ((reason : Reason) × (end_of (items_of messages rest cause claimed m) ≡ Some reason))
 items_end messages rest cause claimed m here =
     let s = share_at messages rest cause claimed m in

@@ -4,10 +4,10 @@ use Rattle.lfi_frame.specs.declared.fault.FrameFault.{FrameFault}
 use Rattle.lfi_module.specs.Numbers.{module_count}
 use Rattle.lfi_frame.proofs.Cuts.{only}
 use Rattle.lfi_model.specs.Item.{ItemView}
-use Rattle.lfi_model.specs.declared.connection.Cause.{Cause}
+use Rattle.lfi_model.specs.declared.connection.EndCause.{EndCause}
 use Rattle.lfi_model.specs.Items.{ItemsOf, items_of, connection_fault, strays_of}
 
-module _ (bytes : List ℕ) (cause : Cause) (claimed : ℕ → Bool) (items other : ℕ → List ItemView) (found last : Option FrameFault) (strays more : ℕ)
+module _ (bytes : List ℕ) (cause : EndCause) (claimed : ℕ → Bool) (items other : ℕ → List ItemView) (found last : Option FrameFault) (strays more : ℕ)
     (one : ItemsOf bytes cause claimed items found strays) (two : ItemsOf bytes cause claimed other last more) where
   messages_same : one.messages ≡ two.messages
   messages_same = (only bytes one.messages two.messages one.rest two.rest one.cut two.cut).0

@@ -11,8 +11,8 @@ use Rattle.lfi_model.specs.Item.{ItemView, KindView}
 use Rattle.lfi_model.specs.declared.item.ItemKind.TheVariants.{Open, Page, End}
 use Rattle.lfi_model.specs.declared.item.Reason.{Reason}
 use Rattle.lfi_model.specs.declared.item.Reason.TheVariants.{Close, Lost, PageFault, NoMemory}
-use Rattle.lfi_model.specs.declared.connection.Cause.{Cause}
-use Rattle.lfi_model.specs.declared.connection.Cause.TheVariants as cause
+use Rattle.lfi_model.specs.declared.connection.EndCause.{EndCause}
+use Rattle.lfi_model.specs.declared.connection.EndCause.TheVariants as cause
 use Rattle.lfi_model.specs.declared.connection.Progress.{Progress}
 use Rattle.lfi_model.specs.declared.connection.Progress.TheVariants.{Unclaimed, Going, Ended}
 
@@ -82,13 +82,13 @@ is_going (Going extent p) = true
 is_going progress = false
 
 -- the connection's fault: that of the rest's header, or else by what ended the input, where `inside` tells of a message or a module that is left open
-abbrev pub fault_by_cause : Cause → Bool → Option FrameFault
+abbrev pub fault_by_cause : EndCause → Bool → Option FrameFault
 fault_by_cause cause.End inside = if inside then Some fault.Ended else None
 fault_by_cause cause.Failed inside = Some fault.ReadFailed
 fault_by_cause cause.Starved inside = Some fault.NoMemory
 
 -- the connection's fault: the rest's own, else that of what ended the input
-abbrev pub fault_of : Rest → Cause → Bool → Option FrameFault
+abbrev pub fault_of : Rest → EndCause → Bool → Option FrameFault
 fault_of (faulty found) cause inside = Some found
 fault_of rest cause inside = fault_by_cause cause inside
 
@@ -106,7 +106,7 @@ abbrev pub modules : List ℕ
 modules = 0 ∷ 1 ∷ 2 ∷ 3 ∷ 4 ∷ 5 ∷ 6 ∷ 7 ∷ 8 ∷ 9 ∷ 10 ∷ 11 ∷ 12 ∷ 13 ∷ 14 ∷ 15 ∷ []
 
 -- A connection whose text is these messages and this rest, whose input ended so, and for which these modules were claimed:
-module _ (messages : List Message) (rest : List ℕ) (cause : Cause) (claimed : ℕ → Bool) where
+module _ (messages : List Message) (rest : List ℕ) (cause : EndCause) (claimed : ℕ → Bool) where
   abbrev pub share_at : ℕ → Share
   share_at m = share_of (claimed m) m messages (rest_of rest)
 
@@ -127,7 +127,7 @@ module _ (messages : List Message) (rest : List ℕ) (cause : Cause) (claimed : 
   strays_of = sum_by (λ m. (share_at m).strays) modules
 
 -- What a connection's whole text makes: the items of each module, the connection's fault, and its strays.
-pub record ItemsOf (bytes : List ℕ) (cause : Cause) (claimed : ℕ → Bool) (items : ℕ → List ItemView) (found : Option FrameFault) (strays : ℕ) : Type 0 where
+pub record ItemsOf (bytes : List ℕ) (cause : EndCause) (claimed : ℕ → Bool) (items : ℕ → List ItemView) (found : Option FrameFault) (strays : ℕ) : Type 0 where
   pub messages : List Message
   pub rest : List ℕ
   pub cut : Cut bytes messages rest

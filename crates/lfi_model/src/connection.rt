@@ -4,7 +4,7 @@ use lfi_module::Extent;
 
 /// What ended the input of a connection.
 #[derive(Clone, Copy, PartialEq, Eq)]
-pub enum Cause {
+pub enum EndCause {
     /// The input ended, or came to a header with a fault.
     End,
     /// A read failed.

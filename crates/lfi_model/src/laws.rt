@@ -11,7 +11,7 @@ ghost use Rattle.lfi_module.specs.Extents.{ExtentView};
 ghost use Rattle.lfi_rules.specs.declared.fault.Fault.{Fault};
 ghost use Rattle.lfi_rules.specs.Faults.{FirstFault};
 ghost use Rattle.lfi_rules.specs.Verdicts.{all_words};
-ghost use Rattle.lfi_model.specs.declared.connection.Cause.{Cause};
+ghost use Rattle.lfi_model.specs.declared.connection.EndCause.{EndCause};
 ghost use Rattle.lfi_model.specs.Items.{ItemsOf, items_of, modules, share_of, after_message, is_of};
 ghost use Rattle.lfi_model.specs.Modules.{Member, IsModule};
 ghost use Rattle.lfi_model.specs.Outcomes.{end_of, Load, Placed};
@@ -19,8 +19,8 @@ ghost use Rattle.lfi_model.specs.Outcomes.{end_of, Load, Placed};
 /// The items that a connection makes of a module are numbered in order, and nothing follows their
 /// End. Where there are any, there is an End.
 pub fn items_are_a_module()
-    ensures numbered { (messages : List Message) (rest : List ℕ) (cause : Cause) (claimed : ℕ → Bool) (m : ℕ) → IsModule (items_of messages rest cause claimed m) }
-    ensures ended { (messages : List Message) (rest : List ℕ) (cause : Cause) (claimed : ℕ → Bool) (m : ℕ) → Member modules m →
+    ensures numbered { (messages : List Message) (rest : List ℕ) (cause : EndCause) (claimed : ℕ → Bool) (m : ℕ) → IsModule (items_of messages rest cause claimed m) }
+    ensures ended { (messages : List Message) (rest : List ℕ) (cause : EndCause) (claimed : ℕ → Bool) (m : ℕ) → Member modules m →
         (items_of messages rest cause claimed m ≡ []) ⊎ ((reason : Reason) × (end_of (items_of messages rest cause claimed m) ≡ Some reason)) }
 {}
 
@@ -39,11 +39,11 @@ pub fn one_more_message()
 
 /// A text makes one list of items of each module, one fault and one number of strays.
 pub fn one_items()
-    ensures items { (bytes : List ℕ) (cause : Cause) (claimed : ℕ → Bool) (items other : ℕ → List ItemView) (found last : Option FrameFault) (strays more : ℕ) →
+    ensures items { (bytes : List ℕ) (cause : EndCause) (claimed : ℕ → Bool) (items other : ℕ → List ItemView) (found last : Option FrameFault) (strays more : ℕ) →
         ItemsOf bytes cause claimed items found strays → ItemsOf bytes cause claimed other last more → (m : ℕ) → m < module_count → items m ≡ other m }
-    ensures fault { (bytes : List ℕ) (cause : Cause) (claimed : ℕ → Bool) (items other : ℕ → List ItemView) (found last : Option FrameFault) (strays more : ℕ) →
+    ensures fault { (bytes : List ℕ) (cause : EndCause) (claimed : ℕ → Bool) (items other : ℕ → List ItemView) (found last : Option FrameFault) (strays more : ℕ) →
         ItemsOf bytes cause claimed items found strays → ItemsOf bytes cause claimed other last more → found ≡ last }
-    ensures strays { (bytes : List ℕ) (cause : Cause) (claimed : ℕ → Bool) (items other : ℕ → List ItemView) (found last : Option FrameFault) (strays more : ℕ) →
+    ensures strays { (bytes : List ℕ) (cause : EndCause) (claimed : ℕ → Bool) (items other : ℕ → List ItemView) (found last : Option FrameFault) (strays more : ℕ) →
         ItemsOf bytes cause claimed items found strays → ItemsOf bytes cause claimed other last more → strays ≡ more }
 {}
 

@@ -33,7 +33,7 @@ mod laws;
 mod outcome;
 mod summary;
 
-pub use connection::{Cause, Progress};
+pub use connection::{EndCause, Progress};
 pub use item::{Item, ItemKind, NumberedItem, PageBody, Reason};
 pub use judged::Judged;
 pub use laws::{items_are_a_module, longest_beginning, one_items, one_load, one_more_message};

@@ -10,7 +10,7 @@ use Rattle.lfi_module.specs.Pages.{page_count}
 use Rattle.lfi_frame.specs.declared.fault.FrameFault.TheVariants as fault
 use Rattle.lfi_frame.specs.Streams.{Message, Cut, IsMessage, spelling, short, whole}
 use Rattle.lfi_model.specs.Item.{ItemView}
-use Rattle.lfi_model.specs.declared.connection.Cause.TheVariants.{End}
+use Rattle.lfi_model.specs.declared.connection.EndCause.TheVariants.{End}
 use Rattle.lfi_model.specs.declared.connection.Progress.TheVariants.{Ended}
 use Rattle.lfi_model.specs.Items.{Share, ItemsOf, nothing_yet, after_message, is_of, is_going, share_at, is_inside, connection_fault, items_of, ends_of, modules}
 use Rattle.lfi_model.specs.Modules.{Member}

@@ -11,7 +11,7 @@ use Rattle.lfi_module.specs.Pages.{page_count, bytes_in_page}
 use Rattle.lfi_frame.specs.Feeds.{page_header}
 use Rattle.lfi_frame.specs.Streams.{page_message, open_message, close_message, header_bytes, spelling, IsMessage}
 use Rattle.lfi_pack.specs.declared.fault.PackFault.{PackFault}
-use Rattle.in_full.specs.Beginnings.{AppendsBeginning}
+use Rattle.exact_io.specs.Beginnings.{AppendsBeginning}
 use Rattle.lfi_pack.specs.Packs.{AreFirst, joined, numbered, PacksPart}
 use Rattle.lfi_pack.specs.inner.Copies.{CopiesFirst, CopiesPages, BeginsPage, BeginsPages}
 use Rattle.lfi_pack.proofs.Pages.{page_added, numbered_snoc}

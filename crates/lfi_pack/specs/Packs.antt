@@ -3,7 +3,7 @@ use Rattle.std.specs.Prelude.{◌≡◌, ℕ, ◌+◌, List, [], ◌∷◌, ◌+
 use Rattle.std.specs.Io.KnownBytes.{Consumes, Appends, IsAtEnd}
 use Rattle.lfi_module.specs.Extents.{ExtentView}
 use Rattle.lfi_module.specs.Pages.{page_count, bytes_in_page}
-use Rattle.in_full.specs.Beginnings.{AppendsBeginning}
+use Rattle.exact_io.specs.Beginnings.{AppendsBeginning}
 use Rattle.lfi_frame.specs.Streams.{Message, open_message, page_message, close_message, Cut}
 
 -- the bytes of pages, one after another

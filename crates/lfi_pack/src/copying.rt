@@ -5,11 +5,11 @@ ghost use Rattle.std.specs.Io.KnownBytes.{Consumes, Appends, IsAtEnd};
 ghost use Rattle.std.specs.declared.io.ErrorKind.{ErrorKind};
 ghost use Rattle.lfi_pack.specs.declared.fault.PackFault.TheVariants.{WriteFailed};
 ghost use Rattle.lfi_pack.specs.Faults.{IsPackFault};
-ghost use Rattle.in_full.specs.Beginnings.{AppendsBeginning};
+ghost use Rattle.exact_io.specs.Beginnings.{AppendsBeginning};
 ghost use Rattle.lfi_pack.specs.inner.Copies.{IsShort};
 
 use crate::fault::PackFault;
-use in_full::{fill, write_in_full};
+use exact_io::{fill, write_in_full};
 use std::io::{Read, Write};
 
 /// Fills the buffer.

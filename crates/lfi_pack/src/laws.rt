@@ -2,7 +2,7 @@
 
 ghost use Rattle.std.specs.Prelude.{◌≡◌, ℕ, Bool, List, [], None};
 ghost use Rattle.lfi_model.specs.Item.{ItemView};
-ghost use Rattle.lfi_model.specs.declared.connection.Cause.TheVariants.{End};
+ghost use Rattle.lfi_model.specs.declared.connection.EndCause.TheVariants.{End};
 ghost use Rattle.lfi_module.specs.declared.profile.Profile.{Profile};
 ghost use Rattle.lfi_model.specs.Items.{ItemsOf};
 ghost use Rattle.lfi_model.specs.Modules.{Member};

@@ -12,7 +12,7 @@ ghost use Rattle.lfi_receive.specs.declared.receiver.ReceiverTurn.TheVariants as
 use crate::input::{Filled, Input};
 use crate::receiver::{Receiver, ReceiverTurn};
 use lfi_board::Board;
-use lfi_model::{Cause, Item};
+use lfi_model::{EndCause, Item};
 use lfi_queues::Intake;
 use std::io::Read;
 
@@ -24,8 +24,8 @@ impl Receiver {
     {
         match filled {
             Filled::Bytes => {}
-            Filled::End => self.end_by(Cause::End),
-            Filled::Failed => self.end_by(Cause::Failed),
+            Filled::End => self.end_by(EndCause::End),
+            Filled::Failed => self.end_by(EndCause::Failed),
         }
     }
 

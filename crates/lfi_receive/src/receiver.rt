@@ -22,7 +22,7 @@ use crate::start::MessageStart;
 use lfi_board::{Board, Phase, ReceiverSeat};
 use lfi_connection::{DuePage, Event, advance, fault_at_end, lose_next};
 use lfi_frame::{Feed, FrameFault, Got, HEADER_BYTES, Step};
-use lfi_model::{Cause, Item, ItemKind, Reason};
+use lfi_model::{EndCause, Item, ItemKind, Reason};
 use lfi_module::{Extent, ModuleNumber};
 use lfi_queues::{Intake, PutPass};
 use page_buf::PoolMember;
@@ -66,7 +66,7 @@ pub struct Receiver {
     page: Option<ComingPage>,
     /// The item that is to be put next.
     hand: Option<Item>,
-    cause: Option<Cause>,
+    cause: Option<EndCause>,
     fault: Option<FrameFault>,
     strays: u64,
     /// How many bytes have come, modulo 2^64.
@@ -82,7 +82,7 @@ impl Receiver {
     ghost use Rattle.lfi_receive.specs.inner.Steps.{bytes_before, is_stray, Begins, Keeps};
     ghost use Rattle.lfi_receive.specs.declared.receiver.Parsed.TheVariants as parsed;
     ghost use Rattle.lfi_receive.specs.inner.Pages.{coming_of, Fits};
-    ghost use Rattle.lfi_model.specs.declared.connection.Cause.TheVariants as cause_kind;
+    ghost use Rattle.lfi_model.specs.declared.connection.EndCause.TheVariants as cause_kind;
     ghost use Rattle.lfi_receive.specs.Receivers.{pass_of, seat_of, member_of, start_of, claimed_by, cause_of, hand_of, fault_of, strays_at, cause_told, cause_with, StandsFor, IsOver, IsFinished, due_of, EndsLeast, AfterEnd};
 
     /// A receiver of which no byte has come, with its pass of the intake and its seat at the board,
@@ -137,7 +137,7 @@ impl Receiver {
             header: self.feed.header(),
         };
         self.fault = Some(fault);
-        self.cause = Some(Cause::End);
+        self.cause = Some(EndCause::End);
     }
 
     /// Puts what is in hand, or keeps it there where the intake refuses it.
@@ -213,7 +213,7 @@ impl Receiver {
                 self.feed.stop(FrameFault::NoMemory);
                 self.start.byte = self.came.wrapping_sub(HEADER_BYTES as u64);
                 self.fault = Some(FrameFault::NoMemory);
-                self.cause = Some(Cause::Starved);
+                self.cause = Some(EndCause::Starved);
             }
         }
     }
@@ -465,14 +465,14 @@ impl Receiver {
             return;
         }
         if failed {
-            self.end_by(Cause::Failed);
+            self.end_by(EndCause::Failed);
         } else {
-            self.end_by(Cause::End);
+            self.end_by(EndCause::End);
         }
     }
 
     /// The input is over, for this cause.
-    pub(crate) fn end_by(&mut self, cause: Cause)
+    pub(crate) fn end_by(&mut self, cause: EndCause)
         requires running { cause_of self.old ≡ None }
         ensures stands { (bytes : List ℕ) → StandsFor self.old bytes → StandsFor self.new bytes }
         ensures ended { cause_of self.new ≡ Some cause }
@@ -491,13 +491,6 @@ impl Receiver {
         ensures { result ≡ (is_some (hand_of self.now) || is_some (cause_of self.now)) }
     {
         self.hand.is_some() || self.cause.is_some()
-    }
-
-    /// Whether its input has ended, or come to a fault.
-    pub fn is_over(&self) -> bool
-        ensures { result ≡ is_some (cause_of self.now) }
-    {
-        self.cause.is_some()
     }
 
     /// The connection's fault, once it has come to one.

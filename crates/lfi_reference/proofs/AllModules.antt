@@ -7,7 +7,7 @@ use Rattle.std.proofs.lemmas.List.Folds.{list_any-append}
 use Rattle.std.proofs.lemmas.List.Sums.{sum_by-append, sum_by-cons}
 use Rattle.lfi_frame.specs.declared.fault.FrameFault.{FrameFault}
 use Rattle.lfi_frame.specs.Streams.{Message, Rest, rest_of}
-use Rattle.lfi_model.specs.declared.connection.Cause.{Cause}
+use Rattle.lfi_model.specs.declared.connection.EndCause.{EndCause}
 use Rattle.lfi_model.specs.Items.{is_going, modules, fault_of, connection_fault, items_of}
 use Rattle.lfi_reference.specs.Connections.{claims, share_in, items_in}
 
@@ -72,14 +72,14 @@ pub or_second : (b c d : Bool) → b ≡ false → d ≡ c → d ≡ (b || c)
 or_second b c d e f = f ∙ ap (λ x. x || c) (sym e)
 
 -- the connection's fault, by what the summary of its modules says
-pub fault_is : (messages : List Message) (rest : List ℕ) (cause : Cause) (claimed : List Bool) (how : Rest) (going inside : Bool) → how ≡ rest_of rest →
+pub fault_is : (messages : List Message) (rest : List ℕ) (cause : EndCause) (claimed : List Bool) (how : Rest) (going inside : Bool) → how ≡ rest_of rest →
     going ≡ list_any (λ m. is_going (share_in claimed messages how m).progress) modules → inside ≡ (not (length rest == 0) || going) →
     fault_of how cause inside ≡ connection_fault messages rest cause (claims claimed)
 fault_is messages rest cause claimed how going inside is_how is_going_too is_inside =
     ap (λ b. fault_of how cause b) (is_inside ∙ ap (λ g. not (length rest == 0) || g) is_going_too)
     ∙ ap (λ r. fault_of r cause (not (length rest == 0) || list_any (λ m. is_going (share_in claimed messages r m).progress) modules)) is_how
 
-pub items_are : (messages : List Message) (rest : List ℕ) (cause : Cause) (claimed : List Bool) (how : Rest) (found : Option FrameFault) (m : ℕ) → how ≡ rest_of rest →
+pub items_are : (messages : List Message) (rest : List ℕ) (cause : EndCause) (claimed : List Bool) (how : Rest) (found : Option FrameFault) (m : ℕ) → how ≡ rest_of rest →
     found ≡ connection_fault messages rest cause (claims claimed) → items_in claimed messages how found m ≡ items_of messages rest cause (claims claimed) m
 items_are messages rest cause claimed how found m is_how is_found =
     ap (λ r. items_in claimed messages r found m) is_how ∙ ap (λ f. items_in claimed messages (rest_of rest) f m) is_found

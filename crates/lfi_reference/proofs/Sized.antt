@@ -14,7 +14,7 @@ use Rattle.lfi_model.specs.declared.item.ItemKind.TheVariants.{Open, Page, End}
 use Rattle.lfi_model.specs.declared.item.Reason.{Reason}
 use Rattle.lfi_model.specs.declared.item.Reason.TheVariants.{Close, PageFault}
 use Rattle.lfi_rules.specs.Verdicts.{all_words}
-use Rattle.lfi_model.specs.declared.connection.Cause.{Cause}
+use Rattle.lfi_model.specs.declared.connection.EndCause.{EndCause}
 use Rattle.lfi_model.specs.declared.connection.Progress.{Progress}
 use Rattle.lfi_model.specs.declared.connection.Progress.TheVariants.{Unclaimed, Going, Ended}
 use Rattle.lfi_model.specs.Items.{Share, nothing_yet, with_stray, with_item, item_of, after_page, after_message, after_header, after_rest, is_of, ends_of, reason_of, items_of, share_at, connection_fault}
@@ -218,7 +218,7 @@ ends_sized m (Going n p) items None g = subst IsSized (sym (append-nil items)) (
 ends_sized m Ended items found h = subst IsSized (sym (append-nil items)) (sized items h.0 h.1 h.2)
 
 -- what a connection makes of a module is of a module's size
-pub items_sized : (messages : List Message) (rest : List ℕ) (cause : Cause) (claimed : ℕ → Bool) (m : ℕ) → All IsMessage messages → IsSized (items_of messages rest cause claimed m)
+pub items_sized : (messages : List Message) (rest : List ℕ) (cause : EndCause) (claimed : ℕ → Bool) (m : ℕ) → All IsMessage messages → IsSized (items_of messages rest cause claimed m)
 items_sized messages rest cause claimed m all =
     let s = share_at messages rest cause claimed m in
     ends_sized m s.progress s.items (connection_fault messages rest cause claimed)

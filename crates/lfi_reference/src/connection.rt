@@ -12,7 +12,7 @@ use crate::message::{PlainMessage, cut};
 use crate::rest::{PlainRest, rest_at};
 use crate::share::{PlainItem, share};
 use lfi_frame::FrameFault;
-use lfi_model::Cause;
+use lfi_model::EndCause;
 use lfi_module::ModuleNumber;
 use std::alloc::{AllocError, Global};
 
@@ -29,15 +29,15 @@ pub struct Connection {
 
 /// The fault of a connection: that of the rest's header, or else by what ended the input, where
 /// `inside` tells of a message or a module that is left open.
-pub fn fault_of(rest: PlainRest, cause: Cause, inside: bool) -> Option<FrameFault>
+pub fn fault_of(rest: PlainRest, cause: EndCause, inside: bool) -> Option<FrameFault>
     ensures { result ≡ fault_of (rest_by rest) cause inside }
 {
     match (rest, cause) {
         (PlainRest::Faulty(fault), _) => Some(fault),
-        (_, Cause::End) if inside => Some(FrameFault::Ended),
-        (_, Cause::End) => None,
-        (_, Cause::Failed) => Some(FrameFault::ReadFailed),
-        (_, Cause::Starved) => Some(FrameFault::NoMemory),
+        (_, EndCause::End) if inside => Some(FrameFault::Ended),
+        (_, EndCause::End) => None,
+        (_, EndCause::Failed) => Some(FrameFault::ReadFailed),
+        (_, EndCause::Starved) => Some(FrameFault::NoMemory),
     }
 }
 
@@ -99,7 +99,7 @@ pub fn all_items(
 pub fn connection_of(
     alloc: Global,
     bytes: &[u8],
-    cause: Cause,
+    cause: EndCause,
     claimed: &[bool; ModuleNumber::COUNT],
 ) -> Result<Connection, AllocError>
     ensures items { IfOk result (λ made. ItemsOf bytes.now cause (claims claimed.now)

@@ -11,7 +11,7 @@ use crate::load::{Loaded, load_module};
 use crate::message::PlainExtent;
 use crate::share::PlainItem;
 use lfi_frame::FrameFault;
-use lfi_model::{Cause, Outcome, Summary};
+use lfi_model::{EndCause, Outcome, Summary};
 use lfi_module::{CONNECTIONS, ModuleNumber, Profile};
 use std::alloc::{AllocError, Global};
 
@@ -19,7 +19,7 @@ use std::alloc::{AllocError, Global};
 #[derive(Drop)]
 pub struct PlainStream {
     pub bytes: Vec<u8>,
-    pub cause: Cause,
+    pub cause: EndCause,
     pub claimed: [bool; ModuleNumber::COUNT],
 }
 

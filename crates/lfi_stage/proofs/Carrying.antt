@@ -9,12 +9,12 @@ use Rattle.lfi_model.specs.Item.{ItemView}
 use Rattle.lfi_queues.specs.Kept.{with_last}
 use Rattle.lfi_queues.specs.Passes.{QueueId, PassView, items_at, AreAllPasses, after_rest, with_first}
 use Rattle.lfi_queues.proofs.Rest.{first_taken, other_taken}
-use Rattle.lfi_place.specs.Delivers.{Carries, with_last_in, with_held}
-use Rattle.lfi_place.proofs.Carrying.{hand_carried, rest_taken}
-use Rattle.lfi_place.specs.declared.sequence.Sequence.{Sequence}
-use Rattle.lfi_place.proofs.Steps.{at_least, below}
+use Rattle.lfi_sequence.specs.Delivers.{Carries, with_last_in, with_held}
+use Rattle.lfi_sequence.proofs.Carrying.{hand_carried, rest_taken}
+use Rattle.lfi_sequence.specs.declared.sequence.Sequence.{Sequence}
+use Rattle.lfi_sequence.proofs.Steps.{at_least, below}
 use Rattle.lfi_stage.specs.Settled.{HasHandled, HaveHandled, SettlesBut, Settles}
-use Rattle.lfi_place.specs.Sequenced.{Sequenced}
+use Rattle.lfi_sequence.specs.Sequenced.{Sequenced}
 use Rattle.lfi_stage.specs.inner.Rows.{held_by, HasMore}
 
 handled_as : (sequences : List (Option Sequence)) (f g : ℕ → List ItemView) → ((m : ℕ) → f m ≡ g m) → HaveHandled sequences f → HaveHandled sequences g

@@ -9,14 +9,14 @@ use Rattle.lfi_module.specs.Numbers.{module_count}
 use Rattle.lfi_model.specs.Item.{ItemView}
 use Rattle.lfi_queues.specs.Kept.{Kept}
 use Rattle.lfi_queues.specs.Passes.{QueueId, PassView, IsPass, IsSamePass, pass_at, AreAllPasses, items_at}
-use Rattle.lfi_place.specs.Hands.{Hands}
-use Rattle.lfi_place.specs.declared.verifier.Verifier.{Verifier}
-use Rattle.lfi_place.specs.declared.sequence.Sequence.{Sequence}
-use Rattle.lfi_place.specs.declared.sequencer.Sequencer.{Sequencer}
-use Rattle.lfi_place.specs.Handed.{take_pass_of, lane_puts_of, hand_of, SameLanes}
-use Rattle.lfi_place.specs.Lanes.{new_row}
-use Rattle.lfi_parts.specs.Workers.{AreWorkers, IsVerifier}
-use Rattle.lfi_parts.proofs.Kept.{row_pass}
+use Rattle.lfi_sequence.specs.Hands.{Hands}
+use Rattle.lfi_sequence.specs.declared.verifier.Verifier.{Verifier}
+use Rattle.lfi_sequence.specs.declared.sequence.Sequence.{Sequence}
+use Rattle.lfi_sequence.specs.declared.sequencer.Sequencer.{Sequencer}
+use Rattle.lfi_sequence.specs.Handed.{take_pass_of, lane_puts_of, hand_of, SameLanes}
+use Rattle.lfi_sequence.specs.Lanes.{new_row}
+use Rattle.lfi_stage_model.specs.Workers.{AreWorkers, IsVerifier}
+use Rattle.lfi_stage_model.proofs.Kept.{row_pass}
 use Rattle.lfi_stage.specs.Settled.{HasHandled, SettlesBut}
 use Rattle.lfi_stage.specs.inner.Rows.{row_of, lane_items, held_by, only_first, DrainedTo, AreApart, AreRowsOf}
 

@@ -7,8 +7,8 @@ use Rattle.std.proofs.Math.Seq.{take-suc}
 use Rattle.lfi_model.specs.Item.{ItemView}
 use Rattle.lfi_queues.specs.Kept.{Kept}
 use Rattle.lfi_queues.specs.Passes.{PassView, pass_at, items_at}
-use Rattle.lfi_place.specs.declared.sequence.Sequence.{Sequence}
-use Rattle.lfi_place.specs.declared.sequencer.Sequencer.{Sequencer}
+use Rattle.lfi_sequence.specs.declared.sequence.Sequence.{Sequence}
+use Rattle.lfi_sequence.specs.declared.sequencer.Sequencer.{Sequencer}
 use Rattle.lfi_stage.specs.inner.Rows.{Popped, last_of, only_first, DrainedTo}
 
 last_pushed : (xs : List (PassView ItemView)) (x : PassView ItemView) → last_of (xs ++ x ∷ []) ≡ Some x

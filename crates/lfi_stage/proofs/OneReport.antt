@@ -6,14 +6,14 @@ use Rattle.lfi_model.specs.Outcomes.{Load}
 use Rattle.lfi_model.specs.declared.outcome.Outcome.{Outcome}
 use Rattle.lfi_model.proofs.OneText.{same_items, same_fault, same_strays}
 use Rattle.lfi_model.proofs.OneOutcome.{one_outcome}
-use Rattle.lfi_place.specs.Placed.{extent_at}
-use Rattle.lfi_place.specs.Tells.{Tells}
-use Rattle.lfi_place.specs.declared.report.ModuleReport.{ModuleReport}
-use Rattle.lfi_model.specs.declared.connection.Cause.{Cause}
+use Rattle.lfi_sequence.specs.Placed.{extent_at}
+use Rattle.lfi_sequence.specs.Tells.{Tells}
+use Rattle.lfi_sequence.specs.declared.report.ModuleReport.{ModuleReport}
+use Rattle.lfi_model.specs.declared.connection.EndCause.{EndCause}
 use Rattle.lfi_stage.specs.declared.settlement.Report.{Report}
 use Rattle.lfi_receive.specs.declared.start.MessageStart.{MessageStart}
 use Rattle.lfi_stage.specs.Reports.{Reports, IsClaimer}
-use Rattle.lfi_parts.proofs.Each.{some_same}
+use Rattle.lfi_stage_model.proofs.Each.{some_same}
 
 -- a connection that claimed the module, or that none did
 abbrev Claimer : ℕ → (ℕ → ℕ → Bool) → ℕ → Type 0
@@ -49,7 +49,7 @@ same_numbers (x ∷ xs) (y ∷ ys) long same =
     let first : x ≡ y = same 0 (omega arith) in
     let later : xs ≡ ys = same_numbers xs ys (omega (arith, long)) (λ c within. same (suc c) (omega (arith, within))) in cc
 
-module _ (connections : ℕ) (texts : ℕ → List ℕ) (causes : ℕ → Cause) (claims : ℕ → ℕ → Bool) (one other : Report) (a : Reports connections texts causes claims one) (b : Reports connections texts causes claims other) where
+module _ (connections : ℕ) (texts : ℕ → List ℕ) (causes : ℕ → EndCause) (claims : ℕ → ℕ → Bool) (one other : Report) (a : Reports connections texts causes claims one) (b : Reports connections texts causes claims other) where
   items_same : (m c : ℕ) → m < module_count → c < connections → a.items c m ≡ b.items c m
   items_same m c in_range within =
       same_items (texts c) (causes c) (claims c) (a.items c) (b.items c) (get_or one.faults c None) (get_or other.faults c None) (slice_index a.strays c) (slice_index b.strays c) (a.made c within) (b.made c within) m in_range

@@ -8,15 +8,15 @@ use Rattle.lfi_frame.specs.declared.fault.FrameFault.{FrameFault}
 use Rattle.lfi_model.specs.Item.{ItemView}
 use Rattle.lfi_model.specs.Items.{ItemsOf, modules}
 use Rattle.lfi_model.specs.Modules.{Member}
-use Rattle.lfi_model.specs.declared.connection.Cause.{Cause}
+use Rattle.lfi_model.specs.declared.connection.EndCause.{EndCause}
 use Rattle.lfi_model.proofs.Numbered.{items_end, nothing_before}
 use Rattle.lfi_queues.specs.Kept.{Kept}
-use Rattle.lfi_place.specs.Come.{Come}
-use Rattle.lfi_place.specs.Delivers.{Delivers, AreApart, Makes}
-use Rattle.lfi_place.proofs.Made.{made_come, nothing_made}
-use Rattle.lfi_place.specs.declared.sequence.Sequence.{Sequence}
-use Rattle.lfi_place.specs.declared.report.ModuleReport.{ModuleReport}
-use Rattle.lfi_place.specs.Tells.{Tells, HasEnd}
+use Rattle.lfi_sequence.specs.Come.{Come}
+use Rattle.lfi_sequence.specs.Delivers.{Delivers, AreApart, Makes}
+use Rattle.lfi_sequence.proofs.Made.{made_come, nothing_made}
+use Rattle.lfi_sequence.specs.declared.sequence.Sequence.{Sequence}
+use Rattle.lfi_sequence.specs.declared.report.ModuleReport.{ModuleReport}
+use Rattle.lfi_sequence.specs.Tells.{Tells, HasEnd}
 use Rattle.lfi_stage.specs.Settled.{HasHandled, Settles, AreReportsOf}
 
 from : ℕ → ℕ → List ℕ
@@ -38,7 +38,7 @@ in_modules m in_range = in_from 0 16 m (omega arith) (omega arith)
 none_come : Come [] []
 none_come = record { each = λ before after x e. absurd (nothing_before before after x e); stops = λ x comes. none-some x comes.first }
 
-module _ (count : ℕ) (puts takes : ℕ → List ItemView) (sequences : List (Option Sequence)) (texts : ℕ → List ℕ) (causes : ℕ → Cause) (claimed : ℕ → ℕ → Bool) (items : ℕ → ℕ → List ItemView) (faults : ℕ → Option FrameFault) (strays : ℕ → ℕ) (kept : Kept puts takes []) (settles : Settles takes sequences)
+module _ (count : ℕ) (puts takes : ℕ → List ItemView) (sequences : List (Option Sequence)) (texts : ℕ → List ℕ) (causes : ℕ → EndCause) (claimed : ℕ → ℕ → Bool) (items : ℕ → ℕ → List ItemView) (faults : ℕ → Option FrameFault) (strays : ℕ → ℕ) (kept : Kept puts takes []) (settles : Settles takes sequences)
     (makes : Makes count puts texts causes claimed items faults strays) (m : ℕ) (in_range : m < module_count) where
   all : Delivers puts takes settles.lane_puts settles.lane_takes
   all = record { intake = kept; carried = settles.carries }

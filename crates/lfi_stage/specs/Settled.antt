@@ -2,12 +2,12 @@
 use Rattle.std.specs.Prelude.{◌≡◌, ℕ, ◌<◌, List, Option, Some, None, get_or, slice_get}
 use Rattle.lfi_module.specs.Numbers.{module_count}
 use Rattle.lfi_model.specs.Item.{ItemView}
-use Rattle.lfi_place.specs.Come.{Come}
-use Rattle.lfi_place.specs.Delivers.{Carries}
-use Rattle.lfi_place.specs.declared.sequence.Sequence.{Sequence}
-use Rattle.lfi_place.specs.declared.report.ModuleReport.{ModuleReport}
-use Rattle.lfi_place.specs.Sequenced.{Sequenced, module_number_of}
-use Rattle.lfi_place.specs.Tells.{Tells, HasEnd}
+use Rattle.lfi_sequence.specs.Come.{Come}
+use Rattle.lfi_sequence.specs.Delivers.{Carries}
+use Rattle.lfi_sequence.specs.declared.sequence.Sequence.{Sequence}
+use Rattle.lfi_sequence.specs.declared.report.ModuleReport.{ModuleReport}
+use Rattle.lfi_sequence.specs.Sequenced.{Sequenced, module_number_of}
+use Rattle.lfi_sequence.specs.Tells.{Tells, HasEnd}
 
 -- The sequence at place m is that of module m, and it has placed all of these items that have come.
 pub record HasHandled (sequences : List (Option Sequence)) (m : ℕ) (taken : List ItemView) : Type 0 where

@@ -4,7 +4,7 @@ ghost use Rattle.std.specs.Prelude.{◌≡◌, ℕ, List, []};
 ghost use Rattle.lfi_model.specs.Item.{ItemView};
 ghost use Rattle.lfi_queues.specs.Kept.{Kept};
 ghost use Rattle.lfi_queues.specs.Passes.{AreAllPasses, items_at};
-ghost use Rattle.lfi_parts.specs.Workers.{AreWorkers};
+ghost use Rattle.lfi_stage_model.specs.Workers.{AreWorkers};
 ghost use Rattle.lfi_stage.specs.Settled.{Settles};
 
 use crate::carry::{carry_hands, drain_intake};
@@ -12,7 +12,7 @@ use crate::drain::drain_lanes;
 use crate::verifiers_apart::{VerifierParts, take_apart};
 use lfi_model::{Item, Judged};
 use lfi_module::{CONNECTIONS, ModuleNumber};
-use lfi_place::{Sequence, Sequencer, Verifier};
+use lfi_sequence::{Sequence, Sequencer, Verifier};
 use lfi_queues::{Intake, Lane, PutPass};
 use std::sync::Wait;
 

@@ -6,12 +6,11 @@ ghost use Rattle.lfi_queues.specs.Kept.{Kept, with_last};
 ghost use Rattle.lfi_queues.specs.Passes.{AreAllPasses, items_at};
 ghost use Rattle.lfi_stage.specs.Settled.{HaveHandled, SettlesBut, Settles};
 ghost use Rattle.lfi_stage.specs.inner.Rows.{held_by, HasMore};
-ghost use Rattle.lfi_place.specs.declared.sequence.Sequence.{Sequence};
+ghost use Rattle.lfi_sequence.specs.declared.sequence.Sequence.{Sequence};
 
-use crate::slots::PLACES;
 use lfi_model::{Item, Judged};
-use lfi_module::ModuleNumber;
-use lfi_place::Sequence;
+use lfi_module::{CONNECTIONS, ModuleNumber};
+use lfi_sequence::Sequence;
 use lfi_queues::{Intake, PutPass, TAKERS, TakePass};
 
 /// Brings an item to a sequence, where there is one.
@@ -34,12 +33,12 @@ fn carry(sequences: &mut [Option<Sequence>; ModuleNumber::COUNT], item: Judged)
 
 /// Brings what is in hands to the sequences.
 pub(crate) fn carry_hands(
-    hands: &mut [Option<Judged>; PLACES],
+    hands: &mut [Option<Judged>; CONNECTIONS],
     sequences: &mut [Option<Sequence>; ModuleNumber::COUNT],
 )
     ensures { (takes : ℕ → List ItemView) → SettlesBut takes (held_by hands.old) sequences.old → Settles takes sequences.new }
 {
-    for number in 0..PLACES {
+    for number in 0..CONNECTIONS {
         match hands[number].take() {
             Some(held) => carry(sequences, held),
             None => {}

@@ -5,16 +5,16 @@ ghost use Rattle.lfi_module.specs.Numbers.{module_count};
 ghost use Rattle.lfi_model.specs.Item.{ItemView};
 ghost use Rattle.lfi_queues.specs.Kept.{Kept};
 ghost use Rattle.lfi_queues.specs.Passes.{QueueId, PassView, IsPass, AreAllPasses, items_at, pass_at};
-ghost use Rattle.lfi_place.specs.Sequenced.{Sequenced, module_number_of};
-ghost use Rattle.lfi_place.specs.declared.sequence.Sequence.{Sequence};
-ghost use Rattle.lfi_place.specs.declared.sequencer.Sequencer.{Sequencer};
-ghost use Rattle.lfi_place.specs.Turns.{lane_pass_of};
+ghost use Rattle.lfi_sequence.specs.Sequenced.{Sequenced, module_number_of};
+ghost use Rattle.lfi_sequence.specs.declared.sequence.Sequence.{Sequence};
+ghost use Rattle.lfi_sequence.specs.declared.sequencer.Sequencer.{Sequencer};
+ghost use Rattle.lfi_sequence.specs.Turns.{lane_pass_of};
 ghost use Rattle.lfi_stage.specs.inner.Rows.{passes_in, row_of, Popped, last_of, last_items, lane_items, DrainedTo, AreRowsOf};
 
-use crate::slots::{PLACES, empty, set};
+use crate::slots::{empty, set};
 use lfi_model::Judged;
-use lfi_module::ModuleNumber;
-use lfi_place::{Sequence, Sequencer};
+use lfi_module::{CONNECTIONS, ModuleNumber};
+use lfi_sequence::{Sequence, Sequencer};
 use lfi_queues::{Lane, LanePut, LaneTake};
 use std::array;
 use std::sync::Wait;
@@ -30,11 +30,11 @@ fn last_pass(row: &mut Option<Vec<LanePut<Judged>>>) -> Option<LanePut<Judged>>
 }
 
 /// Takes the last pass out of each row.
-fn gather(rows: &mut [Option<Vec<LanePut<Judged>>>; PLACES]) -> [Option<LanePut<Judged>>; PLACES]
+fn gather(rows: &mut [Option<Vec<LanePut<Judged>>>; CONNECTIONS]) -> [Option<LanePut<Judged>>; CONNECTIONS]
     ensures { (k : ℕ) → Popped (row_of rows.old k) (pass_at result k) (row_of rows.new k) }
 {
     let mut puts = empty();
-    for number in 0..PLACES {
+    for number in 0..CONNECTIONS {
         puts[number] = last_pass(&mut rows[number]);
     }
     puts
@@ -66,7 +66,7 @@ fn drain_lane<R: Wait>(
 fn drain_one<R: Wait>(
     rt: &R,
     lane: &Lane<Judged>,
-    rows: &mut [Option<Vec<LanePut<Judged>>>; PLACES],
+    rows: &mut [Option<Vec<LanePut<Judged>>>; CONNECTIONS],
     sequencer: Sequencer,
 ) -> Sequence
     requires takers { lane.now.takers ≡ 1 }
@@ -86,7 +86,7 @@ fn drain_one<R: Wait>(
 pub(crate) fn drain_lanes<R: Wait>(
     rt: &R,
     lanes: &[Lane<Judged>],
-    rows: &mut [Option<Vec<LanePut<Judged>>>; PLACES],
+    rows: &mut [Option<Vec<LanePut<Judged>>>; CONNECTIONS],
     mut sequencers: Vec<Sequencer>,
 ) -> [Option<Sequence>; ModuleNumber::COUNT]
     requires lanes { length lanes.now ≡ module_count }

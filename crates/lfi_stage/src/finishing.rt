@@ -2,12 +2,12 @@
 
 ghost use Rattle.std.specs.Prelude.{◌≡◌, ℕ, List, Some, IsTrue, IsSome};
 ghost use Rattle.lfi_receive.specs.Receivers.{cause_of, claimed_by, StandsFor, IsFinished};
-ghost use Rattle.lfi_parts.specs.Parts.{IsReceiver, AreReceivers, AreOthers};
+ghost use Rattle.lfi_stage_model.specs.Parts.{IsReceiver, AreReceivers, AreOthers};
 ghost use Rattle.lfi_stage.specs.inner.Finished.{HasFinished, HaveFinished};
 
 use crate::turning::turn_others;
-use lfi_parts::Shared;
-use lfi_place::{OpenGate, Sequencer, Verifier};
+use lfi_stage_model::Shared;
+use lfi_sequence::{OpenGate, Sequencer, Verifier};
 use lfi_receive::{Receiver, ReceiverTurn};
 use std::sync::Wait;
 

@@ -3,16 +3,17 @@
 ghost use Rattle.std.specs.Prelude.{◌≤◌, length};
 ghost use Rattle.lfi_stage.specs.inner.Apart.{AreApart};
 
-use crate::slots::{PLACES, empty, set};
+use crate::slots::{empty, set};
 use lfi_board::ReceiverSeat;
 use lfi_model::Item;
+use lfi_module::CONNECTIONS;
 use lfi_queues::PutPass;
 use lfi_receive::Receiver;
 
 /// The passes and the seats of receivers, by the receivers' numbers.
 pub(crate) struct ReceiverParts {
-    pub(crate) puts: [Option<PutPass<Item>>; PLACES],
-    pub(crate) seats: [Option<ReceiverSeat>; PLACES],
+    pub(crate) puts: [Option<PutPass<Item>>; CONNECTIONS],
+    pub(crate) seats: [Option<ReceiverSeat>; CONNECTIONS],
 }
 
 /// Takes receivers to pieces.

@@ -2,14 +2,14 @@
 
 ghost use Rattle.std.specs.Prelude.{◌≡◌, List, Some};
 ghost use Rattle.lfi_model.specs.Item.{ItemView};
-ghost use Rattle.lfi_place.specs.Come.{Come};
-ghost use Rattle.lfi_place.specs.Tells.{Tells, HasEnd};
-ghost use Rattle.lfi_place.specs.Sequenced.{Sequenced, module_number_of};
-ghost use Rattle.lfi_place.specs.declared.sequence.Sequence.{Sequence};
+ghost use Rattle.lfi_sequence.specs.Come.{Come};
+ghost use Rattle.lfi_sequence.specs.Tells.{Tells, HasEnd};
+ghost use Rattle.lfi_sequence.specs.Sequenced.{Sequenced, module_number_of};
+ghost use Rattle.lfi_sequence.specs.declared.sequence.Sequence.{Sequence};
 ghost use Rattle.lfi_stage.specs.Settled.{AreReportsOf};
 
 use lfi_module::ModuleNumber;
-use lfi_place::{ModuleReport, Sequence, report_of};
+use lfi_sequence::{ModuleReport, Sequence, report_of};
 
 /// What became of the module of a sequence.
 fn report_in(sequence: Option<Sequence>) -> ModuleReport

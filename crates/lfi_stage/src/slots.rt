@@ -5,11 +5,8 @@ ghost use Rattle.std.specs.Prelude.{◌≡◌, ℕ, None, get_or, length};
 use lfi_module::CONNECTIONS;
 use std::array;
 
-/// The most receivers of a stage, one for each connection. There are no more verifiers.
-pub(crate) const PLACES: usize = CONNECTIONS;
-
-/// A place for each, with nothing there.
-pub(crate) fn empty<T>() -> [Option<T>; PLACES]
+/// A place for each, with nothing there. There are no more verifiers than connections.
+pub(crate) fn empty<T>() -> [Option<T>; CONNECTIONS]
     ensures long { length result ≡ 8 }
     ensures empty { (k : ℕ) → get_or result k None ≡ None }
 {

@@ -3,19 +3,20 @@
 ghost use Rattle.std.specs.Prelude.{◌≤◌, length};
 ghost use Rattle.lfi_stage.specs.inner.Rows.{AreApart};
 
-use crate::slots::{PLACES, empty, set};
+use crate::slots::{empty, set};
 use lfi_model::{Item, Judged};
-use lfi_place::Verifier;
+use lfi_module::CONNECTIONS;
+use lfi_sequence::Verifier;
 use lfi_queues::{LanePut, TakePass};
 
 /// The pieces of verifiers, by the verifiers' numbers.
 pub(crate) struct VerifierParts {
     /// Their passes of the intake.
-    pub(crate) takes: [Option<TakePass<Item>>; PLACES],
+    pub(crate) takes: [Option<TakePass<Item>>; CONNECTIONS],
     /// Their passes of the lanes, by the lanes' numbers.
-    pub(crate) rows: [Option<Vec<LanePut<Judged>>>; PLACES],
+    pub(crate) rows: [Option<Vec<LanePut<Judged>>>; CONNECTIONS],
     /// What is in their hands.
-    pub(crate) hands: [Option<Judged>; PLACES],
+    pub(crate) hands: [Option<Judged>; CONNECTIONS],
 }
 
 /// Takes verifiers to pieces.

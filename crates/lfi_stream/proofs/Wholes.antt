@@ -8,7 +8,7 @@ use Rattle.lfi_module.specs.Extents.{ExtentView}
 use Rattle.lfi_rules.specs.Faults.{FirstFault}
 use Rattle.lfi_rules.specs.Verdicts.{all_words}
 use Rattle.lfi_rules.specs.declared.fault.Fault.{Fault}
-use Rattle.lfi_code.proofs.Begun.{words_append}
+use Rattle.lfi_check.proofs.Begun.{words_append}
 use Rattle.lfi_connection.proofs.Growth.{next_by}
 use Rattle.lfi_frame.specs.Streams.{Message, IsMessage, open_message, page_message, close_message, header_of, Rest, short, faulty, unfinished, whole, rest_of}
 use Rattle.lfi_frame.specs.declared.fault.FrameFault.{FrameFault}
@@ -17,7 +17,7 @@ use Rattle.lfi_frame.proofs.Headers.{sound}
 use Rattle.lfi_model.specs.Item.{ItemView, KindView}
 use Rattle.lfi_model.specs.declared.item.ItemKind.TheVariants.{Open, Page, End}
 use Rattle.lfi_model.specs.declared.item.Reason.{Reason}
-use Rattle.lfi_model.specs.declared.connection.Cause.{Cause}
+use Rattle.lfi_model.specs.declared.connection.EndCause.{EndCause}
 use Rattle.lfi_model.specs.declared.connection.Progress.{Progress}
 use Rattle.lfi_model.specs.declared.connection.Progress.TheVariants.{Unclaimed, Going, Ended}
 use Rattle.lfi_model.specs.Items.{Share, nothing_yet, after_message, after_header, after_rest, is_of, items_of, ends_of, connection_fault, share_at, item_of}
@@ -87,7 +87,7 @@ ends_whole m (Going extent p) (Some fault) items h = more items _ h tt
 ends_whole m (Going extent p) None items h = All-append (λ i. IsWhole i.kind) items [] h (All-nil (λ i. IsWhole i.kind))
 ends_whole m Ended fault items h = All-append (λ i. IsWhole i.kind) items [] h (All-nil (λ i. IsWhole i.kind))
 
-items_whole : (ms : List Message) (rest : List ℕ) (cause : Cause) (m : ℕ) → All IsMessage ms → Wholes (items_of ms rest cause (λ _. true) m)
+items_whole : (ms : List Message) (rest : List ℕ) (cause : EndCause) (m : ℕ) → All IsMessage ms → Wholes (items_of ms rest cause (λ _. true) m)
 items_whole ms rest cause m each =
     let all : ℕ → Bool = (λ _. true) in
     let s : Share = share_at ms rest cause all m in
@@ -98,7 +98,7 @@ outcome_is n items (Some fault) reason e = refl
 outcome_is n items None reason e = (reason, e, refl)
 
 -- The first fault of the whole pages and the end tell what becomes of a module.
-pub loaded : (ms : List Message) (rest : List ℕ) (cause : Cause) (m : ℕ) (extent : ExtentView) (item : ItemView) (items : List ItemView) (fault : Option Fault) (reason : Reason) → All IsMessage ms
+pub loaded : (ms : List Message) (rest : List ℕ) (cause : EndCause) (m : ℕ) (extent : ExtentView) (item : ItemView) (items : List ItemView) (fault : Option Fault) (reason : Reason) → All IsMessage ms
     → items_of ms rest cause (λ _. true) m ≡ item ∷ items → FirstFault extent.profile (words_of (code_of (item ∷ items))) extent.words fault → end_of (item ∷ items) ≡ Some reason → Load extent (item ∷ items) (outcome_by extent (item ∷ items) fault reason)
 loaded ms rest cause m extent item items fault reason each is first ended =
     let wholes : Wholes (item ∷ items) = subst Wholes is (items_whole ms rest cause m each) in

@@ -3,7 +3,7 @@ use Rattle.std.specs.Prelude.{◌≡◌, ℕ, List, Option, Some, None, Result, 
 use Rattle.lfi_frame.specs.declared.fault.FrameFault.{FrameFault}
 use Rattle.lfi_frame.specs.declared.feed.Position.TheVariants.{Faulty}
 use Rattle.lfi_frame.specs.Streams.{Message}
-use Rattle.lfi_model.specs.declared.connection.Cause.TheVariants as cause
+use Rattle.lfi_model.specs.declared.connection.EndCause.TheVariants as cause
 use Rattle.lfi_model.specs.Items.{connection_fault}
 use Rattle.lfi_connection.specs.declared.event.Event.{Event}
 use Rattle.lfi_connection.specs.declared.event.Event.TheVariants.{Nothing}

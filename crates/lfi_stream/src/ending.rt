@@ -13,7 +13,7 @@ ghost use Rattle.lfi_stream.specs.Endings.{LosesOne, Ends};
 use crate::numbers::{LfiStreamText, feed_at, position_of};
 use lfi_connection::{Event, fault_at_end, lose_next};
 use lfi_frame::{Feed, FrameFault, Position};
-use lfi_model::Cause;
+use lfi_model::EndCause;
 
 /// Tells that the input has ended: the fault that this is inside a message, or where a module is open; else nothing. At the
 /// stream's fault it ends the modules that are open, one a call, the least number first, and then tells nothing. `None` where
@@ -35,7 +35,7 @@ pub fn end(stream: &mut LfiStreamText) -> Option<Result<Event, FrameFault>>
         return None;
     }
     let mut feed = Feed::at(stream.feed.held, position)?;
-    let Some(fault) = fault_at_end(stream, &mut feed, Cause::End) else {
+    let Some(fault) = fault_at_end(stream, &mut feed, EndCause::End) else {
         return Some(Ok(Event::Nothing));
     };
     stream.feed = feed_at(stream.feed.held, Position::Faulty(fault));

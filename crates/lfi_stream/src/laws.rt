@@ -10,7 +10,7 @@ ghost use Rattle.lfi_frame.specs.Streams.{Message, IsMessage, Cut, Rest, rest_of
 ghost use Rattle.lfi_model.specs.Item.{ItemView};
 ghost use Rattle.lfi_model.specs.Items.{items_of};
 ghost use Rattle.lfi_model.specs.Outcomes.{Load, end_of};
-ghost use Rattle.lfi_model.specs.declared.connection.Cause.{Cause};
+ghost use Rattle.lfi_model.specs.declared.connection.EndCause.{EndCause};
 ghost use Rattle.lfi_model.specs.declared.connection.Progress.TheVariants.{Going};
 ghost use Rattle.lfi_model.specs.declared.item.Reason.{Reason};
 ghost use Rattle.lfi_stream.specs.declared.numbers.LfiStreamText.{LfiStreamText};
@@ -26,7 +26,7 @@ pub fn one_cut()
 /// A host that judges a module's whole pages as they come, as all their bytes, by the module's own profile, and hears its
 /// end, has what one plain pass over the module's items makes of it: the outcome that `lfiload load` tells.
 pub fn one_outcome()
-    ensures { (messages : List Message) (rest : List ℕ) (cause : Cause) (m : ℕ) (extent : ExtentView) (item : ItemView) (items : List ItemView) (fault : Option Fault) (reason : Reason) →
+    ensures { (messages : List Message) (rest : List ℕ) (cause : EndCause) (m : ℕ) (extent : ExtentView) (item : ItemView) (items : List ItemView) (fault : Option Fault) (reason : Reason) →
         All IsMessage messages → items_of messages rest cause (λ _. true) m ≡ item ∷ items → FirstFault extent.profile (words_of (code_of (item ∷ items))) extent.words fault →
         end_of (item ∷ items) ≡ Some reason → Load extent (item ∷ items) (outcome_by extent (item ∷ items) fault reason) }
 {}

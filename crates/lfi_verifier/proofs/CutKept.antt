@@ -5,11 +5,11 @@ use Rattle.a64_word.specs.Words.{words_of}
 use Rattle.lfi_module.specs.declared.profile.Profile.{Profile}
 use Rattle.lfi_rules.specs.declared.fault.Fault.{Fault}
 use Rattle.lfi_rules.specs.Faults.{FirstFault}
-use Rattle.lfi_code.specs.Begun.{Begins}
-use Rattle.lfi_code.specs.Cuts.{bytes_of, count_of, BeginsCut, Takes}
-use Rattle.lfi_code.specs.declared.beginning.Beginning.{Beginning}
-use Rattle.lfi_code.specs.declared.cut.CutWord.{CutWord}
-use Rattle.lfi_code.specs.declared.cut.CutBeginning.{CutBeginning}
+use Rattle.lfi_check.specs.Begun.{Begins}
+use Rattle.lfi_check.specs.Cuts.{bytes_of, count_of, BeginsCut, Takes}
+use Rattle.lfi_check.specs.declared.beginning.Beginning.{Beginning}
+use Rattle.lfi_check.specs.declared.cut.CutWord.{CutWord}
+use Rattle.lfi_check.specs.declared.cut.CutBeginning.{CutBeginning}
 use Rattle.lfi_verifier.specs.declared.cut_state.LfiCutState.{LfiCutState}
 use Rattle.lfi_verifier.specs.declared.finding.Finding.{Finding}
 use Rattle.lfi_verifier.specs.declared.state.LfiState.{LfiState}

@@ -7,8 +7,8 @@ use Rattle.lfi_module.specs.Extents.{ExtentView}
 use Rattle.lfi_rules.specs.Faults.{FirstFault}
 use Rattle.lfi_rules.specs.Verdicts.{all_words}
 use Rattle.lfi_rules.specs.declared.fault.Fault.{Fault}
-use Rattle.lfi_code.specs.declared.beginning.Beginning.{Beginning}
-use Rattle.lfi_code.proofs.Begun.{words_so_far}
+use Rattle.lfi_check.specs.declared.beginning.Beginning.{Beginning}
+use Rattle.lfi_check.proofs.Begun.{words_so_far}
 use Rattle.lfi_model.specs.Item.{ItemView}
 use Rattle.lfi_model.specs.Items.{item_of}
 use Rattle.lfi_model.specs.Outcomes.{page_of, pages_of, end_of, by_end, Load, IsOutcome}

@@ -7,8 +7,8 @@ use Rattle.lfi_module.specs.Profiles.{profile_number}
 use Rattle.lfi_rules.specs.declared.needs.Need.{Need}
 use Rattle.lfi_rules.specs.declared.fault.Fault.{Fault}
 use Rattle.lfi_rules.specs.Faults.{FirstFault}
-use Rattle.lfi_code.specs.Begun.{Begins}
-use Rattle.lfi_code.specs.declared.beginning.Beginning.{Beginning}
+use Rattle.lfi_check.specs.Begun.{Begins}
+use Rattle.lfi_check.specs.declared.beginning.Beginning.{Beginning}
 use Rattle.lfi_verifier.specs.declared.state.LfiState.{LfiState}
 use Rattle.lfi_verifier.specs.States.{Keeps, IsState, StandsFor, Fits, HasRoom, TellsSoFar, status_after}
 use Rattle.lfi_verifier.specs.Statuses.{status_number}

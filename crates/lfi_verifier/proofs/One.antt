@@ -5,9 +5,9 @@ use Rattle.lfi_module.specs.declared.profile.Profile.{Profile}
 use Rattle.lfi_rules.specs.declared.fault.Fault.{Fault}
 use Rattle.lfi_rules.specs.Faults.{Breaks, IsLeast}
 use Rattle.lfi_rules.specs.Rules.{rule_number}
-use Rattle.lfi_code.specs.Checking.{Checks}
-use Rattle.lfi_code.specs.declared.verdict.Verdict.{Verdict}
-use Rattle.lfi_code.specs.declared.verdict.Verdict.TheVariants.{Lawful, Refused, BadLength}
+use Rattle.lfi_check.specs.Checking.{Checks}
+use Rattle.lfi_check.specs.declared.verdict.Verdict.{Verdict}
+use Rattle.lfi_check.specs.declared.verdict.Verdict.TheVariants.{Lawful, Refused, BadLength}
 use Rattle.lfi_verifier.specs.declared.fault.LfiFault.{LfiFault}
 use Rattle.lfi_verifier.specs.Faults.{fault_told}
 use Rattle.lfi_verifier.specs.Verdicts.{Tells}

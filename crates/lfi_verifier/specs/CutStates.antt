@@ -1,10 +1,10 @@
 -- What a state that may be cut within a word stands for.
 use Rattle.std.specs.Prelude.{◌≡◌, ℕ, ◌≤◌, ◌==◌, if◌then◌else◌, List, slice_index, Option, Some, None}
 use Rattle.lfi_module.specs.declared.profile.Profile.{Profile}
-use Rattle.lfi_code.specs.declared.cut.CutWord.{CutWord}
-use Rattle.lfi_code.specs.declared.cut.CutWord.TheVariants.{Nothing, One, Two, Three}
-use Rattle.lfi_code.specs.declared.cut.CutBeginning.{CutBeginning}
-use Rattle.lfi_code.specs.Cuts.{BeginsCut}
+use Rattle.lfi_check.specs.declared.cut.CutWord.{CutWord}
+use Rattle.lfi_check.specs.declared.cut.CutWord.TheVariants.{Nothing, One, Two, Three}
+use Rattle.lfi_check.specs.declared.cut.CutBeginning.{CutBeginning}
+use Rattle.lfi_check.specs.Cuts.{BeginsCut}
 use Rattle.lfi_verifier.specs.declared.cut_state.LfiCutState.{LfiCutState}
 use Rattle.lfi_verifier.specs.States.{Keeps, IsInRange}
 

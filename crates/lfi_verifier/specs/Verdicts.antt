@@ -1,9 +1,9 @@
 -- How a verdict on code is told in C.
 use Rattle.std.specs.Prelude.{◌≡◌, ℕ, List, Some, None}
 use Rattle.lfi_module.specs.declared.profile.Profile.{Profile}
-use Rattle.lfi_code.specs.Checking.{Checks}
-use Rattle.lfi_code.specs.declared.verdict.Verdict.{Verdict}
-use Rattle.lfi_code.specs.declared.verdict.Verdict.TheVariants as verdict
+use Rattle.lfi_check.specs.Checking.{Checks}
+use Rattle.lfi_check.specs.declared.verdict.Verdict.{Verdict}
+use Rattle.lfi_check.specs.declared.verdict.Verdict.TheVariants as verdict
 use Rattle.lfi_verifier.specs.declared.fault.LfiFault.{LfiFault}
 use Rattle.lfi_verifier.specs.declared.status.Status.TheVariants as status
 use Rattle.lfi_verifier.specs.Faults.{fault_told}

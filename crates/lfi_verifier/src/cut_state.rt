@@ -5,7 +5,7 @@ ghost use Rattle.lfi_verifier.specs.States.{IsInRange};
 ghost use Rattle.lfi_verifier.specs.CutStates.{word_at, KeepsCut, IsCutState};
 
 use crate::state::{LfiState, beginning_of, state_of};
-use lfi_code::{CutBeginning, CutWord};
+use lfi_check::{CutBeginning, CutWord};
 
 /// A module of which a beginning came that may be cut within a word, as C keeps it.
 #[repr(C)]

@@ -6,7 +6,7 @@ ghost use Rattle.lfi_verifier.specs.StreamVerdicts.{nothing_found, bad_found};
 ghost use Rattle.lfi_verifier.specs.inner.Judging.{finding_of_end, finding_by};
 
 use crate::status::Status;
-use lfi_code::Beginning;
+use lfi_check::Beginning;
 use lfi_model::Reason;
 use lfi_rules::Fault;
 

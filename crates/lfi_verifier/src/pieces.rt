@@ -15,7 +15,7 @@ use crate::state::{LfiState, beginning_of, state_of};
 use crate::status::Status;
 use crate::whole::tell;
 use a64_word::WORD_BYTES;
-use lfi_code::Beginning;
+use lfi_check::Beginning;
 use lfi_module::WordCount;
 use lfi_rules::Fault;
 

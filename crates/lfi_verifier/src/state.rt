@@ -5,7 +5,7 @@ ghost use Rattle.lfi_verifier.specs.States.{need_at, Keeps, IsWordCount, IsInRan
 
 use crate::fault::{LfiFault, fault_of, told_of};
 use crate::profile::profile_of;
-use lfi_code::Beginning;
+use lfi_check::Beginning;
 use lfi_module::WordCount;
 use lfi_rules::Need;
 

@@ -19,7 +19,7 @@ use crate::fault::NO_FAULT;
 use crate::finding::Finding;
 use crate::state::{LfiState, beginning_of, state_of};
 use a64_word::WORD_BYTES;
-use lfi_code::{Beginning, CutBeginning};
+use lfi_check::{Beginning, CutBeginning};
 use lfi_model::Reason;
 use lfi_module::{Extent, ModuleNumber};
 use lfi_stream::Event;

@@ -11,7 +11,7 @@ ghost use Rattle.lfi_verifier.specs.Verdicts.{Tells, TellsVerdict};
 use crate::fault::{LfiFault, NO_FAULT, told_of};
 use crate::profile::profile_of;
 use crate::status::Status;
-use lfi_code::{Verdict, judge_code};
+use lfi_check::{Verdict, judge_code};
 
 /// Tells a verdict: its status, and its fault.
 pub(crate) fn tell(verdict: Verdict, fault: &mut LfiFault) -> u32

@@ -40,13 +40,13 @@
 //!   were two thirds of the receivers' turns and a thirteenth of all processor time (15 of 196 ms, under a profiler).
 #![tactic(auto)]
 
-mod hand;
+mod knowledge;
 mod member;
 mod page;
 mod pool;
 mod raw_bytes;
 
-pub use hand::{Hand, Sighting};
+pub use knowledge::{Knowledge, SeenSlot};
 pub use member::PoolMember;
 pub use page::{OpenPage, SealedPage};
 pub use pool::{Pool, PoolSeat};

@@ -3,7 +3,7 @@
 ghost use Rattle.std.specs.Prelude.{◌≡◌, ◌≢◌, [], IfSome, IfNone, IfOk, IfErr, OnOk, OnErr, IsErr};
 ghost use Rattle.lfi_module.specs.Numbers.{small_page};
 ghost use Rattle.page_buf.specs.Page.{small_empty};
-ghost use Rattle.page_buf.specs.Sightings.{Found, Passed, empty, full};
+ghost use Rattle.page_buf.specs.SeenSlots.{Found, Passed, empty, full};
 
 use crate::page::{OpenPage, SealedPage};
 use crate::pool::{Pool, PoolSeat};

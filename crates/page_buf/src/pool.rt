@@ -4,7 +4,7 @@
 ghost use Rattle.std.specs.Prelude.{◌≡◌, ◌<◌, [], IfSome, IfNone, IfOk, IfErr, OnOk, OnErr, All, length};
 ghost use Rattle.lfi_module.specs.Numbers.{small_page};
 
-use crate::hand::{Hand, PutBack, SeeEmpty, SeeFull, Sit, Slots, Try};
+use crate::knowledge::{Knowledge, PutBack, SeeEmpty, SeeFull, Sit, Slots, Try};
 use crate::page::{OpenPage, SealedPage};
 use atomic_table::{Seat, Shared, Table};
 use std::alloc::{AllocError, Global};
@@ -21,19 +21,19 @@ const FULL: u64 = 2;
 /// How many pages there is room for.
 const SLOTS: usize = 64;
 
-type Top = Shared<Option<OpenPage>, Hand, (), Slots>;
+type Top = Shared<Option<OpenPage>, Knowledge, (), Slots>;
 
 /// A pool of small pages, which threads share by `&`.
 #[derive(Drop)]
 pub struct Pool {
-    table: Table<Option<OpenPage>, Hand, (), Slots, Global>,
+    table: Table<Option<OpenPage>, Knowledge, (), Slots, Global>,
     ghost wide: { (table.shared.table_id.words ≡ 64) × (table.shared.table_id.slots ≡ 64) },
 }
 
 /// The right to use a pool. It can be sent to another thread.
 #[derive(Drop)]
 pub struct PoolSeat {
-    seat: Seat<Option<OpenPage>, Hand>,
+    seat: Seat<Option<OpenPage>, Knowledge>,
     ghost idle: { (seat.me.0.out ≡ 0) × (seat.me.1 ≡ []) },
 }
 
@@ -63,7 +63,7 @@ fn sit_all(alloc: Global, top: &Top, count: usize) -> Result<Vec<PoolSeat>, Allo
 
 impl Pool {
     ghost use Rattle.page_buf.specs.Page.{small_empty};
-    ghost use Rattle.page_buf.specs.Sightings.{Found, Passed, empty, full};
+    ghost use Rattle.page_buf.specs.SeenSlots.{Found, Passed, empty, full};
     ghost use Rattle.page_buf.specs.Pools.{pool_id, pool_of, seen_by};
 
     /// A pool in which each slot is empty, and its seats, which have found nothing yet. This is its only call that takes

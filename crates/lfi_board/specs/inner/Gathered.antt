@@ -1,11 +1,11 @@
 -- What the seats of a row know and did, all together.
 use Rattle.std.specs.Prelude.{ℕ, ◌+◌, [], ◌∷◌, Some, None}
-use Rattle.lfi_board.specs.Hands.{times}
+use Rattle.lfi_board.specs.Knowledge.{times}
 use Rattle.lfi_board.specs.Known.{known_by}
 use Rattle.lfi_board.specs.Rows.{Row}
 use Rattle.lfi_board.specs.inner.Rule.{View}
 
--- the hands of the seats, the last first, before those of the view
+-- what the seats know, the last first, before what the view has
 abbrev pub gathered : Row → View → View
 gathered [] v = v
 gathered (None ∷ ss) v = gathered ss v

@@ -4,24 +4,24 @@ use Rattle.std.specs.Prelude.{◌≡◌, ℕ, ◌<◌, ◌≤◌, if◌then◌el
 use mathlib.Core.Option.{some}
 use lib.ListN.{get_elem?}
 use Rattle.atomic_table.specs.Table.{State}
-use Rattle.lfi_board.specs.declared.hand.Hand.{Hand}
-use Rattle.lfi_board.specs.declared.hand.Sighting.{Sighting}
-use Rattle.lfi_board.specs.Hands.{total, times, IsSince}
+use Rattle.lfi_board.specs.declared.knowledge.Knowledge.{Knowledge}
+use Rattle.lfi_board.specs.declared.knowledge.SeenWord.{SeenWord}
+use Rattle.lfi_board.specs.Knowledge.{total, times, IsSince}
 
--- what a seat sees of the board: one hand, or the hands of several while a holder is sought
+-- what a seat sees of the board: what it knows itself, or what several know while a holder is sought
 abbrev pub View : Type 0
-View = List Hand
+View = List Knowledge
 
 -- 1 for a receiver
-abbrev pub receiving : Hand → ℕ
+abbrev pub receiving : Knowledge → ℕ
 receiving h = if h.is_receiver then 1 else 0
 
 -- how often it was answered `Mine` for the module
-abbrev pub claims_of : ℕ → Hand → ℕ
+abbrev pub claims_of : ℕ → Knowledge → ℕ
 claims_of m h = if h.is_receiver then times m h.claimed else 0
 
 -- 1 for a receiver that has told its end
-abbrev pub ending : Hand → ℕ
+abbrev pub ending : Knowledge → ℕ
 ending h = if h.is_receiver then (if h.ended then 1 else 0) else 0
 
 -- 0 for a phase that is free, and 1 for every other
@@ -29,7 +29,7 @@ abbrev pub taken : ℕ → ℕ
 taken phase = if phase == 0 then 0 else 1
 
 -- what was seen may be so now
-abbrev pub AllSince : List ℕ → List Sighting → Type 0
+abbrev pub AllSince : List ℕ → List SeenWord → Type 0
 AllSince words [] = Unit {0}
 AllSince words (s ∷ ss) = IsSince s.word s.number (slice_index words s.word) × AllSince words ss
 
@@ -47,7 +47,7 @@ pub record Kept (n : ℕ) (s : State (Unit {0}) View) : Type 0 where
   pub receivers : total (total receiving) s.views ≡ n
   pub known : (id : ℕ) (v : View) → get_elem? s.views id ≡ some v → AllKnow n s.words v
 
--- the first hand, and all after it
+-- the first, and all after it
 abbrev pub first_of : View → View
 first_of [] = []
 first_of (h ∷ hs) = h ∷ []

@@ -2,8 +2,8 @@
 use Rattle.std.specs.Prelude.{◌≡◌, ℕ, List, Option}
 use Rattle.std.specs.Io.KnownBytes.{Consumes}
 use Rattle.lfi_module.specs.declared.profile.Profile.{Profile}
-use Rattle.lfi_code.specs.declared.beginning.Beginning.{Beginning}
-use Rattle.lfi_code.specs.Begun.{Begins}
+use Rattle.lfi_check.specs.declared.beginning.Beginning.{Beginning}
+use Rattle.lfi_check.specs.Begun.{Begins}
 
 -- All words of a module have been read and judged by a profile.
 pub record IsWholeModule (profile : Profile) (old new : Option (List ℕ)) (all : Beginning) (words : ℕ) : Type 0 where

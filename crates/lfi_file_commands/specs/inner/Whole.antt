@@ -9,14 +9,14 @@ use Rattle.lfi_explain.specs.declared.listing.Marks.{Marks}
 use Rattle.lfi_explain.specs.Listings.{WritesListing}
 use Rattle.lfi_file_commands.specs.declared.packing.NoModule as packing
 use Rattle.lfi_file_commands.specs.declared.packing.NoModule.TheVariants as no_module
-use Rattle.lfi_file_commands.specs.declared.packing.Stop.{Stop}
-use Rattle.lfi_file_commands.specs.declared.packing.Stop.TheVariants.{NoModule, Failed}
+use Rattle.lfi_file_commands.specs.declared.packing.NotPacked.{NotPacked}
+use Rattle.lfi_file_commands.specs.declared.packing.NotPacked.TheVariants.{NoModule, Failed}
 use Rattle.lfi_file_commands.specs.declared.no_code.NoCode.{NoCode}
 use Rattle.lfi_file_commands.specs.declared.finding.Finding.{Finding}
 use Rattle.lfi_file_commands.specs.declared.finding.Finding.TheVariants as findings
 use Rattle.lfi_file_commands.specs.Kinds.{IsNoCode, file_kind}
-use Rattle.lfi_code.specs.declared.verdict.Verdict.TheVariants as verdicts
-use Rattle.lfi_code.specs.Checking.{Checks, IsCode}
+use Rattle.lfi_check.specs.declared.verdict.Verdict.TheVariants as verdicts
+use Rattle.lfi_check.specs.Checking.{Checks, IsCode}
 use Rattle.lfi_file_commands.specs.Failures.{IsOfReading}
 use Rattle.lfi_file_commands.specs.Packing.{IsNoModule}
 
@@ -46,12 +46,12 @@ IsNoModuleOf entry path bytes (no_module.BadLength named n) = (named.now ≡ pat
 IsNoModuleOf entry path bytes (no_module.NoEntry named word) = (named.now ≡ path) × (word ≡ entry) × IsCode bytes × (length (words_of bytes) ≤ entry)
 
 -- why the file at this path wasn't read as a module
-abbrev pub StopsAt : (entry : ℕ) → (path : List ℕ) → (List ℕ → Option (List ℕ)) → Stop → Type 0
+abbrev pub StopsAt : (entry : ℕ) → (path : List ℕ) → (List ℕ → Option (List ℕ)) → NotPacked → Type 0
 StopsAt entry path file_at (NoModule told) = IsNoModule entry path file_at told
 StopsAt entry path file_at (Failed failure) = IsOfReading path failure
 
 -- why one of the files at these paths wasn't
-abbrev pub StopsAtOne : (entry : ℕ) → (paths : List (List ℕ)) → (List ℕ → Option (List ℕ)) → Stop → Type 0
+abbrev pub StopsAtOne : (entry : ℕ) → (paths : List (List ℕ)) → (List ℕ → Option (List ℕ)) → NotPacked → Type 0
 StopsAtOne entry paths file_at stop = (c : ℕ) × (path : List ℕ) × (slice_get paths c ≡ Some path) × StopsAt entry path file_at stop
 
 -- one module was written, with this number

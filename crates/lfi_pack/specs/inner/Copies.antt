@@ -5,7 +5,7 @@ use Rattle.lfi_module.specs.Pages.{page_count}
 use Rattle.lfi_frame.specs.Streams.{page_message, spelling}
 use Rattle.lfi_pack.specs.declared.fault.PackFault.{PackFault}
 use Rattle.lfi_pack.specs.declared.fault.PackFault.TheVariants.{Shorter, Longer, ReadFailed}
-use Rattle.in_full.specs.Beginnings.{AppendsBeginning}
+use Rattle.exact_io.specs.Beginnings.{AppendsBeginning}
 use Rattle.lfi_pack.specs.Packs.{AreFirst, joined, numbered}
 
 -- fewer bytes are left than are asked for, or a read failed

@@ -1,7 +1,7 @@
 -- What the steps of a receiver change. Only private clauses and proofs use it.
 use Rattle.std.specs.Prelude.{◌≡◌, ℕ, ◌+◌, ◌-◌, ◌%◌, ◌^◌, ◌++◌, Bool, true, false, List, [], Option, Some, None, ◌⊎◌}
 use Rattle.lfi_frame.specs.declared.fault.FrameFault.TheVariants.{NoMemory}
-use Rattle.lfi_model.specs.declared.connection.Cause.TheVariants.{Starved}
+use Rattle.lfi_model.specs.declared.connection.EndCause.TheVariants.{Starved}
 use Rattle.lfi_model.specs.declared.item.ItemKind.TheVariants.{Page}
 use Rattle.lfi_model.specs.Items.{item_of}
 use Rattle.lfi_connection.specs.declared.due_page.DuePage.{DuePage}

@@ -1,11 +1,11 @@
 -- What a turn of each verifier, and of each sequencer, did. Only private clauses and proofs use it.
 use Rattle.std.specs.Prelude.{◌≡◌, ℕ, List, Some, slice_get}
-use Rattle.lfi_place.specs.declared.verifier.Verifier.{Verifier}
-use Rattle.lfi_place.specs.declared.verifier.VerifierTurn.{VerifierTurn}
-use Rattle.lfi_place.specs.declared.sequencer.Sequencer.{Sequencer}
-use Rattle.lfi_place.specs.declared.sequencer.SequencerTurn.{SequencerTurn}
-use Rattle.lfi_place.specs.Handed.{AsTold}
-use Rattle.lfi_place.specs.Turns.{lane_pass_of, LaneTaken}
+use Rattle.lfi_sequence.specs.declared.verifier.Verifier.{Verifier}
+use Rattle.lfi_sequence.specs.declared.verifier.VerifierTurn.{VerifierTurn}
+use Rattle.lfi_sequence.specs.declared.sequencer.Sequencer.{Sequencer}
+use Rattle.lfi_sequence.specs.declared.sequencer.SequencerTurn.{SequencerTurn}
+use Rattle.lfi_sequence.specs.Handed.{AsTold}
+use Rattle.lfi_sequence.specs.Turns.{lane_pass_of, LaneTaken}
 
 -- Each verifier took one turn: it put one item and took none, or it is one take, and one put of what that gave.
 abbrev pub HaveVerified : (old new : List Verifier) → Type 0

@@ -2,7 +2,7 @@
 use Rattle.std.specs.Prelude.{◌≡◌, ◌≢◌, ℕ, ◌%◌, Bool, true, List, [], ◌++◌, length, Option, Some, None}
 use Rattle.lfi_module.specs.declared.profile.Profile.{Profile}
 use Rattle.lfi_rules.specs.declared.fault.Fault.{Fault}
-use Rattle.lfi_code.specs.declared.cut.CutBeginning.{CutBeginning}
+use Rattle.lfi_check.specs.declared.cut.CutBeginning.{CutBeginning}
 use Rattle.lfi_model.specs.declared.item.Reason.{Reason}
 use Rattle.lfi_model.specs.declared.item.Reason.TheVariants.{Close}
 use Rattle.lfi_verifier.specs.declared.finding.Finding.{Finding}

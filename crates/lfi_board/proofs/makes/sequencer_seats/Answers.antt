@@ -1,5 +1,5 @@
 use Rattle.std.proofs.Common.{rules, ◌≡◌, ◌+◌, length, ◌∙◌, sym, ap, subst}
-use Rattle.lfi_board.specs.Hands.{hand_of, onlooker}
+use Rattle.lfi_board.specs.Knowledge.{knowledge_of, onlooker}
 use Rattle.lfi_board.specs.Rows.{NewSequencers}
 use Rattle.lfi_board.proofs.Keeps.{sits, first_receivers}
 use Rattle.lfi_board.proofs.Fresh.{NewSequencers-push}
@@ -12,5 +12,5 @@ pub loop-number-preserved : goal.loop-number-preserved
 loop-number-preserved c = let z = c.args.top.now.table_id in let n = c.args.top.now.key in let at : c.loop-number.number ≡ 0 + length c.loop-number.seats.items = search rules in (
   search rules,
   subst (NewSequencers z n 0) (sym c.in_ok-push.ensures.items)
-      (NewSequencers-push z n 0 _ _ c.loop-number.invariant.1 (c.load_new_seat-seat.ensures.0, c.at-of.ensures ∙ at, ap hand_of c.load_new_seat-seat.ensures.2 ∙ ap onlooker (first_receivers n n))),
+      (NewSequencers-push z n 0 _ _ c.loop-number.invariant.1 (c.load_new_seat-seat.ensures.0, c.at-of.ensures ∙ at, ap knowledge_of c.load_new_seat-seat.ensures.2 ∙ ap onlooker (first_receivers n n))),
 )

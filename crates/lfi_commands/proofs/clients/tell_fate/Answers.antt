@@ -1,5 +1,5 @@
 use Rattle.std.proofs.Common.{sym, subst}
-use Rattle.lfi_signals.specs.declared.fate.ClientFate.{ClientFate}
+use Rattle.lfi_sync.specs.declared.fate.ClientFate.{ClientFate}
 use Rattle.lfi_file_commands.specs.Errors.{is_lost_of, writer_of}
 use Rattle.lfi_file_commands.specs.Failures.{Told}
 use Rattle.lfi_commands.specs.Clients.{fate_line}

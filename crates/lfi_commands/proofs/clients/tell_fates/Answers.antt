@@ -1,6 +1,6 @@
 use Rattle.std.proofs.Common.{rules, get_or, subst, take}
 use Rattle.lfi_model.proofs.Lines.{lines_more, lines_whole}
-use Rattle.lfi_signals.specs.declared.fate.ClientFate.TheVariants.{Heard}
+use Rattle.lfi_sync.specs.declared.fate.ClientFate.TheVariants.{Heard}
 use Rattle.lfi_file_commands.specs.Errors.{is_lost_of, writer_of}
 use Rattle.lfi_file_commands.specs.Failures.{Told}
 use Rattle.lfi_file_commands.proofs.Fates.{told_nil, told_trans}

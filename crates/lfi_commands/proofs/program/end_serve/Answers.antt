@@ -16,10 +16,10 @@ returns-in-Ok-clause-told g c =
     record {
       before = now;
       by_load = c.in-Ok.by_load;
-      reported = subst (λ taken. TellsReport served.report [] served.read_errors taken c.args.asked.now c.args.outputs.now now c.in-Ok.by_load) c.are_all_taken.ensures c.in-Ok.ensures.told;
+      reported = subst (λ taken. TellsReport served.report [] served.clients.read_errors taken c.args.asked.now c.args.outputs.now now c.in-Ok.by_load) c.are_all_taken.ensures c.in-Ok.ensures.told;
       out = ap (λ (left : Left). left.out) is;
       put = ap (λ (left : Left). left.put) is;
-      told = subst (λ before. Told lost before tells (fate_lines served.fates)) (ap (λ (left : Left). left.errors) is) c.tell_fates.ensures.told;
+      told = subst (λ before. Told lost before tells (fate_lines served.clients.fates)) (ap (λ (left : Left). left.errors) is) c.tell_fates.ensures.told;
       lost = λ was. c.tell_fates.ensures.lost (ap (λ (left : Left). left.is_lost) is ∙ was);
       ends = c.ending_of_serve.ensures;
     }

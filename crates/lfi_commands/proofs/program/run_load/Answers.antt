@@ -1,11 +1,11 @@
 use Rattle.std.proofs.Common.{◌≡◌, ◌≤◌, ◌∙◌, Bor, List, ℕ, false, true, ap, length, map, refl, subst, sym}
 use Rattle.std.proofs.lemmas.List.{length-map}
 use Rattle.std.proofs.lemmas.Result.{IfErr-weaker, IfOk-weaker}
-use Rattle.lfi_threads.specs.Loaded.{IsLoaded}
+use Rattle.lfi_loader.specs.Loaded.{IsLoaded}
 use Rattle.lfi_file_commands.proofs.Failing.{is_no_other}
 use Rattle.lfi_file_commands.specs.Failures.{failure_of_load, is_of_output, FailsLoading, IsOfReadingOne}
 use Rattle.lfi_file_commands.specs.Opening.{AreInputsOf}
-use Rattle.lfi_signals.specs.Clients.{read_by}
+use Rattle.lfi_sync.specs.Clients.{read_by}
 use Rattle.lfi_commands.proofs.Failing.{fails_on_load, fails_on_reading, is_of_load, refused}
 use Rattle.lfi_commands.proofs.Inputs.{known_left, map_twice}
 use Rattle.lfi_commands.specs.Loading.{streams_of, HasLoaded, TellsReport}

@@ -1,6 +1,6 @@
 use Rattle.std.proofs.Common.{◌≡◌, ◌∙◌, false, true, refl, sym, subst}
 use Rattle.std.proofs.lemmas.Result.{IfErr-weaker, IfOk-weaker}
-use Rattle.lfi_threads.specs.Served.{HasServed}
+use Rattle.lfi_loader.specs.Served.{HasServed}
 use Rattle.lfi_commands.specs.Serving.{HasServedAll, IsLimit, TellsServed}
 use Rattle.lfi_file_commands.proofs.Failing.{is_no_other}
 use Rattle.lfi_file_commands.specs.Failures.{failure_of_load, is_of_output, FailsServing}
@@ -40,7 +40,7 @@ returns-in-Ok-serve_on g c =
       found = IfOk-weaker result (TellsServed served asked.report old new) (HasServedAll asked old new) (λ ending told. record {
         found = served;
         served = subst (λ limit. HasServed asked.connections asked.verifiers limit served) (sym is.limited) is;
-        limited = subst (IsLimit asked.seconds) (sym (is.limited ∙ c.new-door.ensures)) c.limit_of.ensures;
+        limited = subst (IsLimit asked.seconds) (sym (is.limited ∙ c.new-acceptor.ensures)) c.limit_of.ensures;
         told = told;
       }) did.ensures.told;
       failure = IfErr-weaker result (λ failure. is_of_output failure ≡ true) (FailsServing asked.socket.now) (λ failure is. fails_serving_load asked.socket.now failure (is_of_load failure is)) did.ensures.failure;

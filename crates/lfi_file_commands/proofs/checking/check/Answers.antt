@@ -1,5 +1,5 @@
 use Rattle.std.proofs.Common.{◌≡◌, ◌*◌, ◌<◌, IfSome, arith, option_map, subst, take}
-use Rattle.lfi_code.specs.Checking.{Checks}
+use Rattle.lfi_check.specs.Checking.{Checks}
 use Rattle.lfi_module.specs.Numbers.{most_words}
 use Rattle.lfi_file_commands.proofs.Explained.{checks_left}
 use Rattle.lfi_file_commands.proofs.checking.check.Goals as goal

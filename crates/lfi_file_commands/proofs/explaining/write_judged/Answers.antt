@@ -2,7 +2,7 @@ use Rattle.std.proofs.Common.{subst}
 use Rattle.lfi_file_commands.specs.Checking.{naming_text}
 use Rattle.lfi_file_commands.specs.Explaining.{WritesFault}
 use Rattle.lfi_file_commands.proofs.Explained.{refused_now}
-use Rattle.lfi_code.proofs.Spelled.{few, some_words}
+use Rattle.lfi_check.proofs.Spelled.{few, some_words}
 use Rattle.lfi_file_commands.proofs.explaining.write_judged.Goals as goal
 
 pub check_all-requires-clause-some : goal.check_all-requires-clause-some

@@ -1,4 +1,4 @@
-use Rattle.lfi_code.proofs.Spelled.{few}
+use Rattle.lfi_check.proofs.Spelled.{few}
 use Rattle.lfi_file_commands.proofs.explaining.write_words.Goals as goal
 
 pub write_listing-requires : goal.write_listing-requires

@@ -1,8 +1,8 @@
 use Rattle.std.proofs.Common.{◌≡◌, ◌∙◌, ◌++◌, inr, subst}
 use Rattle.std.specs.Prelude.{IfOk, codes, string_bytes}
 use Rattle.std.proofs.lemmas.Result.{IfOk-weaker}
-use Rattle.lfi_run.specs.declared.image_run.ImageRun.TheVariants.{Refused}
-use Rattle.lfi_run.specs.Texts.{run_text}
+use Rattle.lfi_run_image.specs.declared.image_run.ImageRun.TheVariants.{Refused}
+use Rattle.lfi_run_image.specs.Texts.{run_text}
 use Rattle.lfi_file_commands.proofs.info.image_info.Goals as goal
 
 pub returns-in-Err-clause-info : goal.returns-in-Err-clause-info

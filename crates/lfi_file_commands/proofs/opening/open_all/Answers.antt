@@ -1,5 +1,5 @@
 use Rattle.std.proofs.Common.{rules, ℕ, Bor, List, Option, map, subst, sym, take}
-use Rattle.lfi_signals.specs.Clients.{read_by}
+use Rattle.lfi_sync.specs.Clients.{read_by}
 use Rattle.lfi_file_commands.specs.Opening.{AreInputsOf}
 use Rattle.lfi_file_commands.proofs.Inputs.{inputs_more, map_all, map_more, tells_one}
 use Rattle.lfi_file_commands.proofs.opening.open_all.Goals as goal

@@ -1,5 +1,5 @@
 use Rattle.std.proofs.Common.{map, take}
-use Rattle.lfi_signals.specs.Clients.{read_by}
+use Rattle.lfi_sync.specs.Clients.{read_by}
 use Rattle.lfi_file_commands.specs.Opening.{AreInputsOf}
 use Rattle.lfi_file_commands.proofs.opening.open_all.Given as goal
 

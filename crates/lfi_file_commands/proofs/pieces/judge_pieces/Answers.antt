@@ -1,6 +1,6 @@
 use Rattle.std.proofs.Common.{rules, subst}
 use Rattle.std.proofs.KnownBytes.{Consumes-whole}
-use Rattle.lfi_code.specs.Checking.{Checks}
+use Rattle.lfi_check.specs.Checking.{Checks}
 use Rattle.lfi_file_commands.proofs.pieces.judge_pieces.Goals as goal
 
 pub returns-clause-verdict : goal.returns-clause-verdict

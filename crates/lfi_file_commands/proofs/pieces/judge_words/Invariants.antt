@@ -1,6 +1,6 @@
 use Rattle.std.proofs.Common.{◌≡◌, ◌≤◌, ℕ, ◌-◌, List, length}
 use Rattle.std.specs.Io.KnownBytes.{Consumes}
-use Rattle.lfi_code.specs.Begun.{Begins}
+use Rattle.lfi_check.specs.Begun.{Begins}
 use Rattle.lfi_file_commands.proofs.pieces.judge_words.Given as goal
 
 abbrev pub invariant-loop-beginning : goal.invariant-loop-beginning

@@ -3,7 +3,7 @@ use Rattle.std.proofs.lemmas.Result.{err_from_is_err_and}
 use Rattle.lfi_module.specs.Numbers.{most_words}
 use Rattle.lfi_module.specs.Pages.{page_count}
 use Rattle.lfi_pack.specs.Faults.{IsPackFault}
-use Rattle.in_full.specs.Beginnings.{AppendsBeginning}
+use Rattle.exact_io.specs.Beginnings.{AppendsBeginning}
 use Rattle.lfi_pack.specs.Packs.{joined, PacksPart}
 use Rattle.lfi_pack.specs.inner.Copies.{CopiesPages, BeginsPages}
 use Rattle.lfi_pack.proofs.Pages.{fault_at_end, joined_length, all_long}

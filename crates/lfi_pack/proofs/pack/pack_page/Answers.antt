@@ -1,7 +1,7 @@
 use Rattle.std.proofs.Common.{rules, ◌≡◌, length}
 use Rattle.lfi_pack.proofs.Pages.{copied_page}
 use Rattle.lfi_pack.specs.inner.Copies.{BeginsPage}
-use Rattle.in_full.specs.Beginnings.{AppendsBeginning}
+use Rattle.exact_io.specs.Beginnings.{AppendsBeginning}
 use Rattle.lfi_pack.proofs.Parts.{of_fault, follows_of_fault, header_begun, page_begun}
 use Rattle.lfi_pack.proofs.pack.pack_page.Goals as goal
 

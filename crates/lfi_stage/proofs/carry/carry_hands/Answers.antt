@@ -1,7 +1,7 @@
 use Rattle.std.proofs.Common.{◌≡◌, ℕ, ◌+◌, ◌<◌, ◌≤◌, List, None, Option, length, sym, ◌∙◌, subst, arith}
 use Rattle.std.proofs.lemmas.List.{get_or_default, get_or-set_other, length-set}
 use Rattle.lfi_model.specs.Item.{ItemView}
-use Rattle.lfi_place.specs.declared.sequence.Sequence.{Sequence}
+use Rattle.lfi_sequence.specs.declared.sequence.Sequence.{Sequence}
 use Rattle.lfi_stage.specs.Settled.{SettlesBut}
 use Rattle.lfi_stage.specs.inner.Rows.{held_by}
 use Rattle.lfi_stage.proofs.Carrying.{from_on, from_past, from_none, from_end, from_here, settles_hand, settles_held}

@@ -3,7 +3,7 @@ use Rattle.lfi_model.specs.Item.{ItemView}
 use Rattle.lfi_queues.specs.Passes.{QueueId, PassView, pass_at, items_at, AreAllPasses, after_rest, with_first}
 use Rattle.lfi_queues.proofs.Rest.{item_count, rest_smaller, still_all, other_place, first_taken}
 use Rattle.lfi_board.specs.Known.{module_of}
-use Rattle.lfi_place.specs.Sequenced.{Sequenced}
+use Rattle.lfi_sequence.specs.Sequenced.{Sequenced}
 use Rattle.lfi_stage.proofs.drain.drain_lane.Goals as goal
 
 pub loop-item-smaller : goal.loop-item-smaller

@@ -1,7 +1,7 @@
 use Rattle.std.proofs.Common.{◌≡◌, ◌-◌, ℕ, ◌<◌}
 use Rattle.lfi_queues.specs.Passes.{AreAllPasses, items_at, pass_at}
 use Rattle.lfi_queues.proofs.Rest.{item_count}
-use Rattle.lfi_place.specs.Sequenced.{Sequenced, module_number_of}
+use Rattle.lfi_sequence.specs.Sequenced.{Sequenced, module_number_of}
 use Rattle.lfi_stage.proofs.drain.drain_lane.Given as goal
 
 abbrev pub invariant-loop-item : goal.invariant-loop-item

@@ -7,7 +7,7 @@ use Rattle.std.proofs.lemmas.Bool.Decides.{eqb_tells}
 use Rattle.std.proofs.lemmas.List.{length-set, get_or-set_same, get_or-set_other}
 use Rattle.lfi_model.specs.Item.{ItemView}
 use Rattle.lfi_queues.specs.Passes.{PassView, QueueId, IsPass}
-use Rattle.lfi_place.specs.declared.sequencer.Sequencer.{Sequencer}
+use Rattle.lfi_sequence.specs.declared.sequencer.Sequencer.{Sequencer}
 use Rattle.lfi_stage.specs.inner.Rows.{row_of, Popped, last_of, last_items, lane_items, DrainedTo}
 use Rattle.lfi_stage.proofs.Last.{popped_take, last_take, drained_as, some_left}
 use Rattle.lfi_stage.proofs.Places.{one_less, still_same, last_is}

@@ -1,6 +1,6 @@
 use Rattle.std.proofs.Common.{◌≡◌, ℕ, ◌<◌, ◌≤◌, length, take, Some, None, get_or, slice_get}
-use Rattle.lfi_place.specs.declared.sequence.Sequence.{Sequence}
-use Rattle.lfi_place.specs.declared.sequencer.Sequencer.{Sequencer}
+use Rattle.lfi_sequence.specs.declared.sequence.Sequence.{Sequence}
+use Rattle.lfi_sequence.specs.declared.sequencer.Sequencer.{Sequencer}
 use Rattle.lfi_module.specs.Numbers.{module_count}
 use Rattle.lfi_stage.specs.inner.Rows.{row_of, lane_items, DrainedTo}
 use Rattle.lfi_stage.proofs.drain.drain_lanes.Given as goal

@@ -3,8 +3,8 @@ use Rattle.std.specs.Prelude.{MatchOption, Option, Some, None}
 use Rattle.std.specs.Option.{option_map_or}
 use Rattle.lfi_model.specs.Item.{ItemView}
 use Rattle.lfi_queues.specs.Passes.{QueueId, PassView, IsPass, items_at, pass_at}
-use Rattle.lfi_place.specs.declared.sequence.Sequence.{Sequence}
-use Rattle.lfi_place.specs.Sequenced.{Sequenced, module_number_of}
+use Rattle.lfi_sequence.specs.declared.sequence.Sequence.{Sequence}
+use Rattle.lfi_sequence.specs.Sequenced.{Sequenced, module_number_of}
 use Rattle.lfi_stage.specs.inner.Rows.{row_of, last_items, only_first}
 use Rattle.lfi_stage.proofs.Last.{last_popped, first_only, kept_as}
 use Rattle.lfi_stage.proofs.drain.drain_one.Goals as goal

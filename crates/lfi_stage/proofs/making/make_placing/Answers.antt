@@ -1,5 +1,5 @@
 use Rattle.std.proofs.Common.{◌≡◌, ◌∙◌, length, refl, sym, subst}
-use Rattle.lfi_place.specs.Lanes.{AreNewLanes}
+use Rattle.lfi_sequence.specs.Lanes.{AreNewLanes}
 use Rattle.lfi_stage.proofs.Fresh.{unused_row, row_count, rows_of_new}
 use Rattle.lfi_stage.proofs.making.make_placing.Goals as goal
 

@@ -2,12 +2,12 @@ use Rattle.std.proofs.Common.{◌≡◌, List, Some, None, subst, get_or, arith}
 use Rattle.std.proofs.lemmas.Option.{slice_get-get_or}
 use Rattle.lfi_model.specs.Item.{ItemView}
 use Rattle.lfi_model.specs.declared.outcome.Outcome.TheVariants.{Unused}
-use Rattle.lfi_place.specs.Come.{Come}
-use Rattle.lfi_place.specs.declared.report.ImageState.TheVariants.{Absent}
-use Rattle.lfi_place.specs.declared.report.ModuleReport.{ModuleReport}
-use Rattle.lfi_place.specs.declared.sequence.Sequence.{Sequence}
-use Rattle.lfi_place.specs.Sequenced.{Sequenced, module_number_of}
-use Rattle.lfi_place.specs.Tells.{Tells, HasEnd}
+use Rattle.lfi_sequence.specs.Come.{Come}
+use Rattle.lfi_sequence.specs.declared.report.ImageState.TheVariants.{Absent}
+use Rattle.lfi_sequence.specs.declared.report.ModuleReport.{ModuleReport}
+use Rattle.lfi_sequence.specs.declared.sequence.Sequence.{Sequence}
+use Rattle.lfi_sequence.specs.Sequenced.{Sequenced, module_number_of}
+use Rattle.lfi_sequence.specs.Tells.{Tells, HasEnd}
 use Rattle.lfi_stage.proofs.reports.into_reports.Goals as goal
 
 pub returns : goal.returns

@@ -1,7 +1,7 @@
 use Rattle.std.proofs.Common.{◌≡◌, Some, sym, ◌∙◌, subst}
-use Rattle.lfi_place.specs.declared.sequence.Sequence.{Sequence}
-use Rattle.lfi_place.specs.Sequenced.{Sequenced, module_number_of}
-use Rattle.lfi_place.specs.Tells.{Tells}
+use Rattle.lfi_sequence.specs.declared.sequence.Sequence.{Sequence}
+use Rattle.lfi_sequence.specs.Sequenced.{Sequenced, module_number_of}
+use Rattle.lfi_sequence.specs.Tells.{Tells}
 use Rattle.lfi_stage.proofs.reports.report_in.Goals as goal
 
 pub returns-in-Some : goal.returns-in-Some

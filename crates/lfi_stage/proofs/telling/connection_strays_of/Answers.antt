@@ -5,7 +5,7 @@ use Rattle.std.proofs.lemmas.Bool.Decides.{eqb_tells}
 use Rattle.std.proofs.lemmas.List.{length-set, get_or-set_same, get_or-set_other}
 use Rattle.std.proofs.lemmas.Option.{slice_get_read, slice_get_within}
 use Rattle.lfi_receive.specs.Receivers.{strays_at}
-use Rattle.lfi_parts.proofs.Each.{some_same}
+use Rattle.lfi_stage_model.proofs.Each.{some_same}
 use Rattle.lfi_stage.proofs.telling.connection_strays_of.Goals as goal
 
 pub loop-number-preserved : goal.loop-number-preserved

@@ -4,7 +4,7 @@ use Rattle.std.proofs.lemmas.Bool.Decides.{eqb_tells}
 use Rattle.std.proofs.lemmas.List.{length-set}
 use Rattle.std.proofs.lemmas.Option.{slice_get_read, slice_get_within}
 use Rattle.lfi_receive.specs.Receivers.{start_of}
-use Rattle.lfi_parts.proofs.Each.{some_same, set_same, set_other}
+use Rattle.lfi_stage_model.proofs.Each.{some_same, set_same, set_other}
 use Rattle.lfi_stage.proofs.telling.starts_of.Goals as goal
 
 pub loop-number-preserved : goal.loop-number-preserved

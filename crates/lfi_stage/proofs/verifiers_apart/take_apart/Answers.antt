@@ -2,8 +2,8 @@ use Rattle.std.proofs.Common.{◌≡◌, ℕ, [], Some, None, length, slice_get,
 use Rattle.std.specs.Option.{option_map, option_map_or}
 use Rattle.std.proofs.lemmas.Option.{slice_get_past}
 use Rattle.std.proofs.lemmas.List.{length-set}
-use Rattle.lfi_place.specs.declared.verifier.Verifier.{Verifier}
-use Rattle.lfi_place.specs.Handed.{take_pass_of, lane_puts_of, hand_of}
+use Rattle.lfi_sequence.specs.declared.verifier.Verifier.{Verifier}
+use Rattle.lfi_sequence.specs.Handed.{take_pass_of, lane_puts_of, hand_of}
 use Rattle.lfi_stage.specs.inner.Rows.{passes_in}
 use Rattle.lfi_stage.proofs.Places.{filled, one_less, still_same, last_is}
 use Rattle.lfi_stage.proofs.verifiers_apart.take_apart.Goals as goal

@@ -1,7 +1,7 @@
 use Rattle.std.proofs.Common.{◌≡◌, ℕ, ◌<◌, ◌≤◌, [], None, length, slice_get}
 use Rattle.std.specs.Option.{option_map, option_map_or}
 use Rattle.lfi_queues.specs.Passes.{pass_at}
-use Rattle.lfi_place.specs.Handed.{take_pass_of, lane_puts_of, hand_of}
+use Rattle.lfi_sequence.specs.Handed.{take_pass_of, lane_puts_of, hand_of}
 use Rattle.lfi_stage.specs.inner.Rows.{row_of, held_by}
 use Rattle.lfi_stage.proofs.verifiers_apart.take_apart.Given as goal
 

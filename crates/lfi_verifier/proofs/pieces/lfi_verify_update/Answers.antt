@@ -1,5 +1,5 @@
 use Rattle.std.proofs.Common.{rules, ◌≡◌, ◌++◌, ◌∙◌}
-use Rattle.lfi_code.specs.Begun.{Begins}
+use Rattle.lfi_check.specs.Begun.{Begins}
 use Rattle.lfi_verifier.specs.States.{Keeps, status_after}
 use Rattle.lfi_verifier.specs.Statuses.{status_number}
 use Rattle.lfi_verifier.proofs.Kept.{begun, judged_by, count, stands, so_far, room, no_room}

@@ -1,5 +1,5 @@
 use Rattle.std.proofs.Common.{rules, ℕ, [], ◌∷◌, sym, ap, subst, ◌∙◌}
-use Rattle.lfi_board.specs.Hands.{onlooker}
+use Rattle.lfi_board.specs.Knowledge.{onlooker}
 use Rattle.lfi_board.specs.inner.Rule.{View, taken}
 use Rattle.lfi_board.specs.Rows.{MayFollow}
 use Rattle.lfi_board.specs.Known.{board_id}

@@ -1,7 +1,7 @@
 use Rattle.std.proofs.Common.{◌≡◌, List, ℕ, ◌++◌, append_assoc, subst}
 use Rattle.std.specs.Prelude.{codes, decimal}
 use Rattle.std.specs.Fmt.{HasWritten}
-use Rattle.lfi_run.specs.Texts.{address_text}
+use Rattle.lfi_run_image.specs.Texts.{address_text}
 use Rattle.lfi_file_commands.proofs.info.HeldDisplay.fmt.Goals as goal
 
 regroup : (a b c d e f g h i j k : List ℕ) → a ++ (b ++ (c ++ (d ++ (e ++ (f ++ (g ++ (h ++ (i ++ (j ++ k))))))))) ≡ a ++ b ++ c ++ d ++ e ++ f ++ g ++ h ++ i ++ j ++ k

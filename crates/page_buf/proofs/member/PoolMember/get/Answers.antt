@@ -1,5 +1,5 @@
 use Rattle.std.proofs.Common.{IfNone, subst}
-use Rattle.page_buf.specs.Sightings.{Passed, full}
+use Rattle.page_buf.specs.SeenSlots.{Passed, full}
 use Rattle.page_buf.specs.Pools.{seen_by}
 use Rattle.page_buf.proofs.member.PoolMember.get.Goals as goal
 

@@ -1,5 +1,5 @@
 use Rattle.std.proofs.Common.{OnErr, subst}
-use Rattle.page_buf.specs.Sightings.{Passed, empty}
+use Rattle.page_buf.specs.SeenSlots.{Passed, empty}
 use Rattle.page_buf.specs.Pools.{seen_by}
 use Rattle.page_buf.proofs.member.PoolMember.give.Goals as goal
 

@@ -1,4 +1,0 @@
-use Rattle.lfi_machine.proofs.slot.Data.+number.Given as goal
-
-abbrev pub decreases-number : goal.decreases-number
-decreases-number l = l.bytes

@@ -1,8 +1,0 @@
-use Rattle.lfi_parts.proofs.Kept.{new_verifier, new_sequencer}
-use Rattle.lfi_parts.proofs.turns.parts_are_new.Goals as goal
-
-pub returns-clause-verifier : goal.returns-clause-verifier
-returns-clause-verifier c = new_verifier
-
-pub returns-clause-sequencer : goal.returns-clause-sequencer
-returns-clause-sequencer c = new_sequencer

@@ -1,5 +1,0 @@
-use Rattle.lfi_place.proofs.Chain.{permuted_come}
-use Rattle.lfi_place.proofs.delivery.all_come.Goals as goal
-
-pub returns : goal.returns
-returns c = permuted_come

@@ -1,8 +1,0 @@
-use Rattle.lfi_place.proofs.HandsOn.{hand_taken, hand_put}
-use Rattle.lfi_place.proofs.delivery.one_hand.Goals as goal
-
-pub returns-clause-takes : goal.returns-clause-takes
-returns-clause-takes c = hand_taken
-
-pub returns-clause-puts : goal.returns-clause-puts
-returns-clause-puts c = hand_put

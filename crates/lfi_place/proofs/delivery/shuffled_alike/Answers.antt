@@ -1,5 +1,0 @@
-use Rattle.lfi_place.proofs.Shuffles.{shuffled_alike}
-use Rattle.lfi_place.proofs.delivery.shuffled_alike.Goals as goal
-
-pub returns : goal.returns
-returns c = shuffled_alike

@@ -1,9 +1,0 @@
-use Rattle.std.proofs.Common.{subst}
-use Rattle.page_buf.specs.Page.{PageView}
-use Rattle.lfi_place.specs.inner.Pools.{Offers}
-use Rattle.lfi_place.proofs.Offered.{offered}
-use Rattle.lfi_place.proofs.placing.give_back.Goals as goal
-
-pub returns-clause-offers : goal.returns-clause-offers
-returns-clause-offers c = subst (λ (p : PageView). Offers p.size c.args.pool.now c.give.new.self) c.into_parts-page.ensures.page
-    (offered c.give.result c.into_parts-page.result.0.size c.args.pool.now c.give.new.self c.give.ensures.ok c.give.ensures.small c.give.ensures.large)

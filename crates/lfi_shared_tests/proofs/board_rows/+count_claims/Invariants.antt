@@ -1,5 +1,0 @@
-use Rattle.std.proofs.Common.{length}
-use Rattle.lfi_shared_tests.proofs.board_rows.+count_claims.Given as goal
-
-abbrev pub decreases-count_claims : goal.decreases-count_claims
-decreases-count_claims g l = length l.seats.now

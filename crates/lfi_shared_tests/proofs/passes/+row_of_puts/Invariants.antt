@@ -1,5 +1,0 @@
-use Rattle.std.specs.Prelude.{vec_len}
-use Rattle.lfi_shared_tests.proofs.passes.+row_of_puts.Given as goal
-
-abbrev pub decreases-row_of_puts : goal.decreases-row_of_puts
-decreases-row_of_puts l = vec_len l.passes

@@ -1,5 +1,0 @@
-use Rattle.std.specs.Prelude.{vec_len}
-use Rattle.lfi_shared_tests.proofs.workers.+run_takers.Given as goal
-
-abbrev pub decreases-run_takers : goal.decreases-run_takers
-decreases-run_takers g l = vec_len l.takes

@@ -1,0 +1,250 @@
+//! How far the threads of a stage are to go.
+
+ghost use Rattle.std.specs.Prelude.{◌≡◌, ◌≤◌, ◌<◌, ℕ, None, Some, false, option_map};
+ghost use Rattle.lfi_sync.specs.Fates.{is_unheard};
+ghost use Rattle.lfi_sync.specs.Stops.{state_number, stops_for, why_of};
+
+use crate::wait_sets::WaitSets;
+use crate::deadline::Span;
+use crate::fate::{Unheard, flag_of};
+use crate::refusal::LoadError;
+use std::rt::Clock;
+use std::sync::Wait;
+use std::sync::atomic::{AtomicU64, Ordering};
+use std::time::Duration;
+
+/// How far the threads are to go, in the order in which one follows another: the word never goes back.
+#[derive(Clone, Copy, PartialEq, Eq)]
+enum State {
+    /// They are being started.
+    Starting,
+    /// All have been started.
+    Running,
+    /// All verifiers' threads have ended.
+    Verified,
+    /// All are to stop, since memory was refused.
+    NoMemory,
+    /// All are to stop, since a thread was refused.
+    NoThread,
+}
+
+impl State {
+    /// The number by which it stands in the word.
+    fn number(self) -> u64
+        ensures { result ≡ state_number self }
+    {
+        match self {
+            State::Starting => 0,
+            State::Running => 1,
+            State::Verified => 2,
+            State::NoMemory => 3,
+            State::NoThread => 4,
+        }
+    }
+
+    /// The state that stands in the word by this number. No greater one than 4 is ever written.
+    fn of(number: u64) -> State
+        ensures state { (state : State) → number ≡ state_number state → result ≡ state }
+        ensures above { state_number State.NoThread ≤ number → result ≡ State.NoThread }
+    {
+        match number {
+            0 => State::Starting,
+            1 => State::Running,
+            2 => State::Verified,
+            3 => State::NoMemory,
+            _ => State::NoThread,
+        }
+    }
+
+    /// The one by which all are to stop for this.
+    fn stopping(why: LoadError) -> State
+        ensures { stops_for result ≡ Some why }
+    {
+        match why {
+            LoadError::NoMemory => State::NoMemory,
+            LoadError::NoThread => State::NoThread,
+        }
+    }
+}
+
+/// That all threads are to stop, and why. None but the word of `Lifecycle` tells it, so a thread that has
+/// one was told.
+#[derive(Clone, Copy)]
+pub struct Stopped {
+    why: LoadError,
+}
+
+impl Stopped {
+    /// What this state tells.
+    fn of(state: State) -> Option<Stopped>
+        ensures { option_map why_of result ≡ stops_for state }
+    {
+        match state {
+            State::Starting | State::Running | State::Verified => None,
+            State::NoMemory => Some(Stopped {
+                why: LoadError::NoMemory,
+            }),
+            State::NoThread => Some(Stopped {
+                why: LoadError::NoThread,
+            }),
+        }
+    }
+
+    /// Why they are to stop.
+    pub fn why(self) -> LoadError
+        ensures { result ≡ why_of self }
+    {
+        self.why
+    }
+}
+
+/// That all verifiers' threads have ended, or that all threads are to stop. None but the word of `Lifecycle` tells it, so a
+/// thread that has one was told.
+#[derive(Clone, Copy)]
+pub struct Verified {
+    state: State,
+}
+
+impl Verified {
+    /// What this state tells.
+    fn of(state: State) -> Option<Verified>
+        ensures before { state_number state < state_number State.Verified → result ≡ None }
+        ensures after { state_number State.Verified ≤ state_number state → result ≡ Some (record { state = state }) }
+    {
+        match state {
+            State::Starting | State::Running => None,
+            State::Verified | State::NoMemory | State::NoThread => Some(Verified { state }),
+        }
+    }
+}
+
+/// That all threads have been started, or are to stop. None but `Lifecycle::wait_for_go` tells it, so a
+/// thread that has one has waited.
+#[derive(Clone, Copy)]
+pub struct Going<'a> {
+    lifecycle: &'a Lifecycle,
+}
+
+impl<'a> Going<'a> {
+    /// How far the threads are to go.
+    pub fn lifecycle(self) -> &'a Lifecycle {
+        self.lifecycle
+    }
+}
+
+/// One word that all threads of a stage watch, which receivers' threads have nothing more to hear,
+/// and where the threads wait for one another.
+#[derive(Drop)]
+pub struct Lifecycle {
+    word: AtomicU64,
+    /// A flag for each receiver's thread that has nothing more to hear.
+    heard: AtomicU64,
+    wait_sets: WaitSets,
+}
+
+impl Lifecycle {
+    /// The threads are being started, so many verifiers' among them.
+    pub fn new(verifiers: usize) -> Lifecycle {
+        Lifecycle {
+            word: AtomicU64::new(State::Starting.number()),
+            heard: AtomicU64::new(0),
+            wait_sets: WaitSets::new(verifiers),
+        }
+    }
+
+    /// Where the threads wait for one another.
+    pub fn wait_sets(&self) -> &WaitSets {
+        &self.wait_sets
+    }
+
+    /// All threads have been started.
+    pub fn go(&self) {
+        self.tell(State::Running);
+    }
+
+    /// All verifiers' threads have ended.
+    pub fn verified(&self) {
+        self.tell(State::Verified);
+    }
+
+    /// A thread couldn't be started, or memory was refused, and all others are to stop. The answer is
+    /// that again.
+    pub fn stop(&self, why: LoadError) -> LoadError
+        ensures { result ≡ why }
+    {
+        self.tell(State::stopping(why));
+        why
+    }
+
+    /// Waits until all threads have been started, or are to stop.
+    pub fn wait_for_go<S: Wait>(&self, rt: &S) -> Going<'_> {
+        for _ in rt.forever() {
+            if self.state() != State::Starting {
+                break;
+            }
+            self.word.park(rt, State::Starting.number() as u32);
+        }
+        Going { lifecycle: self }
+    }
+
+    /// Whether all verifiers' threads have ended, or all threads are to stop.
+    pub fn are_verified(&self) -> Option<Verified> {
+        Verified::of(self.state())
+    }
+
+    /// Whether all threads are to stop, and why.
+    pub fn stopped(&self) -> Option<Stopped> {
+        Stopped::of(self.state())
+    }
+
+    /// The thread of the receiver with this number has nothing more to hear. All verifiers look for
+    /// what it has put, and whether it was the last.
+    pub fn tell_heard(&self, number: usize) {
+        self.wait_sets.items.call_all();
+        self.heard
+            .fetch_or(u64::from(flag_of(number)), Ordering::SeqCst);
+        self.heard.wake_all();
+    }
+
+    /// Waits until the threads of the first so many receivers have nothing more to hear, or this time
+    /// is over. The answer is which of them still had something to hear then.
+    pub(crate) fn wait_for_heard<S: Wait + Clock>(
+        &self,
+        rt: &S,
+        count: usize,
+        span: &Span,
+    ) -> Unheard
+        ensures { (c : ℕ) → count ≤ c → is_unheard result c ≡ false }
+    {
+        for _ in rt.forever() {
+            let heard = u32::try_from(self.heard.load(Ordering::SeqCst)).unwrap_or(u32::MAX);
+            let unheard = Unheard::of(heard, count);
+            let left = span.left(rt);
+            if unheard.is_none() || left.is_zero() {
+                return unheard;
+            }
+            self.heard.park_timeout(rt, heard, left);
+        }
+        unreachable!()
+    }
+
+    /// Sleeps for this time, unless the word changes.
+    pub fn sleep<S: Wait>(&self, rt: &S, time: Duration) {
+        let Ok(seen) = u32::try_from(self.word.load(Ordering::SeqCst)) else {
+            return;
+        };
+        self.word.park_timeout(rt, seen, time);
+    }
+
+    /// What the word says.
+    fn state(&self) -> State {
+        State::of(self.word.load(Ordering::SeqCst))
+    }
+
+    /// The word says this from now on, unless it says more, and all that wait are called.
+    fn tell(&self, state: State) {
+        self.word.fetch_max(state.number(), Ordering::SeqCst);
+        self.word.wake_all();
+        self.wait_sets.call_all();
+    }
+}

@@ -1,0 +1,207 @@
+//! Wait sets: how threads wait for what others bring, and how those call them.
+
+use lfi_module::VERIFIERS;
+use std::array;
+use std::sync::Wait;
+use std::sync::atomic::{AtomicU64, Ordering};
+use std::thread::Parker;
+
+/// The bit of the thread with this number, which is less than 8.
+fn bit_of(number: usize) -> u64 {
+    1 << (number % VERIFIERS)
+}
+
+/// Where threads wait for one thing, and where who brings it calls them.
+///
+/// A thread that found nothing says that it waits, looks once more, and only then sleeps. Who brings
+/// something puts it where it belongs, and only then looks who waits. All these steps have one order:
+/// so either the thread finds in its second look what was brought, or it is called.
+#[derive(Drop)]
+pub struct WaitSet {
+    /// How many threads there are that wait here at times.
+    threads: usize,
+    /// A bit for each thread that waits and wasn't called yet.
+    waiting: AtomicU64,
+    /// Where they sleep, by their numbers.
+    sleepers: [Parker; VERIFIERS],
+}
+
+impl WaitSet {
+    /// That of so many threads, at most 8.
+    fn new(threads: usize) -> WaitSet {
+        WaitSet {
+            threads,
+            waiting: AtomicU64::new(0),
+            sleepers: array::from_fn(|_| Parker::new()),
+        }
+    }
+
+    /// Where the thread with this number sleeps.
+    fn sleeper(&self, number: usize) -> &Parker {
+        let sleepers = &self.sleepers[..];
+        &sleepers[number % VERIFIERS]
+    }
+
+    /// Whether all its threads wait, and none of them was called.
+    fn all_wait(&self) -> bool {
+        self.waiting.load(Ordering::SeqCst).count_ones() as usize >= self.threads
+    }
+
+    /// This thread waits from now on. It looks once more before it sleeps.
+    fn enter(&self, number: usize) {
+        self.waiting.fetch_or(bit_of(number), Ordering::SeqCst);
+    }
+
+    /// This thread waits no longer, whether it was called or not.
+    fn leave(&self, number: usize) {
+        self.waiting.fetch_and(!bit_of(number), Ordering::SeqCst);
+    }
+
+    /// Calls this thread, where it waits and wasn't called yet.
+    fn call(&self, number: usize) {
+        let bit = bit_of(number);
+        if self.waiting.fetch_and(!bit, Ordering::SeqCst) & bit != 0 {
+            self.sleeper(number).unpark();
+        }
+    }
+
+    /// Calls one of the threads that wait, if there are any: that with the least number. Where
+    /// another one calls it at the same time, one call is enough: it looks after both have brought
+    /// what they bring.
+    fn call_one(&self) {
+        let waiting = self.waiting.load(Ordering::SeqCst);
+        if waiting != 0 {
+            self.call(waiting.trailing_zeros() as usize);
+        }
+    }
+
+    /// Calls all threads that wait.
+    pub fn call_all(&self) {
+        if self.waiting.load(Ordering::SeqCst) == 0 {
+            return;
+        }
+        for number in 0..VERIFIERS {
+            self.call(number);
+        }
+    }
+}
+
+/// The wait sets of a stage, by what is waited for.
+#[derive(Drop)]
+pub struct WaitSets {
+    /// Items in the intake: verifiers wait for them, and receivers bring them.
+    pub items: WaitSet,
+    /// Judged items in the lanes: the sequencers' thread waits for them, and verifiers bring them.
+    pub judged: WaitSet,
+    /// Room in the lanes: verifiers wait for it, and the sequencers' thread brings it.
+    pub lane_room: WaitSet,
+}
+
+impl WaitSets {
+    /// Those of a stage with so many verifiers.
+    pub(crate) fn new(verifiers: usize) -> WaitSets {
+        WaitSets {
+            items: WaitSet::new(verifiers),
+            judged: WaitSet::new(1),
+            lane_room: WaitSet::new(verifiers),
+        }
+    }
+
+    /// Calls all threads that wait for anything.
+    pub(crate) fn call_all(&self) {
+        self.items.call_all();
+        self.judged.call_all();
+        self.lane_room.call_all();
+    }
+}
+
+/// How a thread calls others for what it brings: not for each thing at once.
+#[derive(Drop)]
+pub struct Notifier<'a> {
+    wait_set: &'a WaitSet,
+    /// For how many things it calls one of them at the latest.
+    every: u32,
+    /// How many things it has brought since it called one.
+    untold: u32,
+}
+
+impl<'a> Notifier<'a> {
+    /// That of a thread that has brought nothing yet.
+    pub fn new(wait_set: &'a WaitSet, every: u32) -> Notifier<'a> {
+        Notifier {
+            wait_set,
+            every,
+            untold: 0,
+        }
+    }
+
+    /// It has brought one more thing.
+    pub fn brought(&mut self) {
+        self.untold = self.untold.saturating_add(1);
+        if self.untold >= self.every {
+            self.tell();
+        }
+    }
+
+    /// It has brought one more thing, for which one of them is called at once where all wait.
+    pub fn brought_to_sleepers(&mut self) {
+        self.brought();
+        if self.wait_set.all_wait() {
+            self.tell();
+        }
+    }
+
+    /// Calls one of those that wait, where it has brought something since it called one.
+    pub fn tell_rest(&mut self) {
+        if self.untold != 0 {
+            self.tell();
+        }
+    }
+
+    /// Calls one of those that wait.
+    pub fn tell(&mut self) {
+        self.untold = 0;
+        self.wait_set.call_one();
+    }
+}
+
+/// How a thread waits that has nothing to do.
+#[derive(Drop)]
+pub struct Waiter<'a> {
+    wait_set: &'a WaitSet,
+    /// The thread's number at the wait set.
+    number: usize,
+    /// Whether it has said that it waits.
+    waits: bool,
+}
+
+impl<'a> Waiter<'a> {
+    /// That of the thread with this number at the wait set, which doesn't wait.
+    pub fn new(wait_set: &'a WaitSet, number: usize) -> Waiter<'a> {
+        Waiter {
+            wait_set,
+            number,
+            waits: false,
+        }
+    }
+
+    /// It had something to do.
+    pub fn end(&mut self) {
+        if self.waits {
+            self.waits = false;
+            self.wait_set.leave(self.number);
+        }
+    }
+
+    /// It had nothing to do. The first time it says that it waits, and is to look once more; where
+    /// that found nothing either, it sleeps until it is called.
+    pub fn pause<S: Wait>(&mut self, rt: &S) {
+        if self.waits {
+            self.wait_set.sleeper(self.number).park(rt);
+            self.end();
+        } else {
+            self.waits = true;
+            self.wait_set.enter(self.number);
+        }
+    }
+}

@@ -1,0 +1,4 @@
+pub mod Clients
+pub mod Hearing
+pub mod PartIds
+pub mod Workers

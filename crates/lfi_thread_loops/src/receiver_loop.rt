@@ -1,0 +1,167 @@
+//! What a receiver's thread does.
+
+ghost use Rattle.std.specs.Prelude.{◌≡◌, ℕ, List, Option, Some};
+ghost use Rattle.lfi_receive.specs.Receivers.{IsFinished};
+ghost use Rattle.lfi_receive.specs.Inputs.{left_of};
+ghost use Rattle.lfi_stage_model.specs.Parts.{IsReceiver};
+ghost use Rattle.lfi_stage_model.specs.Fresh.{IsFresh};
+ghost use Rattle.lfi_thread_loops.specs.declared.receiver_loop.ReceiverExit.TheVariants as receiver_exit;
+ghost use Rattle.lfi_thread_loops.specs.inner.Hearing.{IsHearing, IsAsBefore, IsHeardBy};
+
+use crate::notices::{Notices, SeenRefused};
+use crate::promises::{PartExit, PartId};
+use lfi_receive::{Input, Receiver, ReceiverTurn};
+use lfi_sync::{Lifecycle, Going, Stopped, Notifier};
+use std::io::Read;
+use std::sync::Wait;
+use std::time::Duration;
+
+/// In every so many turns of a receiver its thread looks at the modules' phases.
+const LOOK_TURNS: u32 = 64;
+
+/// For how many items a receiver calls one more verifier, at the latest, where one waits.
+const ITEMS_A_CALL: u32 = 32;
+
+/// After how many microseconds a receiver asks again for memory that was refused.
+const REFUSED_PAUSE: u64 = 200;
+
+/// What a receiver's thread keeps beside its receiver.
+#[derive(Drop)]
+struct Watch<'a, N> {
+    /// Of items.
+    items: Notifier<'a>,
+    /// Where it tells of refused modules, and of which it has told.
+    notices: &'a N,
+    told: SeenRefused,
+    turns: u32,
+}
+
+impl<'a, N> Watch<'a, N> {
+    fn new(lifecycle: &'a Lifecycle, notices: &'a N) -> Watch<'a, N> {
+        Watch {
+            items: Notifier::new(&lifecycle.wait_sets().items, ITEMS_A_CALL),
+            notices,
+            told: SeenRefused::new(),
+            turns: 0,
+        }
+    }
+
+    /// What follows a turn that did this: verifiers are called for an item, not for each at once
+    /// where one of them is awake. An item is refused only where memory is, which comes free without a
+    /// call: so its thread asks for it again after a time.
+    fn go_on<S: Wait>(&mut self, rt: &S, lifecycle: &Lifecycle, did: ReceiverTurn) {
+        match did {
+            ReceiverTurn::Put => self.items.brought_to_sleepers(),
+            ReceiverTurn::Blocked => {
+                self.items.tell();
+                lifecycle.sleep(rt, Duration::from_micros(REFUSED_PAUSE));
+            }
+            ReceiverTurn::More | ReceiverTurn::Stray | ReceiverTurn::Finished => {}
+        }
+    }
+
+    /// Counts a turn that did this. Whether nothing follows it: it brought no item, and it isn't time to look at the modules'
+    /// phases.
+    #[inline(always)]
+    fn passes(&mut self, did: ReceiverTurn) -> bool {
+        self.turns = self.turns.wrapping_add(1);
+        self.turns % LOOK_TURNS != 0 && (did == ReceiverTurn::More || did == ReceiverTurn::Stray)
+    }
+
+    /// Whether it is time to look at the modules' phases, after a turn that did this: where there
+    /// was nothing else to do, at the end, and now and then.
+    fn is_due(&self, did: ReceiverTurn) -> bool {
+        did == ReceiverTurn::Blocked
+            || did == ReceiverTurn::Finished
+            || self.turns % LOOK_TURNS == 0
+    }
+}
+
+impl<N: Notices> Watch<'_, N> {
+    /// Looks at the modules' phases, where it is time to.
+    fn look_after(&mut self, part: PartId<'_>, receiver: &mut Receiver, did: ReceiverTurn)
+        requires is { IsReceiver part.shared.now part.number receiver.old }
+        ensures is { IsReceiver part.entry.shared.now part.entry.number receiver.new }
+        ensures before { IsAsBefore receiver.old receiver.new }
+        ensures finished { IsFinished receiver.old → IsFinished receiver.new }
+    {
+        if !self.is_due(did) {
+            return;
+        }
+        self.told.look(part, receiver, self.notices);
+    }
+}
+
+/// Why a receiver's thread ends.
+#[derive(Clone, Copy)]
+enum ReceiverExit {
+    /// Its receiver has finished.
+    Finished,
+    /// The threads are to stop.
+    Stopped(Stopped),
+}
+
+/// One turn of a receiver, and what follows it. The answer is why its thread is to end, where it is.
+fn receive_once<S: Wait, R: Read + Drop, N: Notices>(
+    rt: &S,
+    part: PartId<'_>,
+    going: Going<'_>,
+    receiver: &mut Receiver,
+    input: &mut Input<R>,
+    watch: &mut Watch<'_, N>,
+) -> Option<ReceiverExit>
+    requires is { IsReceiver part.shared.now part.number receiver.old }
+    ensures is { IsReceiver part.entry.shared.now part.entry.number receiver.new }
+    ensures hearing { (whole : Option (List ℕ)) → IsHearing R.remaining whole receiver.old input.old → IsHearing R.remaining whole receiver.new input.new }
+    ensures finished { result ≡ Some receiver_exit.Finished → IsFinished receiver.new }
+{
+    if let Some(stopped) = going.lifecycle().stopped() {
+        return Some(ReceiverExit::Stopped(stopped));
+    }
+    let shared = part.shared;
+    let did = receiver.pull(&shared.board, &shared.intake, input);
+    if watch.passes(did) {
+        return None;
+    }
+    watch.look_after(part, receiver, did);
+    watch.go_on(rt, going.lifecycle(), did);
+    if did == ReceiverTurn::Finished {
+        return Some(ReceiverExit::Finished);
+    }
+    None
+}
+
+/// Turns a receiver until it has put all that its input makes and has told the board its end. It
+/// begins once all threads have been started. Where they are to stop it gives up.
+pub(crate) fn receive_loop<S: Wait, R: Read + Drop, N: Notices>(
+    rt: &S,
+    part: PartId<'_>,
+    lifecycle: &Lifecycle,
+    notices: &N,
+    mut receiver: Receiver,
+    mut input: Input<R>,
+) -> PartExit<Receiver>
+    requires is { IsReceiver part.shared.now part.number receiver }
+    requires fresh { IsFresh receiver }
+    ensures { IsHeardBy part.entry.shared.now part.entry.number (left_of R.remaining input) result }
+{
+    let going = lifecycle.wait_for_go(rt);
+    let mut watch = Watch::new(lifecycle, notices);
+    for _ in rt.forever() {
+        match receive_once(rt, part, going, &mut receiver, &mut input, &mut watch) {
+            None => {}
+            Some(ReceiverExit::Finished) => {
+                drop(input);
+                lifecycle.tell_heard(part.number);
+                return PartExit::Ended(receiver);
+            }
+            Some(ReceiverExit::Stopped(stopped)) => {
+                drop(input);
+                lifecycle.tell_heard(part.number);
+                drop(receiver);
+                return PartExit::GaveUp(stopped);
+            }
+        }
+    }
+    unreachable!()
+}

@@ -1,0 +1,178 @@
+//! What a verifier's thread does.
+
+ghost use Rattle.std.specs.Prelude.{◌≡◌, Some, IsTrue};
+ghost use Rattle.lfi_sequence.specs.declared.verifier.VerifierTurn.TheVariants as turn;
+ghost use Rattle.lfi_sequence.specs.Handed.{seat_of};
+ghost use Rattle.lfi_thread_loops.specs.declared.verifier_loop.VerifierExit.TheVariants as exit;
+ghost use Rattle.lfi_thread_loops.specs.Seated.{IsVerifierOf, HasSeenAllEnd};
+ghost use Rattle.lfi_thread_loops.specs.inner.Workers.{FoundNothing, EndsAsTold, IsVerifiedBy};
+
+use crate::promises::{PartExit, PartId};
+use lfi_stage_model::Shared;
+use lfi_sequence::{Gate, Verifier, VerifierTurn};
+use lfi_sync::{Lifecycle, Waiter, Stopped, Notifier};
+use std::sync::Wait;
+
+/// Why a verifier's thread ends.
+#[derive(Clone, Copy)]
+pub(crate) enum VerifierExit {
+    /// All receivers had ended, and a later turn found nothing.
+    Over,
+    /// The threads are to stop.
+    Stopped(Stopped),
+}
+
+/// Whether the board tells a verifier that all receivers have ended.
+fn have_all_ended(part: PartId<'_>, verifier: &mut Verifier) -> bool
+    requires is { IsVerifierOf part.shared.now part.number verifier.old }
+    ensures is { IsVerifierOf part.entry.shared.now part.entry.number verifier.new }
+    ensures seen { IsTrue result → HasSeenAllEnd part.entry.shared.now verifier.new }
+{
+    let shared = part.shared;
+    verifier.ended(&shared.board) == shared.receivers
+}
+
+/// One turn of a verifier.
+fn turn_one<S: Wait, G: Gate>(
+    rt: &S,
+    part: PartId<'_>,
+    gate: &G,
+    verifier: &mut Verifier,
+) -> VerifierTurn
+    requires is { IsVerifierOf part.shared.now part.number verifier.old }
+    ensures is { IsVerifierOf part.entry.shared.now part.entry.number verifier.new }
+    ensures seat { seat_of verifier.new ≡ seat_of verifier.old }
+    ensures idle { result ≡ turn.Idle → FoundNothing verifier.old verifier.new }
+{
+    let shared = part.shared;
+    verifier.turn(rt, &shared.intake, &shared.lanes, gate)
+}
+
+/// For how many judged items a verifier calls the sequencers' thread, at the latest: half a lane.
+const JUDGED_A_CALL: u32 = 32;
+
+/// How a verifier's thread waits, and tells others of what it brings them.
+#[derive(Drop)]
+struct VerifierPace<'a> {
+    /// How far the threads are to go.
+    lifecycle: &'a Lifecycle,
+    /// Until there are items.
+    idle: Waiter<'a>,
+    /// Until there is room in the lane of the item in hand.
+    blocked: Waiter<'a>,
+    /// Of judged items.
+    judged: Notifier<'a>,
+}
+
+impl<'a> VerifierPace<'a> {
+    /// That of the verifier with this number.
+    fn new(lifecycle: &'a Lifecycle, number: usize) -> VerifierPace<'a> {
+        let wait_sets = lifecycle.wait_sets();
+        VerifierPace {
+            lifecycle,
+            idle: Waiter::new(&wait_sets.items, number),
+            blocked: Waiter::new(&wait_sets.lane_room, number),
+            judged: Notifier::new(&wait_sets.judged, JUDGED_A_CALL),
+        }
+    }
+
+    /// Tells the sequencers' thread of what a turn brought it that did this: not of each judged item at
+    /// once, but before this thread waits or ends.
+    fn tell(&mut self, did: VerifierTurn) {
+        match did {
+            VerifierTurn::Worked => self.judged.brought(),
+            VerifierTurn::Blocked => self.judged.tell(),
+            VerifierTurn::Idle => self.judged.tell_rest(),
+            VerifierTurn::Again => {}
+        }
+    }
+
+    /// Waits after a turn that found nothing, or no room.
+    fn rest<S: Wait>(&mut self, rt: &S, did: VerifierTurn) {
+        match did {
+            VerifierTurn::Worked => {
+                self.idle.end();
+                self.blocked.end();
+            }
+            VerifierTurn::Blocked => {
+                self.idle.end();
+                self.blocked.pause(rt);
+            }
+            VerifierTurn::Idle => self.idle.pause(rt),
+            VerifierTurn::Again => {}
+        }
+    }
+}
+
+/// Takes one turn of a verifier. Before it, its seat was asked whether all receivers have ended, and
+/// this was the answer; it isn't asked again. The answer is why its thread is to end, where it is.
+fn verify_once<S: Wait, G: Gate>(
+    rt: &S,
+    part: PartId<'_>,
+    gate: &G,
+    verifier: &mut Verifier,
+    all_ended: bool,
+    pace: &mut VerifierPace<'_>,
+) -> Option<VerifierExit>
+    requires is { IsVerifierOf part.shared.now part.number verifier.old }
+    requires seen { IsTrue all_ended → HasSeenAllEnd part.shared.now verifier.old }
+    ensures is { IsVerifierOf part.entry.shared.now part.entry.number verifier.new }
+    ensures seat { seat_of verifier.new ≡ seat_of verifier.old }
+    ensures over { result ≡ Some exit.Over → IsTrue all_ended × FoundNothing verifier.old verifier.new }
+{
+    let did = turn_one(rt, part, gate, verifier);
+    pace.tell(did);
+    if all_ended && did == VerifierTurn::Idle {
+        return Some(VerifierExit::Over);
+    }
+    if let Some(stopped) = pace.lifecycle.stopped() {
+        return Some(VerifierExit::Stopped(stopped));
+    }
+    pace.rest(rt, did);
+    None
+}
+
+/// Turns a verifier until all receivers have ended and a later turn finds nothing, or the threads
+/// are to stop. The answer is which of both it was.
+fn verify_on<S: Wait, G: Gate>(
+    rt: &S,
+    part: PartId<'_>,
+    lifecycle: &Lifecycle,
+    gate: &G,
+    verifier: &mut Verifier,
+) -> VerifierExit
+    requires is { IsVerifierOf part.shared.now part.number verifier.old }
+    ensures is { IsVerifierOf part.entry.shared.now part.entry.number verifier.new }
+    ensures ended { EndsAsTold result part.entry.shared.now verifier.new }
+{
+    let mut pace = VerifierPace::new(lifecycle, part.number);
+    for _ in rt.forever() {
+        let all_ended = have_all_ended(part, verifier);
+        if let Some(exit) = verify_once(rt, part, gate, verifier, all_ended, &mut pace) {
+            return exit;
+        }
+    }
+    unreachable!()
+}
+
+/// What the thread of the verifier with this number does. Where the threads are to stop it gives up.
+pub(crate) fn verify_loop<S: Wait, G: Gate>(
+    rt: &S,
+    shared: &Shared,
+    number: usize,
+    lifecycle: &Lifecycle,
+    gate: &G,
+    mut verifier: Verifier,
+) -> PartExit<Verifier>
+    requires is { IsVerifierOf shared.now number verifier }
+    ensures { IsVerifiedBy shared.now number result }
+{
+    let part = PartId { shared, number };
+    match verify_on(rt, part, lifecycle, gate, &mut verifier) {
+        VerifierExit::Over => PartExit::Ended(verifier),
+        VerifierExit::Stopped(stopped) => {
+            drop(verifier);
+            PartExit::GaveUp(stopped)
+        }
+    }
+}

@@ -1,4 +1,0 @@
-pub mod Clients
-pub mod Hearing
-pub mod Places
-pub mod Workers

@@ -1,0 +1,5 @@
+use Rattle.tests_load.specs.Pairs.{IsPair}
+use Rattle.tests_load.proofs.reports.turned.receive_all.Given as goal
+
+abbrev pub invariant-loop : goal.invariant-loop
+invariant-loop g l = IsPair l.stage
