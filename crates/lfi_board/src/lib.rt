@@ -30,8 +30,8 @@
 #![tactic(auto)]
 
 mod board;
-mod knowledge;
 mod holds;
+mod knowledge;
 mod makes;
 mod seats;
 

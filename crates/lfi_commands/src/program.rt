@@ -18,11 +18,11 @@ use lfi_file_commands::{
     DeviceCause, Disk, Ending, Failure, ImageStore, Outputs, ended, open_all, run_check,
     run_disassemble, run_info, run_pack, run_run, run_unpack, tell_failure, write_asked_images,
 };
+use lfi_loader::{Acceptor, Notices, Served, StageSize, load_all, serve_on};
 use lfi_module::CONNECTIONS;
 use lfi_sequence::OpenGate;
-use lfi_sync::ReadErrors;
 use lfi_stage::Report;
-use lfi_loader::{Acceptor, Notices, Served, StageSize, load_all, serve_on};
+use lfi_sync::ReadErrors;
 use std::alloc::Global;
 use std::fs::Files;
 use std::io::{ErrorKind, Write};

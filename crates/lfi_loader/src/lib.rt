@@ -25,7 +25,7 @@
 mod load;
 mod serve;
 
-pub use lfi_sync::{Absence, ClientFate, Acceptor, LoadError};
+pub use lfi_sync::{Absence, Acceptor, ClientFate, LoadError};
 pub use lfi_thread_loops::{NoNotices, Notices, ServedClients};
 pub use load::load_all;
 pub use serve::{Served, StageSize, serve_on};

@@ -6,11 +6,11 @@ ghost use Rattle.lfi_receive.specs.declared.input.Input.{Input};
 ghost use Rattle.lfi_thread_loops.specs.Running.{AreBack, AreReady, had_by};
 ghost use Rattle.lfi_loader.specs.Loaded.{IsLoaded};
 
-use lfi_stage_model::Parts;
-use lfi_sequence::Gate;
 use lfi_receive::Input;
-use lfi_sync::{Lifecycle, LoadError};
+use lfi_sequence::Gate;
 use lfi_stage::{Report, Stage, let_go, settle};
+use lfi_stage_model::Parts;
+use lfi_sync::{Lifecycle, LoadError};
 use lfi_thread_loops::{Env, Notices, load_in};
 use std::alloc::Global;
 use std::io::Read;

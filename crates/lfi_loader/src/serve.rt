@@ -6,10 +6,10 @@ ghost use Rattle.lfi_sync.specs.Deadlines.{limit_of_acceptor};
 ghost use Rattle.lfi_thread_loops.specs.Running.{AreReady, HaveServed};
 ghost use Rattle.lfi_loader.specs.Served.{HasServed};
 
-use lfi_stage_model::Shared;
 use lfi_sequence::Gate;
-use lfi_sync::{Acceptor, Lifecycle, LoadError, Streams};
 use lfi_stage::{Report, Stage, let_go, settle};
+use lfi_stage_model::Shared;
+use lfi_sync::{Acceptor, Lifecycle, LoadError, Streams};
 use lfi_thread_loops::{Back, Env, Notices, ServedClients, serve_in};
 use std::alloc::Global;
 use std::fs::Files;

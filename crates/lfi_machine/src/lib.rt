@@ -52,5 +52,5 @@ pub use laws::{held_is_not_refused, ran_is_reached};
 pub use lfi_confinement::StopCause;
 pub use machine::Machine;
 pub use runtime::{Answer, Runtime};
-pub use slot::{SlotMemory, DataFault};
+pub use slot::{DataFault, SlotMemory};
 pub use start::{StartFault, start_registers};

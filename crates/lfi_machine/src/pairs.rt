@@ -62,7 +62,12 @@ fn pair_bytes(width: Width) -> u32
 
 /// Loads a pair from an address.
 #[inline(always)]
-fn load_pair(slot: &SlotMemory, registers: &mut Registers, i: &Pair, address: u64) -> Result<(), Halt>
+fn load_pair(
+    slot: &SlotMemory,
+    registers: &mut Registers,
+    i: &Pair,
+    address: u64,
+) -> Result<(), Halt>
     requires load { i.now.load ≡ true }
     requires within { address + pair_bytes i.now.width < 2 ^ 64 }
     ensures { Transfers slot.now slot.now registers.old registers.new
@@ -81,7 +86,12 @@ fn load_pair(slot: &SlotMemory, registers: &mut Registers, i: &Pair, address: u6
 
 /// Stores a pair from an address on.
 #[inline(always)]
-fn store_pair(slot: &mut SlotMemory, registers: &Registers, i: &Pair, address: u64) -> Result<(), Halt>
+fn store_pair(
+    slot: &mut SlotMemory,
+    registers: &Registers,
+    i: &Pair,
+    address: u64,
+) -> Result<(), Halt>
     requires { address + pair_bytes i.now.width < 2 ^ 64 }
     ensures transfers { Transfers slot.old slot.new registers.now registers.now
         (record { stores = true; bytes = pair_bytes i.now.width; address = address }) []

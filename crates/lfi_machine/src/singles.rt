@@ -67,7 +67,12 @@ fn data_width(size: Size, transfer: Transfer) -> Width
 
 /// The offset of bytes that may be accessed so.
 #[inline(always)]
-pub(crate) fn located(slot: &SlotMemory, access: AccessKind, bytes: u32, address: u64) -> Result<u32, Halt>
+pub(crate) fn located(
+    slot: &SlotMemory,
+    access: AccessKind,
+    bytes: u32,
+    address: u64,
+) -> Result<u32, Halt>
     requires some { 1 ≤ bytes }
     requires few { bytes ≤ 16 }
     requires within { address + bytes < 2 ^ 64 }

@@ -6,7 +6,7 @@ ghost use Rattle.lfi_run_image.specs.inner.Attempts.{Tries};
 
 use crate::service::Service;
 use a64_semantics::Registers;
-use lfi_machine::{Answer, SlotMemory, Runtime};
+use lfi_machine::{Answer, Runtime, SlotMemory};
 use std::io::{self, Write};
 
 /// The status of a run of which a byte could not be written.

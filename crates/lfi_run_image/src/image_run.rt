@@ -4,7 +4,7 @@ ghost use Rattle.std.specs.Prelude.{Some};
 ghost use Rattle.lfi_run_image.specs.Texts.{halt_text, refusal_text, run_text, stop_text};
 
 use lfi_image_file::ImageFault;
-use lfi_machine::{StopCause, Halt};
+use lfi_machine::{Halt, StopCause};
 use std::fmt;
 
 /// What comes of an image file that is run.

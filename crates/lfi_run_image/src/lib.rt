@@ -7,6 +7,6 @@ mod run;
 mod service;
 
 pub use image_run::ImageRun;
-pub use lfi_machine::{StopCause, Halt};
+pub use lfi_machine::{Halt, StopCause};
 pub use run::run_image;
 pub use service::Service;

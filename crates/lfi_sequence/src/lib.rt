@@ -52,6 +52,6 @@ pub use laws::{all_placed, come_or_waits, lanes_stay, rows_of_lanes, told_stays}
 pub use placing::{Ended, Placing};
 pub use refused::{Refusal, RefusedModule, RefusedWord};
 pub use report::{ImageState, ModuleReport, report_of};
-pub use sequence::{Sequence, BoardNotice};
+pub use sequence::{BoardNotice, Sequence};
 pub use sequencer::{Sequencer, SequencerTurn};
 pub use verifier::{Gate, OpenGate, Verifier, VerifierTurn};

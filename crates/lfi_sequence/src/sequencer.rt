@@ -6,7 +6,7 @@ ghost use Rattle.lfi_model.specs.Item.{ItemView};
 ghost use Rattle.lfi_board.specs.Known.{board_id, sequencer_board, module_of};
 ghost use Rattle.lfi_sequence.specs.declared.sequencer.SequencerTurn.TheVariants.{Worked, Idle};
 
-use crate::sequence::{Sequence, BoardNotice};
+use crate::sequence::{BoardNotice, Sequence};
 use lfi_board::{Board, SequencerSeat};
 use lfi_model::Judged;
 use lfi_queues::{Lane, LaneTake};

@@ -9,7 +9,7 @@ ghost use Rattle.lfi_sequence.specs.declared.sequence.Stepped.TheVariants as ste
 
 use crate::placing::{Placing, after, is_same, pass_over};
 use crate::report::{ModuleReport, report_of};
-use crate::sequence::{Sequence, Stepped, BoardNotice};
+use crate::sequence::{BoardNotice, Sequence, Stepped};
 use lfi_board::SequencerSeat;
 use lfi_image::PageMemory;
 use lfi_model::Judged;

@@ -12,8 +12,8 @@ use crate::drain::drain_lanes;
 use crate::verifiers_apart::{VerifierParts, take_apart};
 use lfi_model::{Item, Judged};
 use lfi_module::{CONNECTIONS, ModuleNumber};
-use lfi_sequence::{Sequence, Sequencer, Verifier};
 use lfi_queues::{Intake, Lane, PutPass};
+use lfi_sequence::{Sequence, Sequencer, Verifier};
 use std::sync::Wait;
 
 /// Brings what is in the lanes, in the verifiers' hands and in the intake to what the modules'

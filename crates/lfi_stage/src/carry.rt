@@ -10,8 +10,8 @@ ghost use Rattle.lfi_sequence.specs.declared.sequence.Sequence.{Sequence};
 
 use lfi_model::{Item, Judged};
 use lfi_module::{CONNECTIONS, ModuleNumber};
-use lfi_sequence::Sequence;
 use lfi_queues::{Intake, PutPass, TAKERS, TakePass};
+use lfi_sequence::Sequence;
 
 /// Brings an item to a sequence, where there is one.
 fn handle_in(slot: &mut Option<Sequence>, item: Judged)

@@ -14,8 +14,8 @@ ghost use Rattle.lfi_stage.specs.inner.Rows.{passes_in, row_of, Popped, last_of,
 use crate::slots::{empty, set};
 use lfi_model::Judged;
 use lfi_module::{CONNECTIONS, ModuleNumber};
-use lfi_sequence::{Sequence, Sequencer};
 use lfi_queues::{Lane, LanePut, LaneTake};
+use lfi_sequence::{Sequence, Sequencer};
 use std::array;
 use std::sync::Wait;
 
@@ -30,7 +30,9 @@ fn last_pass(row: &mut Option<Vec<LanePut<Judged>>>) -> Option<LanePut<Judged>>
 }
 
 /// Takes the last pass out of each row.
-fn gather(rows: &mut [Option<Vec<LanePut<Judged>>>; CONNECTIONS]) -> [Option<LanePut<Judged>>; CONNECTIONS]
+fn gather(
+    rows: &mut [Option<Vec<LanePut<Judged>>>; CONNECTIONS],
+) -> [Option<LanePut<Judged>>; CONNECTIONS]
     ensures { (k : ℕ) → Popped (row_of rows.old k) (pass_at result k) (row_of rows.new k) }
 {
     let mut puts = empty();

@@ -6,9 +6,9 @@ ghost use Rattle.lfi_stage_model.specs.Parts.{IsReceiver, AreReceivers, AreOther
 ghost use Rattle.lfi_stage.specs.inner.Finished.{HasFinished, HaveFinished};
 
 use crate::turning::turn_others;
-use lfi_stage_model::Shared;
-use lfi_sequence::{OpenGate, Sequencer, Verifier};
 use lfi_receive::{Receiver, ReceiverTurn};
+use lfi_sequence::{OpenGate, Sequencer, Verifier};
+use lfi_stage_model::Shared;
 use std::sync::Wait;
 
 /// One turn of a receiver whose input has ended: whether it has put all its items.

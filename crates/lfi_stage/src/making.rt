@@ -16,9 +16,9 @@ ghost use Rattle.lfi_stage.specs.inner.Made.{AreUnused, AreUnusedSeats, AreRowsO
 use lfi_board::{ReceiverSeat, SequencerSeat, WatchSeat};
 use lfi_model::{Item, Judged};
 use lfi_module::{CONNECTIONS, ModuleNumber};
-use lfi_sequence::{Lanes, Sequencer, Verifier};
 use lfi_queues::{Intake, Lane, LanePut, LaneTake, PutPass, TakePass};
 use lfi_receive::Receiver;
+use lfi_sequence::{Lanes, Sequencer, Verifier};
 use page_buf::PoolMember;
 use std::alloc::{AllocError, Global};
 

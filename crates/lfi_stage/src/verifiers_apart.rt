@@ -6,8 +6,8 @@ ghost use Rattle.lfi_stage.specs.inner.Rows.{AreApart};
 use crate::slots::{empty, set};
 use lfi_model::{Item, Judged};
 use lfi_module::CONNECTIONS;
-use lfi_sequence::Verifier;
 use lfi_queues::{LanePut, TakePass};
+use lfi_sequence::Verifier;
 
 /// The pieces of verifiers, by the verifiers' numbers.
 pub(crate) struct VerifierParts {

@@ -5,9 +5,9 @@ ghost use Rattle.lfi_board.specs.Known.{board_receivers};
 
 use lfi_board::Board;
 use lfi_model::{Item, Judged};
-use lfi_sequence::{Sequencer, Verifier};
 use lfi_queues::{Intake, Lane};
 use lfi_receive::Receiver;
+use lfi_sequence::{Sequencer, Verifier};
 
 /// What all parts of a stage share: the board of the modules' phases, how many receivers it has,
 /// the intake from receivers to verifiers, and the lanes from verifiers to sequencers, by the

@@ -6,8 +6,8 @@ ghost use Rattle.lfi_sync.specs.Fates.{is_late, is_unheard};
 
 use crate::client::Streams;
 use crate::deadline::{Deadline, Span};
-use crate::lifecycle::Lifecycle;
 use crate::fate::{Absence, Unheard};
+use crate::lifecycle::Lifecycle;
 use std::fs::Files;
 use std::os::unix::fs::MetadataExt;
 use std::os::unix::net::{UnixListener, UnixStream};

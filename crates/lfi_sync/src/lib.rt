@@ -35,21 +35,21 @@
 //!   the limits, `keep`, `join_all`): what other threads did meanwhile is nothing that a contract knows.
 #![tactic(auto)]
 
-mod wait_sets;
+mod acceptor;
 mod client;
 mod deadline;
-mod acceptor;
-mod lifecycle;
 mod fate;
 mod joining;
+mod lifecycle;
 mod reading;
 mod refusal;
+mod wait_sets;
 
-pub use wait_sets::{WaitSet, WaitSets, Waiter, Notifier};
+pub use acceptor::{Acceptor, Closed};
 pub use client::{Client, Connection, Streams};
-pub use acceptor::{Closed, Acceptor};
-pub use lifecycle::{Lifecycle, Going, Stopped, Verified};
 pub use fate::{Absence, ClientFate, Unheard};
 pub use joining::{join_all, keep};
+pub use lifecycle::{Going, Lifecycle, Stopped, Verified};
 pub use reading::{ReadErrors, Watched};
 pub use refusal::LoadError;
+pub use wait_sets::{Notifier, WaitSet, WaitSets, Waiter};

@@ -4,10 +4,10 @@ ghost use Rattle.std.specs.Prelude.{◌≡◌, ◌≤◌, ◌<◌, ℕ, None, So
 ghost use Rattle.lfi_sync.specs.Fates.{is_unheard};
 ghost use Rattle.lfi_sync.specs.Stops.{state_number, stops_for, why_of};
 
-use crate::wait_sets::WaitSets;
 use crate::deadline::Span;
 use crate::fate::{Unheard, flag_of};
 use crate::refusal::LoadError;
+use crate::wait_sets::WaitSets;
 use std::rt::Clock;
 use std::sync::Wait;
 use std::sync::atomic::{AtomicU64, Ordering};

@@ -38,12 +38,12 @@
 #![tactic(auto)]
 
 mod env;
-mod receiver_loop;
 mod loading;
 mod notices;
-mod sequencer_loop;
 mod promises;
+mod receiver_loop;
 mod running;
+mod sequencer_loop;
 mod serving;
 mod starting;
 mod verifier_loop;

@@ -1,8 +1,8 @@
 //! What threads promise of the parts that they give back.
 
-use lfi_stage_model::Shared;
-use lfi_sequence::{Sequencer, Verifier};
 use lfi_receive::{Input, Receiver};
+use lfi_sequence::{Sequencer, Verifier};
+use lfi_stage_model::Shared;
 use lfi_sync::{Stopped, Verified};
 use std::io::Read;
 use std::snapshot::Snapshot;

@@ -11,7 +11,7 @@ ghost use Rattle.lfi_thread_loops.specs.inner.Hearing.{IsHearing, IsAsBefore, Is
 use crate::notices::{Notices, SeenRefused};
 use crate::promises::{PartExit, PartId};
 use lfi_receive::{Input, Receiver, ReceiverTurn};
-use lfi_sync::{Lifecycle, Going, Stopped, Notifier};
+use lfi_sync::{Going, Lifecycle, Notifier, Stopped};
 use std::io::Read;
 use std::sync::Wait;
 use std::time::Duration;

@@ -13,9 +13,9 @@ ghost use Rattle.lfi_thread_loops.specs.inner.Workers.{AreSequencersOf};
 
 use crate::env::Env;
 use crate::promises::{PartExit, ReceiverThread, SequencersThread, VerifierThread};
-use lfi_stage_model::Parts;
-use lfi_sequence::{Sequencer, Verifier};
 use lfi_receive::Receiver;
+use lfi_sequence::{Sequencer, Verifier};
+use lfi_stage_model::Parts;
 use lfi_sync::{LoadError, join_all};
 use std::alloc::Global;
 use std::io::Read;

@@ -3,9 +3,9 @@
 ghost use Rattle.lfi_thread_loops.specs.inner.Workers.{AreSequencersOf, HavePlaced};
 
 use crate::promises::Placed;
-use lfi_stage_model::Shared;
 use lfi_sequence::{Sequencer, SequencerTurn};
-use lfi_sync::{WaitSet, Lifecycle, Waiter};
+use lfi_stage_model::Shared;
+use lfi_sync::{Lifecycle, WaitSet, Waiter};
 use std::sync::Wait;
 
 /// One turn of each sequencer, and no more. The answer is whether one of them took an item.

@@ -9,15 +9,15 @@ ghost use Rattle.lfi_thread_loops.specs.Seated.{AreVerifiersOf, IsVerifierOf};
 ghost use Rattle.lfi_thread_loops.specs.inner.Workers.{AreSequencersOf};
 
 use crate::env::Env;
-use crate::receiver_loop::receive_loop;
 use crate::notices::Notices;
-use crate::sequencer_loop::sequence_loop;
 use crate::promises::{
     AllPlaced, HeardBy, PartId, ReceiverThread, SequencersThread, VerifiedBy, VerifierThread,
 };
+use crate::receiver_loop::receive_loop;
+use crate::sequencer_loop::sequence_loop;
 use crate::verifier_loop::verify_loop;
-use lfi_sequence::{Gate, Sequencer, Verifier};
 use lfi_receive::{Input, Receiver};
+use lfi_sequence::{Gate, Sequencer, Verifier};
 use lfi_sync::{Lifecycle, LoadError, keep};
 use std::io::Read;
 use std::snapshot::Snapshot;

@@ -8,9 +8,9 @@ ghost use Rattle.lfi_thread_loops.specs.Seated.{IsVerifierOf, HasSeenAllEnd};
 ghost use Rattle.lfi_thread_loops.specs.inner.Workers.{FoundNothing, EndsAsTold, IsVerifiedBy};
 
 use crate::promises::{PartExit, PartId};
-use lfi_stage_model::Shared;
 use lfi_sequence::{Gate, Verifier, VerifierTurn};
-use lfi_sync::{Lifecycle, Waiter, Stopped, Notifier};
+use lfi_stage_model::Shared;
+use lfi_sync::{Lifecycle, Notifier, Stopped, Waiter};
 use std::sync::Wait;
 
 /// Why a verifier's thread ends.

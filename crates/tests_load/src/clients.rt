@@ -3,9 +3,9 @@
 use crate::build::Sent::{Close, Open, Page};
 use crate::build::{MODULE_0, MODULE_3, MODULE_5, NOP, eight, is_text, piece, push_all};
 use crate::inputs::{YIELDS, comes_to};
+use lfi_loader::{Acceptor, ClientFate, LoadError, NoNotices, StageSize, serve_on};
 use lfi_model::{Item, Judged, Summary};
 use lfi_sequence::{Gate, OpenGate};
-use lfi_loader::{ClientFate, Acceptor, LoadError, NoNotices, StageSize, serve_on};
 use std::alloc::{AllocError, Global};
 use std::fs;
 use std::fs::Files;

@@ -3,10 +3,10 @@
 use crate::build::Sent::{Close, Full, Open, Page};
 use crate::build::{NOP, RET, STRAY, SVC, Sent, WRITE_BASE, is_told, text_of};
 use crate::inputs::{Pieces, comes_to, loaded_of, reported};
+use lfi_loader::{LoadError, Notices};
 use lfi_model::{Item, Judged, Summary};
 use lfi_module::ModuleNumber;
 use lfi_sequence::{Gate, OpenGate};
-use lfi_loader::{LoadError, Notices};
 use std::io::{self, Read};
 use std::sync::Wait;
 use std::sync::atomic::{AtomicU64, Ordering};

@@ -3,10 +3,10 @@
 ghost use Rattle.std.specs.Prelude.{◌≤◌};
 
 use crate::build::{MODULE_0, NOP, Sent, is_told, one_word, text_of};
-use lfi_model::Summary;
-use lfi_sequence::{Gate, OpenGate};
-use lfi_receive::Input;
 use lfi_loader::{LoadError, NoNotices, Notices, load_all};
+use lfi_model::Summary;
+use lfi_receive::Input;
+use lfi_sequence::{Gate, OpenGate};
 use std::alloc::{AllocError, Global};
 use std::io::{self, ErrorKind, Read};
 use std::sync::Wait;

@@ -2,8 +2,8 @@
 
 use crate::build::{MODULE_0, STRAY, is_told};
 use crate::inputs::{Pieces, reported};
-use lfi_sequence::OpenGate;
 use lfi_loader::NoNotices;
+use lfi_sequence::OpenGate;
 use std::io::{self, ErrorKind, Read};
 use std::sync::Wait;
 use std::sync::atomic::{AtomicU64, Ordering};

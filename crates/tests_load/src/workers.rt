@@ -3,9 +3,9 @@
 use crate::build::Sent::{Close, Full, Open, Page};
 use crate::build::{NOP, RET, Sent, eight, is_told, one_word};
 use crate::inputs::{comes_to, loaded, loaded_of};
+use lfi_loader::LoadError;
 use lfi_model::{Item, Judged, Summary};
 use lfi_sequence::Gate;
-use lfi_loader::LoadError;
 use std::alloc::{AllocError, Global};
 use std::sync::Wait;
 use std::sync::atomic::{AtomicU64, Ordering};

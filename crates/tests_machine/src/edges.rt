@@ -1,7 +1,7 @@
 //! The edges of the map, a byte at a time, and those of the registers at the start.
 
 use crate::host::{Outcome, denied, image_in, run, start, started};
-use lfi_machine::{StopCause, Halt, Machine, StartFault, start_registers};
+use lfi_machine::{Halt, Machine, StartFault, StopCause, start_registers};
 use lfi_module::{ModuleNumber, Profile};
 use std::alloc::Global;
 use std::test::Fail;

@@ -4,7 +4,9 @@ ghost use Rattle.std.specs.Prelude.{⊤, ◌≡◌, IfOk};
 
 use a64_semantics::Registers;
 use lfi_image::{Builder, CompleteImage, JudgedPage};
-use lfi_machine::{Answer, StopCause, SlotMemory, DataFault, Halt, Machine, Runtime, start_registers};
+use lfi_machine::{
+    Answer, DataFault, Halt, Machine, Runtime, SlotMemory, StopCause, start_registers,
+};
 use lfi_module::{Extent, ModuleNumber, PageSize, Profile, WordCount};
 use page_buf::SealedPage;
 use std::alloc::{AllocError, Global};

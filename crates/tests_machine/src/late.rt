@@ -1,7 +1,7 @@
 //! Probes that come late, with sp at both ends of its range, run in the machine by the second profile.
 
 use crate::host::ran;
-use lfi_machine::{StopCause, Halt};
+use lfi_machine::{Halt, StopCause};
 use lfi_module::Profile;
 use std::alloc::Global;
 use std::test::Fail;

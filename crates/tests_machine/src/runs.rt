@@ -3,7 +3,7 @@
 use crate::host::{
     Host, Outcome, Wide, Writer, image, image_in, ran, run, run_image, started, with,
 };
-use lfi_machine::{StopCause, SlotMemory, DataFault, Halt, Machine, StartFault, start_registers};
+use lfi_machine::{DataFault, Halt, Machine, SlotMemory, StartFault, StopCause, start_registers};
 use lfi_module::{ModuleNumber, Profile};
 use std::alloc::Global;
 use std::process::Abort;

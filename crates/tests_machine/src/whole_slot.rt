@@ -4,7 +4,7 @@ ghost use Rattle.std.specs.Prelude.{⊤};
 
 use crate::host::{Outcome, run, started};
 use a64_semantics::Registers;
-use lfi_machine::{Answer, SlotMemory, Halt, Runtime};
+use lfi_machine::{Answer, Halt, Runtime, SlotMemory};
 use lfi_module::Profile;
 use std::alloc::Global;
 use std::test::Fail;

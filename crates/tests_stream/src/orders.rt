@@ -5,8 +5,8 @@ use lfi_board::Board;
 use lfi_image::CompleteImage;
 use lfi_model::{Outcome, Reason};
 use lfi_module::{Extent, PageSize, Profile, WordCount};
-use lfi_sequence::{ImageState, ModuleReport, RefusedWord, Sequence};
 use lfi_rules::{Fault, Rule};
+use lfi_sequence::{ImageState, ModuleReport, RefusedWord, Sequence};
 use page_buf::PoolMember;
 use std::process::Abort;
 

@@ -7,8 +7,8 @@ use crate::items::{Part, UNKNOWN, WORDS, extent_of, item_of, mark};
 use lfi_board::Board;
 use lfi_model::{Item, ItemKind, Judged, Reason};
 use lfi_module::{Profile, WordCount};
-use lfi_sequence::{Lanes, OpenGate, Verifier, VerifierTurn};
 use lfi_queues::{Intake, Lane, LaneTake, PutPass};
+use lfi_sequence::{Lanes, OpenGate, Verifier, VerifierTurn};
 use std::process::Abort;
 use std::sync::Wait;
 

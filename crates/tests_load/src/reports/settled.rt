@@ -10,8 +10,8 @@ use crate::reports::turned::{go_on, pair, phase, place, receive_all, settled, ve
 use lfi_board::Phase;
 use lfi_model::{Item, Judged, Summary};
 use lfi_module::ModuleNumber;
-use lfi_sequence::{Gate, SequencerTurn, VerifierTurn};
 use lfi_receive::{Input, ReceiverTurn};
+use lfi_sequence::{Gate, SequencerTurn, VerifierTurn};
 use lfi_stage::Stage;
 use std::alloc::{AllocError, Global};
 use std::sync::Wait;
