@@ -2,11 +2,11 @@
 //!
 //! # How data flows
 //!
-//! One value, `Lifecycle`, is lent to all threads. Its word tells how far they are to go, and its wait sets (`WaitSets`) are where
-//! they wait: a thread with nothing to do waits at a wait set (`Waiter`), and who brings it something calls it there (`WaitSet`,
-//! `Notifier`). Clients come in by a `Acceptor`, which keeps the limit of time; their streams lie in `Streams`, each read as a
-//! `Client`. `keep` keeps the handle of a thread that was started, and `join_all` joins such threads. Where memory or a
-//! thread is refused, all are told to stop, and `LoadError` says which of both it was.
+//! One value, `Lifecycle`, is lent to all threads. Its word tells how far they are to go, and its wait sets (`WaitSets`)
+//! are where they wait: a thread with nothing to do waits at one (`Waiter`), and who brings it something calls it there
+//! (`WaitSet`, `Notifier`). Clients come in by an `Acceptor`, which keeps the limit of time; their streams lie in
+//! `Streams`, each read as a `Client`. `keep` keeps the handle of a thread that was started, and `join_all` joins such
+//! threads. Where memory or a thread is refused, all are told to stop, and `LoadError` says which of both it was.
 //!
 //! # What it may not know
 //!
@@ -27,7 +27,7 @@
 //! - **The path is removed where the acceptor is dropped**, and only where it still is the socket that was bound, by device
 //!   and inode. A signal leaves the path: the toolchain catches none.
 //! - **What becomes of a client is told by its connection** (`ClientFate`), and why a read failed beside the reader
-//!   (`ReadErrors`), since a receiver keeps that a read failed and no more. A client is a reader or nobody (`Client`).
+//!   (`ReadErrors`), since a receiver keeps that a read failed and no more. A client is a reader or absent (`Client`).
 //! - **A limit of time is kept by the thread that accepts** (`Deadline`). Where there is one, the listener is asked
 //!   every 5 ms, since no call of the toolchain waits for a client for some time only. When the time is over this thread
 //!   shuts all sockets down; what lies in them is still read. A clock that can't be read is as a time that is over.

@@ -57,24 +57,16 @@ struct Clients<'d, 'l, 'e, S: Files> {
     streams: &'e Streams,
 }
 
-/// Starts the thread of one client's receiver. Where it or memory is refused, all are told to stop.
-fn start_client<'s, 'e: 's, S: Wait + Sync, G, N: Notices + Sync>(
-    scope: &Scope<'s, &'e ()>,
-    env: &Env<'e, S, G, N>,
-    number: usize,
-    receiver: Receiver,
+/// A client as the input of its receiver. Where memory is refused, all are told to stop.
+fn input_of<'e, S, G, N>(
+    env: &Env<'_, S, G, N>,
     client: Client<Connection<'e>>,
-) -> Result<ClientThread<'e>, LoadError>
-    requires is { IsReceiver env.now.shared.now number receiver }
-    requires fresh { IsFresh receiver }
-    ensures { IfOk result (λ handle. (handle.promise.part.shared.now ≡ env.entry.now.shared.now) × (handle.promise.part.number ≡ number) × (left_of sent_over_socket handle.promise.input.value ≡ sent_over_socket client.entry)) }
+) -> Result<Input<Client<Connection<'e>>>, LoadError>
+    ensures { IfOk result (λ input. left_of sent_over_socket input ≡ sent_over_socket client.entry) }
 {
     match Input::new(env.alloc, client) {
-        Ok(input) => start_receiver(scope, env, number, receiver, input),
-        Err(_) => {
-            drop(receiver);
-            Err(env.lifecycle.stop(LoadError::NoMemory))
-        }
+        Ok(input) => Ok(input),
+        Err(_) => Err(env.lifecycle.stop(LoadError::NoMemory)),
     }
 }
 
@@ -104,7 +96,8 @@ fn accept_all<'s, 'e: 's, S: Threads + Wait + Files + Clock + Sync, G, N: Notice
         let number = handles.len();
         let client = clients.streams.accept(clients.acceptor, number);
         let fate = client.fate();
-        let handle = start_client(scope, env, number, receiver, client);
+        let input = input_of(env, client)?;
+        let handle = start_receiver(scope, env, number, receiver, input);
         keep(env.rt, env.lifecycle, handles, handle)?;
         fates[number] = fate;
     }

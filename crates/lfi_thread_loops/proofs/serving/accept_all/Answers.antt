@@ -54,6 +54,21 @@ returns-in_err-keep-clause-endless g c = IfOk-from_err c.from_residual-in_err-ke
 pub returns-in_err-keep-clause-verifying : goal.returns-in_err-keep-clause-verifying
 returns-in_err-keep-clause-verifying g c = IfOk-from_err c.from_residual-in_err-keep.result _ c.from_residual-in_err-keep.ensures.0
 
+pub returns-in_err-input-clause-all : goal.returns-in_err-input-clause-all
+returns-in_err-input-clause-all g c = IfOk-from_err c.from_residual-in_err-input.result _ c.from_residual-in_err-input.ensures.0
+
+pub returns-in_err-input-clause-taken : goal.returns-in_err-input-clause-taken
+returns-in_err-input-clause-taken g c = IfOk-from_err c.from_residual-in_err-input.result _ c.from_residual-in_err-input.ensures.0
+
+pub returns-in_err-input-clause-endless : goal.returns-in_err-input-clause-endless
+returns-in_err-input-clause-endless g c = IfOk-from_err c.from_residual-in_err-input.result _ c.from_residual-in_err-input.ensures.0
+
+pub returns-in_err-input-clause-verifying : goal.returns-in_err-input-clause-verifying
+returns-in_err-input-clause-verifying g c = IfOk-from_err c.from_residual-in_err-input.result _ c.from_residual-in_err-input.ensures.0
+
+pub returns-in_err-input-clause-numbered : goal.returns-in_err-input-clause-numbered
+returns-in_err-input-clause-numbered g c = c.loop-receiver.invariant.numbered
+
 pub returns-clause-numbered : goal.returns-clause-numbered
 returns-clause-numbered g c = c.loop-receiver.invariant.numbered
 
@@ -69,16 +84,16 @@ returns-clause-all g c = all_kept _ _ _ c.loop-receiver.invariant.count c.in-Non
 pub returns-clause-verifying : goal.returns-clause-verifying
 returns-clause-verifying g c = ap is_ok c.in_ok-verifying.was
 
-pub start_client-handle-requires-clause-is : goal.start_client-handle-requires-clause-is
-start_client-handle-requires-clause-is g c = λ κs within.
+pub start_receiver-handle-requires-clause-is : goal.start_receiver-handle-requires-clause-is
+start_receiver-handle-requires-clause-is g c = λ κs within.
     let i = c.loop-receiver.invariant in
     let step = c.in-Some.ensures.steps in
     let n : ℕ = length c.loop-receiver.handles.items in
     let at : n ≡ c.len-number.result = sym (c.len-number.ensures ∙ c.loop-receiver.handles.ok.0) in
     subst (λ k. IsReceiver c.args.env.now.shared.now k c.in-Some.receiver) at (c.requires.is n c.in-Some.receiver (next_is c.args.receivers.items (into_iter_items c.loop-receiver.receiver-iterator) (into_iter_items c.next.new.self) c.in-Some.receiver n i.rest step.0)).0
 
-pub start_client-handle-requires-clause-fresh : goal.start_client-handle-requires-clause-fresh
-start_client-handle-requires-clause-fresh g c = λ κs within.
+pub start_receiver-handle-requires-clause-fresh : goal.start_receiver-handle-requires-clause-fresh
+start_receiver-handle-requires-clause-fresh g c = λ κs within.
     let i = c.loop-receiver.invariant in
     let step = c.in-Some.ensures.steps in
     let n : ℕ = length c.loop-receiver.handles.items in
@@ -94,7 +109,7 @@ loop-receiver-preserved g c =
     let handle = kept.0 in
     let grown : c.keep.new.handles.items ≡ c.loop-receiver.handles.items ++ handle ∷ [] = kept.2 in
     let more = one_more c.loop-receiver.handles.items c.keep.new.handles.items handle grown in
-    let started = IfOk-at_ok _ kept.1 c.start_client-handle.ensures in
+    let started = IfOk-at_ok _ kept.1 c.start_receiver-handle.ensures.promised in
     let k : ℕ = c.len-number.result in
     let fate = c.fate-fate.result in
     let room : k < length c.loop-receiver.fates = (let long = i.long in let count = i.count in let few = c.requires.few in let less = step.1 in omega arith) in
@@ -102,7 +117,7 @@ loop-receiver-preserved g c =
       count = (let count = i.count in let less = step.1 in omega arith);
       rest = still_from c.args.receivers.items (into_iter_items c.loop-receiver.receiver-iterator) (into_iter_items c.next.new.self) c.in-Some.receiver n i.rest step.0 (length c.keep.new.handles.items) more;
       long = length-set c.loop-receiver.fates k fate ∙ i.long;
-      taken = one_more_taken c.loop-receiver.fates (λ h. left_of sent_over_socket h.promise.input.value) c.loop-receiver.handles.items c.keep.new.handles.items handle k fate at room grown i.taken (started.2 ∙ c.fate-fate.ensures.sent);
+      taken = one_more_taken c.loop-receiver.fates (λ h. left_of sent_over_socket h.promise.input.value) c.loop-receiver.handles.items c.keep.new.handles.items handle k fate at room grown i.taken (ap (left_of sent_over_socket) started.2 ∙ (IfOk-at_ok _ c.in_ok-input.was c.input_of.ensures ∙ c.fate-fate.ensures.sent));
       endless = λ never n. elim (eqb_tells n k) as (λ _. is_out_of_time (fate_at (set c.loop-receiver.fates k fate) n) ≡ false) [
         | inl e ↦ ap is_out_of_time (subst (λ z. fate_at (set c.loop-receiver.fates k fate) z ≡ fate) (sym e.1) (get_or-set_same c.loop-receiver.fates k fate Heard room) ∙ c.fate-fate.ensures.is) ∙ c.accept-client.ensures never
         | inr other ↦ ap is_out_of_time (get_or-set_other c.loop-receiver.fates k n fate Heard other.1) ∙ i.endless never n
