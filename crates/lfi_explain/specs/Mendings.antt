@@ -15,7 +15,7 @@ use Rattle.lfi_mends.specs.declared.reason.Reason.{Reason}
 use Rattle.lfi_mends.specs.declared.reason.Reason.TheVariants as reasons
 use Rattle.lfi_mends.specs.Mends.{Leads, mended}
 use Rattle.lfi_mends.specs.Obstacles.{IsReason, refusal}
-use Rattle.lfi_mends.specs.Outcomes.{DoesTheSame, DoesTheSameBounded, moves_one, moves_plainly}
+use Rattle.lfi_mends.specs.Outcomes.{DoesTheSame, DoesTheSameBounded, moves_bounded, moves_plainly}
 use Rattle.lfi_mends.specs.Registers.{first_scratch, second_scratch}
 use Rattle.lfi_mends.specs.Texts.{reason_text}
 use Rattle.lfi_explain.specs.declared.explanation.Explanation.{Explanation}
@@ -49,7 +49,7 @@ IsDecoded profile (Some word) found = IfSome found (λ i. SpellsIn profile i wor
 pub record IsMend (profile : Profile) (rule : Rule) (word : ℕ) (need : Need) (next : Option Instruction) (mend : Result Mend Reason) : Type 0 where
   pub leads : IfOk mend (λ m. Leads profile need (mended m) Nothing)
   pub does : (i : Instruction) → rule ≡ rules.AccessConfined → need ≡ Nothing → SpellsIn profile i word → IsTrue (moves_plainly i) → IfOk mend (λ m. DoesTheSame (mended m) i)
-  pub bounded : (i : Instruction) → rule ≡ rules.AccessConfined → need ≡ Nothing → SpellsIn profile i word → IsTrue (moves_one i) → IfOk mend (λ m. DoesTheSameBounded (mended m) i)
+  pub bounded : (i : Instruction) → rule ≡ rules.AccessConfined → need ≡ Nothing → SpellsIn profile i word → IsTrue (moves_bounded i) → IfOk mend (λ m. DoesTheSameBounded (mended m) i)
   pub told : IsReason profile rule word need next (refusal mend)
 
 -- The same of a word that breaks a rule, by the words before it and after it, where there are any.

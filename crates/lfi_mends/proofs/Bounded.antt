@@ -1,6 +1,6 @@
 -- What mends of single accesses of any register do.
-use Rattle.std.proofs.Common.{◌≡◌, ◌≢◌, ℕ, ◌+◌, ◌-◌, ◌*◌, ◌/◌, ◌%◌, ◌^◌, ◌<◌, ◌≤◌, eqb, eqb-true, Bool, true, false, List, [], ◌∷◌, ◌++◌, length, Some, None, refl, ap, sym, subst, ◌∙◌, inl, inr, arith, lit≤, true≢false}
-use Rattle.std.specs.Prelude.{if◌then◌else◌, not, ◌&&◌, ◌||◌, ◌==◌, ◌⊎◌, ℤ, is_some}
+use Rattle.std.proofs.Common.{◌≡◌, ◌≢◌, ℕ, ◌+◌, ◌*◌, ◌%◌, ◌^◌, ◌<◌, ◌≤◌, eqb, eqb-true, Bool, true, false, List, [], length, Some, refl, ap, sym, subst, ◌∙◌, inl, inr, arith, lit≤, true≢false}
+use Rattle.std.specs.Prelude.{if◌then◌else◌, not, ◌&&◌, ◌⊎◌, ℤ, is_some}
 use Rattle.std.proofs.lemmas.Bool.{cases_Bool, eqb-false, and_parts, or_parts, not-true}
 use Rattle.a64_word.specs.declared.instruction.Instruction.{Instruction}
 use Rattle.a64_word.specs.declared.instruction.Instruction.TheVariants as instructions
@@ -19,13 +19,12 @@ use Rattle.lfi_rules.specs.Rules.{writes, written}
 use Rattle.lfi_mends.specs.Registers.{is_reserved}
 use Rattle.lfi_mends.specs.Obstacles.{of_single}
 use Rattle.lfi_mends.specs.Outcomes.{State, IsWhole, InSlot, after, after_all, written_at, bounded_in, is_working, AgreeBounded, DoesTheSameBounded}
-use Rattle.lfi_mends.specs.inner.Rows.{sum_of_immediate, is_bare, index_of, sums, guard_of, changed_of, scratch_of, sum_for, sum_beside, access_with, any_accessed, any_indexed, change_of, any_changing, offset_of, amount_of, sum_of_index}
-use Rattle.lfi_mends.proofs.Standing.{unreserved}
+use Rattle.lfi_mends.specs.inner.Rows.{is_bare, index_of, sums, scratch_of, sum_for, sum_beside, access_with, any_accessed, any_indexed, offset_of, amount_of, sum_of_index}
 use Rattle.lfi_mends.proofs.Addresses.{same_address}
 use Rattle.lfi_mends.proofs.Same.{at_address, some_bytes}
-use Rattle.lfi_mends.proofs.Summed.{moved, reached, reached_none, moved_in_slot, after_more, sum_value, index_low, index_in_slot}
-use Rattle.lfi_mends.proofs.Changed.{Changed, changed, changing_at, based_apart, based_here, based_stack, displaced_by, reached_small}
-use Rattle.lfi_mends.proofs.Steps.{Sets, HasSlot, Moved, sums_set, sum_sets, index_sum_sets, guard_sets, unbounded, address_bounded, moved_here, moved_other, moved_stack, access_moved}
+use Rattle.lfi_mends.proofs.Summed.{reached, reached_none, moved_in_slot, after_more, index_low, index_in_slot}
+use Rattle.lfi_mends.proofs.Changed.{displaced_by}
+use Rattle.lfi_mends.proofs.Steps.{Sets, HasSlot, Moved, sums_set, index_sum_sets, moved_here, moved_other, moved_stack, access_moved}
 
 -- ---- what an access writes
 pub told : (i : Instruction) (n : ℕ) (uses : List Use) → writes_of i ≡ uses → writes i n ≡ is_some (width_in uses n)
@@ -39,7 +38,7 @@ no_number_31 n below = elim (cases_Bool (eqb n 31)) [
 ]
 
 -- one register more, where it isn't zr
-in_general : (rt n : ℕ) (w : Width) (uses : List Use) → n < 31 → is_some (width_in (general rt w uses) n) ≡ true → (n ≡ rt) ⊎ (is_some (width_in uses n) ≡ true)
+pub in_general : (rt n : ℕ) (w : Width) (uses : List Use) → n < 31 → is_some (width_in (general rt w uses) n) ≡ true → (n ≡ rt) ⊎ (is_some (width_in uses n) ≡ true)
 in_general rt n w uses below h = elim (cases_Bool (eqb rt 31)) [
   | inl zr ↦ inr (rw zr at h)
   | inr other ↦ elim (cases_Bool (eqb rt n)) [
@@ -48,7 +47,7 @@ in_general rt n w uses below h = elim (cases_Bool (eqb rt 31)) [
   ]
 ]
 
-not_in_general : (rt n : ℕ) (w : Width) (uses : List Use) → n < 31 → is_some (width_in (general rt w uses) n) ≡ false → (n ≢ rt) × (is_some (width_in uses n) ≡ false)
+pub not_in_general : (rt n : ℕ) (w : Width) (uses : List Use) → n < 31 → is_some (width_in (general rt w uses) n) ≡ false → (n ≢ rt) × (is_some (width_in uses n) ≡ false)
 not_in_general rt n w uses below h = elim (cases_Bool (eqb rt 31)) [
   | inl zr ↦ let e = eqb-true rt 31 zr in ((λ q. absurd (omega (arith, q, e, below))), rw zr at h)
   | inr other ↦ elim (cases_Bool (eqb rt n)) [
@@ -57,13 +56,13 @@ not_in_general rt n w uses below h = elim (cases_Bool (eqb rt 31)) [
   ]
 ]
 
-in_base : (rn n : ℕ) → is_some (width_in (or_sp rn widths.X []) n) ≡ true → n ≡ rn
+pub in_base : (rn n : ℕ) → is_some (width_in (or_sp rn widths.X []) n) ≡ true → n ≡ rn
 in_base rn n h = elim (cases_Bool (eqb rn n)) [
   | inl same ↦ sym (eqb-true rn n same)
   | inr apart ↦ absurd (true≢false (sym (rw apart at h)))
 ]
 
-not_in_base : (rn n : ℕ) → is_some (width_in (or_sp rn widths.X []) n) ≡ false → n ≢ rn
+pub not_in_base : (rn n : ℕ) → is_some (width_in (or_sp rn widths.X []) n) ≡ false → n ≢ rn
 not_in_base rn n h = elim (cases_Bool (eqb rn n)) [
   | inl same ↦ absurd (true≢false (rw same at h))
   | inr apart ↦ λ q. eqb-false rn n apart (sym q)
@@ -96,7 +95,7 @@ neither_written true rt rn n w below h = ((λ load. absurd (true≢false load)),
 neither_written false rt rn n w below h = let both = not_in_general rt n w (or_sp rn widths.X []) below h in ((λ load. both.0), not_in_base rn n both.1)
 
 -- ---- the registers in which a mend works
-is_spare : (n : ℕ) → is_working n ≡ false → (n ≢ 18) × (n ≢ 22) × (n ≢ 16) × (n ≢ 17)
+pub is_spare : (n : ℕ) → is_working n ≡ false → (n ≢ 18) × (n ≢ 22) × (n ≢ 16) × (n ≢ 17)
 is_spare n h =
     let a = or_parts _ _ h in
     let b = or_parts _ _ a.0 in
@@ -122,10 +121,10 @@ pub record IsSum (sum : ℕ) : Type 0 where
   pub base : 21 ≢ sum
   pub working : (n : ℕ) → is_working n ≡ false → n ≢ sum
 
-sum_16 : IsSum 16
+pub sum_16 : IsSum 16
 sum_16 = record { below = lit≤ tt; base = λ q. absurd (omega (arith, q)); working = λ n h. (is_spare n h).2 }
 
-sum_22 : IsSum 22
+pub sum_22 : IsSum 22
 sum_22 = record { below = lit≤ tt; base = λ q. absurd (omega (arith, q)); working = λ n h. (is_spare n h).1 }
 
 pub sum_if : (b : Bool) → IsSum (if b then 16 else 22)
@@ -147,13 +146,13 @@ beside_no_data rt = elim (cases_Bool (eqb rt 22)) [
 
 -- ---- after the sum
 -- One state differs from another in a register alone, and x21 and another W register give an address.
-record Points (s1 s : State) (sum index a : ℕ) : Type 0 where
-  general : (n : ℕ) → n ≢ sum → x_at s1.registers n ≡ x_at s.registers n
-  address : (x_at s1.registers 21 + x_at s1.registers index % 4294967296 * 1) % 18446744073709551616 ≡ a
-  stack : s1.registers.sp ≡ s.registers.sp
-  flags : s1.registers.nzcv ≡ s.registers.nzcv
-  count : length s1.registers.x ≡ 31
-  memory : s1.memory ≡ s.memory
+pub record Points (s1 s : State) (sum index a : ℕ) : Type 0 where
+  pub general : (n : ℕ) → n ≢ sum → x_at s1.registers n ≡ x_at s.registers n
+  pub address : (x_at s1.registers 21 + x_at s1.registers index % 4294967296 * 1) % 18446744073709551616 ≡ a
+  pub stack : s1.registers.sp ≡ s.registers.sp
+  pub flags : s1.registers.nzcv ≡ s.registers.nzcv
+  pub count : length s1.registers.x ≡ 31
+  pub memory : s1.memory ≡ s.memory
 
 pub slot_after : (s1 s : State) → HasSlot s → x_at s1.registers 21 ≡ x_at s.registers 21 → length s1.registers.x ≡ 31 → HasSlot s1
 slot_after s1 s h e count = record { slot = h.slot; base = e ∙ h.base; room = h.room; count = count }
@@ -170,7 +169,7 @@ points s1 s sum v a apart h e = record {
   memory = h.memory;
 }
 
-points_at : (sum rn : ℕ) (below : Bool) (bytes : ℕ) (s : State) → bytes < 32768 → IsWhole s.registers → (h : HasSlot s) → IsSum sum
+pub points_at : (sum rn : ℕ) (below : Bool) (bytes : ℕ) (s : State) → bytes < 32768 → IsWhole s.registers → (h : HasSlot s) → IsSum sum
     → h.slot * 4294967296 ≤ reached below bytes (x_or_sp_at s.registers rn) → reached below bytes (x_or_sp_at s.registers rn) < (h.slot + 1) * 4294967296
     → Points (after_all (sums sum rn below bytes) s) s sum (index_of sum rn bytes) (reached below bytes (x_or_sp_at s.registers rn))
 points_at sum rn below bytes s fits whole h is first last = elim (cases_Bool (is_bare rn bytes)) [

@@ -1,39 +1,37 @@
 -- What mends of single accesses do that change their base.
-use Rattle.std.proofs.Common.{◌≡◌, ◌≢◌, ℕ, ◌+◌, ◌-◌, ◌*◌, ◌/◌, ◌%◌, ◌^◌, ◌<◌, ◌≤◌, eqb, eqb-true, Bool, true, false, List, [], ◌∷◌, ◌++◌, length, Some, refl, ap, sym, subst, ◌∙◌, inl, inr, arith, lit≤, true≢false}
-use Rattle.std.specs.Prelude.{if◌then◌else◌, not, ◌&&◌, ◌||◌, ◌==◌, ◌⊎◌, ℤ, is_some}
-use Rattle.std.proofs.lemmas.Bool.{cases_Bool, eqb-false, and_parts, or_parts, not-true}
+use Rattle.std.proofs.Common.{◌≡◌, ◌≢◌, ℕ, ◌+◌, ◌*◌, ◌%◌, ◌^◌, ◌<◌, ◌≤◌, eqb, eqb-true, Bool, true, false, List, [], ◌∷◌, length, Some, refl, ap, sym, subst, ◌∙◌, inl, inr, arith, lit≤, true≢false}
+use Rattle.std.specs.Prelude.{if◌then◌else◌, ◌||◌, ℤ}
+use Rattle.std.proofs.lemmas.Bool.{cases_Bool, eqb-false}
 use Rattle.a64_word.specs.declared.instruction.Instruction.{Instruction}
 use Rattle.a64_word.specs.declared.instruction.Instruction.TheVariants as instructions
-use Rattle.a64_word.specs.declared.operands.Width.{Width}
 use Rattle.a64_word.specs.declared.operands.Width.TheVariants as widths
 use Rattle.a64_word.specs.declared.operands.Size.{Size}
 use Rattle.a64_word.specs.declared.operands.Transfer.{Transfer}
 use Rattle.a64_word.specs.declared.operands.IndexMode.TheVariants as modes
 use Rattle.a64_word.specs.Operands.{size_code}
 use Rattle.a64_effects.specs.Effects.{is_store, data_width, writes_of}
-use Rattle.a64_effects.specs.Uses.{general, or_sp, width_in}
+use Rattle.a64_effects.specs.Uses.{general, or_sp}
 use Rattle.a64_semantics.specs.Registers.{x_at, x_or_sp_at, low_bits}
 use Rattle.a64_semantics.specs.Accesses.{displaced, loaded, stored_by}
-use Rattle.lfi_rules.specs.Rules.{writes}
 use Rattle.lfi_mends.specs.Registers.{is_reserved}
-use Rattle.lfi_mends.specs.Outcomes.{State, IsWhole, InSlot, after, after_all, written_at, bounded_in, is_working, AgreeBounded, DoesTheSameBounded}
+use Rattle.lfi_mends.specs.Outcomes.{State, InSlot, after, after_all, written_at, bounded_in, is_working, AgreeBounded, DoesTheSameBounded}
 use Rattle.lfi_mends.specs.inner.Rows.{sum_of_immediate, guard_of, changed_of, scratch_of, sum_beside, access_with, change_of, any_changing, offset_of}
 use Rattle.lfi_mends.proofs.Standing.{unreserved}
 use Rattle.lfi_mends.proofs.Addresses.{same_address}
-use Rattle.lfi_mends.proofs.Same.{at_address, some_bytes}
+use Rattle.lfi_mends.proofs.Same.{some_bytes}
 use Rattle.lfi_mends.proofs.Summed.{reached, after_more, sum_value}
 use Rattle.lfi_mends.proofs.Changed.{changed, changing_at, based_apart, based_here, based_stack, displaced_by, reached_small}
-use Rattle.lfi_mends.proofs.Steps.{Sets, HasSlot, Moved, sum_sets, guard_sets, unbounded, address_bounded, moved_here, moved_other, moved_stack, access_moved}
+use Rattle.lfi_mends.proofs.Steps.{HasSlot, sum_sets, guard_sets, unbounded, address_bounded, moved_here, moved_other, moved_stack, access_moved}
 use Rattle.lfi_mends.proofs.Bounded.{told, two_written, neither_written, scratch_is, IsSum, sum_if, slot_after, slot_of, beside_no_data}
 
 -- One state differs from another in a base, which holds what it may of a value, and in a register for the sum.
-record Based (s2 s : State) (rn sum c : ℕ) : Type 0 where
-  general : (n : ℕ) → n ≢ rn → n ≢ sum → x_at s2.registers n ≡ x_at s.registers n
-  value : x_at s2.registers rn ≡ bounded_in (x_at s.registers 21) rn c
-  stack : s2.registers.sp ≡ s.registers.sp
-  flags : s2.registers.nzcv ≡ s.registers.nzcv
-  count : length s2.registers.x ≡ 31
-  memory : s2.memory ≡ s.memory
+pub record Based (s2 s : State) (rn sum c : ℕ) : Type 0 where
+  pub general : (n : ℕ) → n ≢ rn → n ≢ sum → x_at s2.registers n ≡ x_at s.registers n
+  pub value : x_at s2.registers rn ≡ bounded_in (x_at s.registers 21) rn c
+  pub stack : s2.registers.sp ≡ s.registers.sp
+  pub flags : s2.registers.nzcv ≡ s.registers.nzcv
+  pub count : length s2.registers.x ≡ 31
+  pub memory : s2.memory ≡ s.memory
 
 low_sum : (below : Bool) (bytes b : ℕ) → bytes < 4096 → b < 18446744073709551616 → sum_value below bytes b ≡ reached below bytes b % 4294967296
 low_sum true bytes b fits small = omega (arith, fits, small)
@@ -53,7 +51,7 @@ third_of_three false true x y z e f = absurd (true≢false f)
 third_of_three true b x y z e f = absurd (true≢false e)
 
 -- A base that is changed.
-based_by : (sum rn : ℕ) (below : Bool) (bytes : ℕ) (s : State) → HasSlot s → IsSum sum → rn < 31 → eqb rn 21 ≡ false → bytes < 4096 → x_at s.registers rn < 18446744073709551616
+pub based_by : (sum rn : ℕ) (below : Bool) (bytes : ℕ) (s : State) → HasSlot s → IsSum sum → rn < 31 → eqb rn 21 ≡ false → bytes < 4096 → x_at s.registers rn < 18446744073709551616
     → Based (after_all (change_of sum rn below bytes) s) s rn sum (reached below bytes (x_at s.registers rn))
 based_by sum rn below bytes s h is inside no_base fits small =
     let x = x_at s.registers rn in
@@ -163,7 +161,7 @@ bounded_changing i size transfer rt rn c a s s2 uses count inside stack apart sm
     }
 
 -- of what a register holds of an address of the slot the lowest 32 bits are those of the address
-bounded_low : (base rn c slot : ℕ) → base ≡ slot * 4294967296 → bounded_in base rn c % 4294967296 ≡ c % 4294967296
+pub bounded_low : (base rn c slot : ℕ) → base ≡ slot * 4294967296 → bounded_in base rn c % 4294967296 ≡ c % 4294967296
 bounded_low base rn c slot e = elim (cases_Bool (eqb rn 22)) [
   | inl offset ↦ rw offset (omega arith)
   | inr other ↦ elim (cases_Bool (eqb rn 18 || eqb rn 23 || eqb rn 24 || eqb rn 30)) [

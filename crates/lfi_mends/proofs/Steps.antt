@@ -1,13 +1,10 @@
 -- What single instructions of mends do to a state.
-use Rattle.std.proofs.Common.{◌≡◌, ◌≢◌, ℕ, ◌+◌, ◌-◌, ◌*◌, ◌/◌, ◌%◌, ◌^◌, ◌<◌, ◌≤◌, eqb, eqb-true, Bool, true, false, List, [], ◌∷◌, ◌++◌, length, Some, refl, ap, sym, subst, ◌∙◌, inl, inr, arith, lit≤, true≢false}
-use Rattle.std.specs.Prelude.{if◌then◌else◌, not, ◌&&◌, ◌||◌, ◌==◌}
-use mathlib.Core.Logic.{dite}
-use native.Mathlib.Decide.{ℕ_discrete}
-use Rattle.std.proofs.lemmas.Bool.{cases_Bool, eqb-false, and_parts, or_cases, or_parts, not-true}
+use Rattle.std.proofs.Common.{◌≡◌, ◌≢◌, ℕ, ◌+◌, ◌*◌, ◌/◌, ◌%◌, ◌^◌, ◌<◌, ◌≤◌, eqb, eqb-true, Bool, true, false, length, Some, refl, ap, sym, subst, ◌∙◌, inl, inr, arith, lit≤, true≢false}
+use Rattle.std.specs.Prelude.{not, ◌||◌}
+use Rattle.std.proofs.lemmas.Bool.{cases_Bool, eqb-false, or_cases, or_parts, not-true}
 use Rattle.std.proofs.lemmas.List.{get_or-set_other, get_or_past, length-set}
 use Rattle.std.specs.Int.Bits.{bit_or, or_zero_l}
 use Rattle.std.proofs.lemmas.Grind.{get_or-set_at}
-use Rattle.a64_word.specs.declared.instruction.Instruction.{Instruction}
 use Rattle.a64_word.specs.declared.operands.Width.{Width}
 use Rattle.a64_word.specs.declared.operands.Width.TheVariants as widths
 use Rattle.a64_word.specs.declared.operands.Size.{Size}
@@ -17,15 +14,15 @@ use Rattle.a64_word.specs.declared.operands.Transfer.TheVariants as transfers
 use Rattle.a64_word.specs.Operands.{size_code}
 use Rattle.a64_effects.specs.Effects.{is_store, data_width}
 use Rattle.a64_semantics.specs.declared.registers.Registers.{Registers}
-use Rattle.a64_semantics.specs.Registers.{x_at, x_or_sp_at, low_bits, put_all, to_general}
+use Rattle.a64_semantics.specs.Registers.{x_at, x_or_sp_at, low_bits}
 use Rattle.a64_semantics.specs.Sums.{sum_of}
 use Rattle.a64_semantics.specs.Accesses.{loaded, stored_by}
 use Rattle.lfi_mends.specs.Registers.{is_reserved, may_move}
-use Rattle.lfi_mends.specs.Outcomes.{State, IsWhole, after, after_all, written_at, bounded_in}
-use Rattle.lfi_mends.specs.inner.Rows.{sum_of_immediate, sum_of_index, access_of, is_bare, index_of, sums, guard_of, changed_of, copy_of, put_of, loads_link, access_with, change_of}
+use Rattle.lfi_mends.specs.Outcomes.{State, after, after_all, written_at, bounded_in}
+use Rattle.lfi_mends.specs.inner.Rows.{sum_of_immediate, sum_of_index, is_bare, sums, guard_of, copy_of, put_of, loads_link, access_with}
 use Rattle.lfi_mends.proofs.Standing.{unreserved}
 use Rattle.lfi_mends.proofs.Same.{at_address}
-use Rattle.lfi_mends.proofs.Summed.{sum_value, second_of, moved, near_value, round_value, far_value, reached}
+use Rattle.lfi_mends.proofs.Summed.{sum_value, second_of, moved, near_value, round_value, far_value}
 use Rattle.lfi_mends.proofs.Changed.{moved_apart, moved_count}
 use Rattle.lfi_mends.proofs.Changed as changed
 

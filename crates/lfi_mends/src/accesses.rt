@@ -7,7 +7,7 @@ ghost use Rattle.a64_word.specs.Encoding.{IsAccess, IsLegal, fields};
 ghost use Rattle.a64_word.specs.Fields.{AllFit};
 ghost use Rattle.a64_word.specs.declared.instruction.Instruction.{Instruction};
 ghost use Rattle.lfi_mends.specs.Mends.{KeepsRules, mended};
-ghost use Rattle.lfi_mends.specs.Outcomes.{DoesTheSame, DoesTheSameBounded, moves_itself, moves_one, moves_plainly};
+ghost use Rattle.lfi_mends.specs.Outcomes.{DoesTheSame, DoesTheSameBounded, moves_itself, moves_bounded, moves_plainly};
 ghost use Rattle.lfi_mends.specs.Obstacles.{refusal, of_access, of_single, is_double};
 ghost use Rattle.lfi_mends.specs.Registers as spec;
 ghost use Rattle.lfi_mends.specs.inner.Rows as rows;
@@ -329,7 +329,7 @@ fn signed(i: &SignedOffset) -> Result<Mend, Reason>
     ensures keeps { IfOk result (λ mend. (profile : Profile) → KeepsRules profile (mended mend)) }
     ensures count { IfOk result (λ mend. mend.count ≤ 7) }
     ensures does { IfOk result (λ mend. IsTrue (moves_plainly (Instruction.SignedOffset i.now)) → DoesTheSame (mended mend) (Instruction.SignedOffset i.now)) }
-    ensures bounded { IfOk result (λ mend. IsTrue (moves_one (Instruction.SignedOffset i.now)) → DoesTheSameBounded (mended mend) (Instruction.SignedOffset i.now)) }
+    ensures bounded { IfOk result (λ mend. IsTrue (moves_bounded (Instruction.SignedOffset i.now)) → DoesTheSameBounded (mended mend) (Instruction.SignedOffset i.now)) }
     ensures told { refusal result ≡ of_access (Instruction.SignedOffset i.now) }
 {
     if i.mode != IndexMode::Unscaled && i.rn.number() == BASE {
@@ -428,7 +428,7 @@ pub(crate) fn confined(profile: Profile, instruction: &Instruction) -> Result<Me
     ensures keeps { IfOk result (λ mend. KeepsRules profile (mended mend)) }
     ensures count { IfOk result (λ mend. mend.count ≤ 7) }
     ensures does { IfOk result (λ mend. IsTrue (moves_plainly instruction.now) → DoesTheSame (mended mend) instruction.now) }
-    ensures bounded { IfOk result (λ mend. IsTrue (moves_one instruction.now) → DoesTheSameBounded (mended mend) instruction.now) }
+    ensures bounded { IfOk result (λ mend. IsTrue (moves_bounded instruction.now) → DoesTheSameBounded (mended mend) instruction.now) }
     ensures told { refusal result ≡ of_access instruction.now }
 {
     match instruction {

@@ -302,6 +302,7 @@ pub(crate) fn holds_link(width: Width, second: Register, first: Register) -> boo
 pub(crate) fn link_pair(second: Register, first: Register) -> Instruction
     requires link { IsTrue (spec.holds_link X second first) }
     requires apart { first ≢ second }
+    ensures is { result ≡ rows.pair_of X true second first }
     ensures stands { (profile : Profile) → Stands profile Nothing result }
     ensures opens { (profile : Profile) → opens_of profile result ≡ Guard }
 {

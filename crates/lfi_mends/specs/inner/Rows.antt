@@ -1,5 +1,5 @@
 -- The instructions of mends of plain accesses.
-use Rattle.std.specs.Prelude.{ℕ, ℤ, pos, negsuc, ◌-◌, ◌/◌, ◌%◌, ◌==◌, ◌&&◌, not, if◌then◌else◌, Bool, true, false, List, [], ◌∷◌, ◌++◌}
+use Rattle.std.specs.Prelude.{ℕ, ℤ, pos, negsuc, ◌-◌, ◌/◌, ◌%◌, ◌==◌, ◌&&◌, not, if◌then◌else◌, Bool, true, false, ◌||◌, List, [], ◌∷◌, ◌++◌, Option, Some}
 use Rattle.a64_word.specs.declared.instruction.Instruction.{Instruction}
 use Rattle.a64_word.specs.declared.instruction.Instruction.TheVariants as instructions
 use Rattle.a64_word.specs.declared.operands.Width.{Width}
@@ -16,7 +16,7 @@ use Rattle.a64_word.specs.declared.operands.Logical.TheVariants as logicals
 use Rattle.a64_word.specs.declared.operands.Shift.TheVariants as shifts
 use Rattle.a64_effects.specs.Effects.{is_store}
 use Rattle.lfi_rules.specs.Needs.{is_load_64}
-use Rattle.lfi_mends.specs.Registers.{is_reserved, may_move}
+use Rattle.lfi_mends.specs.Registers.{is_reserved, may_move, may_move_two, spare}
 
 -- ADD or SUB Wd, Wn, #imm12
 abbrev pub sum_of_immediate : (into : ℕ) → (subtract shifted : Bool) → (imm12 rn : ℕ) → Instruction
@@ -154,3 +154,24 @@ change_of sum rn below bytes =
 abbrev pub any_changing : (before : Bool) → Size → Transfer → (rt rn : ℕ) → (below : Bool) → (bytes : ℕ) → List Instruction
 any_changing true size transfer rt rn below bytes = change_of (sum_beside rt) rn below bytes ++ access_with size transfer rn rt (scratch_of rn)
 any_changing false size transfer rt rn below bytes = access_with size transfer rn rt (scratch_of rn) ++ change_of (sum_beside rt) rn below bytes
+
+-- a pair stores x18
+abbrev pub stores_first : (load : Bool) → (rt2 rt : ℕ) → Bool
+stores_first load rt2 rt = not load && (rt == 18 || rt2 == 18)
+
+-- the register that holds sums for a pair
+abbrev pub pair_sum : (load : Bool) → (rt2 rt rn : ℕ) → Option ℕ
+pair_sum load rt2 rt rn = if load then Some 22 else spare rt rt2 rn
+
+-- two registers at x18; where one is x30, which is loaded, with its guard
+abbrev pub pair_with : Width → (load : Bool) → (rt2 rt : ℕ) → List Instruction
+pair_with width load rt2 rt = if may_move_two load rt2 rt then pair_of width load rt2 rt ∷ [] else pair_of widths.X true rt2 rt ∷ guard_of 30 30 ∷ []
+
+-- a pair of any registers at a base and a distance
+abbrev pub any_paired : (sum : ℕ) → Width → (load : Bool) → (rt2 rt rn : ℕ) → (below : Bool) → (bytes : ℕ) → List Instruction
+any_paired sum width load rt2 rt rn below bytes = sums sum rn below bytes ++ guard_of 18 (index_of sum rn bytes) ∷ pair_with width load rt2 rt
+
+-- a pair of any registers at a base alone, which is changed before it or after it
+abbrev pub any_changing_pair : (before : Bool) → (sum : ℕ) → Width → (load : Bool) → (rt2 rt rn : ℕ) → (below : Bool) → (bytes : ℕ) → List Instruction
+any_changing_pair true sum width load rt2 rt rn below bytes = change_of sum rn below bytes ++ guard_of 18 rn ∷ pair_with width load rt2 rt
+any_changing_pair false sum width load rt2 rt rn below bytes = guard_of 18 rn ∷ pair_with width load rt2 rt ++ change_of sum rn below bytes

@@ -4,7 +4,7 @@ use Rattle.a64_word.specs.declared.instruction.Instruction.{Instruction}
 use Rattle.a64_word.specs.declared.operands.Size.{Size}
 use Rattle.a64_word.specs.declared.operands.Transfer.{Transfer}
 use Rattle.lfi_mends.specs.Mends.{mended}
-use Rattle.lfi_mends.specs.inner.Rows.{access_of, access_with, scratch_of, sum_for, sum_of_index, amount_of, indexed}
+use Rattle.lfi_mends.specs.inner.Rows.{access_of, access_with, sum_for, sum_of_index, amount_of, indexed}
 use Rattle.lfi_mends.proofs.Summed.{index_same}
 use Rattle.lfi_mends.proofs.Beside.{no_offset}
 use Rattle.lfi_mends.proofs.accesses.indexed.Goals as goal
