@@ -42,7 +42,7 @@ typedef uint32_t lfi_status;
 #define LFI_BAD_STATE 4u       /* the numbers of a state, or of a fault, are none that these calls make */
 #define LFI_UNKNOWN_PROFILE 5u /* there is no such profile */
 #define LFI_UNKNOWN_MODULE 6u  /* there is no such module: the numbers are 0 to 15 */
-#define LFI_NO_ROOM 7u         /* a text is longer than 2,048 bytes, for which the library has room; none is known that is */
+#define LFI_NO_ROOM 7u         /* a text is longer than 2,048 bytes, for which the library has room; it is proved that none is */
 
 /* The first fault: the place of a word, counted from 0, and the least rule that it breaks, 1 to 10. 0 and 0: none. */
 typedef struct lfi_fault {

@@ -1,3 +1,6 @@
+pub mod Room
+pub mod Instructions
+pub mod Lengths
 pub mod Found
 pub mod Columns
 pub mod Lines

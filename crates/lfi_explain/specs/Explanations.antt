@@ -1,5 +1,5 @@
 -- What is told of a fault, and of all words that break a rule.
-use Rattle.std.specs.Prelude.{◌≡◌, ℕ, zero, suc, ◌+◌, ◌-◌, Bool, true, false, ◌&&◌, not, if◌then◌else◌, List, [], ◌∷◌, ◌++◌, length, flat_map, slice_get, codes, decimal, Option, Some, None}
+use Rattle.std.specs.Prelude.{◌≡◌, ℕ, zero, suc, ◌+◌, ◌-◌, ◌≤◌, Bool, true, false, ◌&&◌, not, if◌then◌else◌, List, [], ◌∷◌, ◌++◌, length, flat_map, slice_get, codes, decimal, Option, Some, None}
 use Rattle.std.specs.Io.KnownBytes.{Appends}
 use Rattle.lfi_module.specs.declared.profile.Profile.{Profile}
 use Rattle.a64_word.specs.declared.instruction.Instruction.{Instruction}
@@ -42,6 +42,10 @@ told_text e =
 -- these, and a line that says how the word is mended
 abbrev pub explanation_text : Explanation → List ℕ
 explanation_text e = told_text e ++ codes "\n  mend: " ++ mending_text e
+
+-- Its text has at most so many bytes.
+pub record FitsIn (room : ℕ) (e : Explanation) : Type 0 where
+  pub bytes : length (explanation_text e) ≤ room
 
 -- It tells this fault of its module, by the word at the fault's place and the one before it.
 pub record ExplainsWord (known : KnownFault) (e : Explanation) : Type 0 where

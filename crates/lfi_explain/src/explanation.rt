@@ -137,7 +137,8 @@ impl fmt::Display for Explanation {
 
 /// What is told of a fault of which this is known. A need that was opened before the two words is told without its word.
 pub fn explain_word(known: &KnownFault) -> Explanation
-    ensures { spec.ExplainsWord known.now result }
+    ensures explains { spec.ExplainsWord known.now result }
+    ensures fits { spec.FitsIn 2048 result }
 {
     let profile = known.profile;
     Explanation {
@@ -180,7 +181,8 @@ pub fn explain<W: Words>(
 ) -> Explanation
     requires inside { fault.word < length (W.words words.now) }
     requires most { length (W.words words.now) ≤ most_words }
-    ensures { spec.Explains profile (W.words words.now) slot fault result }
+    ensures explains { spec.Explains profile (W.words words.now) slot fault result }
+    ensures fits { spec.FitsIn 2048 result }
 {
     let place = fault.word as usize;
     let at = Spelling::of(words.word(place), profile);

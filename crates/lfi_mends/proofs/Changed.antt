@@ -59,10 +59,10 @@ changed false bytes rn s count inside other fits small = rw other (record {
 })
 
 -- registers after a load or store, and then a base
-abbrev moved : (store : Bool) → Width → (rt value : ℕ) → Registers → Registers
+abbrev pub moved : (store : Bool) → Width → (rt value : ℕ) → Registers → Registers
 moved store width rt value r = put_all (if store then [] else to_general rt width value []) r
 
-abbrev moved_and_based : (store : Bool) → Width → (rt value rn c : ℕ) → Registers → Registers
+abbrev pub moved_and_based : (store : Bool) → Width → (rt value rn c : ℕ) → Registers → Registers
 moved_and_based store width rt value rn c r = put_all (if store then to_or_sp rn widths.X c [] else to_general rt width value (to_or_sp rn widths.X c [])) r
 
 -- the base last
@@ -74,14 +74,14 @@ based false width rt value rn c r = elim (cases_Bool (eqb rt 31)) [
 ]
 
 -- another register than the one that is loaded
-moved_apart : (store : Bool) (width : Width) (rt value n : ℕ) (r : Registers) → n ≢ rt → x_at (moved store width rt value r) n ≡ x_at r n
+pub moved_apart : (store : Bool) (width : Width) (rt value n : ℕ) (r : Registers) → n ≢ rt → x_at (moved store width rt value r) n ≡ x_at r n
 moved_apart true width rt value n r apart = refl
 moved_apart false width rt value n r apart = elim (cases_Bool (eqb rt 31)) [
   | inl zr ↦ rw zr refl
   | inr other ↦ rw (other, other) (get_or-set_other r.x rt n _ 0 apart)
 ]
 
-moved_count : (store : Bool) (width : Width) (rt value : ℕ) (r : Registers) → length (moved store width rt value r).x ≡ length r.x
+pub moved_count : (store : Bool) (width : Width) (rt value : ℕ) (r : Registers) → length (moved store width rt value r).x ≡ length r.x
 moved_count true width rt value r = refl
 moved_count false width rt value r = elim (cases_Bool (eqb rt 31)) [
   | inl zr ↦ rw zr refl
@@ -91,19 +91,19 @@ moved_count false width rt value r = elim (cases_Bool (eqb rt 31)) [
 pub small_base : (c : ℕ) → c < 18446744073709551616 → c % 18446744073709551616 ≡ c
 small_base c small = omega (arith, small)
 
-based_apart : (store : Bool) (width : Width) (rt value rn c n : ℕ) (r : Registers) → eqb rn 31 ≡ false → n ≢ rn
+pub based_apart : (store : Bool) (width : Width) (rt value rn c n : ℕ) (r : Registers) → eqb rn 31 ≡ false → n ≢ rn
     → x_at (moved_and_based store width rt value rn c r) n ≡ x_at (moved store width rt value r) n
 based_apart store width rt value rn c n r other apart =
     ap (λ q. x_at q n) (based store width rt value rn c r) ∙ rw other (get_or-set_other (moved store width rt value r).x rn n _ 0 apart)
 
-based_here : (store : Bool) (width : Width) (rt value rn c : ℕ) (r : Registers) → eqb rn 31 ≡ false → rn < 31 → length r.x ≡ 31 → c < 18446744073709551616
+pub based_here : (store : Bool) (width : Width) (rt value rn c : ℕ) (r : Registers) → eqb rn 31 ≡ false → rn < 31 → length r.x ≡ 31 → c < 18446744073709551616
     → x_at (moved_and_based store width rt value rn c r) rn ≡ c
 based_here store width rt value rn c r other inside count small =
     let whole : length (moved store width rt value r).x ≡ 31 = moved_count store width rt value r ∙ count in
     ap (λ q. x_at q rn) (based store width rt value rn c r)
     ∙ rw other (get_or-set_at (moved store width rt value r).x rn rn _ 0 refl (subst (λ l. rn < l) (sym whole) inside) ∙ small_base c small)
 
-based_stack : (store : Bool) (width : Width) (rt value rn c : ℕ) (r : Registers) → eqb rn 31 ≡ false
+pub based_stack : (store : Bool) (width : Width) (rt value rn c : ℕ) (r : Registers) → eqb rn 31 ≡ false
     → (moved_and_based store width rt value rn c r).sp ≡ (moved store width rt value r).sp
 based_stack store width rt value rn c r other = ap (λ q. q.sp) (based store width rt value rn c r) ∙ rw other refl
 

@@ -25,10 +25,10 @@ use Rattle.lfi_mends.proofs.Changed.{Changed, changed, displaced_by, reached_sma
 use Rattle.lfi_mends.proofs.Paired.{loads, pair_at, in_turn, put_count, guarded_after, by_guard, some_pair, two_same, stack_same}
 
 -- registers after a pair, and then a base
-abbrev moved : (load : Bool) → Width → (rt rt2 first second : ℕ) → Registers → Registers
+abbrev pub moved : (load : Bool) → Width → (rt rt2 first second : ℕ) → Registers → Registers
 moved load width rt rt2 first second r = put_all (loads load width rt rt2 first second) r
 
-abbrev moved_and_based : (load : Bool) → Width → (rt rt2 first second rn c : ℕ) → Registers → Registers
+abbrev pub moved_and_based : (load : Bool) → Width → (rt rt2 first second rn c : ℕ) → Registers → Registers
 moved_and_based load width rt rt2 first second rn c r =
     put_all (if load then to_general rt width first (to_general rt2 width second (to_or_sp rn widths.X c [])) else to_or_sp rn widths.X c []) r
 
@@ -42,42 +42,42 @@ based true width rt rt2 first second rn c r =
     ∙ (in_turn rt2 second width (to_or_sp rn widths.X c []) one
     ∙ ap (λ q. put_all (to_or_sp rn widths.X c []) q) (sym (in_turn rt first width (to_general rt2 width second []) r)))
 
-put_apart : (rt value n : ℕ) (width : Width) (r : Registers) → n ≢ rt → x_at (put_all (to_general rt width value []) r) n ≡ x_at r n
+pub put_apart : (rt value n : ℕ) (width : Width) (r : Registers) → n ≢ rt → x_at (put_all (to_general rt width value []) r) n ≡ x_at r n
 put_apart rt value n width r apart = elim (cases_Bool (eqb rt 31)) [
   | inl zr ↦ rw zr refl
   | inr other ↦ rw (other, other) (get_or-set_other r.x rt n _ 0 apart)
 ]
 
-moved_apart : (load : Bool) (width : Width) (rt rt2 first second n : ℕ) (r : Registers) → n ≢ rt → n ≢ rt2 → x_at (moved load width rt rt2 first second r) n ≡ x_at r n
+pub moved_apart : (load : Bool) (width : Width) (rt rt2 first second n : ℕ) (r : Registers) → n ≢ rt → n ≢ rt2 → x_at (moved load width rt rt2 first second r) n ≡ x_at r n
 moved_apart false width rt rt2 first second n r apart apart2 = refl
 moved_apart true width rt rt2 first second n r apart apart2 =
     ap (λ q. x_at q n) (in_turn rt first width (to_general rt2 width second []) r)
     ∙ (put_apart rt2 second n width (put_all (to_general rt width first []) r) apart2 ∙ put_apart rt first n width r apart)
 
-moved_count : (load : Bool) (width : Width) (rt rt2 first second : ℕ) (r : Registers) → length (moved load width rt rt2 first second r).x ≡ length r.x
+pub moved_count : (load : Bool) (width : Width) (rt rt2 first second : ℕ) (r : Registers) → length (moved load width rt rt2 first second r).x ≡ length r.x
 moved_count false width rt rt2 first second r = refl
 moved_count true width rt rt2 first second r =
     ap (λ q. length q.x) (in_turn rt first width (to_general rt2 width second []) r)
     ∙ (put_count rt2 second width (put_all (to_general rt width first []) r) ∙ put_count rt first width r)
 
-based_apart : (load : Bool) (width : Width) (rt rt2 first second rn c n : ℕ) (r : Registers) → eqb rn 31 ≡ false → n ≢ rn
+pub based_apart : (load : Bool) (width : Width) (rt rt2 first second rn c n : ℕ) (r : Registers) → eqb rn 31 ≡ false → n ≢ rn
     → x_at (moved_and_based load width rt rt2 first second rn c r) n ≡ x_at (moved load width rt rt2 first second r) n
 based_apart load width rt rt2 first second rn c n r other apart =
     ap (λ q. x_at q n) (based load width rt rt2 first second rn c r) ∙ rw other (get_or-set_other (moved load width rt rt2 first second r).x rn n _ 0 apart)
 
-based_here : (load : Bool) (width : Width) (rt rt2 first second rn c : ℕ) (r : Registers) → eqb rn 31 ≡ false → rn < 31 → length r.x ≡ 31 → c < 18446744073709551616
+pub based_here : (load : Bool) (width : Width) (rt rt2 first second rn c : ℕ) (r : Registers) → eqb rn 31 ≡ false → rn < 31 → length r.x ≡ 31 → c < 18446744073709551616
     → x_at (moved_and_based load width rt rt2 first second rn c r) rn ≡ c
 based_here load width rt rt2 first second rn c r other inside count small =
     let whole : length (moved load width rt rt2 first second r).x ≡ 31 = moved_count load width rt rt2 first second r ∙ count in
     ap (λ q. x_at q rn) (based load width rt rt2 first second rn c r)
     ∙ rw other (get_or-set_at (moved load width rt rt2 first second r).x rn rn _ 0 refl (subst (λ l. rn < l) (sym whole) inside) ∙ small_base c small)
 
-based_stack : (load : Bool) (width : Width) (rt rt2 first second rn c : ℕ) (r : Registers) → eqb rn 31 ≡ false
+pub based_stack : (load : Bool) (width : Width) (rt rt2 first second rn c : ℕ) (r : Registers) → eqb rn 31 ≡ false
     → (moved_and_based load width rt rt2 first second rn c r).sp ≡ (moved load width rt rt2 first second r).sp
 based_stack load width rt rt2 first second rn c r other = ap (λ q. q.sp) (based load width rt rt2 first second rn c r) ∙ rw other refl
 
 -- a pair, and a base that is changed with it
-abbrev changing_at : Width → (load : Bool) → (rt2 rt rn c : ℕ) → State → ℕ → State
+abbrev pub changing_at : Width → (load : Bool) → (rt2 rt rn c : ℕ) → State → ℕ → State
 changing_at width load rt2 rt rn c s a = record {
   registers = record (moved_and_based load width rt rt2 (number_at s.memory (register_bytes width) a) (number_at s.memory (register_bytes width) (a + register_bytes width)) rn c s.registers) { pc = following s.registers; nzcv = s.registers.nzcv };
   memory = written_at (Some (record { address = a; bytes = pair_bytes width; stores = not load })) (if load then [] else low_bytes (register_bytes width) (x_at s.registers rt) ++ low_bytes (register_bytes width) (x_at s.registers rt2)) s.memory;

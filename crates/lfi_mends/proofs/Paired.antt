@@ -107,7 +107,7 @@ guarded_after rm a s s1 general stack flags count memory e = record {
 }
 
 -- an address at no offset
-at_first : (width : Width) (a : ℕ) → a < 18446744073709551616 → displaced a (pair_offset width (pos 0)) ≡ a
+pub at_first : (width : Width) (a : ℕ) → a < 18446744073709551616 → displaced a (pair_offset width (pos 0)) ≡ a
 at_first widths.W a small = omega (arith, small)
 at_first widths.X a small = omega (arith, small)
 

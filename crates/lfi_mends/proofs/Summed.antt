@@ -69,15 +69,15 @@ abbrev pub moved : (below : Bool) → (bytes b : ℕ) → ℕ
 moved true bytes b = (b % 4294967296 + 4294967296 - bytes) % 4294967296
 moved false bytes b = (b % 4294967296 + bytes) % 4294967296
 
-near_value : (below : Bool) (bytes b : ℕ) → bytes / 4096 ≡ 0 → sum_value below (bytes % 4096) b ≡ moved below bytes b
+pub near_value : (below : Bool) (bytes b : ℕ) → bytes / 4096 ≡ 0 → sum_value below (bytes % 4096) b ≡ moved below bytes b
 near_value true bytes b near = omega (arith, near)
 near_value false bytes b near = omega (arith, near)
 
-round_value : (below : Bool) (bytes b : ℕ) → bytes < 32768 → bytes % 4096 ≡ 0 → sum_value below (bytes / 4096 * 4096) b ≡ moved below bytes b
+pub round_value : (below : Bool) (bytes b : ℕ) → bytes < 32768 → bytes % 4096 ≡ 0 → sum_value below (bytes / 4096 * 4096) b ≡ moved below bytes b
 round_value true bytes b fits round = omega (arith, fits, round)
 round_value false bytes b fits round = omega (arith, fits, round)
 
-far_value : (below : Bool) (bytes b : ℕ) → bytes < 32768 → sum_value below (bytes % 4096) (sum_value below (bytes / 4096 * 4096) b) ≡ moved below bytes b
+pub far_value : (below : Bool) (bytes b : ℕ) → bytes < 32768 → sum_value below (bytes % 4096) (sum_value below (bytes / 4096 * 4096) b) ≡ moved below bytes b
 far_value true bytes b fits = omega (arith, fits)
 far_value false bytes b fits = omega (arith, fits)
 
@@ -223,7 +223,7 @@ summed_index amount rm rn s count = record {
 }
 
 -- The lowest bits of an index are those of its register, however it is extended.
-index_low : (extend : IndexExtend) (x : ℕ) → extended_index extend x % 4294967296 ≡ x % 4294967296
+pub index_low : (extend : IndexExtend) (x : ℕ) → extended_index extend x % 4294967296 ≡ x % 4294967296
 index_low indexes.Uxtw x = omega arith
 index_low indexes.Lsl x = refl
 index_low indexes.Sxtx x = refl
@@ -235,7 +235,7 @@ index_low indexes.Sxtw x = elim (cases_Bool (nat_lt (x % 4294967296) 2147483648)
 abbrev pub factor_of : Size → (scaled : Bool) → ℕ
 factor_of size scaled = if scaled then 2 ^ size_code size else 1
 
-index_in_slot : (size : Size) (scaled : Bool) (base b e x slot : ℕ) → e % 4294967296 ≡ x % 4294967296 → base ≡ slot * 4294967296 → (slot + 1) * 4294967296 ≤ 18446744073709551616
+pub index_in_slot : (size : Size) (scaled : Bool) (base b e x slot : ℕ) → e % 4294967296 ≡ x % 4294967296 → base ≡ slot * 4294967296 → (slot + 1) * 4294967296 ≤ 18446744073709551616
     → slot * 4294967296 ≤ (b + e * factor_of size scaled) % 18446744073709551616 → (b + e * factor_of size scaled) % 18446744073709551616 < (slot + 1) * 4294967296
     → (base + (b % 4294967296 + x % 4294967296 * 2 ^ amount_of size scaled % 4294967296 + 0) % 4294967296 % 4294967296 % 4294967296 * 1) % 18446744073709551616
     ≡ (b + e * factor_of size scaled) % 18446744073709551616

@@ -7,7 +7,7 @@ ghost use Rattle.a64_word.specs.Encoding.{IsAccess, IsLegal, fields};
 ghost use Rattle.a64_word.specs.Fields.{AllFit};
 ghost use Rattle.a64_word.specs.declared.instruction.Instruction.{Instruction};
 ghost use Rattle.lfi_mends.specs.Mends.{KeepsRules, mended};
-ghost use Rattle.lfi_mends.specs.Outcomes.{DoesTheSame, moves_itself, moves_plainly};
+ghost use Rattle.lfi_mends.specs.Outcomes.{DoesTheSame, DoesTheSameBounded, moves_itself, moves_bounded, moves_plainly};
 ghost use Rattle.lfi_mends.specs.Obstacles.{refusal, of_access, of_single, is_double};
 ghost use Rattle.lfi_mends.specs.Registers as spec;
 ghost use Rattle.lfi_mends.specs.inner.Rows as rows;
@@ -58,7 +58,8 @@ pub(crate) struct Single {
 
 /// X16; or x17, where the other register is x16.
 pub(crate) fn scratch_beside(register: Register) -> Register
-    ensures { IsTrue (spec.is_free result) }
+    ensures free { IsTrue (spec.is_free result) }
+    ensures is { result ≡ rows.scratch_of register }
 {
     if register.number() == FIRST_SCRATCH {
         Register::new(SECOND_SCRATCH)
@@ -71,8 +72,21 @@ pub(crate) fn scratch_beside(register: Register) -> Register
 fn sum_register(transfer: Transfer, moved: Register) -> Register
     ensures holds { IsTrue (spec.may_hold result) }
     ensures offset { IsTrue (moves_itself transfer moved) → result ≡ 22 }
+    ensures is { result ≡ rows.sum_for transfer moved }
 {
     if moved.number() == OFFSET && transfer == Transfer::Store {
+        Register::new(FIRST_SCRATCH)
+    } else {
+        Register::new(OFFSET)
+    }
+}
+
+/// The register that holds the sum for a base that is changed: w22, or w16 where the access moves x22.
+fn sum_beside(moved: Register) -> Register
+    ensures holds { IsTrue (spec.may_hold result) }
+    ensures is { result ≡ rows.sum_beside moved }
+{
+    if moved.number() == OFFSET {
         Register::new(FIRST_SCRATCH)
     } else {
         Register::new(OFFSET)
@@ -124,6 +138,7 @@ pub(crate) fn put(mend: Mend, into: Register, from: Register) -> Mend
     requires keeps { (profile : Profile) → KeepsRules profile (mended mend) }
     requires base { (into == 21) ≡ false }
     ensures keeps { (profile : Profile) → KeepsRules profile (mended result) }
+    ensures items { mended result ≡ mended mend ++ rows.put_of into from ∷ [] }
     ensures count { result.count ≡ mend.count + 1 }
 {
     if into.number() == OFFSET {
@@ -134,7 +149,8 @@ pub(crate) fn put(mend: Mend, into: Register, from: Register) -> Mend
 
 /// Whether an access loads 64 bits into x30.
 fn loads_link(size: Size, transfer: Transfer, moved: Register) -> bool
-    ensures { IsTrue result → spec.may_move transfer moved ≡ false }
+    ensures moves { IsTrue result → spec.may_move transfer moved ≡ false }
+    ensures is { result ≡ rows.loads_link size transfer moved }
 {
     size == Size::Double && transfer == Transfer::Load && moved.number() == LINK
 }
@@ -148,6 +164,7 @@ fn with_access(mend: Mend, single: Single, index: Register, scratch: Register) -
     requires base { of_single single.transfer single.moved ≡ None }
     ensures keeps { (profile : Profile) → KeepsRules profile (mended result) }
     ensures items { IsTrue (moves_itself single.transfer single.moved) → mended result ≡ mended mend ++ rows.access_of single.size single.transfer index single.moved ∷ [] }
+    ensures all { mended result ≡ mended mend ++ rows.access_with single.size single.transfer index single.moved scratch }
     ensures count { result.count ≤ mend.count + 2 }
 {
     if loads_link(single.size, single.transfer, single.moved) {
@@ -169,6 +186,7 @@ pub(crate) fn with_change(mend: Mend, base: Register, distance: Distance, sum: R
     requires base { (base == 21) ≡ false }
     ensures keeps { (profile : Profile) → KeepsRules profile (mended result) }
     ensures items { IsTrue (spec.is_free base) → mended result ≡ mended mend ++ rows.changed_of distance.below distance.bytes base ∷ [] }
+    ensures all { (base == 31) ≡ false → mended result ≡ mended mend ++ rows.change_of sum base distance.below distance.bytes }
     ensures count { result.count ≤ mend.count + 2 }
 {
     let number = base.number();
@@ -195,6 +213,7 @@ fn plain(mend: Mend, single: Single, base: Register, distance: Distance) -> Mend
     requires base { of_single single.transfer single.moved ≡ None }
     ensures keeps { (profile : Profile) → KeepsRules profile (mended result) }
     ensures items { IsTrue (moves_itself single.transfer single.moved) → mended result ≡ mended mend ++ rows.accessed single.size single.transfer single.moved base distance.below distance.bytes }
+    ensures all { mended result ≡ mended mend ++ rows.any_accessed single.size single.transfer single.moved base distance.below distance.bytes }
     ensures count { result.count ≤ mend.count + 4 }
 {
     let sum = sum_register(single.transfer, single.moved);
@@ -246,6 +265,7 @@ fn unsigned(i: &UnsignedOffset) -> Result<Mend, Reason>
     ensures keeps { IfOk result (λ mend. (profile : Profile) → KeepsRules profile (mended mend)) }
     ensures count { IfOk result (λ mend. mend.count ≤ 7) }
     ensures does { IfOk result (λ mend. IsTrue (moves_itself i.now.transfer i.now.rt) → DoesTheSame (mended mend) (Instruction.UnsignedOffset i.now)) }
+    ensures bounded { IfOk result (λ mend. DoesTheSameBounded (mended mend) (Instruction.UnsignedOffset i.now)) }
     ensures told { refusal result ≡ of_access (Instruction.UnsignedOffset i.now) }
 {
     if loads_base(i.transfer, i.rt) {
@@ -291,9 +311,10 @@ fn changing(single: Single, base: Register, distance: Distance, before: bool) ->
     requires base { (base == 21) ≡ false }
     ensures keeps { (profile : Profile) → KeepsRules profile (mended result) }
     ensures items { IsTrue (moves_itself single.transfer single.moved) → IsTrue (spec.is_free base) → mended result ≡ rows.changing before single.size single.transfer single.moved base distance.below distance.bytes }
+    ensures all { (base == 31) ≡ false → mended result ≡ rows.any_changing before single.size single.transfer single.moved base distance.below distance.bytes }
     ensures count { result.count ≤ 7 }
 {
-    let sum = sum_register(single.transfer, single.moved);
+    let sum = sum_beside(single.moved);
     if before {
         let mend = with_change(Mend::new(), base, distance, sum);
         return plain(mend, single, base, NONE);
@@ -308,6 +329,7 @@ fn signed(i: &SignedOffset) -> Result<Mend, Reason>
     ensures keeps { IfOk result (λ mend. (profile : Profile) → KeepsRules profile (mended mend)) }
     ensures count { IfOk result (λ mend. mend.count ≤ 7) }
     ensures does { IfOk result (λ mend. IsTrue (moves_plainly (Instruction.SignedOffset i.now)) → DoesTheSame (mended mend) (Instruction.SignedOffset i.now)) }
+    ensures bounded { IfOk result (λ mend. IsTrue (moves_bounded (Instruction.SignedOffset i.now)) → DoesTheSameBounded (mended mend) (Instruction.SignedOffset i.now)) }
     ensures told { refusal result ≡ of_access (Instruction.SignedOffset i.now) }
 {
     if i.mode != IndexMode::Unscaled && i.rn.number() == BASE {
@@ -335,6 +357,7 @@ fn indexed(i: &RegisterOffset) -> Result<Mend, Reason>
     ensures keeps { IfOk result (λ mend. (profile : Profile) → KeepsRules profile (mended mend)) }
     ensures count { IfOk result (λ mend. mend.count ≤ 7) }
     ensures does { IfOk result (λ mend. IsTrue (moves_itself i.now.transfer i.now.rt) → DoesTheSame (mended mend) (Instruction.RegisterOffset i.now)) }
+    ensures bounded { IfOk result (λ mend. DoesTheSameBounded (mended mend) (Instruction.RegisterOffset i.now)) }
     ensures told { refusal result ≡ of_access (Instruction.RegisterOffset i.now) }
 {
     if loads_base(i.transfer, i.rt) {
@@ -405,6 +428,7 @@ pub(crate) fn confined(profile: Profile, instruction: &Instruction) -> Result<Me
     ensures keeps { IfOk result (λ mend. KeepsRules profile (mended mend)) }
     ensures count { IfOk result (λ mend. mend.count ≤ 7) }
     ensures does { IfOk result (λ mend. IsTrue (moves_plainly instruction.now) → DoesTheSame (mended mend) instruction.now) }
+    ensures bounded { IfOk result (λ mend. IsTrue (moves_bounded instruction.now) → DoesTheSameBounded (mended mend) instruction.now) }
     ensures told { refusal result ≡ of_access instruction.now }
 {
     match instruction {

@@ -14,6 +14,8 @@ ghost use Rattle.lfi_mends.specs.Registers as spec;
 ghost use Rattle.lfi_mends.specs.inner.Computing.{is_computing};
 ghost use Rattle.lfi_mends.specs.inner.Rows as rows;
 ghost use Rattle.a64_effects.specs.Effects.{ordered_transfer};
+ghost use Rattle.a64_word.specs.declared.operands.Size.TheVariants.{Double};
+ghost use Rattle.a64_word.specs.declared.operands.Transfer.TheVariants.{Load};
 ghost use Rattle.a64_word.specs.declared.operands.Width.TheVariants.{X};
 
 use a64_word::{
@@ -74,6 +76,7 @@ pub(crate) fn address_guard(register: Register) -> Instruction
 
 /// ADD X30, X21, W30, UXTW.
 pub(crate) fn link_guard() -> Instruction
+    ensures is { result ≡ rows.guard_of 30 30 }
     ensures stands { (profile : Profile) → Stands profile Guard result }
     ensures opens { (profile : Profile) → opens_of profile result ≡ Nothing }
 {
@@ -107,6 +110,7 @@ pub(crate) fn probe() -> Instruction
 
 /// A load of 64 bits into x30 at x21 and a W register.
 pub(crate) fn link_access(index: Register) -> Instruction
+    ensures is { result ≡ rows.access_of Double Load index 30 }
     ensures stands { (profile : Profile) → Stands profile Nothing result }
     ensures opens { (profile : Profile) → opens_of profile result ≡ Guard }
 {
@@ -298,6 +302,7 @@ pub(crate) fn holds_link(width: Width, second: Register, first: Register) -> boo
 pub(crate) fn link_pair(second: Register, first: Register) -> Instruction
     requires link { IsTrue (spec.holds_link X second first) }
     requires apart { first ≢ second }
+    ensures is { result ≡ rows.pair_of X true second first }
     ensures stands { (profile : Profile) → Stands profile Nothing result }
     ensures opens { (profile : Profile) → opens_of profile result ≡ Guard }
 {
@@ -362,6 +367,7 @@ pub(crate) fn computing(instruction: Instruction) -> Instruction
     requires legal { IsLegal instruction }
     requires fits { AllFit (fields instruction) }
     requires computes { IsTrue (is_computing instruction) }
+    ensures same { result ≡ instruction }
     ensures stands { (profile : Profile) → Stands profile Nothing result }
     ensures opens { (profile : Profile) → opens_of profile result ≡ Nothing }
 {
@@ -388,6 +394,7 @@ pub(crate) fn copied(into: Register, from: Register) -> Instruction
 
 /// MOV W22, Wm.
 pub(crate) fn copied_to_offset(from: Register) -> Instruction
+    ensures is { result ≡ rows.copy_of from }
     ensures stands { (profile : Profile) → Stands profile Nothing result }
     ensures opens { (profile : Profile) → opens_of profile result ≡ Nothing }
 {

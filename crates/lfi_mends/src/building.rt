@@ -5,6 +5,7 @@ ghost use Rattle.lfi_module.specs.declared.profile.Profile.{Profile};
 ghost use Rattle.lfi_module.specs.declared.profile.Profile.TheVariants.{Two};
 ghost use Rattle.lfi_rules.specs.declared.needs.Need.TheVariants.{Nothing, Guard, Probe};
 ghost use Rattle.lfi_rules.specs.Needs.{opens_of, window};
+ghost use Rattle.lfi_mends.specs.inner.Rows as rows;
 ghost use Rattle.lfi_mends.specs.Mends.{Stands, Leads, KeepsRules, mended};
 ghost use Rattle.lfi_rules.specs.declared.needs.Need.{Need};
 
@@ -56,6 +57,7 @@ impl Mend {
         requires keeps { (profile : Profile) → KeepsRules profile (mended self) }
         requires stands { (profile : Profile) → Stands profile Nothing instruction }
         requires opens { (profile : Profile) → opens_of profile instruction ≡ Guard }
+        ensures items { mended result ≡ mended self ++ instruction ∷ rows.guard_of 30 30 ∷ [] }
         ensures keeps { (profile : Profile) → KeepsRules profile (mended result) }
         ensures count { result.count ≡ self.count + 2 }
     {

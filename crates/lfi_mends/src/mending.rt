@@ -8,7 +8,7 @@ ghost use Rattle.a64_word.specs.Encoding.{IsLegal, fields};
 ghost use Rattle.a64_word.specs.Fields.{AllFit};
 ghost use Rattle.a64_word.specs.Profiles.{is_of, SpellsIn};
 ghost use Rattle.lfi_rules.specs.declared.rule.Rule.TheVariants.{AccessConfined};
-ghost use Rattle.lfi_mends.specs.Outcomes.{DoesTheSame, moves_plainly};
+ghost use Rattle.lfi_mends.specs.Outcomes.{DoesTheSame, DoesTheSameBounded, moves_bounded, moves_plainly};
 ghost use Rattle.a64_word.specs.declared.instruction.Instruction.{Instruction};
 ghost use Rattle.lfi_mends.specs.Mends.{Leads, KeepsRules, Stands, mended};
 ghost use Rattle.lfi_mends.specs.Obstacles as obstacles;
@@ -174,6 +174,7 @@ fn alone(profile: Profile, rule: Rule, instruction: &Instruction) -> Result<Mend
     ensures keeps { IfOk result (λ mend. KeepsRules profile (mended mend)) }
     ensures count { IfOk result (λ mend. mend.count ≤ 7) }
     ensures does { rule ≡ AccessConfined → IfOk result (λ mend. IsTrue (moves_plainly instruction.now) → DoesTheSame (mended mend) instruction.now) }
+    ensures bounded { rule ≡ AccessConfined → IfOk result (λ mend. IsTrue (moves_bounded instruction.now) → DoesTheSameBounded (mended mend) instruction.now) }
     ensures told { refusal result ≡ obstacles.obstacle rule instruction.now }
 {
     match rule {
@@ -201,6 +202,7 @@ fn of_word(
     ensures keeps { IfOk result (λ mend. KeepsRules profile (mended mend)) }
     ensures count { IfOk result (λ mend. mend.count ≤ 7) }
     ensures does { (i : Instruction) → rule ≡ AccessConfined → SpellsIn profile i word → IsTrue (moves_plainly i) → IfOk result (λ mend. DoesTheSame (mended mend) i) }
+    ensures bounded { (i : Instruction) → rule ≡ AccessConfined → SpellsIn profile i word → IsTrue (moves_bounded i) → IfOk result (λ mend. DoesTheSameBounded (mended mend) i) }
     ensures told { IsReasonOfWord profile rule word next.now (refusal result) }
 {
     match decode(word, profile) {
@@ -254,6 +256,7 @@ pub fn mend_of(
 ) -> Result<Mend, Reason>
     ensures leads { IfOk result (λ mend. Leads profile unmet (mended mend) Nothing) }
     ensures does { (i : Instruction) → rule ≡ AccessConfined → unmet ≡ Nothing → SpellsIn profile i word → IsTrue (moves_plainly i) → IfOk result (λ mend. DoesTheSame (mended mend) i) }
+    ensures bounded { (i : Instruction) → rule ≡ AccessConfined → unmet ≡ Nothing → SpellsIn profile i word → IsTrue (moves_bounded i) → IfOk result (λ mend. DoesTheSameBounded (mended mend) i) }
     ensures told { IsReason profile rule word unmet next.now (refusal result) }
 {
     if rule == Rule::NeedMet {

@@ -3,7 +3,7 @@
 ghost use Rattle.std.specs.Prelude.{◌≡◌, ◌≢◌, ◌<◌, ◌≤◌, ◌+◌, IfOk, IfSome, IsTrue, true, false, not, ◌||◌, ◌⊎◌, is_some, ◌==◌, ◌++◌, ◌∷◌, []};
 ghost use Rattle.a64_effects.specs.Effects.{changes_base, form_of_pair_mode, pair_offset};
 ghost use Rattle.a64_word.specs.declared.operands.PairMode.TheVariants.{Offset, PreIndex, PostIndex};
-ghost use Rattle.lfi_mends.specs.Outcomes.{DoesTheSame, moves_both, moves_plainly};
+ghost use Rattle.lfi_mends.specs.Outcomes.{DoesTheSame, DoesTheSameBounded, moves_both, moves_bounded, moves_plainly};
 ghost use Rattle.lfi_mends.specs.inner.Rows as rows;
 ghost use Rattle.lfi_module.specs.declared.profile.Profile.{Profile};
 ghost use Rattle.a64_word.specs.Encoding.{IsLegal};
@@ -98,6 +98,7 @@ fn with_singles(mend: Mend, two: &Two, index: Register, sum: Register) -> Mend
 fn stores_first_address(two: &Two) -> bool
     ensures load { two.now.load ≡ true → result ≡ false }
     ensures free { IsTrue (moves_both two.now.second two.now.first) → result ≡ false }
+    ensures is { result ≡ rows.stores_first two.now.load two.now.second two.now.first }
 {
     !two.load && (two.first.number() == FIRST_ADDRESS || two.second.number() == FIRST_ADDRESS)
 }
@@ -111,6 +112,7 @@ fn with_pair(mend: Mend, two: &Two, index: Register, sum: Register) -> Mend
     requires holds { IsTrue (spec.may_hold sum) }
     ensures keeps { (profile : Profile) → KeepsRules profile (mended result) }
     ensures items { IsTrue (moves_both two.now.second two.now.first) → mended result ≡ mended mend ++ rows.guard_of 18 index ∷ rows.pair_of two.now.width two.now.load two.now.second two.now.first ∷ [] }
+    ensures all { rows.stores_first two.now.load two.now.second two.now.first ≡ false → mended result ≡ mended mend ++ rows.guard_of 18 index ∷ rows.pair_with two.now.width two.now.load two.now.second two.now.first }
     ensures count { result.count ≤ mend.count + 3 }
 {
     if stores_first_address(two) {
@@ -133,6 +135,7 @@ fn plain(mend: Mend, two: &Two, base: Register, distance: Distance, sum: Registe
     requires holds { IsTrue (spec.may_hold sum) }
     ensures keeps { (profile : Profile) → KeepsRules profile (mended result) }
     ensures items { IsTrue (moves_both two.now.second two.now.first) → mended result ≡ mended mend ++ rows.paired sum two.now.width two.now.load two.now.second two.now.first base distance.below distance.bytes }
+    ensures all { rows.stores_first two.now.load two.now.second two.now.first ≡ false → mended result ≡ mended mend ++ rows.any_paired sum two.now.width two.now.load two.now.second two.now.first base distance.below distance.bytes }
     ensures count { result.count ≤ mend.count + 5 }
 {
     let index = index_of(base, distance.bytes, sum);
@@ -149,6 +152,9 @@ fn placed(two: &Two, base: Register, distance: Distance, mode: PairMode, sum: Re
     ensures keeps { (profile : Profile) → KeepsRules profile (mended result) }
     ensures before { mode ≡ PreIndex → IsTrue (spec.is_free base) → IsTrue (moves_both two.now.second two.now.first) → mended result ≡ rows.changing_pair true two.now.width two.now.load two.now.second two.now.first base distance.below distance.bytes }
     ensures after { mode ≡ PostIndex → IsTrue (spec.is_free base) → IsTrue (moves_both two.now.second two.now.first) → mended result ≡ rows.changing_pair false two.now.width two.now.load two.now.second two.now.first base distance.below distance.bytes }
+    ensures before_all { mode ≡ PreIndex → (base == 31) ≡ false → rows.stores_first two.now.load two.now.second two.now.first ≡ false → mended result ≡ rows.any_changing_pair true sum two.now.width two.now.load two.now.second two.now.first base distance.below distance.bytes }
+    ensures after_all { mode ≡ PostIndex → (base == 31) ≡ false → rows.stores_first two.now.load two.now.second two.now.first ≡ false → mended result ≡ rows.any_changing_pair false sum two.now.width two.now.load two.now.second two.now.first base distance.below distance.bytes }
+    ensures all { mode ≡ Offset → rows.stores_first two.now.load two.now.second two.now.first ≡ false → mended result ≡ rows.any_paired sum two.now.width two.now.load two.now.second two.now.first base distance.below distance.bytes }
     ensures items { mode ≡ Offset → IsTrue (moves_both two.now.second two.now.first) → mended result ≡ rows.paired sum two.now.width two.now.load two.now.second two.now.first base distance.below distance.bytes }
     ensures count { result.count ≤ 7 }
 {
@@ -169,6 +175,7 @@ fn placed(two: &Two, base: Register, distance: Distance, mode: PairMode, sum: Re
 fn sum_register(i: &Pair) -> Option<Register>
     ensures some { is_some result ≡ (i.now.load || is_some (spec.spare i.now.rt i.now.rt2 i.now.rn)) }
     ensures holds { IfSome result (λ register. IsTrue (spec.may_hold register)) }
+    ensures is { result ≡ rows.pair_sum i.now.load i.now.rt2 i.now.rt i.now.rn }
     ensures offset { IsTrue (moves_both i.now.rt2 i.now.rt) → (i.now.rn == 22) ≡ false → IfSome result (λ register. register ≡ 22) }
 {
     if i.load {
@@ -203,6 +210,7 @@ pub(crate) fn paired(i: &Pair) -> Result<Mend, Reason>
     ensures keeps { IfOk result (λ mend. (profile : Profile) → KeepsRules profile (mended mend)) }
     ensures count { IfOk result (λ mend. mend.count ≤ 7) }
     ensures does { IfOk result (λ mend. IsTrue (moves_plainly (Instruction.Pair i.now)) → DoesTheSame (mended mend) (Instruction.Pair i.now)) }
+    ensures bounded { IfOk result (λ mend. IsTrue (moves_bounded (Instruction.Pair i.now)) → DoesTheSameBounded (mended mend) (Instruction.Pair i.now)) }
     ensures told { refusal result ≡ of_access (Instruction.Pair i.now) }
 {
     if i.mode != PairMode::Offset && i.rn.number() == BASE {

@@ -16,7 +16,7 @@ pub struct Row {
 const NOP: u32 = 0xD503201F;
 
 /// Single loads and stores.
-pub const SINGLES: [Row; 21] = [
+pub const SINGLES: [Row; 22] = [
     // ldr x0, [x1]: ldr x0, [x21, w1, uxtw]
     Row {
         profile: Profile::One,
@@ -106,6 +106,15 @@ pub const SINGLES: [Row; 21] = [
         word: 0xF84086E0,
         next: NOP,
         mend: &[0xF8774AA0, 0x110022F6, 0x8B3642B7],
+    },
+    // ldr x22, [x23], #8: ldr x16, [x21, w23, uxtw]; mov w22, w16; add w16, w23, #8; add x23, x21, w16, uxtw
+    Row {
+        profile: Profile::One,
+        rule: Rule::AccessConfined,
+        unmet: Need::Nothing,
+        word: 0xF84086F6,
+        next: NOP,
+        mend: &[0xF8774AB0, 0x2A1003F6, 0x110022F0, 0x8B3042B7],
     },
     // str x0, [x22, #8]!: add w22, w22, #8; str x0, [x21, w22, uxtw]
     Row {

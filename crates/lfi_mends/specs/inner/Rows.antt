@@ -1,5 +1,5 @@
 -- The instructions of mends of plain accesses.
-use Rattle.std.specs.Prelude.{ℕ, ℤ, pos, negsuc, ◌-◌, ◌/◌, ◌%◌, ◌==◌, ◌&&◌, not, if◌then◌else◌, Bool, true, false, List, [], ◌∷◌, ◌++◌}
+use Rattle.std.specs.Prelude.{ℕ, ℤ, pos, negsuc, ◌-◌, ◌/◌, ◌%◌, ◌==◌, ◌&&◌, not, if◌then◌else◌, Bool, true, false, ◌||◌, List, [], ◌∷◌, ◌++◌, Option, Some}
 use Rattle.a64_word.specs.declared.instruction.Instruction.{Instruction}
 use Rattle.a64_word.specs.declared.instruction.Instruction.TheVariants as instructions
 use Rattle.a64_word.specs.declared.operands.Width.{Width}
@@ -9,7 +9,14 @@ use Rattle.a64_word.specs.declared.operands.IndexExtend.TheVariants as indexes
 use Rattle.a64_word.specs.declared.operands.Extend.TheVariants as extends
 use Rattle.a64_word.specs.Operands.{size_code}
 use Rattle.a64_word.specs.declared.operands.Size.{Size}
+use Rattle.a64_word.specs.declared.operands.Size.TheVariants as sizes
 use Rattle.a64_word.specs.declared.operands.Transfer.{Transfer}
+use Rattle.a64_word.specs.declared.operands.Transfer.TheVariants as transfers
+use Rattle.a64_word.specs.declared.operands.Logical.TheVariants as logicals
+use Rattle.a64_word.specs.declared.operands.Shift.TheVariants as shifts
+use Rattle.a64_effects.specs.Effects.{is_store}
+use Rattle.lfi_rules.specs.Needs.{is_load_64}
+use Rattle.lfi_mends.specs.Registers.{is_reserved, may_move, may_move_two, spare}
 
 -- ADD or SUB Wd, Wn, #imm12
 abbrev pub sum_of_immediate : (into : ℕ) → (subtract shifted : Bool) → (imm12 rn : ℕ) → Instruction
@@ -94,3 +101,77 @@ ordered_of size load rt = instructions.Ordered (record { size = size; load = loa
 -- an ordered access at a base
 abbrev pub in_order : Size → (load : Bool) → (rt rn : ℕ) → List Instruction
 in_order size load rt rn = sums 22 rn false 0 ++ guard_of 18 (index_of 22 rn 0) ∷ ordered_of size load rt ∷ []
+
+-- ---- reserved registers
+
+-- MOV W22, Wm
+abbrev pub copy_of : (rm : ℕ) → Instruction
+copy_of rm =
+    instructions.LogicalShifted (record { width = widths.W; operation = logicals.Orr; invert = false; shift = shifts.Lsl; amount = 0; rm = rm; rn = 31; rd = 22 })
+
+-- a reserved register that is written from a W register
+abbrev pub put_of : (rd rm : ℕ) → Instruction
+put_of rd rm = if rd == 22 then copy_of rm else guard_of rd rm
+
+-- the register that a load goes to before it is put into a reserved one
+abbrev pub scratch_of : (rn : ℕ) → ℕ
+scratch_of rn = if rn == 16 then 17 else 16
+
+-- the register that holds the sum for an access
+abbrev pub sum_for : Transfer → (rt : ℕ) → ℕ
+sum_for transfer rt = if rt == 22 && is_store transfer then 16 else 22
+
+-- the register that holds the sum for a base that is changed
+abbrev pub sum_beside : (rt : ℕ) → ℕ
+sum_beside rt = if rt == 22 then 16 else 22
+
+-- 64 bits are loaded into x30
+abbrev pub loads_link : Size → Transfer → (rt : ℕ) → Bool
+loads_link size transfer rt = is_load_64 size transfer && rt == 30
+
+-- a single access at x21 and a W register: of x30, of a register that it may move, or of another by a scratch register
+abbrev pub access_with : Size → Transfer → (rm rt scratch : ℕ) → List Instruction
+access_with size transfer rm rt scratch =
+    if loads_link size transfer rt then access_of sizes.Double transfers.Load rm 30 ∷ guard_of 30 30 ∷ []
+    else (if may_move transfer rt then access_of size transfer rm rt ∷ [] else access_of size transfer rm scratch ∷ put_of rt scratch ∷ [])
+
+-- an access of any register at a base and a distance
+abbrev pub any_accessed : Size → Transfer → (rt rn : ℕ) → (below : Bool) → (bytes : ℕ) → List Instruction
+any_accessed size transfer rt rn below bytes =
+    sums (sum_for transfer rt) rn below bytes ++ access_with size transfer (index_of (sum_for transfer rt) rn bytes) rt (scratch_of rn)
+
+-- an access of any register at a base and an index
+abbrev pub any_indexed : Size → Transfer → (rt rn rm amount : ℕ) → List Instruction
+any_indexed size transfer rt rn rm amount = sum_of_index (sum_for transfer rt) amount rm rn ∷ access_with size transfer (sum_for transfer rt) rt (scratch_of rn)
+
+-- a base that is changed, but for sp
+abbrev pub change_of : (sum rn : ℕ) → (below : Bool) → (bytes : ℕ) → List Instruction
+change_of sum rn below bytes =
+    if rn == 22 then sum_of_immediate 22 below false bytes 22 ∷ []
+    else (if is_reserved rn then sum_of_immediate sum below false bytes rn ∷ guard_of rn sum ∷ [] else changed_of below bytes rn ∷ [])
+
+-- an access of any register at a base alone, which is changed before it or after it
+abbrev pub any_changing : (before : Bool) → Size → Transfer → (rt rn : ℕ) → (below : Bool) → (bytes : ℕ) → List Instruction
+any_changing true size transfer rt rn below bytes = change_of (sum_beside rt) rn below bytes ++ access_with size transfer rn rt (scratch_of rn)
+any_changing false size transfer rt rn below bytes = access_with size transfer rn rt (scratch_of rn) ++ change_of (sum_beside rt) rn below bytes
+
+-- a pair stores x18
+abbrev pub stores_first : (load : Bool) → (rt2 rt : ℕ) → Bool
+stores_first load rt2 rt = not load && (rt == 18 || rt2 == 18)
+
+-- the register that holds sums for a pair
+abbrev pub pair_sum : (load : Bool) → (rt2 rt rn : ℕ) → Option ℕ
+pair_sum load rt2 rt rn = if load then Some 22 else spare rt rt2 rn
+
+-- two registers at x18; where one is x30, which is loaded, with its guard
+abbrev pub pair_with : Width → (load : Bool) → (rt2 rt : ℕ) → List Instruction
+pair_with width load rt2 rt = if may_move_two load rt2 rt then pair_of width load rt2 rt ∷ [] else pair_of widths.X true rt2 rt ∷ guard_of 30 30 ∷ []
+
+-- a pair of any registers at a base and a distance
+abbrev pub any_paired : (sum : ℕ) → Width → (load : Bool) → (rt2 rt rn : ℕ) → (below : Bool) → (bytes : ℕ) → List Instruction
+any_paired sum width load rt2 rt rn below bytes = sums sum rn below bytes ++ guard_of 18 (index_of sum rn bytes) ∷ pair_with width load rt2 rt
+
+-- a pair of any registers at a base alone, which is changed before it or after it
+abbrev pub any_changing_pair : (before : Bool) → (sum : ℕ) → Width → (load : Bool) → (rt2 rt rn : ℕ) → (below : Bool) → (bytes : ℕ) → List Instruction
+any_changing_pair true sum width load rt2 rt rn below bytes = change_of sum rn below bytes ++ guard_of 18 rn ∷ pair_with width load rt2 rt
+any_changing_pair false sum width load rt2 rt rn below bytes = guard_of 18 rn ∷ pair_with width load rt2 rt ++ change_of sum rn below bytes

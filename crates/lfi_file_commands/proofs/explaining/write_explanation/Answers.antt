@@ -14,5 +14,5 @@ explain-explanation-requires-clause-most g c = c.requires.most
 pub returns : goal.returns
 returns g c =
     let explanation = c.explain-explanation.result in
-    let explains = subst (λ slot. Explains c.args.around.profile (words_of c.args.code.now) slot c.args.fault explanation) c.slot.ensures c.explain-explanation.ensures in
+    let explains = subst (λ slot. Explains c.args.around.profile (words_of c.args.code.now) slot c.args.fault explanation) c.slot.ensures c.explain-explanation.ensures.explains in
     on_ok_weaker c.write_explained.result (λ written. (explanation, explains, written)) c.write_explained.ensures

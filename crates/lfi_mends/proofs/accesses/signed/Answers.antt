@@ -1,16 +1,18 @@
-use Rattle.std.proofs.Common.{rules, ◌≡◌, ◌≢◌, ℤ, pos, negsuc, true, ap, ◌∙◌, ◌++◌, sym, subst, arith, SFits, w32}
-use Rattle.std.specs.Prelude.{◌||◌}
+use Rattle.std.proofs.Common.{rules, ◌≡◌, ◌≢◌, eqb, false, ℤ, pos, negsuc, true, ap, ◌∙◌, ◌++◌, sym, subst, arith, SFits, w32}
+use Rattle.std.specs.Prelude.{◌||◌, not}
 use Rattle.std.proofs.Math.Facts.{to_z-of_z}
-use Rattle.std.proofs.lemmas.Bool.{and_parts}
+use Rattle.std.proofs.lemmas.Bool.{and_parts, eqb-false, not-true}
 use Rattle.a64_word.specs.Operands.{IsSigned}
 use Rattle.a64_word.specs.declared.instruction.Instruction.TheVariants.{SignedOffset}
 use Rattle.a64_word.specs.declared.operands.IndexMode.TheVariants.{Unscaled, PreIndex, PostIndex}
 use Rattle.lfi_mends.specs.Mends.{mended}
-use Rattle.lfi_mends.specs.Outcomes.{DoesTheSame, is_unscaled, moves_itself}
+use Rattle.lfi_mends.specs.Outcomes.{DoesTheSame, DoesTheSameBounded, is_unscaled, moves_itself}
 use Rattle.lfi_mends.specs.Registers.{is_free}
-use Rattle.lfi_mends.specs.inner.Rows.{accessed}
+use Rattle.lfi_mends.specs.inner.Rows.{accessed, any_accessed}
 use Rattle.lfi_mends.proofs.Summed.{signed_same}
 use Rattle.lfi_mends.proofs.Beside.{no_offset}
+use Rattle.lfi_mends.proofs.Bounded.{unscaled_bounded, unloaded}
+use Rattle.lfi_mends.proofs.BoundedBases.{pre_bounded, post_bounded}
 use Rattle.lfi_mends.proofs.Changed.{pre_same, post_same, free_base}
 use Rattle.lfi_mends.proofs.accesses.signed.Goals as goal
 
@@ -61,3 +63,45 @@ returns-in-PostIndex-clause-does c = λ plain.
     subst (λ mode. DoesTheSame is (SignedOffset (record { size = i.size; transfer = i.transfer; mode = mode; imm9 = i.imm9; rn = i.rn; rt = i.rt }))) (sym c.in-PostIndex.is)
     (post_same i.size i.transfer i.imm9 i.rn i.rt d.below d.bytes is (far.is ∙ to_z-of_z {w = w32} (fits i.imm9 c.requires.legal.1)) near far.some
     base.stack (search rules) base.apart (c.changing-in-PostIndex.ensures.items free free_rn))
+
+pub returns-in-Unscaled-clause-bounded : goal.returns-in-Unscaled-clause-bounded
+returns-in-Unscaled-clause-bounded c = λ one.
+    let i = c.args.i.now in
+    let d = c.distance_of-distance.result in
+    let far = c.distance_of-distance.ensures in
+    let is = mended c.plain.result in
+    let near = far.near in
+    subst (λ mode. DoesTheSameBounded is (SignedOffset (record { size = i.size; transfer = i.transfer; mode = mode; imm9 = i.imm9; rn = i.rn; rt = i.rt }))) (sym c.in-Unscaled.is)
+    (unscaled_bounded i.size i.transfer i.imm9 i.rn i.rt d.below d.bytes is (far.is ∙ to_z-of_z {w = w32} (fits i.imm9 c.requires.legal.1)) (omega (arith, near)) far.some
+    (unloaded i.transfer i.rt (sym c.loads_base.ensures ∙ c.if-loads_base.false))
+    (c.plain.ensures.all ∙ ap (λ l. l ++ any_accessed i.size i.transfer i.rt i.rn d.below d.bytes) c.new.ensures.items))
+
+pub returns-in-PreIndex-clause-bounded : goal.returns-in-PreIndex-clause-bounded
+returns-in-PreIndex-clause-bounded c = λ one.
+    let i = c.args.i.now in
+    let d = c.distance_of-distance.result in
+    let far = c.distance_of-distance.ensures in
+    let is = mended c.changing.result in
+    let near = far.near in
+    let stack : eqb i.rn 31 ≡ false = not-true (eqb i.rn 31) (subst (λ mode. (is_unscaled mode || not (eqb i.rn 31)) ≡ true) c.in-PreIndex.is one) in
+    let changes : i.mode ≢ Unscaled = λ e. let same : PreIndex ≡ Unscaled = sym c.in-PreIndex.is ∙ e in cc in
+    let base : eqb i.rn 21 ≡ false = search rules in
+    let apart : i.rn ≢ i.rt = λ e. eqb-false i.rn 31 stack (c.requires.legal.2 changes e) in
+    subst (λ mode. DoesTheSameBounded is (SignedOffset (record { size = i.size; transfer = i.transfer; mode = mode; imm9 = i.imm9; rn = i.rn; rt = i.rt }))) (sym c.in-PreIndex.is)
+    (pre_bounded i.size i.transfer i.imm9 i.rn i.rt d.below d.bytes is (far.is ∙ to_z-of_z {w = w32} (fits i.imm9 c.requires.legal.1)) near far.some
+    stack base (search rules) apart (unloaded i.transfer i.rt (sym c.loads_base.ensures ∙ c.if-loads_base.false)) (c.changing.ensures.all stack))
+
+pub returns-in-PostIndex-clause-bounded : goal.returns-in-PostIndex-clause-bounded
+returns-in-PostIndex-clause-bounded c = λ one.
+    let i = c.args.i.now in
+    let d = c.distance_of-distance.result in
+    let far = c.distance_of-distance.ensures in
+    let is = mended c.changing-in-PostIndex.result in
+    let near = far.near in
+    let stack : eqb i.rn 31 ≡ false = not-true (eqb i.rn 31) (subst (λ mode. (is_unscaled mode || not (eqb i.rn 31)) ≡ true) c.in-PostIndex.is one) in
+    let changes : i.mode ≢ Unscaled = λ e. let same : PostIndex ≡ Unscaled = sym c.in-PostIndex.is ∙ e in cc in
+    let base : eqb i.rn 21 ≡ false = search rules in
+    let apart : i.rn ≢ i.rt = λ e. eqb-false i.rn 31 stack (c.requires.legal.2 changes e) in
+    subst (λ mode. DoesTheSameBounded is (SignedOffset (record { size = i.size; transfer = i.transfer; mode = mode; imm9 = i.imm9; rn = i.rn; rt = i.rt }))) (sym c.in-PostIndex.is)
+    (post_bounded i.size i.transfer i.imm9 i.rn i.rt d.below d.bytes is (far.is ∙ to_z-of_z {w = w32} (fits i.imm9 c.requires.legal.1)) near far.some
+    stack base (search rules) apart (unloaded i.transfer i.rt (sym c.loads_base.ensures ∙ c.if-loads_base.false)) (c.changing-in-PostIndex.ensures.all stack))

@@ -1,12 +1,15 @@
-use Rattle.std.proofs.Common.{rules, ◌≡◌, ◌≢◌, eqb, true, false, refl, sym, subst, inl, inr, ◌∙◌}
+use Rattle.lfi_mends.proofs.BoundedPairMends.{offset_bounded, pre_pair_bounded, post_pair_bounded, pair_sum_is, loaded_apart}
+use Rattle.lfi_mends.proofs.BoundedPairs.{ArePair}
+use Rattle.std.proofs.Common.{rules, ℕ, Bool, ◌≡◌, ◌≢◌, eqb, true, false, refl, sym, subst, inl, inr, ◌∙◌}
 use Rattle.std.specs.Prelude.{◌&&◌, ◌||◌, not}
-use Rattle.std.proofs.lemmas.Bool.{and_parts, or_cases, not-true}
+use Rattle.std.proofs.lemmas.Bool.{eqb-false, and_parts, or_cases, not-true}
 use Rattle.a64_word.specs.declared.instruction.Instruction.TheVariants.{Pair}
 use Rattle.a64_word.specs.declared.operands.PairMode.{PairMode}
+use Rattle.a64_word.specs.declared.operands.Width.{Width}
 use Rattle.a64_word.specs.declared.operands.PairMode.TheVariants as modes
 use Rattle.lfi_mends.specs.Mends.{mended}
-use Rattle.lfi_mends.specs.Outcomes.{DoesTheSame, is_offset, is_scratch, moves_both}
-use Rattle.lfi_mends.specs.Registers.{is_free, is_reserved}
+use Rattle.lfi_mends.specs.Outcomes.{DoesTheSame, DoesTheSameBounded, is_offset, is_scratch, moves_both}
+use Rattle.lfi_mends.specs.Registers.{is_free, is_reserved, may_move_two, holds_link}
 use Rattle.lfi_mends.specs.inner.Rows as rows
 use Rattle.lfi_mends.proofs.Standing.{unreserved}
 use Rattle.lfi_mends.proofs.Changed.{free_base}
@@ -19,6 +22,11 @@ no_change e = cc
 
 no_change_after : modes.PostIndex ≢ modes.Offset
 no_change_after e = cc
+
+by_mode : (F : PairMode → Type 0) (m : PairMode) → (m ≡ modes.Offset → F modes.Offset) → (m ≡ modes.PreIndex → F modes.PreIndex) → (m ≡ modes.PostIndex → F modes.PostIndex) → F m
+by_mode F modes.Offset a b c = a refl
+by_mode F modes.PreIndex a b c = b refl
+by_mode F modes.PostIndex a b c = c refl
 
 pub returns-clause-does : goal.returns-clause-does
 returns-clause-does c = λ plain.
@@ -59,8 +67,42 @@ returns-clause-does c = λ plain.
     post_pair_same i.width i.load i.imm7 i.rt2 i.rn i.rt d.below d.bytes is far.is far.near far.some tests.0 one.stack first no_offset kept (search rules) one.apart two.apart
     (c.placed.ensures.after mode free tests.0) in
     by_mode (λ m. DoesTheSame is (Pair (record { width = i.width; load = i.load; mode = m; imm7 = i.imm7; rt2 = i.rt2; rn = i.rn; rt = i.rt }))) i.mode at_offset before behind
-  where
-    by_mode : (F : PairMode → Type 0) (m : PairMode) → (m ≡ modes.Offset → F modes.Offset) → (m ≡ modes.PreIndex → F modes.PreIndex) → (m ≡ modes.PostIndex → F modes.PostIndex) → F m
-    by_mode F modes.Offset a b c = a refl
-    by_mode F modes.PreIndex a b c = b refl
-    by_mode F modes.PostIndex a b c = c refl
+
+some_of : (w : Width) (load : Bool) (rt2 rt : ℕ) → (not load || may_move_two true rt2 rt || holds_link w rt2 rt) ≡ true → (not load || may_move_two load rt2 rt || holds_link w rt2 rt) ≡ true
+some_of w true rt2 rt h = h
+some_of w false rt2 rt h = refl
+
+pub returns-clause-bounded : goal.returns-clause-bounded
+returns-clause-bounded c = λ bounded.
+    let i = c.args.i.now in
+    let d = c.distance.result in
+    let far = c.distance.ensures in
+    let is = mended c.placed.result in
+    let tests = and_parts (not (rows.stores_first i.load i.rt2 i.rt)) (is_offset i.mode || not (eqb i.rn 31)) bounded in
+    let loads : (not i.load || may_move_two i.load i.rt2 i.rt || holds_link i.width i.rt2 i.rt) ≡ true =
+    some_of i.width i.load i.rt2 i.rt (sym c.may_load.ensures ∙ c.if-not-may_load.false) in
+    let stored = not-true (rows.stores_first i.load i.rt2 i.rt) tests.0 in
+    let pair : ArePair i.width i.load i.rt2 i.rt = record { apart = c.requires.legal.1; stored = stored; some = loads } in
+    let sum = c.in-Some.sum in
+    let psum = pair_sum_is i.load i.rt2 i.rt i.rn sum (sym c.in-Some.ensures.is) in
+    let unsummed : i.load ≡ true → (i.rt ≢ sum) × (i.rt2 ≢ sum) = λ l. let both = (loaded_apart i.width i.load i.rt2 i.rt loads l).0 in ((λ e. both.0 (e ∙ psum.loads l)), (λ e. both.1 (e ∙ psum.loads l))) in
+    let unloaded : i.load ≡ true → (21 ≢ i.rt) × (21 ≢ i.rt2) = λ l. (loaded_apart i.width i.load i.rt2 i.rt loads l).1 in
+    let stack : is_offset i.mode ≡ false → eqb i.rn 31 ≡ false = λ changes. not-true (eqb i.rn 31) (rw changes at tests.1) in
+    let apart : i.mode ≢ modes.Offset → eqb i.rn 31 ≡ false → (i.rn ≢ i.rt) × (i.rn ≢ i.rt2) =
+    λ changes free. let only = c.requires.legal.2 changes in ((λ e. eqb-false i.rn 31 free (only.0 e)), (λ e. eqb-false i.rn 31 free (only.1 e))) in
+    let base : i.mode ≢ modes.Offset → eqb i.rn 21 ≡ false = λ changes. search rules in
+    let at_offset : i.mode ≡ modes.Offset → DoesTheSameBounded is (Pair (record { width = i.width; load = i.load; mode = modes.Offset; imm7 = i.imm7; rt2 = i.rt2; rn = i.rn; rt = i.rt })) =
+    λ mode. offset_bounded i.width i.load i.imm7 i.rt2 i.rn i.rt sum d.below d.bytes is far.is far.near far.some pair psum (c.placed.ensures.all mode stored) in
+    let before : i.mode ≡ modes.PreIndex → DoesTheSameBounded is (Pair (record { width = i.width; load = i.load; mode = modes.PreIndex; imm7 = i.imm7; rt2 = i.rt2; rn = i.rn; rt = i.rt })) =
+    λ mode.
+    let changes : i.mode ≢ modes.Offset = λ e. no_change (sym mode ∙ e) in
+    let free = stack (subst (λ m. is_offset m ≡ false) (sym mode) refl) in
+    let others = apart changes free in
+    pre_pair_bounded i.width i.load i.imm7 i.rt2 i.rn i.rt sum d.below d.bytes is far.is far.near far.some pair psum free (base changes) (search rules) others.0 others.1 (c.placed.ensures.before_all mode free stored) in
+    let behind : i.mode ≡ modes.PostIndex → DoesTheSameBounded is (Pair (record { width = i.width; load = i.load; mode = modes.PostIndex; imm7 = i.imm7; rt2 = i.rt2; rn = i.rn; rt = i.rt })) =
+    λ mode.
+    let changes : i.mode ≢ modes.Offset = λ e. no_change_after (sym mode ∙ e) in
+    let free = stack (subst (λ m. is_offset m ≡ false) (sym mode) refl) in
+    let others = apart changes free in
+    post_pair_bounded i.width i.load i.imm7 i.rt2 i.rn i.rt sum d.below d.bytes is far.is far.near far.some pair psum unsummed free (base changes) unloaded (search rules) others.0 others.1 (c.placed.ensures.after_all mode free stored) in
+    by_mode (λ m. DoesTheSameBounded is (Pair (record { width = i.width; load = i.load; mode = m; imm7 = i.imm7; rt2 = i.rt2; rn = i.rn; rt = i.rt }))) i.mode at_offset before behind
