@@ -75,6 +75,10 @@ pub const PROFILE: &str = "the profile that the code goes by, 1 or 2; 1 where it
 /// Of `--pages`.
 pub const PAGES: &str = "small or large, of 4096 or 16384 bytes; small where it isn't said";
 
+/// Of `--format`.
+pub const FORMAT: &str =
+    "text, or json for one JSON object (docs/COMMANDS.md); text where it isn't said";
+
 /// Of the files with code.
 pub const CODE: &str = "1 to 16 files, each with the plain code words of one module";
 
