@@ -6,7 +6,7 @@ ghost use Rattle.lfi_file_commands.specs.Endings.{number_of, ending_of_cause, en
 
 use lfi_check::Verdict;
 use lfi_image_file::ImageFault;
-use lfi_run_image::{StopCause, Halt, ImageRun};
+use lfi_run_image::{Halt, ImageRun, StopCause};
 
 /// How a run of the program ends.
 #[derive(Clone, Copy, PartialEq, Eq)]
@@ -62,7 +62,8 @@ impl Ending {
     {
         match cause {
             StopCause::Breakpoint(_) | StopCause::Ended(_) => Ending::Well,
-            StopCause::NoAccess(_) | StopCause::NoFetch(_) | StopCause::UnlawfulAnswer => Ending::NotWell,
+            StopCause::NoAccess(_) | StopCause::NoFetch(_) | StopCause::UnlawfulAnswer =>
+                Ending::NotWell,
         }
     }
 
