@@ -10,8 +10,8 @@ ghost use Rattle.lfi_commands.specs.Clients.{absent_line, are_all_in_time, are_a
 use crate::ending::is_of_a_read;
 use lfi_file_commands::{DeviceCause, Ending, Errors};
 use lfi_frame::FrameFault;
-use lfi_module::CONNECTIONS;
 use lfi_loader::{Absence, ClientFate};
+use lfi_module::CONNECTIONS;
 use std::io::{ErrorKind, Write};
 
 /// Tells by a line that a connection can't be read.

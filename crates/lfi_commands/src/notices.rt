@@ -1,7 +1,7 @@
 //! Where it is told, while modules are loaded, that one was refused.
 
-use lfi_module::ModuleNumber;
 use lfi_loader::Notices;
+use lfi_module::ModuleNumber;
 use std::array;
 use std::io::Write;
 use std::sync::atomic::{AtomicBool, Ordering};

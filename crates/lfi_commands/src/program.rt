@@ -18,11 +18,11 @@ use lfi_file_commands::{
     DeviceCause, Disk, Ending, Failure, ImageStore, Outputs, ended, open_all, run_check,
     run_disassemble, run_info, run_pack, run_run, run_unpack, tell_failure, write_asked_images,
 };
+use lfi_loader::{Acceptor, Notices, Served, StageSize, load_all, serve_on};
 use lfi_module::CONNECTIONS;
 use lfi_sequence::OpenGate;
-use lfi_sync::ReadErrors;
 use lfi_stage::Report;
-use lfi_loader::{Acceptor, Notices, Served, StageSize, load_all, serve_on};
+use lfi_sync::ReadErrors;
 use std::alloc::Global;
 use std::fs::Files;
 use std::io::{ErrorKind, Write};
@@ -237,6 +237,10 @@ fn tell_fault<P: ImageStore, O: Write, E: Write>(
         }
         LineFault::NoPages => {
             errors.write_line("lfiload: pages are small, or large with --profile 2");
+            errors.unless_lost(Ending::WrongWords)
+        }
+        LineFault::NoFormat => {
+            errors.write_line("lfiload: --format is text or json");
             errors.unless_lost(Ending::WrongWords)
         }
         LineFault::Flawed(flaw) => {
