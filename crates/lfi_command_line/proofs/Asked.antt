@@ -18,10 +18,10 @@ use Rattle.clap.specs.declared.error.Error.{Error}
 use Rattle.clap.specs.declared.error.kind.ErrorKind.{ErrorKind}
 use Rattle.clap.specs.declared.error.kind.ErrorKind.TheVariants as kind
 use Rattle.lfi_command_line.specs.declared.fault.LineFault.{LineFault}
-use Rattle.lfi_command_line.specs.declared.fault.LineFault.TheVariants.{NoMemory, Help, Wrong, NoPages, Flawed}
+use Rattle.lfi_command_line.specs.declared.fault.LineFault.TheVariants.{NoMemory, Help, Wrong, NoPages, NoFormat, Flawed}
 use Rattle.lfi_command_line.specs.Apps.{lfiload_app}
 use Rattle.lfi_command_line.specs.CommandLine.{AreTakenFor, IsLineFault, IsFlag, IsNumber, IsNumberIfAny, IsNumberOr, fault_by, fault_from, is_help}
-use Rattle.lfi_command_line.specs.inner.Given.{AreTakenBy, IsNoMemory, IsFaultOfPack, IsNumberGiven}
+use Rattle.lfi_command_line.specs.inner.Given.{AreTakenBy, IsNoMemory, IsFaultOfFormat, IsFaultOfPack, IsNumberGiven}
 use Rattle.lfi_command_line.proofs.Needs.{AllGive, Asks, asks, picked, shape_named}
 
 module _ {Z : Type 0} where
@@ -199,6 +199,16 @@ pack_fault words given (Help error) taken is = absurd is
 pack_fault words given (Wrong error) taken is = absurd is
 pack_fault words given NoPages taken is = (given, is.0, taken, is.1, is.2)
 pack_fault words given (Flawed flaw) taken is = absurd is
+pack_fault words given NoFormat taken is = absurd is
+
+-- what is wrong with the form of the answer that a subcommand is given is wrong with the words
+pub format_fault : (words : List Text) (name : Text) (given : List Row) (fault : LineFault) → AreTakenFor words name given → IsFaultOfFormat given fault → IsLineFault words fault
+format_fault words name given NoMemory taken is = tt
+format_fault words name given (Help error) taken is = absurd is
+format_fault words name given (Wrong error) taken is = absurd is
+format_fault words name given NoPages taken is = absurd is
+format_fault words name given NoFormat taken is = (name, given, taken, is)
+format_fault words name given (Flawed flaw) taken is = absurd is
 
 -- a flag is read as it is given
 pub flag_read : (o : Option Text) (given : Bool) → (o ≡ None → given ≡ false) → (o ≡ Some (codes "true") → given ≡ true) → (o ≡ Some (codes "false") → given ≡ false) → IsFlag o given

@@ -70,8 +70,8 @@ subcommand_asks (Some p) some none =
         → option_map_or (λ s. level_fault s [] nothing_held p.1 false []) (picked a b c d f g h j) [] ≡ [] → Asks (option_map (λ s. rows_at s p.1) (picked a b c d f g h j))
     go true b c d f g h j has e =
         level_gives check_shape p.1
-        (inr (inr (inl (refl, tt, refl))), (inr (inr (inl (refl, tt, refl))), (inl (refl, refl, refl), (inr (inl (refl, refl, tt)), (inr (inr (inr (inl refl))), tt)))))
-        (inr refl, (inr refl, (inl refl, (inl refl, (inl refl, tt))))) e
+        (inr (inr (inl (refl, tt, refl))), (inr (inr (inl (refl, tt, refl))), (inl (refl, refl, refl), (inr (inl (refl, refl, tt)), (inl (refl, refl, tt), (inr (inr (inr (inl refl))), tt))))))
+        (inr refl, (inr refl, (inl refl, (inl refl, (inl refl, (inl refl, tt)))))) e
     go false true c d f g h j has e =
         level_gives load_shape p.1
         (inl (refl, refl, refl), (inl (refl, refl, tt), (inr (inl (refl, refl, tt)), (inr (inr (inl (refl, tt, refl))), (inr (inr (inr (inl refl))), tt)))))
@@ -82,8 +82,8 @@ subcommand_asks (Some p) some none =
         (inl refl, (inl refl, (inl refl, (inl refl, (inl refl, (inr refl, (inl refl, tt))))))) e
     go false false false true f g h j has e =
         level_gives run_shape p.1
-        (inl (refl, refl, refl), (inl (refl, refl, tt), (inr (inr (inr (inl refl))), tt)))
-        (inl refl, (inl refl, (inl refl, tt))) e
+        (inl (refl, refl, refl), (inl (refl, refl, tt), (inl (refl, refl, tt), (inr (inr (inr (inl refl))), tt))))
+        (inl refl, (inl refl, (inl refl, (inl refl, tt)))) e
     go false false false false true g h j has e =
         level_gives disassemble_shape p.1
         (inr (inr (inl (refl, tt, refl))), (inl (refl, refl, refl), (inl (refl, refl, tt), (inr (inr (inr (inl refl))), tt))))

@@ -14,9 +14,11 @@ use Rattle.lfi_command_line.specs.declared.line.Line.{Line}
 use Rattle.lfi_command_line.specs.declared.line.Line.TheVariants.{Check, Load, Serve, Run, Disassemble, Pack, Unpack, Info}
 use Rattle.lfi_command_line.specs.declared.options.Explain.{Explain}
 use Rattle.lfi_command_line.specs.declared.options.Explain.TheVariants.{Nothing, First, All}
+use Rattle.lfi_command_line.specs.declared.options.Format.{Format}
+use Rattle.lfi_command_line.specs.declared.options.Format.TheVariants as formats
 use Rattle.lfi_command_line.specs.declared.options.ReportOptions.{ReportOptions}
 use Rattle.lfi_command_line.specs.declared.fault.LineFault.{LineFault}
-use Rattle.lfi_command_line.specs.declared.fault.LineFault.TheVariants.{NoMemory, Help, Wrong, NoPages, Flawed}
+use Rattle.lfi_command_line.specs.declared.fault.LineFault.TheVariants.{NoMemory, Help, Wrong, NoPages, NoFormat, Flawed}
 use Rattle.lfi_command_line.specs.Flaws.{flaw_of}
 
 -- the text is a number in this range in decimal digits, perhaps with a plus before them
@@ -60,6 +62,15 @@ pages_named None profile = Some small_page
 pages_named (Some text) profile =
     if bytes_eq text (codes "small") then Some small_page else if bytes_eq text (codes "large") && is_two profile then Some large_page else None
 
+-- the form that is named: text, where none is named too
+abbrev pub format_named : Option Text → Option Format
+format_named None = Some formats.Text
+format_named (Some text) = if bytes_eq text (codes "text") then Some formats.Text else if bytes_eq text (codes "json") then Some formats.Json else None
+
+-- the form is the one that was given
+abbrev pub IsFormat : List Row → Format → Type 0
+IsFormat given format = format_named (first_of (codes "format") given) ≡ Some format
+
 -- what is given asks for this beside a report
 abbrev pub IsReportAsked : List Row → ReportOptions → Type 0
 IsReportAsked given asked = IsFlag (one_of (codes "explain") given) asked.explain × (first_of (codes "out") given ≡ option_map (λ s. s.now) asked.out)
@@ -67,14 +78,14 @@ IsReportAsked given asked = IsFlag (one_of (codes "explain") given) asked.explai
 -- a subcommand of this name, with what was given to it, asks for this line
 abbrev pub IsAskedBy : (name : Text) → List Row → Line → Type 0
 IsAskedBy name given (Check asked) = (name ≡ codes "check") × (all_of (codes "FILE") given ≡ Some (map (λ s. s.now) asked.files.items)) × (1 ≤ length asked.files.items)
-    × IsExplain given asked.explain × IsProfile given asked.profile
+    × IsExplain given asked.explain × IsProfile given asked.profile × IsFormat given asked.format
 IsAskedBy name given (Load asked) = (name ≡ codes "load") × IsReportAsked given asked.report × IsNumberOr 2 1 8 (first_of (codes "verifiers") given) asked.verifiers
     × (all_of (codes "STREAM") given ≡ Some (map (λ s. s.now) asked.streams.items)) × (1 ≤ length asked.streams.items)
 IsAskedBy name given (Serve asked) = (name ≡ codes "serve") × IsReportAsked given asked.report × (first_of (codes "socket") given ≡ Some asked.socket.now)
     × ((text : Text) × (first_of (codes "connections") given ≡ Some text) × IsNumber 1 8 text asked.connections)
     × IsNumberOr 2 1 8 (first_of (codes "verifiers") given) asked.verifiers × IsNumberIfAny 1 86400 (first_of (codes "seconds") given) asked.seconds
 IsAskedBy name given (Run asked) = (name ≡ codes "run") × (first_of (codes "IMAGE") given ≡ Some asked.image.now)
-    × ((text : Text) × (first_of (codes "steps") given ≡ Some text) × IsNumber 0 1000000000 text asked.steps)
+    × ((text : Text) × (first_of (codes "steps") given ≡ Some text) × IsNumber 0 1000000000 text asked.steps) × IsFormat given asked.format
 IsAskedBy name given (Disassemble asked) = (name ≡ codes "disassemble") × (first_of (codes "FILE") given ≡ Some asked.file.now) × IsFlag (one_of (codes "check") given) asked.marks
     × IsProfile given asked.profile
 IsAskedBy name given (Pack asked) = (name ≡ codes "pack") × IsNumberOr 0 0 15 (first_of (codes "module") given) asked.first
@@ -99,12 +110,17 @@ is_help = elim [ kind.DisplayHelp ↦ true | kind.DisplayVersion ↦ true | _ �
 abbrev pub NameNoPages : List Text → Type 0
 NameNoPages words = (given : List Row) × (profile : Profile) × AreTakenFor words (codes "pack") given × IsProfile given profile × (pages_named (first_of (codes "pages") given) profile ≡ None)
 
+-- they ask for a form of the answer that there isn't
+abbrev pub NameNoFormat : List Text → Type 0
+NameNoFormat words = (name : Text) × (given : List Row) × AreTakenFor words name given × (format_named (first_of (codes "format") given) ≡ None)
+
 -- the parser's error has a kind that the words give, and isn't for want of memory
 abbrev pub IsLineFault : List Text → LineFault → Type 0
 IsLineFault words NoMemory = ⊤
 IsLineFault words (Help error) = IsAmong (kind_of error) (fault_of lfiload_app words) × (is_help (kind_of error) ≡ true)
 IsLineFault words (Wrong error) = IsAmong (kind_of error) (fault_of lfiload_app words) × (is_help (kind_of error) ≡ false)
 IsLineFault words NoPages = NameNoPages words
+IsLineFault words NoFormat = NameNoFormat words
 IsLineFault words (Flawed flaw) = (line : Line) × IsLine words line × (flaw_of line ≡ Some flaw)
 
 -- the fault that is made of the parser's error, by its kind

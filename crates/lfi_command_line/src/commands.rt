@@ -117,6 +117,14 @@ fn out_argument<'a>(alloc: Global) -> Arg<'a>
     option_argument(alloc, "out", "DIR", help::OUT)
 }
 
+/// The option by which the form of the answer is named.
+fn format_argument<'a>(alloc: Global) -> Arg<'a>
+    ensures rule { rule_of result ≡ option_rule (codes "format") }
+    ensures local { result.global ≡ false }
+{
+    option_argument(alloc, "format", "FORMAT", help::FORMAT)
+}
+
 /// The flag that asks why modules are refused.
 fn explain_modules<'a>(alloc: Global) -> Arg<'a>
     ensures rule { rule_of result ≡ flag_rule (codes "explain") }
@@ -186,7 +194,8 @@ fn check_command<'a>(alloc: Global) -> Result<Command<'a>, AllocError>
     let explain = with(Ok(check), flag(alloc, "explain", help::EXPLAIN));
     let all = with(explain, flag(alloc, "all", help::ALL));
     let profile = with(all, profile_argument(alloc));
-    with(profile, several_arguments(alloc, "FILE", help::FILES))
+    let files = with(profile, several_arguments(alloc, "FILE", help::FILES));
+    with(files, format_argument(alloc))
 }
 
 /// The command `load` and its words.
@@ -228,7 +237,8 @@ fn run_command<'a>(alloc: Global) -> Result<Command<'a>, AllocError>
         .about("Runs an image in a simulated machine")
         .after_help(help::RUN);
     let steps = with(Ok(run), steps_argument(alloc));
-    with(steps, required_argument(alloc, "IMAGE", help::IMAGE))
+    let image = with(steps, required_argument(alloc, "IMAGE", help::IMAGE));
+    with(image, format_argument(alloc))
 }
 
 /// The command `disassemble` and its words.

@@ -23,6 +23,9 @@ pub enum LineFault {
     /// They name pages of a size that is neither small, nor large by the second profile.
     #[error("pages are small, or large with --profile 2")]
     NoPages,
+    /// They name a form of the answer that there isn't.
+    #[error("--format is text or json")]
+    NoFormat,
     /// They ask for a line that can't be carried out.
     #[error("{0}")]
     Flawed(Flaw),

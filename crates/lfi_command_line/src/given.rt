@@ -2,13 +2,13 @@
 
 ghost use Rattle.std.specs.Prelude.{◌≡◌, ℕ, IfOk, IfErr, true, is_some, codes, option_map};
 ghost use Rattle.clap.specs.Words.{first_of, one_of, rows_of, found_of};
-ghost use Rattle.lfi_command_line.specs.CommandLine.{IsAskedBy, IsFlag, IsProfile, IsNumberIfAny, IsNumberOr, IsReportAsked, explain_by, pages_named};
-ghost use Rattle.lfi_command_line.specs.inner.Given.{IsNumberGiven, IsNoMemory, IsFaultOfPack};
+ghost use Rattle.lfi_command_line.specs.CommandLine.{IsAskedBy, IsFlag, IsFormat, IsProfile, IsNumberIfAny, IsNumberOr, IsReportAsked, explain_by, format_named, pages_named};
+ghost use Rattle.lfi_command_line.specs.inner.Given.{IsNumberGiven, IsNoMemory, IsFaultOfFormat, IsFaultOfPack};
 
 use crate::fault::LineFault;
 use crate::line::Line;
 use crate::options::{
-    CheckOptions, DisassembleOptions, Explain, InfoOptions, LoadOptions, PackOptions,
+    CheckOptions, DisassembleOptions, Explain, Format, InfoOptions, LoadOptions, PackOptions,
     ReportOptions, RunOptions, ServeOptions, UnpackOptions,
 };
 use clap::ArgMatches;
@@ -38,22 +38,58 @@ fn explain_by(first: bool, all: bool) -> Explain
     }
 }
 
+/// The form that is named: text, where none is named too; `None` for all else.
+fn format_named(name: Option<&str>) -> Option<Format>
+    ensures { result ≡ format_named (option_map (λ s. s.now) name.entry) }
+{
+    let Some(name) = name else {
+        return Some(Format::Text);
+    };
+    if name == "text" {
+        Some(Format::Text)
+    } else if name == "json" {
+        Some(Format::Json)
+    } else {
+        None
+    }
+}
+
+/// The form that is asked for.
+///
+/// # Errors
+///
+/// Where there is no such form.
+fn format_of(matches: &ArgMatches<'_>) -> Result<Format, LineFault>
+    ensures format { IfOk result (IsFormat (rows_of (found_of matches.now))) }
+    ensures fault { IfErr result (IsFaultOfFormat (rows_of (found_of matches.now))) }
+{
+    match format_named(matches.get_str("format")) {
+        Some(format) => Ok(format),
+        None => Err(LineFault::NoFormat),
+    }
+}
+
 /// What `check` asks for.
 ///
 /// # Errors
 ///
-/// Where there is no memory to list the files.
+/// Where there is no such form of the answer, or no memory to list the files.
 pub(crate) fn check_line<'a>(alloc: Global, check: &ArgMatches<'a>) -> Result<Line<'a>, LineFault>
     requires file { is_some (first_of (codes "FILE") (rows_of (found_of check.now))) ≡ true }
     requires profile { IsNumberGiven 1 2 (codes "profile") (rows_of (found_of check.now)) }
     ensures line { IfOk result (IsAskedBy (codes "check") (rows_of (found_of check.now))) }
-    ensures fault { IfErr result IsNoMemory }
+    ensures fault { IfErr result (IsFaultOfFormat (rows_of (found_of check.now))) }
 {
+    let format = match format_of(check) {
+        Ok(format) => format,
+        Err(fault) => return Err(fault),
+    };
     let files = Vec::from_slice(alloc, check.get_strs("FILE").unwrap())?;
     Ok(Line::Check(CheckOptions {
         files,
         explain: explain_by(is_given(check, "explain"), is_given(check, "all")),
         profile: profile_of(check),
+        format,
     }))
 }
 
@@ -147,16 +183,25 @@ pub(crate) fn serve_line<'a>(serve: &ArgMatches<'a>) -> Line<'a>
 }
 
 /// What `run` asks for.
-pub(crate) fn run_line<'a>(run: &ArgMatches<'a>) -> Line<'a>
+///
+/// # Errors
+///
+/// Where there is no such form of the answer.
+pub(crate) fn run_line<'a>(run: &ArgMatches<'a>) -> Result<Line<'a>, LineFault>
     requires image { is_some (first_of (codes "IMAGE") (rows_of (found_of run.now))) ≡ true }
     requires steps { is_some (first_of (codes "steps") (rows_of (found_of run.now))) ≡ true }
     requires number { IsNumberGiven 0 1000000000 (codes "steps") (rows_of (found_of run.now)) }
-    ensures { IsAskedBy (codes "run") (rows_of (found_of run.now)) result }
+    ensures line { IfOk result (IsAskedBy (codes "run") (rows_of (found_of run.now))) }
+    ensures fault { IfErr result (IsFaultOfFormat (rows_of (found_of run.now))) }
 {
-    Line::Run(RunOptions {
-        image: run.get_str("IMAGE").unwrap(),
-        steps: number_or(run, "steps", 0),
-    })
+    match format_of(run) {
+        Ok(format) => Ok(Line::Run(RunOptions {
+            image: run.get_str("IMAGE").unwrap(),
+            steps: number_or(run, "steps", 0),
+            format,
+        })),
+        Err(fault) => Err(fault),
+    }
 }
 
 /// What `disassemble` asks for.

@@ -75,6 +75,9 @@ pub const PROFILE: &str = "the profile that the code goes by, 1 or 2; 1 where it
 /// Of `--pages`.
 pub const PAGES: &str = "small or large, of 4096 or 16384 bytes; small where it isn't said";
 
+/// Of `--format`.
+pub const FORMAT: &str = "text, or json for one JSON object; text where it isn't said";
+
 /// Of the files with code.
 pub const CODE: &str = "1 to 16 files, each with the plain code words of one module";
 
@@ -100,10 +103,23 @@ With --all, all of these lines for each word that breaks a rule, in order, and t
 With either of the two a line tells of a file that isn't lawful and begins as another kind of file:
   file: TEXT             What it is, an ELF file, an image or a stream, and what to do with it.
 
+With --format json it prints {\"files\":[..]} in place of these lines, with an object for each file:
+  \"path\", \"profile\"      The file, and the profile, 1 or 2.
+  \"verdict\"              \"lawful\" with \"words\"; \"refused\" with \"word\" and \"rule\"; \"bad length\" with
+                         \"bytes\", 16777217 where there are as many or more.
+  \"explanation\", \"mend\"  With --explain: the text of the fault; the instructions in the place of the
+                         word, or null.
+  \"refused\"              With --all: an object for each word that breaks a rule, with \"word\", \"rule\",
+                         \"explanation\" and \"mend\"; \"words_refused\" and \"words_with_a_mend\" follow.
+  \"file\"                 Of one that isn't lawful: the text of the line `file:`, if there is one.
+  \"error\"                Of one that can't be read, beside \"path\": the text behind `lfiload: `.
+
 On the standard error:
   lfiload: bad length PATH   And a second line: which length it is, and which are asked for.
   lfiload: cannot read PATH  The file can't be read (status 3).
   lfiload: no memory         There was no memory for it (status 3).
+  lfiload: --format is text or json
+                             FORMAT is another word (status 2).
 
 Example: lfiload check --explain module.code";
 
@@ -209,6 +225,12 @@ Prints one line on the standard error, and a second one where it says so:
   image refused, fault 7, word K rule R  Its code breaks a rule (status 1).
   lfiload: cannot read PATH        The file can't be opened (status 3).
   lfiload: no memory               There was no memory for the machine (status 3).
+  lfiload: --format is text or json
+                                   FORMAT is another word (status 2).
+
+With --format json an object stands on the standard error in place of the line:
+  \"halt\", \"steps\"    The numbers of the halt and of steps; and \"address\", a text, or \"status\".
+  \"fault\", \"reason\"  There is no image; \"word\" and \"rule\" in place of \"reason\" for fault 7.
 
 Example: lfiload run module-00.img --steps 1000";
 

@@ -13,6 +13,6 @@ pub use fault::LineFault;
 pub use flaw::Flaw;
 pub use line::{Line, read_line};
 pub use options::{
-    CheckOptions, DisassembleOptions, Explain, InfoOptions, LoadOptions, PackOptions,
+    CheckOptions, DisassembleOptions, Explain, Format, InfoOptions, LoadOptions, PackOptions,
     ReportOptions, RunOptions, ServeOptions, UnpackOptions,
 };

@@ -68,7 +68,7 @@ fn line_of<'a>(alloc: Global, matches: &ArgMatches<'a>) -> Result<Line<'a>, Line
     if let Some(info) = matches.subcommand_matches("info") {
         return info_line(alloc, info);
     }
-    Ok(run_line(matches.subcommand_matches("run").unwrap()))
+    run_line(matches.subcommand_matches("run").unwrap())
 }
 
 /// Parses the words of the command line, of which the first is the program's name.

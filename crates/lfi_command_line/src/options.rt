@@ -13,6 +13,15 @@ pub enum Explain {
     All,
 }
 
+/// The form in which a command tells what it finds.
+#[derive(Clone, Copy, PartialEq, Eq)]
+pub enum Format {
+    /// Lines of text.
+    Text,
+    /// One JSON object.
+    Json,
+}
+
 /// `check`: whether the code in each of these files is lawful by a profile, and what is to be explained where it isn't.
 #[derive(Drop)]
 pub struct CheckOptions<'a> {
@@ -20,6 +29,7 @@ pub struct CheckOptions<'a> {
     pub files: Vec<&'a str>,
     pub explain: Explain,
     pub profile: Profile,
+    pub format: Format,
 }
 
 /// `info`: what these files are, and what they hold.
@@ -69,6 +79,7 @@ pub struct RunOptions<'a> {
     pub image: &'a str,
     /// For how many steps at the most, 0 to 1,000,000,000.
     pub steps: u64,
+    pub format: Format,
 }
 
 /// `disassemble`: the words of the code in a file are listed, by a profile.

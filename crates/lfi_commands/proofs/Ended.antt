@@ -3,6 +3,8 @@ use Rattle.std.proofs.Common.{◌≡◌, ◌∙◌, ◌⊎◌, ℕ, zero, suc, L
 use Rattle.lfi_command_line.specs.declared.line.Line.{Line}
 use Rattle.lfi_command_line.specs.declared.line.Line.TheVariants.{Check, Load, Serve, Run, Disassemble, Pack, Unpack, Info}
 use Rattle.lfi_command_line.specs.declared.options.CheckOptions.{CheckOptions}
+use Rattle.lfi_command_line.specs.declared.options.Format.{Format}
+use Rattle.lfi_command_line.specs.declared.options.Format.TheVariants.{Text, Json}
 use Rattle.lfi_command_line.specs.CommandLine.{AreWrong}
 use Rattle.lfi_image_file.specs.declared.fault.ImageFault.{ImageFault}
 use Rattle.lfi_image_file.specs.declared.fault.ImageFault.TheVariants as image_fault
@@ -17,7 +19,7 @@ use Rattle.lfi_check.specs.declared.verdict.Verdict.TheVariants.{Lawful, Refused
 use Rattle.lfi_file_commands.specs.declared.ending.Ending.{Ending}
 use Rattle.lfi_file_commands.specs.declared.ending.Ending.TheVariants.{Well, NotWell, WrongWords, Failed}
 use Rattle.lfi_file_commands.specs.Checking.{ending_of, verdict_of}
-use Rattle.lfi_file_commands.specs.Explaining.{ChecksOne, ChecksPath, paths_of}
+use Rattle.lfi_file_commands.specs.Explaining.{ChecksAs, ChecksObject, ChecksOne, ChecksPath, paths_of}
 use Rattle.lfi_file_commands.specs.Info.{IsInfo, TellsNamed, TellsOne, ending_of_fault, fault_of}
 use Rattle.lfi_file_commands.specs.Info as infos
 use Rattle.lfi_file_commands.specs.Kinds.{file_kind}
@@ -36,7 +38,7 @@ use Rattle.lfi_file_commands.specs.Running.{EndsRun}
 use Rattle.lfi_file_commands.specs.Failures.{failure_line, is_of_output, Told, TellsLines}
 use Rattle.lfi_file_commands.specs.declared.failure.Failure.{Failure}
 use Rattle.lfi_commands.proofs.Failing.{fails_by}
-use Rattle.lfi_commands.specs.Runs.{CarriesOut, FailsAs, IsSoundLine, Runs, TellsFailure, TellsFlaw, TellsNoPages}
+use Rattle.lfi_commands.specs.Runs.{CarriesOut, FailsAs, IsSoundLine, Runs, TellsFailure, TellsFlaw, TellsNoFormat, TellsNoPages}
 use Rattle.lfi_file_commands.specs.declared.failure.Failure.TheVariants.{NoMemory}
 
 well_ends : WrongWords ≡ Well → ⊥
@@ -98,21 +100,34 @@ by_one : (name : List ℕ) (asked : CheckOptions) (path : List ℕ) (bytes : Opt
 by_one name asked path bytes old new ending (inl judged) is = by_verdict (verdict_of judged.finding) (sym is ∙ judged.ends)
 by_one name asked path bytes old new ending (inr unread) is = failed_ends (sym is ∙ unread.5)
 
-by_done : (One : List ℕ → Left → Left → Ending → Type 0) (paths : List (List ℕ)) → ((path : List ℕ) (old new : Left) (ending : Ending) → One path old new ending → ending ≡ WrongWords → ⊥)
+by_done : (One : ℕ → List ℕ → Left → Left → Ending → Type 0) (paths : List (List ℕ)) → ((k : ℕ) (path : List ℕ) (old new : Left) (ending : Ending) → One k path old new ending → ending ≡ WrongWords → ⊥)
     → (count : ℕ) (old new : Left) (ending : Ending) → AreDone One paths count old new ending → ending ≡ WrongWords → ⊥
 by_done One paths one zero old new ending done is = well_ends (sym is ∙ done.1)
 by_done One paths one (suc k) old new ending done is =
     chosen (nat_lt (number_of done.1) (number_of done.2)) done.1 done.2 (by_done One paths one k old done.0 done.1 done.4)
-    (one done.3 done.0 new done.2 done.6) (sym is ∙ done.7)
+    (one k done.3 done.0 new done.2 done.6) (sym is ∙ done.7)
 
 unless_lost : (is_lost : Bool) (told : Ending) → EndsUnlessLost is_lost told WrongWords → (told ≡ WrongWords → ⊥) → ⊥
 unless_lost true told ends not_told = failed_ends ends
 unless_lost false told ends not_told = not_told (sym ends)
 
-by_each : (One : List ℕ → Left → Left → Ending → Type 0) (paths : List (List ℕ)) → ((path : List ℕ) (old new : Left) (ending : Ending) → One path old new ending → ending ≡ WrongWords → ⊥)
+by_each : (One : ℕ → List ℕ → Left → Left → Ending → Type 0) (paths : List (List ℕ)) → ((k : ℕ) (path : List ℕ) (old new : Left) (ending : Ending) → One k path old new ending → ending ≡ WrongWords → ⊥)
     → (old new : Left) → DoesEach One paths old new WrongWords → ⊥
 by_each One paths one old new (inl all) = unless_lost new.is_lost all.0 all.2 (by_done One paths one (length paths) old new all.0 all.1)
 by_each One paths one old new (inr stops) = failed_ends stops.7
+
+by_object : (asked : CheckOptions) (file_at : List ℕ → Option (List ℕ)) (before : ℕ) (path : List ℕ) (old new : Left) (ending : Ending) → ChecksObject asked file_at before path old new ending
+    → ending ≡ WrongWords → ⊥
+by_object asked file_at before path old new ending (inl judged) is = by_verdict (verdict_of judged.finding) (sym is ∙ judged.ends)
+by_object asked file_at before path old new ending (inr unread) is = failed_ends (sym is ∙ unread.5)
+
+by_checks : (format : Format) (asked : CheckOptions) (file_at : List ℕ → Option (List ℕ)) (old new : Left) → ChecksAs format asked file_at old new WrongWords → ⊥
+by_checks Text asked file_at old new did =
+    by_each (ChecksPath asked file_at) (paths_of asked) (λ k path was now ending one is. by_one _ asked path (file_at path) was now ending one is) old new did
+by_checks Json asked file_at old new (inl ends) =
+    unless_lost new.is_lost ends.1 ends.5
+    (by_done (ChecksObject asked file_at) (paths_of asked) (λ k path was now ending one is. by_object asked file_at k path was now ending one is) (length (paths_of asked)) old ends.0 ends.1 ends.2)
+by_checks Json asked file_at old new (inr stops) = failed_ends stops.7
 
 by_info : (kind : FileKind) (bytes text : List ℕ) (ending : Ending) → IsInfo kind bytes text ending → ending ≡ WrongWords → ⊥
 by_info kinds.Elf bytes text ending info is = not_well_ends (sym is ∙ info.1)
@@ -136,7 +151,7 @@ by_unpack bytes old new (inl written) = well_ends written.6
 by_unpack bytes old new (inr told) = by_run new.is_lost (image_run.Refused told.0) told.5
 
 by_line : (line : Line) (file_at : List ℕ → Option (List ℕ)) (old new : Left) → CarriesOut line file_at old new WrongWords → ⊥
-by_line (Check asked) file_at old new carried = by_each (ChecksPath asked file_at) (paths_of asked) (λ path was now ending one is. by_one _ asked path (file_at path) was now ending one is) old new carried.did
+by_line (Check asked) file_at old new carried = by_checks asked.format asked file_at old new carried.did
 by_line (Load asked) file_at old new carried = by_load carried.report true carried.told.all carried.told.ends
 by_line (Serve asked) file_at old new carried =
     let told = carried.told in
@@ -146,7 +161,7 @@ by_line (Run asked) file_at old new carried = by_run new.is_lost carried.run car
 by_line (Disassemble asked) file_at old new carried = by_listing carried.other new.is_lost carried.ends
 by_line (Pack asked) file_at old new carried = carried.found
 by_line (Unpack asked) file_at old new carried = by_unpack (file_at asked.image.now) old new carried
-by_line (Info asked) file_at old new carried = by_each (TellsOne asked file_at) (infos.paths_of asked) (λ path was now ending one is. by_told _ path (file_at path) was now ending one is) old new carried
+by_line (Info asked) file_at old new carried = by_each (TellsOne asked file_at) (infos.paths_of asked) (λ k path was now ending one is. by_told _ path (file_at path) was now ending one is) old new carried
 
 pub runs_line : (words : List (List ℕ)) (file_at : List ℕ → Option (List ℕ)) (old new : Left) (line : Line) (ending : Ending) → IsSoundLine words line → CarriesOut line file_at old new ending
     → Runs words file_at old new ending
@@ -161,7 +176,7 @@ module _ (words : List (List ℕ)) (file_at : List ℕ → Option (List ℕ)) (o
   AreWrongOf lost =
       let old = left out put was errors in
       let new = left out put lost told in
-      AreWrong words ⊎ (TellsNoPages words old new ⊎ TellsFlaw words old new)
+      AreWrong words ⊎ (TellsNoPages words old new ⊎ (TellsNoFormat words old new ⊎ TellsFlaw words old new))
 
   pub ends_wrong : (lost : Bool) (ending : Ending) → EndsUnlessLost lost WrongWords ending → AreWrongOf lost → Runs words file_at (left out put was errors) (left out put lost told) ending
   ends_wrong true ending ends wrong = subst (Runs words file_at (left out put was errors) (left out put true told)) (sym ends) (inl (NoMemory, tt, tt, refl, λ other. refl))

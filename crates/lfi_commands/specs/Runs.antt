@@ -4,7 +4,7 @@ use Rattle.lfi_command_line.specs.declared.line.Line.{Line}
 use Rattle.lfi_command_line.specs.declared.line.Line.TheVariants.{Check, Load, Serve, Run, Disassemble, Pack, Unpack, Info}
 use Rattle.lfi_command_line.specs.declared.flaw.Flaw.{Flaw}
 use Rattle.lfi_command_line.specs.Flaws.{flaw_of, flaw_text}
-use Rattle.lfi_command_line.specs.CommandLine.{IsLine, AsksHelp, AreWrong, NameNoPages}
+use Rattle.lfi_command_line.specs.CommandLine.{IsLine, AsksHelp, AreWrong, NameNoFormat, NameNoPages}
 use Rattle.lfi_file_commands.specs.declared.ending.Ending.{Ending}
 use Rattle.lfi_file_commands.specs.declared.ending.Ending.TheVariants.{Well, NotWell, WrongWords, Failed}
 use Rattle.lfi_file_commands.specs.declared.failure.Target.TheVariants.{StandardOutput}
@@ -26,7 +26,7 @@ abbrev pub CarriesOut : Line → (List ℕ → Option (List ℕ)) → (old new :
 CarriesOut (Check asked) file_at = HasChecked asked file_at
 CarriesOut (Load asked) file_at = HasLoaded asked file_at
 CarriesOut (Serve asked) file_at = HasServedAll asked
-CarriesOut (Run asked) file_at = HasRun (file_at asked.image.now) asked.steps
+CarriesOut (Run asked) file_at = HasRun (file_at asked.image.now) asked.steps asked.format
 CarriesOut (Disassemble asked) file_at = HasListed asked (file_at asked.file.now)
 CarriesOut (Pack asked) file_at = HasPacked asked file_at
 CarriesOut (Unpack asked) file_at = HasUnpacked (file_at asked.image.now)
@@ -71,6 +71,10 @@ TellsFailure words old new =
 abbrev pub TellsNoPages : List (List ℕ) → (old new : Left) → Type 0
 TellsNoPages words old new = NameNoPages words × Told new.is_lost old.errors new.errors (codes "lfiload: pages are small, or large with --profile 2\n")
 
+-- They ask for a form of the answer that there isn't, and that was told, unless it is lost.
+abbrev pub TellsNoFormat : List (List ℕ) → (old new : Left) → Type 0
+TellsNoFormat words old new = NameNoFormat words × Told new.is_lost old.errors new.errors (codes "lfiload: --format is text or json\n")
+
 -- They ask for a line that can't be carried out, and why was told, unless it is lost.
 abbrev pub TellsFlaw : List (List ℕ) → (old new : Left) → Type 0
 TellsFlaw words old new =
@@ -80,5 +84,5 @@ TellsFlaw words old new =
 abbrev pub Runs : List (List ℕ) → (List ℕ → Option (List ℕ)) → (old new : Left) → Ending → Type 0
 Runs words file_at old new Well = (AsksHelp words × (new.put ≡ old.put) × (new.errors ≡ old.errors)) ⊎ CarriesOutWords words file_at old new Well
 Runs words file_at old new NotWell = CarriesOutWords words file_at old new NotWell
-Runs words file_at old new WrongWords = (AreWrong words ⊎ (TellsNoPages words old new ⊎ TellsFlaw words old new)) × (new.out ≡ old.out) × (new.put ≡ old.put)
+Runs words file_at old new WrongWords = (AreWrong words ⊎ (TellsNoPages words old new ⊎ (TellsNoFormat words old new ⊎ TellsFlaw words old new))) × (new.out ≡ old.out) × (new.put ≡ old.put)
 Runs words file_at old new Failed = TellsFailure words old new ⊎ CarriesOutWords words file_at old new Failed

@@ -239,6 +239,10 @@ fn tell_fault<P: ImageStore, O: Write, E: Write>(
             errors.write_line("lfiload: pages are small, or large with --profile 2");
             errors.unless_lost(Ending::WrongWords)
         }
+        LineFault::NoFormat => {
+            errors.write_line("lfiload: --format is text or json");
+            errors.unless_lost(Ending::WrongWords)
+        }
         LineFault::Flawed(flaw) => {
             errors.write_line(format_args!("lfiload: {flaw}"));
             errors.unless_lost(Ending::WrongWords)

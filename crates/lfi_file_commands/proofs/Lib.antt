@@ -2,6 +2,8 @@ mod RunEndings
 mod Explained
 mod Checks
 pub mod Failing
+mod Pushed
+mod FileObjects
 pub mod Fates
 mod FirstBytes
 mod Infos

@@ -11,6 +11,8 @@ use Rattle.lfi_explain.specs.Explanations.{Explains, WritesRefusals, explanation
 use Rattle.lfi_command_line.specs.declared.options.CheckOptions.{CheckOptions}
 use Rattle.lfi_command_line.specs.declared.options.Explain.{Explain}
 use Rattle.lfi_command_line.specs.declared.options.Explain.TheVariants.{Nothing, First, All}
+use Rattle.lfi_command_line.specs.declared.options.Format.{Format}
+use Rattle.lfi_command_line.specs.declared.options.Format.TheVariants.{Text, Json}
 use Rattle.lfi_check.specs.declared.verdict.Verdict.TheVariants as verdicts
 use Rattle.lfi_check.specs.Checking.{Checks, verdict_text}
 use Rattle.lfi_file_commands.specs.declared.ending.Ending.{Ending}
@@ -20,10 +22,12 @@ use Rattle.lfi_file_commands.specs.declared.finding.Finding.{Finding}
 use Rattle.lfi_file_commands.specs.declared.finding.Finding.TheVariants as findings
 use Rattle.lfi_file_commands.specs.declared.kind.FileKind.{FileKind}
 use Rattle.lfi_file_commands.specs.Checking.{IsFound, TellsOf, ending_of, name_before, other_of, verdict_of}
+use Rattle.lfi_file_commands.specs.Endings.{EndsUnlessLost}
 use Rattle.lfi_file_commands.specs.Failures.{IsOfReading, Told, failure_line}
 use Rattle.lfi_file_commands.specs.Kinds.{file_kind, kind_line}
-use Rattle.lfi_file_commands.specs.Left.{Left}
-use Rattle.lfi_file_commands.specs.Several.{DoesEach}
+use Rattle.lfi_file_commands.specs.Json.{file_object, unread_object, IsFindingText}
+use Rattle.lfi_file_commands.specs.Left.{Left, OnlyOutput}
+use Rattle.lfi_file_commands.specs.Several.{AreDone, DoesEach, StopsAtOutput}
 
 -- The explanation of a fault of this code, told as that of module 0, was written behind a name, and then the line of the file's kind.
 abbrev pub ExplainsFault : (name : List ℕ) → FileKind → Profile → (code : List ℕ) → Fault → (old new : Option (List ℕ)) → Type 0
@@ -77,9 +81,51 @@ abbrev pub paths_of : CheckOptions → List (List ℕ)
 paths_of asked = map (λ path. path.now) asked.files.items
 
 -- the same, behind its name where there are several
-abbrev pub ChecksPath : CheckOptions → (List ℕ → Option (List ℕ)) → (path : List ℕ) → (old new : Left) → Ending → Type 0
-ChecksPath asked file_at path = ChecksOne (name_before (length asked.files.items) path) asked path (file_at path)
+abbrev pub ChecksPath : CheckOptions → (List ℕ → Option (List ℕ)) → (before : ℕ) → (path : List ℕ) → (old new : Left) → Ending → Type 0
+ChecksPath asked file_at before path = ChecksOne (name_before (length asked.files.items) path) asked path (file_at path)
+
+-- It is the object of the file at a path, before which so many stand: it tells this finding.
+pub record IsObjectOf (asked : CheckOptions) (before : ℕ) (path : List ℕ) (bytes : Option (List ℕ)) (finding : Finding) (object : List ℕ) : Type 0 where
+  pub found : IfSome bytes (λ xs. IsFound asked.profile xs finding)
+  pub told : List ℕ
+  pub tells : IsFindingText asked.profile asked.explain bytes finding told
+  pub same : object ≡ file_object before path asked.profile told
+
+-- The object of the file at a path was written, its length told where it is no code, and its finding gives the ending.
+pub record HasJudgedObject (asked : CheckOptions) (before : ℕ) (path : List ℕ) (bytes : Option (List ℕ)) (old new : Left) (ending : Ending) : Type 0 where
+  pub finding : Finding
+  pub object : List ℕ
+  pub is : IsObjectOf asked before path bytes finding object
+  pub written : Appends old.out new.out object
+  pub told : TellsOf path (other_of finding) old.is_lost new.is_lost old.errors new.errors
+  pub put : new.put ≡ old.put
+  pub ends : ending ≡ ending_of (verdict_of finding)
+
+-- The file at a path can't be read, or there was no memory for it; its object says so, and that was told, unless it is lost.
+abbrev pub IsUnreadObject : (before : ℕ) → (path : List ℕ) → (old new : Left) → Ending → Type 0
+IsUnreadObject before path old new ending =
+    (failure : Failure) × IsOfReading path failure × Told new.is_lost old.errors new.errors (failure_line failure) × Appends old.out new.out (unread_object before path failure) × (new.put ≡ old.put)
+    × (ending ≡ Failed)
+
+-- what came of the file at a path, where an object is asked for
+abbrev pub ChecksObject : CheckOptions → (List ℕ → Option (List ℕ)) → (before : ℕ) → (path : List ℕ) → (old new : Left) → Ending → Type 0
+ChecksObject asked file_at before path old new ending = HasJudgedObject asked before path (file_at path) old new ending ⊎ IsUnreadObject before path old new ending
+
+-- the objects of all files were written, and what ends the object that has them
+abbrev pub EndsObjects : CheckOptions → (List ℕ → Option (List ℕ)) → (old new : Left) → Ending → Type 0
+EndsObjects asked file_at old new ending =
+    (mid : Left) × (all : Ending) × AreDone (ChecksObject asked file_at) (paths_of asked) (length (paths_of asked)) old mid all × Appends mid.out new.out (codes "]}\n") × OnlyOutput mid new
+    × EndsUnlessLost new.is_lost all ending
+
+-- one object was written with that of each file, or its beginning, of which the output failed
+abbrev pub WritesObjects : CheckOptions → (List ℕ → Option (List ℕ)) → (old new : Left) → Ending → Type 0
+WritesObjects asked file_at old new ending = EndsObjects asked file_at old new ending ⊎ StopsAtOutput (ChecksObject asked file_at) (paths_of asked) old new ending
+
+-- in lines of text, or as one object
+abbrev pub ChecksAs : Format → CheckOptions → (List ℕ → Option (List ℕ)) → (old new : Left) → Ending → Type 0
+ChecksAs Text asked file_at old new ending = DoesEach (ChecksPath asked file_at) (paths_of asked) old new ending
+ChecksAs Json asked file_at old new ending = WritesObjects asked file_at old new ending
 
 -- What `lfiload check` did, as it was asked for.
 pub record HasChecked (asked : CheckOptions) (file_at : List ℕ → Option (List ℕ)) (old new : Left) (ending : Ending) : Type 0 where
-  pub did : DoesEach (ChecksPath asked file_at) (paths_of asked) old new ending
+  pub did : ChecksAs asked.format asked file_at old new ending

@@ -145,8 +145,8 @@ abbrev pub TellsNamed : (name path : List ℕ) → (known : Option (List ℕ)) �
 TellsNamed name path known old new ending = HasTold name known old new ending ⊎ IsUnread path old new ending
 
 -- the same, behind its name where there are several
-abbrev pub TellsOne : InfoOptions → (List ℕ → Option (List ℕ)) → (path : List ℕ) → (old new : Left) → Ending → Type 0
-TellsOne asked file_at path = TellsNamed (name_before (length asked.files.items) path) path (file_at path)
+abbrev pub TellsOne : InfoOptions → (List ℕ → Option (List ℕ)) → (before : ℕ) → (path : List ℕ) → (old new : Left) → Ending → Type 0
+TellsOne asked file_at before path = TellsNamed (name_before (length asked.files.items) path) path (file_at path)
 
 -- What `lfiload info` did, as it was asked for.
 abbrev pub HasInformed : InfoOptions → (List ℕ → Option (List ℕ)) → (old new : Left) → Ending → Type 0

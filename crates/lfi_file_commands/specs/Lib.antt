@@ -15,4 +15,5 @@ pub mod Running
 pub mod Packing
 pub mod Unpacking
 pub mod Info
+pub mod Json
 pub mod inner

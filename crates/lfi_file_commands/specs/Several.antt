@@ -10,23 +10,23 @@ use Rattle.lfi_file_commands.specs.Endings.{EndsUnlessLost}
 use Rattle.lfi_file_commands.specs.Failures.{Told, failure_line}
 use Rattle.lfi_file_commands.specs.Left.{Left}
 
--- what came of the first of these paths, so many of them, one after another; the ending is the worst of theirs
-abbrev pub AreDone : (One : List ℕ → Left → Left → Ending → Type 0) → (paths : List (List ℕ)) → (count : ℕ) → (old new : Left) → Ending → Type 0
+-- what came of the first of these paths, so many of them, one after another, of each by how many stand before it; the ending is the worst of theirs
+abbrev pub AreDone : (One : ℕ → List ℕ → Left → Left → Ending → Type 0) → (paths : List (List ℕ)) → (count : ℕ) → (old new : Left) → Ending → Type 0
 AreDone One paths zero old new ending = (new ≡ old) × (ending ≡ Well)
 AreDone One paths (suc k) old new ending =
-    (mid : Left) × (before here : Ending) × (path : List ℕ) × AreDone One paths k old mid before × (slice_get paths k ≡ Some path) × One path mid new here
+    (mid : Left) × (before here : Ending) × (path : List ℕ) × AreDone One paths k old mid before × (slice_get paths k ≡ Some path) × One k path mid new here
     × (ending ≡ worst before here)
 
 -- all of them were done
-abbrev pub DoesAll : (One : List ℕ → Left → Left → Ending → Type 0) → (paths : List (List ℕ)) → (old new : Left) → Ending → Type 0
+abbrev pub DoesAll : (One : ℕ → List ℕ → Left → Left → Ending → Type 0) → (paths : List (List ℕ)) → (old new : Left) → Ending → Type 0
 DoesAll One paths old new ending = (all : Ending) × AreDone One paths (length paths) old new all × EndsUnlessLost new.is_lost all ending
 
 -- those before one were, of which the output failed; that was told, unless it is lost, and the run has failed
-abbrev pub StopsAtOutput : (One : List ℕ → Left → Left → Ending → Type 0) → (paths : List (List ℕ)) → (old new : Left) → Ending → Type 0
+abbrev pub StopsAtOutput : (One : ℕ → List ℕ → Left → Left → Ending → Type 0) → (paths : List (List ℕ)) → (old new : Left) → Ending → Type 0
 StopsAtOutput One paths old new ending =
     (k : ℕ) × (mid : Left) × (before : Ending) × (cause : DeviceCause) × AreDone One paths k old mid before
     × Told new.is_lost mid.errors new.errors (failure_line (CannotWrite StandardOutput cause)) × (new.put ≡ mid.put) × (ending ≡ Failed)
 
 -- all were done, or all before one
-abbrev pub DoesEach : (One : List ℕ → Left → Left → Ending → Type 0) → (paths : List (List ℕ)) → (old new : Left) → Ending → Type 0
+abbrev pub DoesEach : (One : ℕ → List ℕ → Left → Left → Ending → Type 0) → (paths : List (List ℕ)) → (old new : Left) → Ending → Type 0
 DoesEach One paths old new ending = DoesAll One paths old new ending ⊎ StopsAtOutput One paths old new ending

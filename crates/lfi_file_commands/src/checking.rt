@@ -103,7 +103,7 @@ pub fn check<R: Read + Drop, W: Write>(
 }
 
 /// What is found of bytes that were read whole, as far as they can be code, by their verdict.
-fn finding_of(bytes: &[u8], profile: Profile) -> Finding
+pub(crate) fn finding_of(bytes: &[u8], profile: Profile) -> Finding
     ensures { IsFoundOf profile bytes.now result }
 {
     match Finding::of(judge_code(bytes, profile)) {

@@ -42,7 +42,7 @@ struct Around<'a> {
 }
 
 /// The slot in which code is told to lie: that of module 0, since a code file says none.
-fn slot() -> ModuleNumber
+pub(crate) fn slot() -> ModuleNumber
     ensures { result ≡ 0 }
 {
     ModuleNumber::at(0)

@@ -240,9 +240,9 @@ fn stream_info(alloc: Global, bytes: &[u8]) -> Result<Info, CommandFault>
     }
 }
 
-/// The base of a slot.
+/// An address, as that of a slot's base.
 #[derive(Clone, Copy)]
-struct Base(u64);
+pub(crate) struct Base(pub(crate) u64);
 
 impl fmt::Display for Base {
     ghost output = { λ base. Some (address_text base.0) };

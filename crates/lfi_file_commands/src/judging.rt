@@ -5,7 +5,7 @@ ghost use Rattle.lfi_file_commands.specs.Checking.{naming_text, IsFound};
 ghost use Rattle.lfi_file_commands.specs.Explaining.{ChecksOne, ChecksPath, HasChecked, WritesFinding, paths_of};
 ghost use Rattle.lfi_file_commands.specs.Failures.{is_of_a_write};
 ghost use Rattle.lfi_file_commands.specs.Left.{Left, OnlyOutput};
-ghost use Rattle.lfi_file_commands.specs.Several.{AreDone};
+ghost use Rattle.lfi_file_commands.specs.Several.{AreDone, DoesEach};
 
 use crate::checking::{CommandFault, check_file};
 use crate::device_cause::DeviceCause;
@@ -16,10 +16,11 @@ use crate::explaining::check_explained;
 use crate::failure::Failure;
 use crate::finding::Finding;
 use crate::naming::{Naming, name_of};
+use crate::objects::run_check_objects;
 use crate::opening::{open, path_at};
 use crate::outputs::Outputs;
 use crate::running::tell_other;
-use lfi_command_line::{CheckOptions, Explain};
+use lfi_command_line::{CheckOptions, Explain, Format};
 use std::alloc::Global;
 use std::io::Write;
 
@@ -107,6 +108,22 @@ fn check_files<D: Disk, P: ImageStore, O: Write, E: Write>(
 
 /// Judges the code in the files, and writes what is found of each, behind its path where there are several. A file that can't
 /// be read is told of, and the others are judged. It ends where the output fails.
+fn check_lines<D: Disk, P: ImageStore, O: Write, E: Write>(
+    alloc: Global,
+    disk: &D,
+    asked: &CheckOptions<'_>,
+    outputs: &mut Outputs<P, O, E>,
+) -> Ending
+    ensures { DoesEach (ChecksPath asked.now (D.file_at disk.now)) (paths_of asked.now) outputs.old outputs.new result }
+{
+    match check_files(alloc, disk, asked, outputs) {
+        Ok(worst) => outputs.errors.unless_lost(worst),
+        Err(cause) => tell_failure(Failure::of_output(cause), &mut outputs.errors),
+    }
+}
+
+/// Judges the code in the files, and tells of each, in lines or as one object, by what is asked for. A file that can't be read is told
+/// of, and the others are judged. It ends where the output fails.
 pub fn run_check<D: Disk, P: ImageStore, O: Write, E: Write>(
     alloc: Global,
     disk: &D,
@@ -115,8 +132,8 @@ pub fn run_check<D: Disk, P: ImageStore, O: Write, E: Write>(
 ) -> Ending
     ensures { HasChecked asked.now (D.file_at disk.now) outputs.old outputs.new result }
 {
-    match check_files(alloc, disk, asked, outputs) {
-        Ok(worst) => outputs.errors.unless_lost(worst),
-        Err(cause) => tell_failure(Failure::of_output(cause), &mut outputs.errors),
+    match asked.format {
+        Format::Text => check_lines(alloc, disk, asked, outputs),
+        Format::Json => run_check_objects(alloc, disk, asked, outputs),
     }
 }

@@ -29,6 +29,9 @@
 //!   `check` reads all bytes whatever it says, up to one more than can be code.
 //! - **What is explained is read whole**, since an explanation has the word before. `check` without flags keeps no code.
 //! - **Each byte that code prints is written at its call.** A write that fails ends the run there, with the status 255.
+//! - **A JSON object is put together as a text** (members, objects), and the text of each has a definition (Json.antt), which reads as
+//!   the object does. Strings are quoted by the kit's `serde_json`. A file's object is written whole, and no value is built of it.
+//! - **`run --format json` tells on the errors**, where its line stands: the output is that of the code.
 //! - **`check` and `info` tell of each of several files by itself**: one that can't be read is no failure of the command.
 //! - **`info` reads a file whole**, and cuts a stream by the plain program's `first_message`: nobody asks it to be fast.
 //! - **`pack` reads all its files before it writes**, so that one which is no code leaves nothing on the output. It then ends
@@ -49,13 +52,16 @@ mod images;
 mod info;
 mod judging;
 mod kind;
+mod members;
 mod naming;
 mod no_code;
+mod objects;
 mod opening;
 mod outputs;
 mod packing;
 mod pieces;
 mod refused;
+mod run_object;
 mod running;
 mod texts;
 mod unpacking;

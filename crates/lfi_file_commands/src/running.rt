@@ -4,11 +4,11 @@ ghost use Rattle.std.specs.Prelude.{◌≡◌, ◌≤◌, [], ◌∷◌, IfOk, I
 ghost use Rattle.lfi_module.specs.Pages.{HasPages};
 ghost use Rattle.lfi_file_commands.specs.Errors.{is_lost_of, writer_of};
 ghost use Rattle.lfi_file_commands.specs.Checking.{TellsOf};
-ghost use Rattle.lfi_file_commands.specs.Failures.{is_of_output, FailsOn, IsOfReading};
+ghost use Rattle.lfi_file_commands.specs.Failures.{is_of_output, FailsOn, IsOfReading, Told};
 ghost use Rattle.lfi_file_commands.specs.Left.{OnlyOutput};
 ghost use Rattle.lfi_file_commands.specs.Listing.{EndsListing, HasListed, marks_by};
 ghost use Rattle.lfi_file_commands.specs.Packing.{codes_of, AreModules, HasPacked, WritesStream};
-ghost use Rattle.lfi_file_commands.specs.Running.{HasRun};
+ghost use Rattle.lfi_file_commands.specs.Running.{told_of_run, HasRun};
 
 use crate::disk::{Disk, ImageStore};
 use crate::ending::Ending;
@@ -19,9 +19,10 @@ use crate::no_code::NoCode;
 use crate::opening::open;
 use crate::outputs::Outputs;
 use crate::packing::{NoModule, NotPacked, read_modules, write_stream};
-use lfi_command_line::{DisassembleOptions, PackOptions, RunOptions};
+use crate::run_object::RunObject;
+use lfi_command_line::{DisassembleOptions, Format, PackOptions, RunOptions};
 use lfi_explain::Marks;
-use lfi_run_image::run_image;
+use lfi_run_image::{ImageRun, run_image};
 use std::alloc::Global;
 use std::io::Write;
 
@@ -138,6 +139,16 @@ pub fn run_pack<'a, D: Disk, P: ImageStore, O: Write, E: Write>(
     }
 }
 
+/// Tells what came of an image file that was run, in this form.
+fn tell_run<E: Write>(run: ImageRun, format: Format, errors: &mut Errors<E>)
+    ensures told { Told (is_lost_of errors.new) (E.contents (writer_of errors.old)) (E.contents (writer_of errors.new)) (told_of_run format run) }
+{
+    match format {
+        Format::Text => errors.write_line(run),
+        Format::Json => errors.write_line(RunObject(run)),
+    }
+}
+
 /// Runs the image in a file for at most so many steps, and tells what comes of it.
 ///
 /// # Errors
@@ -149,7 +160,7 @@ pub fn run_run<'a, D: Disk, P: ImageStore, O: Write, E: Write>(
     asked: &RunOptions<'a>,
     outputs: &mut Outputs<P, O, E>,
 ) -> Result<Ending, Failure<'a>>
-    ensures found { IfOk result (HasRun (D.file_at disk.now asked.now.image.now) asked.now.steps outputs.old outputs.new) }
+    ensures found { IfOk result (HasRun (D.file_at disk.now asked.now.image.now) asked.now.steps asked.now.format outputs.old outputs.new) }
     ensures failure { IfErr result (IsOfReading asked.now.image.now) }
     ensures unchanged { OnErr result (outputs.new ≡ outputs.old) }
 {
@@ -161,6 +172,6 @@ pub fn run_run<'a, D: Disk, P: ImageStore, O: Write, E: Write>(
         Ok(run) => run,
         Err(error) => return Err(Failure::from(error)),
     };
-    outputs.errors.write_line(run);
+    tell_run(run, asked.format, &mut outputs.errors);
     Ok(outputs.errors.unless_lost(Ending::of_run(&run)))
 }

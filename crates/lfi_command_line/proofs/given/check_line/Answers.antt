@@ -24,4 +24,5 @@ returns-clause-line c =
       rw items (omega (count, all.2, arith)),
       (c.is_given.result, c.is_given-2.result, c.is_given.ensures, c.is_given-2.ensures, c.explain_by.ensures),
       c.profile_of.ensures,
+      c.in-Ok.ensures.format,
     )

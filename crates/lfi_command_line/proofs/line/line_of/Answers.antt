@@ -1,7 +1,7 @@
 use Rattle.std.proofs.Common.{◌≡◌, IfSome, List, Some, refl, sym, subst, codes, option_map, true≢false}
 use Rattle.std.proofs.lemmas.Result.{IfOk-weaker, IfErr-weaker}
 use Rattle.clap.specs.Words.{Text, found_of, rows_of, subcommand_rows_of}
-use Rattle.lfi_command_line.proofs.Asked.{given_for, no_memory, pack_fault, run_met, taken_for}
+use Rattle.lfi_command_line.proofs.Asked.{format_fault, given_for, no_memory, pack_fault, run_met, taken_for}
 use Rattle.lfi_command_line.proofs.line.line_of.Goals as goal
 
 pub check_line-requires : goal.check_line-requires
@@ -10,7 +10,9 @@ check_line-requires c =
     record { file = given.1.1.1.0.0 refl; profile = given.1.1.0.1 }
 
 pub returns-in-Some-clause-fault : goal.returns-in-Some-clause-fault
-returns-in-Some-clause-fault c = λ words by_words. IfErr-weaker c.check_line.result _ _ (λ fault by. no_memory words fault by) c.check_line.ensures.fault
+returns-in-Some-clause-fault c = λ words by_words.
+    let taken = taken_for words c.args.matches.now (codes "check") _ by_words (c.in-Some.ensures.found.0 refl) c.in-Some.ensures.rows in
+    IfErr-weaker c.check_line.result _ _ (λ fault by. format_fault words (codes "check") (rows_of (found_of c.in-Some.check.now)) fault taken by) c.check_line.ensures.fault
 
 pub returns-in-Some-clause-line : goal.returns-in-Some-clause-line
 returns-in-Some-clause-line c = λ words by_words.
@@ -188,4 +190,16 @@ returns-clause-line c = λ words by_words.
     let rows = rows_of (found_of c.unwrap.result.now) in
     let at_rows = subst (λ o. IfSome o (λ m. option_map (λ p. p.1) (subcommand_rows_of matches) ≡ Some (rows_of (found_of m.now)))) c.unwrap.ensures c.subcommand_matches-8.ensures.rows in
     let taken = taken_for words matches (codes "run") rows by_words met at_rows in
-    (codes "run", rows, taken, c.run_line.ensures)
+    IfOk-weaker c.run_line.result _ _ (λ line by. (codes "run", rows, taken, by)) c.run_line.ensures.line
+
+pub returns-clause-fault : goal.returns-clause-fault
+returns-clause-fault c = λ words by_words.
+    let matches = c.args.matches.now in
+    let met = run_met words matches by_words (λ is. absurd (true≢false (sym (c.in_default.ensures.found.1 is))))
+    (λ is. absurd (true≢false (sym (c.in_default-subcommand_matches.ensures.found.1 is)))) (λ is. absurd (true≢false (sym (c.in_default-subcommand_matches-2.ensures.found.1 is))))
+    (λ is. absurd (true≢false (sym (c.in_default-subcommand_matches-3.ensures.found.1 is)))) (λ is. absurd (true≢false (sym (c.in_default-subcommand_matches-4.ensures.found.1 is))))
+    (λ is. absurd (true≢false (sym (c.in_default-subcommand_matches-5.ensures.found.1 is)))) (λ is. absurd (true≢false (sym (c.in_default-subcommand_matches-6.ensures.found.1 is)))) in
+    let rows = rows_of (found_of c.unwrap.result.now) in
+    let at_rows = subst (λ o. IfSome o (λ m. option_map (λ p. p.1) (subcommand_rows_of matches) ≡ Some (rows_of (found_of m.now)))) c.unwrap.ensures c.subcommand_matches-8.ensures.rows in
+    let taken = taken_for words matches (codes "run") rows by_words met at_rows in
+    IfErr-weaker c.run_line.result _ _ (λ fault by. format_fault words (codes "run") rows fault taken by) c.run_line.ensures.fault

@@ -40,6 +40,19 @@ returns-in-NoPages g c = λ words file_at is.
     subst (λ old. Runs words file_at old (left out put lost told) ends.result) c.outputs.view_is
     (ends_wrong words file_at out put (is_lost_of inside.errors) (g.E.Write.contents (writer_of inside.errors)) told lost ends.result ends.ensures (inr (inl (subst (λ fault. IsLineFault words fault) c.in-NoPages.is is, c.write_line.ensures.told))))
 
+pub returns-in-NoFormat : goal.returns-in-NoFormat
+returns-in-NoFormat g c = λ words file_at is.
+    let inside = c.outputs.inside in
+    let out = g.O.Write.contents inside.out in
+    let put = g.P.ImageStore.put_files inside.images in
+    let errors = c.write_line-in-NoFormat.new.self in
+    let lost = is_lost_of errors in
+    let told = g.E.Write.contents (writer_of errors) in
+    let ends = c.unless_lost-in-NoFormat in
+    subst (λ old. Runs words file_at old (left out put lost told) ends.result) c.outputs.view_is
+    (ends_wrong words file_at out put (is_lost_of inside.errors) (g.E.Write.contents (writer_of inside.errors)) told lost ends.result ends.ensures
+    (inr (inr (inl (subst (λ fault. IsLineFault words fault) c.in-NoFormat.is is, c.write_line-in-NoFormat.ensures.told)))))
+
 pub returns-in-Flawed : goal.returns-in-Flawed
 returns-in-Flawed g c = λ words file_at is.
     let inside = c.outputs.inside in
@@ -51,4 +64,4 @@ returns-in-Flawed g c = λ words file_at is.
     let ends = c.unless_lost-in-Flawed in
     let flawed = subst (λ fault. IsLineFault words fault) c.in-Flawed.is is in
     subst (λ old. Runs words file_at old (left out put lost told) ends.result) c.outputs.view_is
-    (ends_wrong words file_at out put (is_lost_of inside.errors) (g.E.Write.contents (writer_of inside.errors)) told lost ends.result ends.ensures (inr (inr (flawed.0, c.in-Flawed.flaw, flawed.1, flawed.2, c.write_line-in-Flawed.ensures.told))))
+    (ends_wrong words file_at out put (is_lost_of inside.errors) (g.E.Write.contents (writer_of inside.errors)) told lost ends.result ends.ensures (inr (inr (inr (flawed.0, c.in-Flawed.flaw, flawed.1, flawed.2, c.write_line-in-Flawed.ensures.told)))))

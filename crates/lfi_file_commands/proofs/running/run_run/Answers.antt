@@ -12,16 +12,16 @@ returns-clause-found g c =
     let inside = c.outputs.inside in
     let asked = c.args.asked.now in
     let run = c.in-Ok-run_image.run' in
-    let lost = is_lost_of c.write_line.new.self in
-    let told = g.E.Write.contents (writer_of c.write_line.new.self) in
+    let lost = is_lost_of c.tell_run.new.errors in
+    let told = g.E.Write.contents (writer_of c.tell_run.new.errors) in
     let ending = c.unless_lost.result in
     let file = g.D.Disk.file_at c.args.disk.now asked.image.now in
     let new = left (g.O.Write.contents c.run_image.new.out) (g.P.ImageStore.put_files inside.images) lost told in
-    subst (λ old. HasRun file asked.steps old new ending) c.outputs.view_is
+    subst (λ old. HasRun file asked.steps asked.format old new ending) c.outputs.view_is
     (record {
       run = run;
       came = came_known (g.D.Reader.Read.remaining c.in-Ok.reader) file asked.steps _ _ run c.in-Ok.ensures.reader c.in-Ok-run_image.ensures.run;
       put = refl;
-      told = c.write_line.ensures.told;
+      told = c.tell_run.ensures.told;
       ends = ends_run lost run ending (subst (λ told. EndsUnlessLost lost told ending) c.of_run.ensures c.unless_lost.ensures);
     })

@@ -7,17 +7,16 @@ use Rattle.lfi_file_commands.specs.Errors.{is_lost_of, writer_of}
 use Rattle.lfi_file_commands.specs.declared.failure.Target.TheVariants.{StandardOutput}
 use Rattle.lfi_file_commands.specs.declared.failure.Failure.TheVariants.{CannotWrite}
 use Rattle.lfi_file_commands.specs.Failures.{Told, failure_line}
-use Rattle.lfi_file_commands.proofs.judging.run_check.Goals as goal
+use Rattle.lfi_file_commands.proofs.judging.check_lines.Goals as goal
 
 pub returns-in-Ok : goal.returns-in-Ok
-returns-in-Ok g c = record {
-  did = inl (
-    c.in-Ok.worst,
-    subst (λ n. AreDone (ChecksPath c.args.asked.now (g.D.Disk.file_at c.args.disk.now)) (paths_of c.args.asked.now) n c.args.outputs.now c.check_files.new.outputs c.in-Ok.worst)
-        (sym (length-map c.args.asked.now.files.items (λ path. path.now))) c.in-Ok.ensures.all,
-    subst (λ (left : _). EndsUnlessLost left.is_lost c.in-Ok.worst c.unless_lost.result) c.outputs.view_is c.unless_lost.ensures,
-  );
-}
+returns-in-Ok g c =
+    inl (
+      c.in-Ok.worst,
+      subst (λ n. AreDone (ChecksPath c.args.asked.now (g.D.Disk.file_at c.args.disk.now)) (paths_of c.args.asked.now) n c.args.outputs.now c.check_files.new.outputs c.in-Ok.worst)
+          (sym (length-map c.args.asked.now.files.items (λ path. path.now))) c.in-Ok.ensures.all,
+      subst (λ (left : _). EndsUnlessLost left.is_lost c.in-Ok.worst c.unless_lost.result) c.outputs.view_is c.unless_lost.ensures,
+    )
 
 pub returns-in-Err : goal.returns-in-Err
 returns-in-Err g c =
@@ -28,4 +27,4 @@ returns-in-Err g c =
     let is = c.outputs.view_is in
     let tells = subst (λ failure. Told lost (g.E.Write.contents (writer_of c.outputs.inside.errors)) told (failure_line failure)) c.of_output.ensures c.tell_failure.ensures.told in
     let same = ap (λ (left : _). left.errors) is ∙ part.4.1.0 in
-    record { did = inr (part.0, part.1, part.2, c.in-Err.cause, part.3, subst (λ before. Told lost before told line) same tells, ap (λ (left : _). left.put) is ∙ part.4.0, c.tell_failure.ensures.failed) }
+    inr (part.0, part.1, part.2, c.in-Err.cause, part.3, subst (λ before. Told lost before told line) same tells, ap (λ (left : _). left.put) is ∙ part.4.0, c.tell_failure.ensures.failed)
