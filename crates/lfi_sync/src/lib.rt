@@ -4,7 +4,7 @@
 //!
 //! One value, `Lifecycle`, is lent to all threads. Its word tells how far they are to go, and its wait sets (`WaitSets`) are where
 //! they wait: a thread with nothing to do waits at a wait set (`Waiter`), and who brings it something calls it there (`WaitSet`,
-//! `Notifier`). Clients come in by a `Acceptor`, which keeps the limit of time; their streams lie in `Streams`, each read as a
+//! `Notifier`). Another word tells which lanes have got items (`LaneSet`). Clients come in by a `Acceptor`, which keeps the limit of time; their streams lie in `Streams`, each read as a
 //! `Client`. `keep` keeps the handle of a thread that was started, and `join_all` joins such threads. Where memory or a
 //! thread is refused, all are told to stop, and `LoadError` says which of both it was.
 //!
@@ -42,6 +42,7 @@ mod acceptor;
 mod lifecycle;
 mod fate;
 mod joining;
+mod lane_set;
 mod reading;
 mod refusal;
 
@@ -51,5 +52,6 @@ pub use acceptor::{Closed, Acceptor};
 pub use lifecycle::{Lifecycle, Going, Stopped, Verified};
 pub use fate::{Absence, ClientFate, Unheard};
 pub use joining::{join_all, keep};
+pub use lane_set::LaneSet;
 pub use reading::{ReadErrors, Watched};
 pub use refusal::LoadError;
