@@ -55,7 +55,7 @@ pub fn load_all<
     ensures { IfOk result (λ report. (texts : ℕ → List ℕ) → ((c : ℕ) (input : Input R) → slice_get inputs.items c ≡ Some input → left_of R.remaining input ≡ Some (texts c)) → IsLoaded (length inputs.items) verifiers texts report) }
 {
     let Stage { parts, shared } = Stage::new(alloc, inputs.len(), verifiers)?;
-    let lifecycle = Lifecycle::new(verifiers);
+    let lifecycle = Lifecycle::new();
     let back = {
         let env = Env {
             rt,

@@ -87,7 +87,7 @@ pub fn serve_on<'x, S: Threads + Wait + Files + Clock + Sync, G: Gate + Sync, N:
     let Stage { parts, shared } = Stage::new(alloc, size.connections, size.verifiers)?;
     let lent = Lent {
         shared,
-        lifecycle: Lifecycle::new(size.verifiers),
+        lifecycle: Lifecycle::new(),
         streams: Streams::new(),
     };
     let back = {

@@ -59,7 +59,7 @@ impl Receiver {
             return did;
         }
         self.end_at(input.fill());
-        let (used, did) = self.turn(board, intake, input.unread());
+        let (used, did) = self.turn(board, intake, input.piece());
         input.use_up(used);
         did
     }

@@ -26,6 +26,10 @@ hand_of v = v.hand
 abbrev pub seat_of : Verifier → WatchSeat
 seat_of v = v.seat
 
+-- the module of the item that it put last, or holds
+abbrev pub last_of : Verifier → Option ℕ
+last_of v = v.last
+
 -- what these passes put in each lane
 abbrev pub put_in : List (PassView ItemView) → ℕ → List ItemView
 put_in passes m = option_map_or (λ pass. pass.items) (slice_get passes m) []
@@ -74,3 +78,8 @@ TurnsWith None did old new = (item : ItemView) × GetsItem (take_pass_of old) (t
 -- what a turn did
 abbrev pub AsTold : VerifierTurn → (old new : Verifier) → Type 0
 AsTold did old new = TurnsWith (hand_of old) did old new
+
+-- where a turn put an item, it is the last of the module that is told
+abbrev pub PutsLast : VerifierTurn → (old new : Verifier) → Type 0
+PutsLast Worked old new = (item : ItemView) × (last_of new ≡ Some item.«module») × PutsIn item.«module» (item ∷ []) (lane_puts_of old) (lane_puts_of new)
+PutsLast turn old new = Unit {0}

@@ -12,6 +12,7 @@ ghost use Rattle.lfi_sequence.specs.declared.verifier.VerifierTurn.TheVariants a
 
 use lfi_board::{Board, WatchSeat};
 use lfi_model::{Item, Judged};
+use lfi_module::ModuleNumber;
 use lfi_queues::{Intake, Lane, LanePut, TakePass, Taken};
 use std::sync::Wait;
 
@@ -56,6 +57,8 @@ pub struct Verifier {
     pub(crate) lanes: Vec<LanePut<Judged>>,
     pub(crate) hand: Option<Judged>,
     pub(crate) seat: WatchSeat,
+    /// The module of the item that it put last, or holds.
+    pub(crate) last: Option<ModuleNumber>,
     ghost all: { length lanes.items ≡ module_count },
 }
 
@@ -70,7 +73,7 @@ fn judged<G: Gate>(gate: &G, item: Item) -> Judged
 }
 
 impl Verifier {
-    ghost use Rattle.lfi_sequence.specs.Handed.{take_pass_of, lane_puts_of, hand_of, seat_of, HandsOn, WithLast, SameLanes, AreLanes, ByHand, AsTold};
+    ghost use Rattle.lfi_sequence.specs.Handed.{take_pass_of, lane_puts_of, hand_of, seat_of, last_of, HandsOn, WithLast, SameLanes, AreLanes, ByHand, AsTold, PutsLast};
 
     /// A verifier with its pass of the intake, its passes of the lanes, one a module, and its seat at
     /// the board. Nothing is in its hand.
@@ -86,6 +89,7 @@ impl Verifier {
             lanes,
             hand: None,
             seat,
+            last: None,
         }
     }
 
@@ -98,8 +102,10 @@ impl Verifier {
         ensures pass { self.new.pass ≡ self.old.pass }
         ensures seat { seat_of self.new ≡ seat_of self.old }
         ensures same { SameLanes (lane_puts_of self.old) (lane_puts_of self.new) }
+        ensures last { last_of self.new ≡ Some item.«module» }
     {
         let module = item.module.index();
+        self.last = Some(item.module);
         match lanes[module].put(rt, &mut self.lanes[module], item) {
             Ok(()) => VerifierTurn::Worked,
             Err(back) => {
@@ -125,6 +131,7 @@ impl Verifier {
         ensures same { SameLanes (lane_puts_of self.old) (lane_puts_of self.new) }
         ensures pass { IsSamePass (take_pass_of self.old) (take_pass_of self.new) }
         ensures seat { seat_of self.new ≡ seat_of self.old }
+        ensures last { PutsLast result self.old self.new }
     {
         match self.hand.take() {
             Some(held) => self.put(rt, lanes, held),
@@ -149,6 +156,13 @@ impl Verifier {
         board.ended(&mut self.seat)
     }
 
+    /// The module of the item that it put last, or holds: after a turn that put an item, the module in whose lane it is.
+    pub fn last(&self) -> Option<ModuleNumber>
+        ensures { result ≡ last_of self.now }
+    {
+        self.last
+    }
+
     /// Its pass of the intake, its passes of the lanes, and the item in its hand.
     pub fn into_parts(self) -> (TakePass<Item>, Vec<LanePut<Judged>>, Option<Judged>)
         ensures pass { result.0 ≡ take_pass_of self }
@@ -160,6 +174,7 @@ impl Verifier {
             lanes,
             hand,
             seat: _,
+            last: _,
         } = self;
         (pass, lanes, hand)
     }

@@ -1,4 +1,5 @@
 pub mod Clients
 pub mod Deadlines
 pub mod Fates
+pub mod LaneSets
 pub mod Stops

@@ -4,9 +4,10 @@
 //!
 //! One value, `Lifecycle`, is lent to all threads. Its word tells how far they are to go, and its wait sets (`WaitSets`)
 //! are where they wait: a thread with nothing to do waits at one (`Waiter`), and who brings it something calls it there
-//! (`WaitSet`, `Notifier`). Clients come in by an `Acceptor`, which keeps the limit of time; their streams lie in
-//! `Streams`, each read as a `Client`. `keep` keeps the handle of a thread that was started, and `join_all` joins such
-//! threads. Where memory or a thread is refused, all are told to stop, and `LoadError` says which of both it was.
+//! (`WaitSet`, `Notifier`). Another word tells which lanes have got items (`LaneSet`). Clients come in by an `Acceptor`,
+//! which keeps the limit of time; their streams lie in `Streams`, each read as a `Client`. `keep` keeps the handle of a
+//! thread that was started, and `join_all` joins such threads. Where memory or a thread is refused, all are told to stop,
+//! and `LoadError` says which of both it was.
 //!
 //! # What it may not know
 //!
@@ -40,6 +41,7 @@ mod client;
 mod deadline;
 mod fate;
 mod joining;
+mod lane_set;
 mod lifecycle;
 mod reading;
 mod refusal;
@@ -49,6 +51,7 @@ pub use acceptor::{Acceptor, Closed};
 pub use client::{Client, Connection, Streams};
 pub use fate::{Absence, ClientFate, Unheard};
 pub use joining::{join_all, keep};
+pub use lane_set::LaneSet;
 pub use lifecycle::{Going, Lifecycle, Stopped, Verified};
 pub use reading::{ReadErrors, Watched};
 pub use refusal::LoadError;

@@ -6,8 +6,10 @@ ghost use Rattle.lfi_sync.specs.Stops.{state_number, stops_for, why_of};
 
 use crate::deadline::Span;
 use crate::fate::{Unheard, flag_of};
+use crate::lane_set::LaneSet;
 use crate::refusal::LoadError;
 use crate::wait_sets::WaitSets;
+use lfi_module::ModuleNumber;
 use std::rt::Clock;
 use std::sync::Wait;
 use std::sync::atomic::{AtomicU64, Ordering};
@@ -133,22 +135,25 @@ impl<'a> Going<'a> {
 }
 
 /// One word that all threads of a stage watch, which receivers' threads have nothing more to hear,
-/// and where the threads wait for one another.
+/// which lanes have items, and where the threads wait for one another.
 #[derive(Drop)]
 pub struct Lifecycle {
     word: AtomicU64,
     /// A flag for each receiver's thread that has nothing more to hear.
     heard: AtomicU64,
+    /// A bit for each lane that got an item since the sequencers' thread asked last.
+    filled: AtomicU64,
     wait_sets: WaitSets,
 }
 
 impl Lifecycle {
-    /// The threads are being started, so many verifiers' among them.
-    pub fn new(verifiers: usize) -> Lifecycle {
+    /// The threads are being started.
+    pub fn new() -> Lifecycle {
         Lifecycle {
             word: AtomicU64::new(State::Starting.number()),
             heard: AtomicU64::new(0),
-            wait_sets: WaitSets::new(verifiers),
+            filled: AtomicU64::new(0),
+            wait_sets: WaitSets::new(),
         }
     }
 
@@ -226,6 +231,23 @@ impl Lifecycle {
             self.heard.park_timeout(rt, heard, left);
         }
         unreachable!()
+    }
+
+    /// The lane of this module has an item. A thread tells it after its put, or where it leaves items behind. A bit that is set
+    /// is as good: the sequencers' thread clears it before it looks at the lane.
+    pub fn tell_filled(&self, module: ModuleNumber) {
+        let bit = LaneSet::bit_of(module);
+        if self.filled.load(Ordering::SeqCst) & bit == 0 {
+            self.filled.fetch_or(bit, Ordering::SeqCst);
+        }
+    }
+
+    /// The lanes of which it was told since it was asked last.
+    pub fn take_filled(&self) -> LaneSet {
+        if self.filled.load(Ordering::SeqCst) == 0 {
+            return LaneSet::none();
+        }
+        LaneSet::of(self.filled.swap(0, Ordering::SeqCst))
     }
 
     /// Sleeps for this time, unless the word changes.

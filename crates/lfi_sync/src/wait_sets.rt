@@ -18,8 +18,6 @@ fn bit_of(number: usize) -> u64 {
 /// so either the thread finds in its second look what was brought, or it is called.
 #[derive(Drop)]
 pub struct WaitSet {
-    /// How many threads there are that wait here at times.
-    threads: usize,
     /// A bit for each thread that waits and wasn't called yet.
     waiting: AtomicU64,
     /// Where they sleep, by their numbers.
@@ -27,10 +25,9 @@ pub struct WaitSet {
 }
 
 impl WaitSet {
-    /// That of so many threads, at most 8.
-    fn new(threads: usize) -> WaitSet {
+    /// Nobody waits here yet.
+    fn new() -> WaitSet {
         WaitSet {
-            threads,
             waiting: AtomicU64::new(0),
             sleepers: array::from_fn(|_| Parker::new()),
         }
@@ -40,11 +37,6 @@ impl WaitSet {
     fn sleeper(&self, number: usize) -> &Parker {
         let sleepers = &self.sleepers[..];
         &sleepers[number % VERIFIERS]
-    }
-
-    /// Whether all its threads wait, and none of them was called.
-    fn all_wait(&self) -> bool {
-        self.waiting.load(Ordering::SeqCst).count_ones() as usize >= self.threads
     }
 
     /// This thread waits from now on. It looks once more before it sleeps.
@@ -98,12 +90,12 @@ pub struct WaitSets {
 }
 
 impl WaitSets {
-    /// Those of a stage with so many verifiers.
-    pub(crate) fn new(verifiers: usize) -> WaitSets {
+    /// Nobody waits for anything yet.
+    pub(crate) fn new() -> WaitSets {
         WaitSets {
-            items: WaitSet::new(verifiers),
-            judged: WaitSet::new(1),
-            lane_room: WaitSet::new(verifiers),
+            items: WaitSet::new(),
+            judged: WaitSet::new(),
+            lane_room: WaitSet::new(),
         }
     }
 
@@ -139,14 +131,6 @@ impl<'a> Notifier<'a> {
     pub fn brought(&mut self) {
         self.untold = self.untold.saturating_add(1);
         if self.untold >= self.every {
-            self.tell();
-        }
-    }
-
-    /// It has brought one more thing, for which one of them is called at once where all wait.
-    pub fn brought_to_sleepers(&mut self) {
-        self.brought();
-        if self.wait_set.all_wait() {
             self.tell();
         }
     }

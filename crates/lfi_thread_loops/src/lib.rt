@@ -10,7 +10,7 @@
 //!
 //! # What it may not know
 //!
-//! How a stage is made and settled, what parts do, the command line, printing.
+//! How a stage is made and settled, what parts do, printing.
 //!
 //! # Decisions
 //!
@@ -22,19 +22,22 @@
 //! - **A verifier's thread ends by the board's count**: before each turn it asks how many receivers have ended, and ends
 //!   where all had and the turn is Idle. A receiver tells its end after its last put, so no item comes after such a turn.
 //!   The turn is handed the answer and can't ask again, so what it found is later than what was asked (`HasEnded`).
-//! - **Not each thing is called for at once.** A receiver calls a verifier for every 32nd item, a verifier the sequencers'
-//!   thread, and this one calls for room after 16 rounds, each also before it waits or ends. So what was put waits for a thread
-//!   that sleeps only while another one is at work that will call. A gate that keeps a verifier also keeps it from calling.
-//!   docs/PERFORMANCE.md, "A load", has what this saves.
-//! - **A receiver whose item the intake refuses sleeps, and puts it again**: only memory is refused there, which comes free
-//!   without a call.
+//! - **Not each thing is called for at once** (docs/PERFORMANCE.md, "A load"): a receiver calls a verifier for every 16th item,
+//!   a verifier the sequencers' thread for every 32nd, and this one calls for room after 16 rounds.
+//! - **No item waits for a thread that sleeps while no other will come to it.** A receiver calls for what is untold before
+//!   a turn that may read or tell a notice, where it is refused memory, and at its end; a verifier before it waits or ends. After a put a
+//!   verifier sets the lane's bit, unless it is set. The sequencers' thread clears all bits, looks at these lanes, and sets
+//!   the bit of one where it may have left items; so a bit that was found set is cleared before a look that comes after the
+//!   put. It sleeps only where it found none after it said that it waits. Before it ends it looks at all lanes. A gate or a
+//!   notice that keeps a thread also keeps it from calling.
+//! - **A receiver whose item the intake refuses sleeps, and puts it again**: memory is refused, which comes free uncalled.
 //! - **In `load_in` no input is read until all threads have been started**: a read of a pipe can't be told to stop. In
 //!   `serve_in` reads wait from the first client on, so where a thread is refused all sockets are shut down.
 //! - **A thread that is told to stop gives no part back** (`PartExit::GaveUp`), and then there is no report, but why it was
 //!   told to. That of the sequencers gives back what it was told. So one that ends by itself doesn't compile.
 //! - **A connection that wasn't accepted has a receiver and a thread as the others**, with a reader that is at its end, of
 //!   which alone a clause knows what is left. That an accept failed, or a client was late, is in no clause.
-//! - **A receiver's thread looks at the phases in every 64th turn**, where its item was refused, and when it has finished.
+//! - **A receiver's thread looks at the phases in every 64th turn**, where its item was refused, and at its end.
 #![tactic(auto)]
 
 mod env;

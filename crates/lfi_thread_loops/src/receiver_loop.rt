@@ -20,7 +20,7 @@ use std::time::Duration;
 const LOOK_TURNS: u32 = 64;
 
 /// For how many items a receiver calls one more verifier, at the latest, where one waits.
-const ITEMS_A_CALL: u32 = 32;
+const ITEMS_A_CALL: u32 = 16;
 
 /// After how many microseconds a receiver asks again for memory that was refused.
 const REFUSED_PAUSE: u64 = 200;
@@ -46,12 +46,19 @@ impl<'a, N> Watch<'a, N> {
         }
     }
 
-    /// What follows a turn that did this: verifiers are called for an item, not for each at once
-    /// where one of them is awake. An item is refused only where memory is, which comes free without a
-    /// call: so its thread asks for it again after a time.
+    /// What comes before a turn over this input: where it may wait for the reader, a verifier is called for the items of
+    /// which none was told yet.
+    fn come_to<R: Read + Drop>(&mut self, input: &Input<R>) {
+        if input.is_used_up() {
+            self.items.tell_rest();
+        }
+    }
+
+    /// What follows a turn that did this: a verifier is called for an item, but not for each at once. An item is refused only
+    /// where memory is, which comes free without a call: so its thread asks for it again after a time.
     fn go_on<S: Wait>(&mut self, rt: &S, lifecycle: &Lifecycle, did: ReceiverTurn) {
         match did {
-            ReceiverTurn::Put => self.items.brought_to_sleepers(),
+            ReceiverTurn::Put => self.items.brought(),
             ReceiverTurn::Blocked => {
                 self.items.tell();
                 lifecycle.sleep(rt, Duration::from_micros(REFUSED_PAUSE));
@@ -78,7 +85,7 @@ impl<'a, N> Watch<'a, N> {
 }
 
 impl<N: Notices> Watch<'_, N> {
-    /// Looks at the modules' phases, where it is time to.
+    /// Looks at the modules' phases, where it is time to. A notice may wait for its output: so a verifier is called before it.
     fn look_after(&mut self, part: PartId<'_>, receiver: &mut Receiver, did: ReceiverTurn)
         requires is { IsReceiver part.shared.now part.number receiver.old }
         ensures is { IsReceiver part.entry.shared.now part.entry.number receiver.new }
@@ -88,6 +95,7 @@ impl<N: Notices> Watch<'_, N> {
         if !self.is_due(did) {
             return;
         }
+        self.items.tell_rest();
         self.told.look(part, receiver, self.notices);
     }
 }
@@ -118,13 +126,14 @@ fn receive_once<S: Wait, R: Read + Drop, N: Notices>(
     if let Some(stopped) = going.lifecycle().stopped() {
         return Some(ReceiverExit::Stopped(stopped));
     }
+    watch.come_to(input);
     let shared = part.shared;
     let did = receiver.pull(&shared.board, &shared.intake, input);
     if watch.passes(did) {
         return None;
     }
-    watch.look_after(part, receiver, did);
     watch.go_on(rt, going.lifecycle(), did);
+    watch.look_after(part, receiver, did);
     if did == ReceiverTurn::Finished {
         return Some(ReceiverExit::Finished);
     }

@@ -76,11 +76,16 @@ impl<'a> VerifierPace<'a> {
         }
     }
 
-    /// Tells the sequencers' thread of what a turn brought it that did this: not of each judged item at
-    /// once, but before this thread waits or ends.
-    fn tell(&mut self, did: VerifierTurn) {
+    /// Tells the sequencers' thread of what a turn of this verifier brought it that did this: of the lane at once, but it is
+    /// called not for each judged item, and before this thread waits or ends.
+    fn tell(&mut self, verifier: &Verifier, did: VerifierTurn) {
         match did {
-            VerifierTurn::Worked => self.judged.brought(),
+            VerifierTurn::Worked => {
+                if let Some(module) = verifier.last() {
+                    self.lifecycle.tell_filled(module);
+                }
+                self.judged.brought();
+            }
             VerifierTurn::Blocked => self.judged.tell(),
             VerifierTurn::Idle => self.judged.tell_rest(),
             VerifierTurn::Again => {}
@@ -121,7 +126,7 @@ fn verify_once<S: Wait, G: Gate>(
     ensures over { result ≡ Some exit.Over → IsTrue all_ended × FoundNothing verifier.old verifier.new }
 {
     let did = turn_one(rt, part, gate, verifier);
-    pace.tell(did);
+    pace.tell(verifier, did);
     if all_ended && did == VerifierTurn::Idle {
         return Some(VerifierExit::Over);
     }

@@ -3,8 +3,9 @@ use Rattle.std.specs.Prelude.{slice_get, MatchOption}
 use Rattle.lfi_model.specs.Item.{ItemView}
 use Rattle.lfi_queues.specs.Passes.{PassView, GetsItem, FindsNone, AsksAgain, IsSamePass}
 use Rattle.lfi_sequence.specs.Hands.{Hands}
-use Rattle.lfi_sequence.specs.Handed.{TurnsWith, PutsNone, take_pass_of, ByHand, HandsOn, put_in}
+use Rattle.lfi_sequence.specs.Handed.{TurnsWith, PutsNone, PutsLast, take_pass_of, hand_of, lane_puts_of, last_of, ByHand, HandsOn, put_in}
 use Rattle.lfi_sequence.specs.declared.verifier.Verifier.{Verifier}
+use Rattle.lfi_sequence.specs.declared.verifier.VerifierTurn.{VerifierTurn}
 use Rattle.lfi_sequence.specs.declared.verifier.VerifierTurn.TheVariants as turn
 use Rattle.lfi_sequence.proofs.HandsOn.{hand_taken}
 use Rattle.lfi_sequence.proofs.Carrying.{hands_as}
@@ -25,6 +26,22 @@ same_as old new same = record { queue = ap (λ p. p.queue) same; number = ap (λ
 same_all : (o : Option (PassView ItemView)) → MatchOption o (o ≡ None) (λ pass. (after : PassView ItemView) × (o ≡ Some after) × IsSamePass pass after)
 same_all None = refl
 same_all (Some pass) = (pass, refl, record { queue = refl; number = refl })
+
+-- what the put of an item says of the last one
+last_put : (did : VerifierTurn) (item : ItemView) (old new : Verifier) → ByHand did item (hand_of new) (lane_puts_of old) (lane_puts_of new) → last_of new ≡ Some item.«module» → PutsLast did old new
+last_put turn.Worked item old new puts last = (item, last, puts.1)
+last_put turn.Idle item old new puts last = tt
+last_put turn.Again item old new puts last = tt
+last_put turn.Blocked item old new puts last = tt
+
+pub returns-in-Some-clause-last : goal.returns-in-Some-clause-last
+returns-in-Some-clause-last g c = last_put c.put.result c.in-Some.held c.args.self.now c.put.new.self c.put.ensures.did c.put.ensures.last
+
+pub returns-in-Item-clause-last : goal.returns-in-Item-clause-last
+returns-in-Item-clause-last g c =
+    let v = c.args.self.now in
+    let w = c.put-in-Item.new.self in
+    last_put c.put-in-Item.result c.judged.result v w c.put-in-Item.ensures.did c.put-in-Item.ensures.last
 
 pub returns-in-Item-clause-did : goal.returns-in-Item-clause-did
 returns-in-Item-clause-did g c =
