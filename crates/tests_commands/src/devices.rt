@@ -8,11 +8,11 @@ use lfi_commands::{ending_of_load, write_report};
 use lfi_file_commands::{
     CommandFault, DeviceCause, Ending, Errors, Failure, Naming, Target, check, check_file,
 };
-use lfi_loader::{NoNotices, load_all};
 use lfi_model::Outcome;
 use lfi_module::Profile;
-use lfi_receive::Input;
 use lfi_sequence::OpenGate;
+use lfi_receive::Input;
+use lfi_loader::{NoNotices, load_all};
 use std::alloc::{AllocError, Global};
 use std::fs::{self, File, Files};
 use std::io::{self, Read, Write};
@@ -270,11 +270,7 @@ const REFUSED: &str = "module 0: refused, word 0 rule 1\nstrays 0\n";
 const CUT: &str =
     "module 0: lost, fault 9\nconnection 0: fault 9\nstrays 0\nconnection 0: input ended too early\n";
 
-/// The object of the file with the word RET.
-const LAWFUL_OBJECT: &str =
-    "{\"files\":[{\"path\":\"written.tmp/written.code\",\"profile\":1,\"verdict\":\"lawful\",\"words\":1}]}\n";
-
-const ANSWERS: [Answer; 9] = [
+const ANSWERS: [Answer; 8] = [
     Answer {
         line: "lfiload check written.tmp/written.code",
         length: 16,
@@ -298,10 +294,6 @@ const ANSWERS: [Answer; 9] = [
     Answer {
         line: "lfiload check --all written.tmp/zero.code",
         length: UNSPELLED.len() + 38,
-    },
-    Answer {
-        line: "lfiload check --format json written.tmp/written.code",
-        length: LAWFUL_OBJECT.len(),
     },
     Answer {
         line: "lfiload disassemble written.tmp/zero.code",
@@ -380,13 +372,12 @@ fn failures_are_told(rt: HostRuntime) {
     assert!(rt; told(rt.alloc()) == Ok([true; 6]));
 }
 
-const UNTOLD: [&str; 7] = [
+const UNTOLD: [&str; 6] = [
     "lfiload --help",
     "lfiload unknown",
     "lfiload check missing.code",
     "lfiload --version",
     "lfiload pack --module 15 a b",
-    "lfiload check --format yaml a",
     "lfiload pack /dev/null",
 ];
 
