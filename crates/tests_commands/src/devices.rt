@@ -8,11 +8,11 @@ use lfi_commands::{ending_of_load, write_report};
 use lfi_file_commands::{
     CommandFault, DeviceCause, Ending, Errors, Failure, Naming, Target, check, check_file,
 };
+use lfi_loader::{NoNotices, load_all};
 use lfi_model::Outcome;
 use lfi_module::Profile;
-use lfi_sequence::OpenGate;
 use lfi_receive::Input;
-use lfi_loader::{NoNotices, load_all};
+use lfi_sequence::OpenGate;
 use std::alloc::{AllocError, Global};
 use std::fs::{self, File, Files};
 use std::io::{self, Read, Write};
