@@ -178,7 +178,7 @@ fn logicals(instruction: &Instruction, r: &Registers) -> Option<(u64, u8)>
     Some(logical(size_of(width), operation, &first, &second, r.nzcv))
 }
 
-/// x0 after a move, a choice, a count, a product or a quotient.
+/// The value of a move, a choice, a count, a product or a quotient, whatever its register.
 fn value(instruction: &Instruction, r: &Registers) -> Option<u64>
     ensures { is_some result ≡ is_value instruction.now }
 {

@@ -195,8 +195,8 @@ fn words_in(length: Option<u64>) -> Option<u32>
     }
 }
 
-/// Judges the code that a reader has left, up to its end, and writes the line of what is found behind the name, where it may be
-/// known before how many bytes that is. It is then judged piece by piece as it is read.
+/// Judges the code that a reader has left, up to its end, and writes the line of what is found, behind the name. Where `length`
+/// tells before how many bytes that is, it is judged piece by piece as it is read; else it is read whole.
 ///
 /// # Errors
 ///

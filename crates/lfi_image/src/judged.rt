@@ -33,7 +33,7 @@ impl Model for JudgedPage {
 
 impl JudgedPage {
     /// Judges a page whose first word is the word `first` of a module with this extent. The page is of its size, and has the
-    /// words due there: as many as it has room for, or all that are left.
+    /// words due there: as many as it has room for, or all that are left. The verdict follows from what the clause names.
     pub fn judge(page: SealedPage, first: u32, extent: Extent) -> JudgedPage
         requires sized { page.size ≡ extent.pages }
         requires due { length (words_of page.bytes) ≡ words_due extent.pages extent.words first }

@@ -38,7 +38,7 @@ fn words_of(instructions: &[Instruction], profile: Profile) -> ArrayVec<u32, MOS
     words
 }
 
-/// The word after a place of a module of so many words, if there is one.
+/// `after`, the word that the host told behind the word at `place`, unless that is the last of the module's `words`.
 fn later(words: u32, place: u32, after: u32) -> Option<u32>
     requires { place < words }
     ensures { result ≡ later words place after }
