@@ -84,8 +84,8 @@ pub fn mend(refused: &RefusedWord) -> Result<Option<Mend>, Status> {
 }
 
 /// Writes the text of `lfiload check --explain` to this room, and returns it: the fault, the word at its address with its
-/// assembly text, what the rule asks, and how the word is mended. It is cut where the room ends; 1,024 bytes were enough for
-/// all of 20,000 words at random.
+/// assembly text, what the rule asks, and how the word is mended. It is cut where the room ends. None has more than 2,048
+/// bytes, and 1,024 were enough for all of 20,000 words at random.
 ///
 /// It fails where the fault is none that such a word can have.
 ///

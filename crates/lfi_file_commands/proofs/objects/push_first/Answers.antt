@@ -15,5 +15,5 @@ explain-explanation-requires-clause-most c = c.requires.most
 pub returns : goal.returns
 returns c =
     let explanation = c.explain-explanation.result in
-    let explains = subst (λ slot. Explains c.args.profile (words_of c.args.code.now) slot c.args.fault explanation) c.slot.ensures c.explain-explanation.ensures in
+    let explains = subst (λ slot. Explains c.args.profile (words_of c.args.code.now) slot c.args.fault explanation) c.slot.ensures c.explain-explanation.ensures.explains in
     on_ok_weaker c.push_explanation.result (λ same. (explained_members explanation, (explanation, explains, refl), same)) c.push_explanation.ensures
