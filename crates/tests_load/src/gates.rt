@@ -1,4 +1,6 @@
-//! Verifiers beside each other, and notices of refused modules.
+//! Verifiers beside each other, notices of refused modules, and a stream that comes slowly.
+
+ghost use Rattle.std.specs.Prelude.{◌≤◌};
 
 use crate::build::Sent::{Close, Full, Open, Page};
 use crate::build::{NOP, RET, STRAY, SVC, Sent, WRITE_BASE, is_told, text_of};
@@ -208,4 +210,97 @@ fn a_refused_module_is_told_of_once(rt: HostRuntime) {
     for row in &REFUSED {
         assert!(rt; is_told_once(&rt, row));
     }
+}
+
+/// A gate that counts the items that were judged.
+#[derive(Drop)]
+struct Judgings {
+    count: AtomicU64,
+}
+
+impl Gate for Judgings {
+    fn before(&self, _item: &Item) {}
+
+    fn after(&self, _item: &Judged) {
+        self.count.fetch_add(1, Ordering::SeqCst);
+    }
+}
+
+/// How many bytes a module of one word has, and how many items.
+const MODULE_BYTES: usize = 40;
+const MODULE_ITEMS: u64 = 3;
+
+/// A text of such modules, one a read, and then strays until a notice has come. Each read waits until all items of what came
+/// before were judged. Those that wait in vain are counted.
+#[derive(Clone, Copy)]
+struct Trickle<'a> {
+    modules: UntilNoticed<'a>,
+    items: u64,
+    judged: &'a AtomicU64,
+    late: &'a AtomicU64,
+}
+
+impl<'a> Read for Trickle<'a> {
+    fn read(&mut self, buf: &mut [u8]) -> io::Result<usize> {
+        if !comes_to(self.judged, self.items) {
+            self.late.fetch_add(1, Ordering::SeqCst);
+        }
+        if !self.modules.text.left.is_empty() {
+            self.items = self.items.saturating_add(MODULE_ITEMS);
+        }
+        self.modules.read(buf)
+    }
+}
+
+const TRICKLE: [Sent; 12] = [
+    Open(0, 1),
+    Page(0, 0, 1, NOP),
+    Close(0),
+    Open(1, 1),
+    Page(1, 0, 1, RET),
+    Close(1),
+    Open(2, 1),
+    Page(2, 0, 1, NOP),
+    Close(2),
+    Open(3, 1),
+    Page(3, 0, 1, SVC),
+    Close(3),
+];
+
+const TRICKLED: &str = "module 0: complete, 1 words\nmodule 1: complete, 1 words\nmodule 2: complete, 1 words\nmodule 3: refused, word 0 rule 1\nstrays 0\n";
+
+/// Whether each module of a stream that comes slowly is judged before the next one comes, and the last one is placed while the
+/// stream is open: it is refused, and a notice tells it.
+fn is_judged_as_it_comes<S: Threads + Wait + Sync + AllocGlobal>(rt: &S, verifiers: usize) -> bool
+    requires verifiers { (1 ≤ verifiers) × (verifiers ≤ 8) }
+{
+    let Ok(text) = text_of(rt.alloc(), &TRICKLE) else {
+        return false;
+    };
+    let notices = Counted {
+        count: AtomicU64::new(0),
+        module: AtomicU64::new(0),
+    };
+    let gate = Judgings {
+        count: AtomicU64::new(0),
+    };
+    let late = AtomicU64::new(0);
+    let mut modules = UntilNoticed::of(text.as_slice(), &notices);
+    modules.text.most = MODULE_BYTES;
+    let reader = Trickle {
+        modules,
+        items: 0,
+        judged: &gate.count,
+        late: &late,
+    };
+    let told = without_strays(reported(rt, &[reader], verifiers, &gate, &notices));
+    let once = notices.count.load(Ordering::SeqCst) == 1;
+    late.load(Ordering::SeqCst) == 0 && once && is_told(rt.alloc(), told, TRICKLED)
+}
+
+#[test]
+fn a_stream_that_comes_slowly(rt: HostRuntime) {
+    assert!(rt; is_judged_as_it_comes(&rt, 1));
+    assert!(rt; is_judged_as_it_comes(&rt, 2));
+    assert!(rt; is_judged_as_it_comes(&rt, 8));
 }
