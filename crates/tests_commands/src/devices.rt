@@ -270,7 +270,11 @@ const REFUSED: &str = "module 0: refused, word 0 rule 1\nstrays 0\n";
 const CUT: &str =
     "module 0: lost, fault 9\nconnection 0: fault 9\nstrays 0\nconnection 0: input ended too early\n";
 
-const ANSWERS: [Answer; 8] = [
+/// The object of the file with the word RET.
+const LAWFUL_OBJECT: &str =
+    "{\"files\":[{\"path\":\"written.tmp/written.code\",\"profile\":1,\"verdict\":\"lawful\",\"words\":1}]}\n";
+
+const ANSWERS: [Answer; 9] = [
     Answer {
         line: "lfiload check written.tmp/written.code",
         length: 16,
@@ -294,6 +298,10 @@ const ANSWERS: [Answer; 8] = [
     Answer {
         line: "lfiload check --all written.tmp/zero.code",
         length: UNSPELLED.len() + 38,
+    },
+    Answer {
+        line: "lfiload check --format json written.tmp/written.code",
+        length: LAWFUL_OBJECT.len(),
     },
     Answer {
         line: "lfiload disassemble written.tmp/zero.code",
@@ -372,12 +380,13 @@ fn failures_are_told(rt: HostRuntime) {
     assert!(rt; told(rt.alloc()) == Ok([true; 6]));
 }
 
-const UNTOLD: [&str; 6] = [
+const UNTOLD: [&str; 7] = [
     "lfiload --help",
     "lfiload unknown",
     "lfiload check missing.code",
     "lfiload --version",
     "lfiload pack --module 15 a b",
+    "lfiload check --format yaml a",
     "lfiload pack /dev/null",
 ];
 

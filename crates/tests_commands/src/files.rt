@@ -5,7 +5,7 @@ use crate::runs::{
 };
 use std::{fs, io};
 
-const RUNS: [Run; 8] = [
+const RUNS: [Run; 11] = [
     Run {
         line: "lfiload check files.tmp/ret.code",
         status: WELL,
@@ -17,6 +17,18 @@ const RUNS: [Run; 8] = [
         status: WELL,
         out: "lawful, 1 words\n",
         err: "",
+    },
+    Run {
+        line: "lfiload check --format json files.tmp/ret.code",
+        status: WELL,
+        out: "{\"files\":[{\"path\":\"files.tmp/ret.code\",\"profile\":1,\"verdict\":\"lawful\",\"words\":1}]}\n",
+        err: "",
+    },
+    Run {
+        line: "lfiload check --format json files.tmp/three.code",
+        status: NOT_WELL,
+        out: "{\"files\":[{\"path\":\"files.tmp/three.code\",\"profile\":1,\"verdict\":\"bad length\",\"bytes\":3}]}\n",
+        err: "lfiload: bad length files.tmp/three.code\n  3 bytes; code has a multiple of 4, from 4 to 16777216\n",
     },
     Run {
         line: "lfiload disassemble files.tmp/ret.code",
@@ -47,6 +59,12 @@ const RUNS: [Run; 8] = [
         status: NOT_WELL,
         out: "",
         err: "halt 3 at 0x0000000100000000 after 1 steps\n",
+    },
+    Run {
+        line: "lfiload run files.tmp/module-00.img --steps 5 --format json",
+        status: NOT_WELL,
+        out: "",
+        err: "{\"halt\":3,\"address\":\"0x0000000100000000\",\"steps\":1}\n",
     },
     Run {
         line: "lfiload run files.tmp/missing.img --steps 5",

@@ -228,6 +228,7 @@ impl Gate for Judgings {
 
 /// How many bytes a module of one word has, and how many items.
 const MODULE_BYTES: usize = 40;
+
 const MODULE_ITEMS: u64 = 3;
 
 /// A text of such modules, one a read, and then strays until a notice has come. Each read waits until all items of what came
@@ -267,7 +268,8 @@ const TRICKLE: [Sent; 12] = [
     Close(3),
 ];
 
-const TRICKLED: &str = "module 0: complete, 1 words\nmodule 1: complete, 1 words\nmodule 2: complete, 1 words\nmodule 3: refused, word 0 rule 1\nstrays 0\n";
+const TRICKLED: &str =
+    "module 0: complete, 1 words\nmodule 1: complete, 1 words\nmodule 2: complete, 1 words\nmodule 3: refused, word 0 rule 1\nstrays 0\n";
 
 /// Whether each module of a stream that comes slowly is judged before the next one comes, and the last one is placed while the
 /// stream is open: it is refused, and a notice tells it.
