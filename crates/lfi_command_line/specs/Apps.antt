@@ -37,11 +37,11 @@ flag_rule name = record (new_rule name) { long = Some name; action = Some SetTru
 abbrev pub profile_rule : Rule
 profile_rule = number_rule (codes "profile") (Unsigned 1 2)
 
--- `--format FORMAT`
+-- `--format F`
 abbrev pub format_rule : Rule
 format_rule = option_rule (codes "format")
 
--- `check [--explain] [--all] [--profile P] [--format FORMAT] FILE..`
+-- `check [--explain] [--all] [--profile P] [--format F] FILE..`
 abbrev pub check_app : App
 check_app = with_rule (with_rule (with_rule (with_rule (with_rule (new_app (codes "check")) (flag_rule (codes "explain"))) (flag_rule (codes "all"))) profile_rule) (several_rule (codes "FILE")))
     format_rule
@@ -58,7 +58,7 @@ serve_app = with_rule (with_rule (with_rule (with_rule (with_rule (with_rule (ne
     (number_rule (codes "verifiers") (Unsigned 1 8))) (number_rule (codes "seconds") (Unsigned 1 86400)))
     (option_rule (codes "out"))) (flag_rule (codes "explain"))
 
--- `run IMAGE --steps N [--format FORMAT]`
+-- `run IMAGE --steps N [--format F]`
 abbrev pub run_app : App
 run_app = with_rule (with_rule (with_rule (new_app (codes "run")) (needed (number_rule (codes "steps") (Unsigned 0 1000000000)))) (required_rule (codes "IMAGE"))) format_rule
 

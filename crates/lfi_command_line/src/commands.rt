@@ -122,7 +122,7 @@ fn format_argument<'a>(alloc: Global) -> Arg<'a>
     ensures rule { rule_of result ≡ option_rule (codes "format") }
     ensures local { result.global ≡ false }
 {
-    option_argument(alloc, "format", "FORMAT", help::FORMAT)
+    option_argument(alloc, "format", "F", help::FORMAT)
 }
 
 /// The flag that asks why modules are refused.

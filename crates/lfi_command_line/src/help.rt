@@ -119,7 +119,7 @@ On the standard error:
   lfiload: cannot read PATH  The file can't be read (status 3).
   lfiload: no memory         There was no memory for it (status 3).
   lfiload: --format is text or json
-                             FORMAT is another word (status 2).
+                             F is another word (status 2).
 
 Example: lfiload check --explain module.code";
 
@@ -226,7 +226,7 @@ Prints one line on the standard error, and a second one where it says so:
   lfiload: cannot read PATH        The file can't be opened (status 3).
   lfiload: no memory               There was no memory for the machine (status 3).
   lfiload: --format is text or json
-                                   FORMAT is another word (status 2).
+                                   F is another word (status 2).
 
 With --format json an object stands on the standard error in place of the line:
   \"halt\", \"steps\"    The numbers of the halt and of steps; and \"address\", a text, or \"status\".
