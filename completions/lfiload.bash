@@ -13,6 +13,10 @@ _lfiload() {
             mapfile -t COMPREPLY < <(compgen -W '1 2' -- "$word")
             return
             ;;
+        check:--format)
+            compopt +o default 2>/dev/null
+            return
+            ;;
         load:--verifiers)
             compopt +o default 2>/dev/null
             mapfile -t COMPREPLY < <(compgen -W '1 2 3 4 5 6 7 8' -- "$word")
@@ -47,6 +51,10 @@ _lfiload() {
             compopt +o default 2>/dev/null
             return
             ;;
+        run:--format)
+            compopt +o default 2>/dev/null
+            return
+            ;;
         disassemble:--profile)
             compopt +o default 2>/dev/null
             mapfile -t COMPREPLY < <(compgen -W '1 2' -- "$word")
@@ -74,10 +82,10 @@ _lfiload() {
     esac
     [[ $word == -* ]] || return
     case ${COMP_WORDS[1]} in
-        check) offered='--explain --all --profile --help' ;;
+        check) offered='--explain --all --profile --format --help' ;;
         load) offered='--verifiers --out --explain --help' ;;
         serve) offered='--socket --connections --verifiers --seconds --out --explain --help' ;;
-        run) offered='--steps --help' ;;
+        run) offered='--steps --format --help' ;;
         disassemble) offered='--check --profile --help' ;;
         pack) offered='--module --entry --profile --pages --help' ;;
         unpack) offered='--help' ;;

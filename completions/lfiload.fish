@@ -6,6 +6,7 @@ complete -c lfiload -n __fish_use_subcommand -a check -d 'Tells whether the code
 complete -c lfiload -n '__fish_seen_subcommand_from check' -l explain -d 'also say what the word at fault does, what its rule asks, and how it is mended'
 complete -c lfiload -n '__fish_seen_subcommand_from check' -l all -d 'say so of each word that breaks a rule, and how many they are'
 complete -c lfiload -n '__fish_seen_subcommand_from check' -l profile -x -a '1 2' -d 'the profile that the code goes by, 1 or 2; 1 where it isn'\''t said'
+complete -c lfiload -n '__fish_seen_subcommand_from check' -l format -x -d 'text, or json for one JSON object; text where it isn'\''t said'
 complete -c lfiload -n '__fish_seen_subcommand_from check' -s h -l help -d 'Print help'
 complete -c lfiload -n '__fish_seen_subcommand_from check' -F
 complete -c lfiload -n __fish_use_subcommand -a load -d 'Loads the modules of streams, and prints the report'
@@ -24,6 +25,7 @@ complete -c lfiload -n '__fish_seen_subcommand_from serve' -l explain -d 'also e
 complete -c lfiload -n '__fish_seen_subcommand_from serve' -s h -l help -d 'Print help'
 complete -c lfiload -n __fish_use_subcommand -a run -d 'Runs an image in a simulated machine'
 complete -c lfiload -n '__fish_seen_subcommand_from run' -l steps -x -d 'how many steps it may take, 0 to 1000000000'
+complete -c lfiload -n '__fish_seen_subcommand_from run' -l format -x -d 'text, or json for one JSON object; text where it isn'\''t said'
 complete -c lfiload -n '__fish_seen_subcommand_from run' -s h -l help -d 'Print help'
 complete -c lfiload -n '__fish_seen_subcommand_from run' -F
 complete -c lfiload -n __fish_use_subcommand -a disassemble -d 'Lists the words of a file, each with its place and its text'
