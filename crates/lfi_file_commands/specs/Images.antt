@@ -35,6 +35,7 @@ image_in Absent = []
 image_in (Part builder) = []
 image_in (Whole image) = image ∷ []
 
+-- the whole images of modules, in order
 abbrev pub images_in : List ModuleReport → List Image
 images_in modules = flat_map (λ told. image_in told.image) modules
 
@@ -43,6 +44,7 @@ abbrev pub asked_images : Option (List ℕ) → List ModuleReport → List Image
 asked_images None modules = []
 asked_images (Some folder) modules = images_in modules
 
+-- the folder that is named; without one, an empty name
 abbrev pub folder_or_none : Option (List ℕ) → List ℕ
 folder_or_none None = []
 folder_or_none (Some folder) = folder
@@ -57,6 +59,7 @@ abbrev pub file_written : List ℕ → Image → Option Failure → List (List �
 file_written folder image None = image_file folder image ∷ []
 file_written folder image (Some failure) = []
 
+-- the files that were written in a folder: of each image that had no failure its path and its bytes
 abbrev pub files_written : List ℕ → List Fate → List (List ℕ × List ℕ)
 files_written folder fates = flat_map (λ fate. file_written folder fate.image fate.failure) fates
 

@@ -17,11 +17,12 @@ kind_by a b c d =
     else (if a == 0x4C && b == 0x46 && c == 0x49 && d == 0x31 then Image
     else (if opens_module a b && nat_lt c 16 && d == 0 then Stream else Plain))
 
+-- what a file is that begins with these bytes, four or fewer; of fewer it is plain
 abbrev pub kind_by_first : List ℕ → FileKind
 kind_by_first (a ∷ b ∷ c ∷ d ∷ []) = kind_by a b c d
 kind_by_first _ = Plain
 
--- one of fewer bytes is plain
+-- what a file with these bytes is: its first four tell it
 abbrev pub file_kind : List ℕ → FileKind
 file_kind bytes = kind_by_first (take 4 bytes)
 

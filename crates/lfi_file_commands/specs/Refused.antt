@@ -21,6 +21,7 @@ abbrev pub refusal_lines : Option Explanation → List ℕ
 refusal_lines (Some e) = codes "module " ++ decimal e.slot ++ codes ": " ++ explanation_line e
 refusal_lines None = []
 
+-- What is told of a module: its refusal's explanation, where it was refused.
 abbrev pub TellsOfRefused : ModuleReport → List ℕ → Type 0
 TellsOfRefused report text = (told : Option Explanation) × IsRefusal report.refused told × (text ≡ refusal_lines told)
 

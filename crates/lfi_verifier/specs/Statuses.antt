@@ -3,6 +3,7 @@ use Rattle.std.specs.Prelude.{ℕ}
 use Rattle.lfi_verifier.specs.declared.status.Status.{Status}
 use Rattle.lfi_verifier.specs.declared.status.Status.TheVariants.{Lawful, Refused, BadLength, Incomplete, BadState, UnknownProfile, UnknownModule, NoRoom}
 
+-- the number of a status, as the header has it
 abbrev pub status_number : Status → ℕ
 status_number Lawful = 0
 status_number Refused = 1
