@@ -6,7 +6,7 @@ ghost use Rattle.lfi_queues.specs.Passes.{new_passes, IsSamePass, GetsItem, Find
 ghost use Rattle.lfi_queues.specs.Taken.{MatchTaken};
 
 use crate::making::{HomeOf, NoItems, new_owners, new_takers, put_passes, take_passes};
-use crate::part::{Home, Owner, PartPuts};
+use crate::part::{Home, Owner, PartLook, PartPuts};
 use crate::pass::Next;
 use crate::round::TakeEnds;
 use lfi_auxiliary::Auxiliary;
@@ -129,6 +129,15 @@ impl<T> Intake<T> {
     {
         pass.calls = Auxiliary::of::<Auxiliary<u64>, Next>(&pass.calls);
         pass.owner.push_as::<PartPuts>(item)
+    }
+
+    /// How many items of the putter's part nobody has taken yet, at one moment of the call.
+    pub fn untaken(&self, pass: &mut PutPass<T>) -> usize
+        requires { pass.old.queue ≡ self.now }
+        ensures same { pass.new ≡ pass.old }
+        ensures few { result ≤ length pass.old.items }
+    {
+        pass.owner.len_as::<PartLook>()
     }
 
     /// Tries one steal a part, until one gives an item, which is the first of its part. The first round begins at part 0,

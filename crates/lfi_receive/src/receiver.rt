@@ -493,6 +493,15 @@ impl Receiver {
         self.hand.is_some() || self.cause.is_some()
     }
 
+    /// How many of the items that it has put nobody has taken from the intake yet, at one moment of the call.
+    pub fn untaken(&mut self, intake: &Intake<Item>) -> usize
+        requires part { (pass_of self.old).queue ≡ intake.now }
+        ensures same { self.new ≡ self.old }
+        ensures few { result ≤ length (pass_of self.old).items }
+    {
+        intake.untaken(&mut self.pass)
+    }
+
     /// The connection's fault, once it has come to one.
     pub fn fault(&self) -> Option<FrameFault>
         ensures { result ≡ fault_of self.now }

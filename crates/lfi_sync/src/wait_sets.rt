@@ -1,14 +1,19 @@
 //! Wait sets: how threads wait for what others bring, and how those call them.
 
-use lfi_module::VERIFIERS;
+use lfi_module::{CONNECTIONS, VERIFIERS};
 use std::array;
 use std::sync::Wait;
 use std::sync::atomic::{AtomicU64, Ordering};
 use std::thread::Parker;
 
-/// The bit of the thread with this number, which is less than 8.
+/// How many threads may wait for one thing: those of all verifiers, or of all receivers, which are no more.
+const THREADS: usize = VERIFIERS;
+
+const _: () = prove!(CONNECTIONS <= THREADS);
+
+/// The bit of the thread with this number.
 fn bit_of(number: usize) -> u64 {
-    1 << (number % VERIFIERS)
+    1 << (number % THREADS)
 }
 
 /// Where threads wait for one thing, and where who brings it calls them.
@@ -21,7 +26,7 @@ pub struct WaitSet {
     /// A bit for each thread that waits and wasn't called yet.
     waiting: AtomicU64,
     /// Where they sleep, by their numbers.
-    sleepers: [Parker; VERIFIERS],
+    sleepers: [Parker; THREADS],
 }
 
 impl WaitSet {
@@ -36,7 +41,7 @@ impl WaitSet {
     /// Where the thread with this number sleeps.
     fn sleeper(&self, number: usize) -> &Parker {
         let sleepers = &self.sleepers[..];
-        &sleepers[number % VERIFIERS]
+        &sleepers[number % THREADS]
     }
 
     /// This thread waits from now on. It looks once more before it sleeps.
@@ -68,11 +73,11 @@ impl WaitSet {
     }
 
     /// Calls all threads that wait.
-    pub fn call_all(&self) {
+    pub(crate) fn call_all(&self) {
         if self.waiting.load(Ordering::SeqCst) == 0 {
             return;
         }
-        for number in 0..VERIFIERS {
+        for number in 0..THREADS {
             self.call(number);
         }
     }
@@ -83,6 +88,8 @@ impl WaitSet {
 pub struct WaitSets {
     /// Items in the intake: verifiers wait for them, and receivers bring them.
     pub items: WaitSet,
+    /// Few untaken items in the intake: receivers wait for that, and verifiers bring it.
+    pub intake_room: WaitSet,
     /// Judged items in the lanes: the sequencers' thread waits for them, and verifiers bring them.
     pub judged: WaitSet,
     /// Room in the lanes: verifiers wait for it, and the sequencers' thread brings it.
@@ -94,6 +101,7 @@ impl WaitSets {
     pub(crate) fn new() -> WaitSets {
         WaitSets {
             items: WaitSet::new(),
+            intake_room: WaitSet::new(),
             judged: WaitSet::new(),
             lane_room: WaitSet::new(),
         }
@@ -102,26 +110,48 @@ impl WaitSets {
     /// Calls all threads that wait for anything.
     pub(crate) fn call_all(&self) {
         self.items.call_all();
+        self.intake_room.call_all();
         self.judged.call_all();
         self.lane_room.call_all();
     }
+}
+
+/// Whom a thread calls of those that wait for what it brings.
+#[derive(Clone, Copy)]
+enum Called {
+    /// One of them, since any of them can use it.
+    One,
+    /// All of them, since it may be of use to one alone.
+    All,
 }
 
 /// How a thread calls others for what it brings: not for each thing at once.
 #[derive(Drop)]
 pub struct Notifier<'a> {
     wait_set: &'a WaitSet,
-    /// For how many things it calls one of them at the latest.
+    called: Called,
+    /// For how many things it calls at the latest.
     every: u32,
-    /// How many things it has brought since it called one.
+    /// How many things it has brought since it called.
     untold: u32,
 }
 
 impl<'a> Notifier<'a> {
-    /// That of a thread that has brought nothing yet.
-    pub fn new(wait_set: &'a WaitSet, every: u32) -> Notifier<'a> {
+    /// That of a thread that calls one of those that wait, and has brought nothing yet.
+    pub fn of_one(wait_set: &'a WaitSet, every: u32) -> Notifier<'a> {
         Notifier {
             wait_set,
+            called: Called::One,
+            every,
+            untold: 0,
+        }
+    }
+
+    /// The same, where it calls all that wait.
+    pub fn of_all(wait_set: &'a WaitSet, every: u32) -> Notifier<'a> {
+        Notifier {
+            wait_set,
+            called: Called::All,
             every,
             untold: 0,
         }
@@ -135,17 +165,20 @@ impl<'a> Notifier<'a> {
         }
     }
 
-    /// Calls one of those that wait, where it has brought something since it called one.
+    /// Calls who waits, where it has brought something since it called.
     pub fn tell_rest(&mut self) {
         if self.untold != 0 {
             self.tell();
         }
     }
 
-    /// Calls one of those that wait.
+    /// Calls who waits.
     pub fn tell(&mut self) {
         self.untold = 0;
-        self.wait_set.call_one();
+        match self.called {
+            Called::One => self.wait_set.call_one(),
+            Called::All => self.wait_set.call_all(),
+        }
     }
 }
 

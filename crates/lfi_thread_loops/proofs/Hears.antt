@@ -68,6 +68,10 @@ hearing_on {R} remaining whole old new before after did pulled stands unread end
         let done = ended over in
         subst (λ (i : Input R). IsHearing remaining whole new i) (sym (unread over)) (hearing_as remaining whole old new before (record { stands = stands over; cause = done.cause; claimed = done.claimed }) hearing)
 
+-- the same receiver
+pub hearing_same : {R : Type 0} (remaining : R → Option (List ℕ)) (whole : Option (List ℕ)) (old new : Receiver) (input : Input R) → new ≡ old → IsHearing remaining whole old input → IsHearing remaining whole new input
+hearing_same remaining whole old new input same hearing = subst (λ r. IsHearing remaining whole r input) (sym same) hearing
+
 pub as_before_on : (one two three : Receiver) → IsAsBefore one two → IsAsBefore two three → IsAsBefore one three
 as_before_on one two three h k = record {
   stands = λ bytes stands. k.stands bytes (h.stands bytes stands);

@@ -1,5 +1,4 @@
-//! The threads of a stage: one a connection, one a verifier, and one that turns all sequencers. All parts go through
-//! them, and come back.
+//! The threads of a stage: one a connection, one a verifier, and one that turns all sequencers.
 //!
 //! # How data flows
 //!
@@ -14,32 +13,34 @@
 //!
 //! # Decisions
 //!
-//! - **A scope and promises, and not `Arc`**: what all parts share stays a value of the caller, which `settle` takes after
-//!   the scope. A plain join says nothing of what comes back, so a handle carries a promise (`HeardBy`, `VerifiedBy`,
-//!   `AllPlaced`). What an input had when its thread began is in it as a snapshot, since the input moves into the thread.
+//! - **A scope and promises, and not `Arc`**: what all parts share stays the caller's, for `settle`. A plain join says nothing
+//!   of what comes back, so a handle carries a promise (`HeardBy`, `VerifiedBy`, `AllPlaced`), with a snapshot of the input.
 //! - **What the threads share is one value** (`Env`), and a thread's closure takes its fields one by one: of a closure that
 //!   owns a struct with references no clause is known.
 //! - **A verifier's thread ends by the board's count**: before each turn it asks how many receivers have ended, and ends
 //!   where all had and the turn is Idle. A receiver tells its end after its last put, so no item comes after such a turn.
 //!   The turn is handed the answer and can't ask again, so what it found is later than what was asked (`HasEnded`).
 //! - **Not each thing is called for at once** (docs/PERFORMANCE.md, "A load"): a receiver calls a verifier for every 16th item,
-//!   a verifier the sequencers' thread for every 32nd, and this one calls for room after 16 rounds.
+//!   a verifier the sequencers' thread for every 32nd and receivers for 64 of each, and that thread calls after 16 rounds.
 //! - **No item waits for a thread that sleeps while no other will come to it.** A receiver calls for what is untold before
-//!   a turn that may read or tell a notice, where it is refused memory, and at its end; a verifier before it waits or ends. After a put a
+//!   it waits for a reader, a notice, memory or verifiers, and at its end; a verifier before it waits or ends. After a put a
 //!   verifier sets the lane's bit, unless it is set. The sequencers' thread clears all bits, looks at these lanes, and sets
 //!   the bit of one where it may have left items; so a bit that was found set is cleared before a look that comes after the
 //!   put. It sleeps only where it found none after it said that it waits. Before it ends it looks at all lanes. A gate or a
 //!   notice that keeps a thread also keeps it from calling.
-//! - **A receiver whose item the intake refuses sleeps, and puts it again**: memory is refused, which comes free uncalled.
+//! - **No receiver sleeps at a full part while no verifier will call it** (back_pressure.rt). It sleeps where 32 items or more
+//!   lay in its part after it said that it waits. Then a verifier is awake, was called after the last of them was put, or
+//!   waits for room in a lane, which it is called for: none finds the intake empty before that part is. Each calls all
+//!   receivers that wait after so many takes, and before it waits or ends; so after the take that leaves fewer than 32. A
+//!   verifier ends after all receivers. Where all are to stop, the word calls them. No limit of time or client stops a verifier.
 //! - **In `load_in` no input is read until all threads have been started**: a read of a pipe can't be told to stop. In
 //!   `serve_in` reads wait from the first client on, so where a thread is refused all sockets are shut down.
 //! - **A thread that is told to stop gives no part back** (`PartExit::GaveUp`), and then there is no report, but why it was
 //!   told to. That of the sequencers gives back what it was told. So one that ends by itself doesn't compile.
-//! - **A connection that wasn't accepted has a receiver and a thread as the others**, with a reader that is at its end, of
-//!   which alone a clause knows what is left. That an accept failed, or a client was late, is in no clause.
-//! - **A receiver's thread looks at the phases in every 64th turn**, where its item was refused, and at its end.
+//! - **A connection that wasn't accepted has a receiver and a thread too**, with a reader at its end. Why is in no clause.
 #![tactic(auto)]
 
+mod back_pressure;
 mod env;
 mod loading;
 mod notices;

@@ -8,6 +8,7 @@ ghost use Rattle.lfi_stage_model.specs.Fresh.{IsFresh};
 ghost use Rattle.lfi_thread_loops.specs.declared.receiver_loop.ReceiverExit.TheVariants as receiver_exit;
 ghost use Rattle.lfi_thread_loops.specs.inner.Hearing.{IsHearing, IsAsBefore, IsHeardBy};
 
+use crate::back_pressure::BackPressure;
 use crate::notices::{Notices, SeenRefused};
 use crate::promises::{PartExit, PartId};
 use lfi_receive::{Input, Receiver, ReceiverTurn};
@@ -30,6 +31,8 @@ const REFUSED_PAUSE: u64 = 200;
 struct Watch<'a, N> {
     /// Of items.
     items: Notifier<'a>,
+    /// Of what it is ahead of the verifiers.
+    ahead: BackPressure<'a>,
     /// Where it tells of refused modules, and of which it has told.
     notices: &'a N,
     told: SeenRefused,
@@ -37,13 +40,30 @@ struct Watch<'a, N> {
 }
 
 impl<'a, N> Watch<'a, N> {
-    fn new(lifecycle: &'a Lifecycle, notices: &'a N) -> Watch<'a, N> {
+    /// That of the receiver with this number.
+    fn new(lifecycle: &'a Lifecycle, number: usize, notices: &'a N) -> Watch<'a, N> {
+        let wait_sets = lifecycle.wait_sets();
         Watch {
-            items: Notifier::new(&lifecycle.wait_sets().items, ITEMS_A_CALL),
+            items: Notifier::of_one(&wait_sets.items, ITEMS_A_CALL),
+            ahead: BackPressure::new(&wait_sets.intake_room, number),
             notices,
             told: SeenRefused::new(),
             turns: 0,
         }
+    }
+
+    /// Whether it is to take no turn now, since too many of its items are untaken. Before it waits a verifier is called for
+    /// the items of which none was told yet.
+    fn holds_back<S: Wait>(&mut self, rt: &S, part: PartId<'_>, receiver: &mut Receiver) -> bool
+        requires is { IsReceiver part.shared.now part.number receiver.old }
+        ensures same { receiver.new ≡ receiver.old }
+    {
+        if !self.ahead.is_too_far(part, receiver) {
+            return false;
+        }
+        self.items.tell_rest();
+        self.ahead.pause(rt);
+        true
     }
 
     /// What comes before a turn over this input: where it may wait for the reader, a verifier is called for the items of
@@ -58,7 +78,10 @@ impl<'a, N> Watch<'a, N> {
     /// where memory is, which comes free without a call: so its thread asks for it again after a time.
     fn go_on<S: Wait>(&mut self, rt: &S, lifecycle: &Lifecycle, did: ReceiverTurn) {
         match did {
-            ReceiverTurn::Put => self.items.brought(),
+            ReceiverTurn::Put => {
+                self.items.brought();
+                self.ahead.put();
+            }
             ReceiverTurn::Blocked => {
                 self.items.tell();
                 lifecycle.sleep(rt, Duration::from_micros(REFUSED_PAUSE));
@@ -126,6 +149,9 @@ fn receive_once<S: Wait, R: Read + Drop, N: Notices>(
     if let Some(stopped) = going.lifecycle().stopped() {
         return Some(ReceiverExit::Stopped(stopped));
     }
+    if watch.holds_back(rt, part, receiver) {
+        return None;
+    }
     watch.come_to(input);
     let shared = part.shared;
     let did = receiver.pull(&shared.board, &shared.intake, input);
@@ -155,7 +181,7 @@ pub(crate) fn receive_loop<S: Wait, R: Read + Drop, N: Notices>(
     ensures { IsHeardBy part.entry.shared.now part.entry.number (left_of R.remaining input) result }
 {
     let going = lifecycle.wait_for_go(rt);
-    let mut watch = Watch::new(lifecycle, notices);
+    let mut watch = Watch::new(lifecycle, part.number, notices);
     for _ in rt.forever() {
         match receive_once(rt, part, going, &mut receiver, &mut input, &mut watch) {
             None => {}

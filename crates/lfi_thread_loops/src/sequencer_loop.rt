@@ -9,7 +9,7 @@ use crate::promises::Placed;
 use lfi_module::ModuleNumber;
 use lfi_sequence::{Sequencer, SequencerTurn};
 use lfi_stage_model::Shared;
-use lfi_sync::{LaneSet, Lifecycle, WaitSet, Waiter};
+use lfi_sync::{LaneSet, Lifecycle, Notifier, Waiter};
 use std::sync::Wait;
 
 /// How many items of its lane a sequencer takes in a row, at most: half a lane.
@@ -130,31 +130,27 @@ const ROUNDS_A_CALL: u32 = 16;
 struct SequencerPace<'a> {
     /// Until there are judged items.
     rest: Waiter<'a>,
-    lane_room: &'a WaitSet,
-    /// How many rounds there were since it called verifiers.
-    rounds: u32,
+    /// Of room in the lanes, by rounds.
+    room: Notifier<'a>,
 }
 
 impl<'a> SequencerPace<'a> {
     fn new(lifecycle: &'a Lifecycle) -> SequencerPace<'a> {
+        let wait_sets = lifecycle.wait_sets();
         SequencerPace {
-            rest: Waiter::new(&lifecycle.wait_sets().judged, 0),
-            lane_room: &lifecycle.wait_sets().lane_room,
-            rounds: 0,
+            rest: Waiter::new(&wait_sets.judged, 0),
+            room: Notifier::of_all(&wait_sets.lane_room, ROUNDS_A_CALL),
         }
     }
 
     /// What follows a round of turns, in which an item was taken or none was. Verifiers are called
     /// for more than one place: a lane's items are taken faster than a thread wakes.
     fn go_on<S: Wait>(&mut self, rt: &S, worked: bool) {
-        self.rounds = self.rounds.saturating_add(1);
-        if !worked || self.rounds >= ROUNDS_A_CALL {
-            self.rounds = 0;
-            self.lane_room.call_all();
-        }
         if worked {
+            self.room.brought();
             self.rest.end();
         } else {
+            self.room.tell();
             self.rest.pause(rt);
         }
     }

@@ -51,6 +51,14 @@ fn turn_one<S: Wait, G: Gate>(
 /// For how many judged items a verifier calls the sequencers' thread, at the latest: half a lane.
 const JUDGED_A_CALL: u32 = 32;
 
+/// For how many items of each receiver a verifier calls the receivers that wait, at the latest.
+const TAKEN_A_CALL: u64 = 64;
+
+/// After how many items that it took a verifier calls the receivers that wait, where there are so many receivers.
+fn taken_a_call(receivers: u64) -> u32 {
+    u32::try_from(TAKEN_A_CALL.saturating_mul(receivers)).unwrap_or(u32::MAX)
+}
+
 /// How a verifier's thread waits, and tells others of what it brings them.
 #[derive(Drop)]
 struct VerifierPace<'a> {
@@ -62,22 +70,26 @@ struct VerifierPace<'a> {
     blocked: Waiter<'a>,
     /// Of judged items.
     judged: Notifier<'a>,
+    /// Of room in the intake.
+    taken: Notifier<'a>,
 }
 
 impl<'a> VerifierPace<'a> {
-    /// That of the verifier with this number.
-    fn new(lifecycle: &'a Lifecycle, number: usize) -> VerifierPace<'a> {
+    /// That of this verifier.
+    fn new(lifecycle: &'a Lifecycle, part: PartId<'_>) -> VerifierPace<'a> {
         let wait_sets = lifecycle.wait_sets();
+        let receivers = part.shared.receivers;
         VerifierPace {
             lifecycle,
-            idle: Waiter::new(&wait_sets.items, number),
-            blocked: Waiter::new(&wait_sets.lane_room, number),
-            judged: Notifier::new(&wait_sets.judged, JUDGED_A_CALL),
+            idle: Waiter::new(&wait_sets.items, part.number),
+            blocked: Waiter::new(&wait_sets.lane_room, part.number),
+            judged: Notifier::of_one(&wait_sets.judged, JUDGED_A_CALL),
+            taken: Notifier::of_all(&wait_sets.intake_room, taken_a_call(receivers)),
         }
     }
 
-    /// Tells the sequencers' thread of what a turn of this verifier brought it that did this: of the lane at once, but it is
-    /// called not for each judged item, and before this thread waits or ends.
+    /// Tells the others of what a turn of this verifier brought them that did this: the sequencers' thread of the lane at
+    /// once. It and the receivers are called not for each item, and before this thread waits or ends.
     fn tell(&mut self, verifier: &Verifier, did: VerifierTurn) {
         match did {
             VerifierTurn::Worked => {
@@ -85,9 +97,16 @@ impl<'a> VerifierPace<'a> {
                     self.lifecycle.tell_filled(module);
                 }
                 self.judged.brought();
+                self.taken.brought();
             }
-            VerifierTurn::Blocked => self.judged.tell(),
-            VerifierTurn::Idle => self.judged.tell_rest(),
+            VerifierTurn::Blocked => {
+                self.judged.tell();
+                self.taken.tell();
+            }
+            VerifierTurn::Idle => {
+                self.judged.tell_rest();
+                self.taken.tell_rest();
+            }
             VerifierTurn::Again => {}
         }
     }
@@ -150,7 +169,7 @@ fn verify_on<S: Wait, G: Gate>(
     ensures is { IsVerifierOf part.entry.shared.now part.entry.number verifier.new }
     ensures ended { EndsAsTold result part.entry.shared.now verifier.new }
 {
-    let mut pace = VerifierPace::new(lifecycle, part.number);
+    let mut pace = VerifierPace::new(lifecycle, part);
     for _ in rt.forever() {
         let all_ended = have_all_ended(part, verifier);
         if let Some(exit) = verify_once(rt, part, gate, verifier, all_ended, &mut pace) {

@@ -62,6 +62,21 @@ fn more_than_256(rt: HostRuntime) {
     assert!(rt; put == 1000 && is_emptied(&intake, &mut takes[0], 1000));
 }
 
+/// Of two parts, which hold three items and one, the first item of each is taken.
+#[test]
+fn untaken_items(rt: HostRuntime) {
+    let (intake, mut puts, mut takes) = Intake::<u64>::new(rt.alloc(), 2, 1).expect(
+        &rt,
+        "no intake",
+    );
+    fill(&intake, &mut puts[0], 0, 3);
+    fill(&intake, &mut puts[1], 1, 1);
+    let held = [intake.untaken(&mut puts[0]), intake.untaken(&mut puts[1])];
+    let came = take_some(&intake, &mut takes[0], 2);
+    let left = [intake.untaken(&mut puts[0]), intake.untaken(&mut puts[1])];
+    assert!(rt; held == [3, 1] && came == 2 && left == [2, 0]);
+}
+
 #[test]
 fn parts_by_turns(rt: HostRuntime) {
     let (intake, mut puts, mut takes) = Intake::<u64>::new(rt.alloc(), 2, 1).expect(
