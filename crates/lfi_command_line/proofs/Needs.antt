@@ -74,12 +74,12 @@ subcommand_asks (Some p) some none =
         (inr refl, (inr refl, (inl refl, (inl refl, (inl refl, (inl refl, tt)))))) e
     go false true c d f g h j has e =
         level_gives load_shape p.1
-        (inl (refl, refl, refl), (inl (refl, refl, tt), (inr (inl (refl, refl, tt)), (inr (inr (inl (refl, tt, refl))), (inr (inr (inr (inl refl))), tt)))))
-        (inl refl, (inl refl, (inl refl, (inr refl, (inl refl, tt))))) e
+        (inl (refl, refl, refl), (inl (refl, refl, tt), (inr (inl (refl, refl, tt)), (inr (inr (inl (refl, tt, refl))), (inl (refl, refl, tt), (inr (inr (inr (inl refl))), tt))))))
+        (inl refl, (inl refl, (inl refl, (inr refl, (inl refl, (inl refl, tt)))))) e
     go false false true d f g h j has e =
         level_gives serve_shape p.1
-        (inl (refl, refl, tt), (inl (refl, refl, refl), (inl (refl, refl, refl), (inl (refl, refl, refl), (inl (refl, refl, tt), (inr (inr (inl (refl, tt, refl))), (inr (inr (inr (inl refl))), tt)))))))
-        (inl refl, (inl refl, (inl refl, (inl refl, (inl refl, (inr refl, (inl refl, tt))))))) e
+        (inl (refl, refl, tt), (inl (refl, refl, refl), (inl (refl, refl, refl), (inl (refl, refl, refl), (inl (refl, refl, tt), (inr (inr (inl (refl, tt, refl))), (inl (refl, refl, tt), (inr (inr (inr (inl refl))), tt))))))))
+        (inl refl, (inl refl, (inl refl, (inl refl, (inl refl, (inr refl, (inl refl, (inl refl, tt)))))))) e
     go false false false true f g h j has e =
         level_gives run_shape p.1
         (inl (refl, refl, refl), (inl (refl, refl, tt), (inl (refl, refl, tt), (inr (inr (inr (inl refl))), tt))))

@@ -46,17 +46,17 @@ abbrev pub check_app : App
 check_app = with_rule (with_rule (with_rule (with_rule (with_rule (new_app (codes "check")) (flag_rule (codes "explain"))) (flag_rule (codes "all"))) profile_rule) (several_rule (codes "FILE")))
     format_rule
 
--- `load [--verifiers V] [--out DIR] [--explain] STREAM..`
+-- `load [--verifiers V] [--out DIR] [--explain] [--format F] STREAM..`
 abbrev pub load_app : App
-load_app = with_rule (with_rule (with_rule (with_rule (new_app (codes "load")) (number_rule (codes "verifiers") (Unsigned 1 8))) (option_rule (codes "out"))) (several_rule (codes "STREAM")))
-    (flag_rule (codes "explain"))
+load_app = with_rule (with_rule (with_rule (with_rule (with_rule (new_app (codes "load")) (number_rule (codes "verifiers") (Unsigned 1 8))) (option_rule (codes "out"))) (several_rule (codes "STREAM")))
+    (flag_rule (codes "explain"))) format_rule
 
--- `serve --socket P --connections C [--verifiers V] [--seconds N] [--out DIR] [--explain]`
+-- `serve --socket P --connections C [--verifiers V] [--seconds N] [--out DIR] [--explain] [--format F]`
 abbrev pub serve_app : App
-serve_app = with_rule (with_rule (with_rule (with_rule (with_rule (with_rule (new_app (codes "serve"))
+serve_app = with_rule (with_rule (with_rule (with_rule (with_rule (with_rule (with_rule (new_app (codes "serve"))
     (needed (option_rule (codes "socket")))) (needed (number_rule (codes "connections") (Unsigned 1 8))))
     (number_rule (codes "verifiers") (Unsigned 1 8))) (number_rule (codes "seconds") (Unsigned 1 86400)))
-    (option_rule (codes "out"))) (flag_rule (codes "explain"))
+    (option_rule (codes "out"))) (flag_rule (codes "explain"))) format_rule
 
 -- `run IMAGE --steps N [--format F]`
 abbrev pub run_app : App

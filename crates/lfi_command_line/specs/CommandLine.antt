@@ -71,9 +71,9 @@ format_named (Some text) = if bytes_eq text (codes "text") then Some formats.Tex
 abbrev pub IsFormat : List Row → Format → Type 0
 IsFormat given format = format_named (first_of (codes "format") given) ≡ Some format
 
--- what is given asks for this beside a report
+-- what is given asks for a report that is told so, and for this beside it
 abbrev pub IsReportAsked : List Row → ReportOptions → Type 0
-IsReportAsked given asked = IsFlag (one_of (codes "explain") given) asked.explain × (first_of (codes "out") given ≡ option_map (λ s. s.now) asked.out)
+IsReportAsked given asked = IsFlag (one_of (codes "explain") given) asked.explain × (first_of (codes "out") given ≡ option_map (λ s. s.now) asked.out) × IsFormat given asked.format
 
 -- a subcommand of this name, with what was given to it, asks for this line
 abbrev pub IsAskedBy : (name : Text) → List Row → Line → Type 0

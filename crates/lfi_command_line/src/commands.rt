@@ -208,7 +208,8 @@ fn load_command<'a>(alloc: Global) -> Result<Command<'a>, AllocError>
     let verifiers = with(Ok(load), verifiers_argument(alloc));
     let out = with(verifiers, out_argument(alloc));
     let streams = with(out, several_arguments(alloc, "STREAM", help::STREAM));
-    with(streams, explain_modules(alloc))
+    let explain = with(streams, explain_modules(alloc));
+    with(explain, format_argument(alloc))
 }
 
 /// The command `serve` and its words.
@@ -226,7 +227,8 @@ fn serve_command<'a>(alloc: Global) -> Result<Command<'a>, AllocError>
         number_argument(alloc, "seconds", "N", help::SECONDS, (1, MOST_SECONDS)),
     );
     let out = with(seconds, out_argument(alloc));
-    with(out, explain_modules(alloc))
+    let explain = with(out, explain_modules(alloc));
+    with(explain, format_argument(alloc))
 }
 
 /// The command `run` and its words.

@@ -135,13 +135,22 @@ fn profile_of(matches: &ArgMatches<'_>) -> Profile
     }
 }
 
-/// What is asked for beside a report: by `load`, or by `serve`.
-fn report_options<'a>(matches: &ArgMatches<'a>) -> ReportOptions<'a>
-    ensures { IsReportAsked (rows_of (found_of matches.now)) result }
+/// How a report is to be told, and what is asked for beside it: by `load`, or by `serve`.
+///
+/// # Errors
+///
+/// Where there is no such form of the answer.
+fn report_options<'a>(matches: &ArgMatches<'a>) -> Result<ReportOptions<'a>, LineFault>
+    ensures asked { IfOk result (IsReportAsked (rows_of (found_of matches.now))) }
+    ensures fault { IfErr result (IsFaultOfFormat (rows_of (found_of matches.now))) }
 {
-    ReportOptions {
-        out: matches.get_str("out"),
-        explain: is_given(matches, "explain"),
+    match format_of(matches) {
+        Ok(format) => Ok(ReportOptions {
+            out: matches.get_str("out"),
+            explain: is_given(matches, "explain"),
+            format,
+        }),
+        Err(fault) => Err(fault),
     }
 }
 
@@ -149,37 +158,49 @@ fn report_options<'a>(matches: &ArgMatches<'a>) -> ReportOptions<'a>
 ///
 /// # Errors
 ///
-/// Where there is no memory to list the streams.
+/// Where there is no such form of the answer, or no memory to list the streams.
 pub(crate) fn load_line<'a>(alloc: Global, load: &ArgMatches<'a>) -> Result<Line<'a>, LineFault>
     requires streams { is_some (first_of (codes "STREAM") (rows_of (found_of load.now))) ≡ true }
     requires verifiers { IsNumberGiven 1 8 (codes "verifiers") (rows_of (found_of load.now)) }
     ensures line { IfOk result (IsAskedBy (codes "load") (rows_of (found_of load.now))) }
-    ensures fault { IfErr result IsNoMemory }
+    ensures fault { IfErr result (IsFaultOfFormat (rows_of (found_of load.now))) }
 {
+    let report = match report_options(load) {
+        Ok(report) => report,
+        Err(fault) => return Err(fault),
+    };
     let streams = Vec::from_slice(alloc, load.get_strs("STREAM").unwrap())?;
     Ok(Line::Load(LoadOptions {
         verifiers: number_or(load, "verifiers", VERIFIERS) as usize,
         streams,
-        report: report_options(load),
+        report,
     }))
 }
 
 /// What `serve` asks for.
-pub(crate) fn serve_line<'a>(serve: &ArgMatches<'a>) -> Line<'a>
+///
+/// # Errors
+///
+/// Where there is no such form of the answer.
+pub(crate) fn serve_line<'a>(serve: &ArgMatches<'a>) -> Result<Line<'a>, LineFault>
     requires socket { is_some (first_of (codes "socket") (rows_of (found_of serve.now))) ≡ true }
     requires connections { is_some (first_of (codes "connections") (rows_of (found_of serve.now))) ≡ true }
     requires connection_count { IsNumberGiven 1 8 (codes "connections") (rows_of (found_of serve.now)) }
     requires verifiers { IsNumberGiven 1 8 (codes "verifiers") (rows_of (found_of serve.now)) }
     requires seconds { IsNumberGiven 1 86400 (codes "seconds") (rows_of (found_of serve.now)) }
-    ensures { IsAskedBy (codes "serve") (rows_of (found_of serve.now)) result }
+    ensures line { IfOk result (IsAskedBy (codes "serve") (rows_of (found_of serve.now))) }
+    ensures fault { IfErr result (IsFaultOfFormat (rows_of (found_of serve.now))) }
 {
-    Line::Serve(ServeOptions {
-        socket: serve.get_str("socket").unwrap(),
-        connections: number_or(serve, "connections", 0) as usize,
-        verifiers: number_or(serve, "verifiers", VERIFIERS) as usize,
-        seconds: number_if_any(serve, "seconds"),
-        report: report_options(serve),
-    })
+    match report_options(serve) {
+        Ok(report) => Ok(Line::Serve(ServeOptions {
+            socket: serve.get_str("socket").unwrap(),
+            connections: number_or(serve, "connections", 0) as usize,
+            verifiers: number_or(serve, "verifiers", VERIFIERS) as usize,
+            seconds: number_if_any(serve, "seconds"),
+            report,
+        })),
+        Err(fault) => Err(fault),
+    }
 }
 
 /// What `run` asks for.

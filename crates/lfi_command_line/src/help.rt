@@ -109,8 +109,9 @@ With --format json it prints {\"files\":[..]} in place of these lines, with an o
                          \"bytes\", 16777217 where there are as many or more.
   \"explanation\", \"mend\"  With --explain: the text of the fault; the instructions in the place of the
                          word, or null.
-  \"refused\"              With --all: an object for each word that breaks a rule, with \"word\", \"rule\",
-                         \"explanation\" and \"mend\"; \"words_refused\" and \"words_with_a_mend\" follow.
+  \"refused\"              With --all: an object for each word that breaks a rule, with \"word\",
+                         \"rule\", \"explanation\" and \"mend\"; \"words_refused\" and \"words_with_a_mend\"
+                         follow.
   \"file\"                 Of one that isn't lawful: the text of the line `file:`, if there is one.
   \"error\"                Of one that can't be read, beside \"path\": the text behind `lfiload: `.
 
@@ -162,6 +163,22 @@ and then for each connection C with a fault or with strays:
 With --out DIR, the image of each complete module M is written to DIR/module-MM.img, M in two
 digits, in place of what stands there.
 
+With --format json images are written first, and then it prints one object in place of these lines,
+{\"modules\":[..],\"connections\":[..],\"strays\":N,\"images\":[..]}. Each of the 16 modules has:
+  \"module\", \"outcome\"    Its number; and \"unused\", \"complete\" with \"words\", \"refused\" with \"word\"
+                         and \"rule\", \"incomplete\" with \"pages\" and \"of\", \"lost\" with \"fault\", \"page
+                         fault\" with \"index\", or \"no memory\".
+  \"explanation\", \"mend\"  With --explain, of a refused one: as check prints them.
+  \"connection\"           The one from which it is loaded.
+Each connection has:
+  \"connection\", \"path\"   Its number and its file.
+  \"strays\"               Its own.
+  \"fault\", \"reason\"      Its fault, if it has one, by number and in words;
+  \"byte\", \"file\"         where the message begins; the text of the line `file:`, if there is one;
+  \"read_error\"           and why the read failed, if the system tells.
+Each image that is to be written has:
+  \"path\", \"error\"        Its file; and if it can't be written, the text behind `lfiload: `.
+
 On the standard error:
   module M refused            A connection's thread has seen that module M is refused; the report
                               tells why.
@@ -170,8 +187,10 @@ On the standard error:
   lfiload: connection C: cannot read
                               A read of stream C failed (status 3).
   lfiload: at most 8 streams  More were named (status 2).
-  lfiload: no memory          There was no memory to load them, or a thread could not be started
-                              (status 3).
+  lfiload: --format is text or json
+                              F is another word (status 2).
+  lfiload: no memory          There was no memory to load them or for the object, or a thread could
+                              not be started (status 3).
 
 Example: lfiload load --verifiers 4 --out images a.stream b.stream";
 
@@ -186,6 +205,10 @@ With --seconds N it waits for N seconds at the most. A connection that has not c
 messages (status 3), and one that is open ends where it is, as if its client had closed it (status 1
 or 3, also where its modules are complete).
 
+With --format json it prints the object of load. In place of \"path\" each connection has:
+  \"client\"               \"heard\", \"cut off\" or \"not come\" when the time was over, or \"not taken\";
+  \"client_error\"         and why it was not taken, if the system tells.
+
 The path is removed after the last connection, and when the time is over. A signal ends the program
 at once and leaves the path; serve can't listen there again before it is removed.
 
@@ -198,6 +221,8 @@ On the standard error:
   lfiload: time is over: connection C
                               It had not come (status 3), or had not ended (status 1 or 3).
   lfiload: cannot write PATH  An image can't be written (status 3).
+  lfiload: --format is text or json
+                              F is another word (status 2).
   lfiload: no memory          There was no memory, or a thread could not be started (status 3).
 
 Example: lfiload serve --socket /tmp/lfi.sock --connections 2 --seconds 60 --out images";
@@ -301,6 +326,9 @@ pub const INFO: &str = "Prints for each file what it is, and what it holds:
     byte B: fault F, TEXT  The stream's fault (status 1).
   an ELF file; TEXT       And how its code is taken out (status 1).
   no code, N bytes        None of these (status 1).
+  too long, more than 269222272 bytes
+                          It is longer than a stream of 16 whole modules of the most words; no more
+                          of it is read (status 1).
 Where several files are named, the path of each and a colon stand before its first line, and the
 status is the worst of theirs. Each is read whole.
 

@@ -54,7 +54,7 @@ fn line_of<'a>(alloc: Global, matches: &ArgMatches<'a>) -> Result<Line<'a>, Line
         return load_line(alloc, load);
     }
     if let Some(serve) = matches.subcommand_matches("serve") {
-        return Ok(serve_line(serve));
+        return serve_line(serve);
     }
     if let Some(disassemble) = matches.subcommand_matches("disassemble") {
         return Ok(disassemble_line(disassemble));

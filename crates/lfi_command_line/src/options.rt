@@ -39,13 +39,14 @@ pub struct InfoOptions<'a> {
     pub files: Vec<&'a str>,
 }
 
-/// What is asked for beside a report.
+/// How a report is told, and what is asked for beside it.
 #[derive(Clone, Copy)]
 pub struct ReportOptions<'a> {
     /// The folder to which the whole images are written; none, where they aren't written.
     pub out: Option<&'a str>,
     /// Whether it is explained why modules are refused, and what is wrong with connections.
     pub explain: bool,
+    pub format: Format,
 }
 
 /// `load`: the modules of the streams in these files are loaded, one connection each.

@@ -20,7 +20,7 @@ use Rattle.lfi_file_commands.specs.declared.ending.Ending.{Ending}
 use Rattle.lfi_file_commands.specs.declared.ending.Ending.TheVariants.{Well, NotWell, WrongWords, Failed}
 use Rattle.lfi_file_commands.specs.Checking.{ending_of, verdict_of}
 use Rattle.lfi_file_commands.specs.Explaining.{ChecksAs, ChecksObject, ChecksOne, ChecksPath, paths_of}
-use Rattle.lfi_file_commands.specs.Info.{IsInfo, TellsNamed, TellsOne, ending_of_fault, fault_of}
+use Rattle.lfi_file_commands.specs.Info.{IsInfo, IsShortInfo, TellsNamed, TellsOne, ending_of_fault, fault_of}
 use Rattle.lfi_file_commands.specs.Info as infos
 use Rattle.lfi_file_commands.specs.Kinds.{file_kind}
 use Rattle.lfi_file_commands.specs.Several.{AreDone, DoesEach}
@@ -33,6 +33,11 @@ use Rattle.lfi_file_commands.specs.declared.no_code.NoCode.{NoCode}
 use Rattle.lfi_file_commands.specs.Endings.{ending_of_halt, ending_of_run, number_of, EndsUnlessLost}
 use Rattle.lfi_commands.specs.Clients.{are_all_in_time, are_all_taken, EndsServing}
 use Rattle.lfi_commands.specs.Endings.{EndsLoad}
+use Rattle.lfi_commands.specs.Loading.{folder_of, of_files, streams_of, EndsObject, LacksObject, TellsAs}
+use Rattle.lfi_commands.specs.Objects.{IsObject, Sources}
+use Rattle.lfi_commands.specs.Serving.{of_served}
+use Rattle.lfi_file_commands.specs.Images.{folder_or_none}
+use Rattle.lfi_command_line.specs.declared.options.ReportOptions.{ReportOptions}
 use Rattle.lfi_file_commands.specs.Left.{Left, left, OnlyOutput}
 use Rattle.lfi_file_commands.specs.Running.{EndsRun}
 use Rattle.lfi_file_commands.specs.Failures.{failure_line, is_of_output, Told, TellsLines}
@@ -64,13 +69,22 @@ by_load report true true ends = ends
 by_load report true false ends = cc
 by_load report false all_put ends = cc
 
-by_serve : (in_time is_lost : Bool) (report : Report) (all_taken all_put : Bool) (loads : Ending) → EndsLoad report all_taken all_put loads → EndsServing in_time is_lost loads WrongWords → ⊥
-by_serve true is_lost report all_taken all_put loads did ends = by_load report all_taken all_put (subst (EndsLoad report all_taken all_put) (sym ends) did)
-by_serve false true report all_taken all_put loads did ends = cc
-by_serve false false report all_taken all_put Well did ends = cc
-by_serve false false report all_taken all_put NotWell did ends = cc
-by_serve false false report all_taken all_put WrongWords did ends = by_load report all_taken all_put did
-by_serve false false report all_taken all_put Failed did ends = cc
+by_report : (format : Format) (report : Report) (sources : Sources) (asked : ReportOptions) (old new : Left) (ending : Ending) → TellsAs format report sources asked old new ending → ending ≡ WrongWords → ⊥
+by_report Text report sources asked old new ending told is = by_load report (are_all_taken sources.clients) told.all (subst (EndsLoad report (are_all_taken sources.clients) told.all) is told.ends)
+by_report Json report sources asked old new ending told is = go told.ends
+  where
+    go : ((object : List ℕ) × IsObject report sources asked.explain (folder_or_none (folder_of asked)) told.puts.fates object × EndsObject report sources told.all object told.images new ending)
+        ⊎ LacksObject told.images new ending → ⊥
+    go (inl ends) = by_load report (are_all_taken sources.clients) told.all (subst (EndsLoad report (are_all_taken sources.clients) told.all) is ends.2.2)
+    go (inr lacks) = failed_ends (sym is ∙ lacks.4)
+
+by_serve : (in_time is_lost : Bool) (loads : Ending) → (loads ≡ WrongWords → ⊥) → EndsServing in_time is_lost loads WrongWords → ⊥
+by_serve true is_lost loads not_wrong ends = not_wrong (sym ends)
+by_serve false true loads not_wrong ends = failed_ends ends
+by_serve false false Well not_wrong ends = not_well_ends ends
+by_serve false false NotWell not_wrong ends = not_well_ends ends
+by_serve false false WrongWords not_wrong ends = not_wrong refl
+by_serve false false Failed not_wrong ends = failed_ends ends
 
 by_halt : (halt : Halt) → WrongWords ≡ ending_of_halt halt → ⊥
 by_halt halts.StepsUsed ends = cc
@@ -137,8 +151,12 @@ by_info kinds.Stream bytes text ending info is = by_stream (fault_of info.1) (sy
 by_info kinds.Plain bytes text ending (inl code) is = well_ends (sym is ∙ code.2)
 by_info kinds.Plain bytes text ending (inr other) is = not_well_ends (sym is ∙ other.2)
 
+by_short : (is_long : Bool) (bytes text : List ℕ) (ending : Ending) → IsShortInfo is_long bytes text ending → ending ≡ WrongWords → ⊥
+by_short true bytes text ending info is = not_well_ends (sym is ∙ info.1)
+by_short false bytes text ending info is = by_info (file_kind bytes) bytes text ending info is
+
 by_told : (name path : List ℕ) (known : Option (List ℕ)) (old new : Left) (ending : Ending) → TellsNamed name path known old new ending → ending ≡ WrongWords → ⊥
-by_told name path known old new ending (inl told) is = by_info (file_kind told.info.bytes) told.info.bytes told.text ending told.info.info is
+by_told name path known old new ending (inl told) is = by_short (nat_lt infos.most_told (length told.info.bytes)) told.info.bytes told.text ending told.info.info is
 by_told name path known old new ending (inr unread) is = failed_ends (sym is ∙ unread.5)
 
 by_listing : (other : Option NoCode) (is_lost : Bool) → EndsListing other is_lost WrongWords → ⊥
@@ -152,11 +170,11 @@ by_unpack bytes old new (inr told) = by_run new.is_lost (image_run.Refused told.
 
 by_line : (line : Line) (file_at : List ℕ → Option (List ℕ)) (old new : Left) → CarriesOut line file_at old new WrongWords → ⊥
 by_line (Check asked) file_at old new carried = by_checks asked.format asked file_at old new carried.did
-by_line (Load asked) file_at old new carried = by_load carried.report true carried.told.all carried.told.ends
+by_line (Load asked) file_at old new carried = by_report asked.report.format carried.report (of_files (streams_of asked) carried.kinds) asked.report old new WrongWords carried.told refl
 by_line (Serve asked) file_at old new carried =
     let told = carried.told in
-    let fates = carried.found.clients.fates in
-    by_serve (are_all_in_time fates) new.is_lost carried.found.report (are_all_taken fates) told.reported.all told.by_load told.reported.ends told.ends
+    by_serve (are_all_in_time carried.found.clients.fates) new.is_lost told.by_load
+    (by_report asked.report.format carried.found.report (of_served asked.connections carried.found) asked.report old told.before told.by_load told.reported) told.ends
 by_line (Run asked) file_at old new carried = by_run new.is_lost carried.run carried.ends
 by_line (Disassemble asked) file_at old new carried = by_listing carried.other new.is_lost carried.ends
 by_line (Pack asked) file_at old new carried = carried.found

@@ -1,9 +1,11 @@
 -- What is left of the inputs of files.
-use Rattle.std.proofs.Common.{◌≡◌, ℕ, zero, suc, ◌<◌, List, [], ◌∷◌, Option, Some, length, map, slice_get, refl, ap, subst, arith}
+use Rattle.std.proofs.Common.{◌≡◌, ◌∙◌, Bor, ℕ, zero, suc, ◌<◌, List, [], ◌∷◌, Option, Some, length, map, slice_get, refl, sym, ap, subst, arith}
 use Rattle.std.proofs.lemmas.Option.{slice_get_within}
 use Rattle.lfi_receive.specs.declared.input.Input.{Input}
 use Rattle.lfi_receive.specs.Inputs.{left_of}
-use Rattle.lfi_commands.specs.Loading.{AreKnown}
+use Rattle.std.specs.declared.io.ErrorKind.{ErrorKind}
+use Rattle.std.proofs.lemmas.List.{length-map}
+use Rattle.lfi_commands.specs.Loading.{AreKnown, of_files}
 use Rattle.lfi_file_commands.specs.Opening.{AreInputsOf, IsInputOf}
 
 element : {A : Type 0} (xs : List A) (k : ℕ) → k < length xs → (x : A) × (slice_get xs k ≡ Some x)
@@ -23,3 +25,8 @@ known_left {R} {remaining} ts is bytes are known c input at =
 pub map_twice : {A B C : Type 0} (f : B → C) (g : A → B) (xs : List A) → map f (map g xs) ≡ map (λ x. f (g x)) xs
 map_twice f g [] = refl
 map_twice f g (x ∷ xs) = ap (λ l. f (g x) ∷ l) (map_twice f g xs)
+
+-- what is known of the connections of files
+pub files_known : (paths : List (Bor (List ℕ))) (count : ℕ) (kinds : List (Option ErrorKind)) → count ≡ length paths
+    → record { count = count; paths = map (λ p. p.now) paths; clients = []; kinds = kinds } ≡ of_files (map (λ p. p.now) paths) kinds
+files_known paths count kinds is = ap (λ n. record { count = n; paths = map (λ p. p.now) paths; clients = []; kinds = kinds }) (is ∙ sym (length-map paths (λ p. p.now)))

@@ -3,3 +3,4 @@ mod Ended
 mod Failing
 mod Inputs
 mod Explaining
+mod ModuleObjects

@@ -31,7 +31,7 @@ fn tell_late<E: Write>(number: usize, errors: &mut Errors<E>)
 }
 
 /// The cause by the kind of an error, where it was told.
-fn cause_told(kind: Option<ErrorKind>) -> DeviceCause
+pub(crate) fn cause_told(kind: Option<ErrorKind>) -> DeviceCause
     ensures { result ≡ cause_told kind }
 {
     match kind {

@@ -5,6 +5,7 @@ ghost use Rattle.std.specs.Fmt.{WritesOnOk};
 ghost use Rattle.std.specs.Io.KnownBytes.{Appends};
 ghost use Rattle.lfi_commands.specs.Explained.{holder_line, holder_lines, is_of_header, first_kind, first_line, of_text, fault_lines, strays_line, connection_lines, all_connection_lines, TellsExplained};
 
+use crate::sources::path_at;
 use lfi_file_commands::{FileKind, KindLine, write_refused, write_text};
 use lfi_frame::FrameFault;
 use lfi_module::{CONNECTIONS, ModuleNumber};
@@ -58,7 +59,7 @@ fn is_of_header(fault: FrameFault) -> bool
 }
 
 /// What the bytes of a connection are, where its first header has the fault.
-fn first_kind(fault: FrameFault, start: &MessageStart) -> Option<FileKind>
+pub(crate) fn first_kind(fault: FrameFault, start: &MessageStart) -> Option<FileKind>
     ensures { result ≡ first_kind fault start.now }
 {
     if is_of_header(fault) && start.byte == 0 {
@@ -138,22 +139,11 @@ fn write_strays<W: fmt::Write>(number: usize, strays: u64, f: &mut fmt::Formatte
 }
 
 /// Where the message begins at which a connection ended.
-fn start_at(starts: &[MessageStart; CONNECTIONS], number: usize) -> MessageStart
+pub(crate) fn start_at(starts: &[MessageStart; CONNECTIONS], number: usize) -> MessageStart
     requires { number < 8 }
     ensures { slice_get starts.now number ≡ Some result }
 {
     starts[number]
-}
-
-/// The path of a connection's stream, where it has one.
-fn path_at<'a>(paths: &[&'a str], number: usize) -> Option<&'a str>
-    ensures { slice_get (map (λ path. path.now) paths.now) number ≡ option_map (λ path. path.now) result }
-{
-    if number < paths.len() {
-        Some(paths[number])
-    } else {
-        None
-    }
 }
 
 /// Writes what is told of one of these connections, which has this fault.

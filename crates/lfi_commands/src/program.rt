@@ -5,27 +5,32 @@ ghost use Rattle.lfi_command_line.specs.CommandLine.{IsLine, IsLineFault};
 ghost use Rattle.lfi_command_line.specs.Flaws.{flaw_of};
 ghost use Rattle.lfi_file_commands.specs.Failures.{is_of_output, FailsLoading, FailsServing};
 ghost use Rattle.lfi_file_commands.specs.Left.{OnlyOutput};
-ghost use Rattle.lfi_commands.specs.Loading.{streams_of, HasLoaded, TellsReport};
+ghost use Rattle.lfi_commands.specs.Loading.{streams_of, HasLoaded, TellsAs, TellsObject, TellsReport};
 ghost use Rattle.lfi_commands.specs.Serving.{HasServedAll, IsLimit, TellsServed};
 ghost use Rattle.lfi_commands.specs.Runs.{FailsAs, CarriesOut, Runs};
+ghost use Rattle.lfi_commands.specs.inner.Known.{known_of};
 ghost use Rattle.lfi_commands.specs.inner.Ranges.{IsForFiles, IsInRange};
 
 use crate::clients::{are_all_taken, ending_of_serve, tell_fates, tell_reads};
 use crate::ending::ending_of_load;
+use crate::objects::write_report_object;
 use crate::reporting::write_told;
-use lfi_command_line::{Line, LineFault, LoadOptions, ReportOptions, ServeOptions, read_line};
+use crate::sources::Sources;
+use lfi_command_line::{
+    Format, Line, LineFault, LoadOptions, ReportOptions, ServeOptions, read_line,
+};
 use lfi_file_commands::{
-    DeviceCause, Disk, Ending, Failure, ImageStore, Outputs, ended, open_all, run_check,
-    run_disassemble, run_info, run_pack, run_run, run_unpack, tell_failure, write_asked_images,
+    DeviceCause, Disk, Ending, Failure, ImageItems, ImageStore, Outputs, ended, open_all,
+    run_check, run_disassemble, run_info, run_pack, run_run, run_unpack, tell_failure,
+    write_asked_images,
 };
 use lfi_loader::{Acceptor, Notices, Served, StageSize, load_all, serve_on};
-use lfi_module::CONNECTIONS;
 use lfi_sequence::OpenGate;
 use lfi_stage::Report;
 use lfi_sync::ReadErrors;
 use std::alloc::Global;
 use std::fs::Files;
-use std::io::{ErrorKind, Write};
+use std::io::Write;
 use std::net::Net;
 use std::os::unix::net::UnixListener;
 use std::rt::Clock;
@@ -33,27 +38,16 @@ use std::sync::Wait;
 use std::thread::Threads;
 use std::time::Duration;
 
-/// What is known of the connections of a load, beside its report.
-#[derive(Clone, Copy)]
-struct Sources<'a> {
-    /// The paths of their streams, by their numbers, where they have any.
-    paths: &'a [&'a str],
-    /// The kinds of the errors of reads, by their numbers, where one failed.
-    kinds: [Option<ErrorKind>; CONNECTIONS],
-    /// Whether all were taken.
-    all_taken: bool,
-}
-
 /// Writes the text of a report, then what is asked for beside it: what is told of refused modules and of connections, and the
 /// whole images to a folder where one is named. It tells of reads that failed. It gives how the load ends.
-fn end_load<'a, P: ImageStore, O: Write, E: Write>(
+fn end_as_text<'a, P: ImageStore, O: Write, E: Write>(
     alloc: Global,
     report: &Report,
     sources: &Sources<'_>,
     asked: &ReportOptions<'_>,
     outputs: &mut Outputs<P, O, E>,
 ) -> Result<Ending, Failure<'a>>
-    ensures told { IfOk result (TellsReport report.now (map (λ path. path.now) sources.now.paths.now) sources.now.kinds sources.now.all_taken asked.now outputs.old outputs.new) }
+    ensures told { IfOk result (TellsReport report.now (known_of sources.now) asked.now outputs.old outputs.new) }
     ensures failure { IfErr result (λ failure. is_of_output failure ≡ true) }
     ensures untold { OnErr result (OnlyOutput outputs.old outputs.new) }
 {
@@ -65,11 +59,57 @@ fn end_load<'a, P: ImageStore, O: Write, E: Write>(
         &mut outputs.out,
     ) {
         Ok(()) => {
-            let all = write_asked_images(alloc, asked.out, &report.modules, outputs);
+            let mut items = ImageItems::new(alloc, Format::Text);
+            let all = write_asked_images(alloc, asked.out, &report.modules, &mut items, outputs);
             tell_reads(&report.faults, &sources.kinds, &mut outputs.errors);
-            Ok(ending_of_load(report, sources.all_taken, all))
+            Ok(ending_of_load(report, are_all_taken(sources.clients), all))
         }
         Err(failure) => Err(failure),
+    }
+}
+
+/// Writes the whole images of a report to a folder where one is named, then the object of the report. It tells of reads that
+/// failed, or that there is no object. It gives how the load ends.
+fn end_as_object<P: ImageStore, O: Write, E: Write>(
+    alloc: Global,
+    report: &Report,
+    sources: &Sources<'_>,
+    asked: &ReportOptions<'_>,
+    outputs: &mut Outputs<P, O, E>,
+) -> Ending
+    requires { sources.now.count ≤ 8 }
+    ensures { TellsObject report.now (known_of sources.now) asked.now outputs.old outputs.new result }
+{
+    let mut items = ImageItems::new(alloc, Format::Json);
+    let all = write_asked_images(alloc, asked.out, &report.modules, &mut items, outputs);
+    let explain = asked.explain;
+    match write_report_object(alloc, report, sources, explain, &items, &mut outputs.out) {
+        Ok(()) => {
+            let errors = &mut outputs.errors;
+            tell_reads(&report.faults, &sources.kinds, errors);
+            ending_of_load(report, are_all_taken(sources.clients), all)
+        }
+        Err(failure) => tell_failure(failure, &mut outputs.errors),
+    }
+}
+
+/// Tells a report in lines of text or as one object, by what is asked for, and writes its whole images to a folder where one is
+/// named. It gives how the load ends.
+fn end_load<'a, P: ImageStore, O: Write, E: Write>(
+    alloc: Global,
+    report: &Report,
+    sources: &Sources<'_>,
+    asked: &ReportOptions<'_>,
+    outputs: &mut Outputs<P, O, E>,
+) -> Result<Ending, Failure<'a>>
+    requires { sources.now.count ≤ 8 }
+    ensures told { IfOk result (TellsAs asked.now.format report.now (known_of sources.now) asked.now outputs.old outputs.new) }
+    ensures failure { IfErr result (λ failure. is_of_output failure ≡ true) }
+    ensures untold { OnErr result (OnlyOutput outputs.old outputs.new) }
+{
+    match asked.format {
+        Format::Text => end_as_text(alloc, report, sources, asked, outputs),
+        Format::Json => Ok(end_as_object(alloc, report, sources, asked, outputs)),
     }
 }
 
@@ -108,9 +148,10 @@ fn run_load<
     match load_all(rt, alloc, inputs, asked.verifiers, &OpenGate, notices) {
         Ok(report) => {
             let sources = Sources {
+                count: paths.len(),
                 paths,
+                clients: &[],
                 kinds: read_errors.kinds(),
-                all_taken: true,
             };
             end_load(alloc, &report, &sources, &asked.report, outputs)
         }
@@ -118,21 +159,24 @@ fn run_load<
     }
 }
 
-/// Does the same of what was served, and tells what became of the clients. It gives how the run ends.
+/// Does the same of what was served on so many connections, and tells what became of the clients. It gives how the run ends.
 fn end_serve<'a, P: ImageStore, O: Write, E: Write>(
     alloc: Global,
+    count: usize,
     served: &Served,
     asked: &ReportOptions<'_>,
     outputs: &mut Outputs<P, O, E>,
 ) -> Result<Ending, Failure<'a>>
-    ensures told { IfOk result (TellsServed served.now asked.now outputs.old outputs.new) }
+    requires { count ≤ 8 }
+    ensures told { IfOk result (TellsServed count served.now asked.now outputs.old outputs.new) }
     ensures failure { IfErr result (λ failure. is_of_output failure ≡ true) }
     ensures untold { OnErr result (OnlyOutput outputs.old outputs.new) }
 {
     let sources = Sources {
+        count,
         paths: &[],
+        clients: &served.clients.fates,
         kinds: served.clients.read_errors,
-        all_taken: are_all_taken(&served.clients.fates),
     };
     match end_load(alloc, &served.report, &sources, asked, outputs) {
         Ok(by_load) => {
@@ -188,7 +232,7 @@ fn run_serve<
         verifiers: asked.verifiers,
     };
     match serve_on(rt, alloc, acceptor, size, &OpenGate, notices) {
-        Ok(served) => end_serve(alloc, &served, &asked.report, outputs),
+        Ok(served) => end_serve(alloc, asked.connections, &served, &asked.report, outputs),
         Err(error) => Err(Failure::from(error)),
     }
 }

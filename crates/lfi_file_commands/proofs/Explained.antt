@@ -1,5 +1,5 @@
 -- What is said of bytes that are known, carried to what is left of a file.
-use Rattle.std.proofs.Common.{◌≡◌, ◌∙◌, ℕ, ◌*◌, ◌<◌, ◌≤◌, ◌++◌, codes, Bool, true≢false, is_some, List, Option, Some, None, IfSome, Result, Ok, Err, IfOk, ap, arith, length, length-take, option_map, refl, subst, sym, take}
+use Rattle.std.proofs.Common.{◌≡◌, ◌∙◌, ℕ, ◌*◌, ◌<◌, ◌≤◌, ◌++◌, codes, true≢false, is_some, List, Option, Some, None, IfSome, Result, Ok, Err, IfOk, ap, arith, length, length-take, option_map, refl, subst, sym, take}
 use Rattle.lfi_image_file.specs.Files.{FileOf}
 use Rattle.lfi_image_file.specs.Reading.{IsFault}
 use Rattle.lfi_module.specs.Numbers.{most_words}

@@ -6,11 +6,16 @@ use Rattle.std.proofs.lemmas.List.{map-append, take_more}
 use Rattle.std.proofs.lemmas.List.Elements.{filter_map-append}
 use Rattle.std.proofs.lemmas.Grind.{flat_map-append}
 use Rattle.lfi_image.specs.Image.{Image}
+use Rattle.lfi_sequence.specs.declared.report.ImageState.{ImageState}
+use Rattle.lfi_sequence.specs.declared.report.ImageState.TheVariants.{Absent, Part, Whole}
 use Rattle.lfi_sequence.specs.declared.report.ModuleReport.{ModuleReport}
+use Rattle.lfi_file_commands.specs.declared.image_items.ImageItems.{ImageItems}
 use Rattle.lfi_file_commands.specs.declared.failure.Failure.{Failure}
 use Rattle.lfi_file_commands.specs.Failures.{failure_line, failure_lines, Told, IsOfWriting}
 use Rattle.lfi_file_commands.specs.Images.{Fate, Puts, NamesPath, WritesImages, failures_in, file_written, files_written, image_file, image_in, image_path_of, images_in, is_none_of}
+use Rattle.lfi_file_commands.specs.Items.{AreItemsOf, PutsImages}
 use Rattle.lfi_file_commands.specs.Left.{Left, left}
+use Rattle.lfi_file_commands.specs.inner.Keeping.{KeepsImages}
 use Rattle.lfi_file_commands.proofs.Joined.{all_taken, joined, no_more}
 
 abbrev Files : Type 0
@@ -86,6 +91,39 @@ writes_more folder is js a b c p q grows first second =
           (told_trans b.is_lost c.is_lost a.errors b.errors c.errors (failure_lines (failures_in first.fates)) (failure_lines (failures_in second.fates)) grows first.told second.told);
       all_put = ap₂ (λ x y. x && y) first.all_put second.all_put ∙ sym (none-append (failures_in first.fates) (failures_in second.fates)) ∙ ap is_none_of (sym (filter_map-append (λ (fate : Fate). fate.failure) first.fates second.fates));
     }
+
+-- before the first one the items are those of no image
+pub puts_none : (folder : List ℕ) (a : Left) (items : ImageItems) → AreItemsOf folder [] items → PutsImages folder [] a a true items
+unfolding writes_none
+puts_none folder a items are = (writes_none folder a, are)
+
+-- of a module that isn't whole none is kept
+pub keeps_none : (folder : List ℕ) (state : ImageState) (a : Left) (items : ImageItems) → ((image : Image) → state ≡ Whole image → ⊥) → KeepsImages folder (image_in state) a a true items items
+unfolding writes_none
+keeps_none folder Absent a items other = (writes_none folder a, λ fates are. subst (λ l. AreItemsOf folder l items) (sym (no_more fates)) are)
+keeps_none folder (Part builder) a items other = (writes_none folder a, λ fates are. subst (λ l. AreItemsOf folder l items) (sym (no_more fates)) are)
+keeps_none folder (Whole image) a items other = absurd (other image refl)
+
+-- that of one that was put is
+pub keeps_one : (folder : List ℕ) (image : Image) (out : Option (List ℕ)) (a b : Option Files) (lost : Bool) (e : Option (List ℕ)) (before after : ImageItems) → Puts a b (image_file folder image ∷ [])
+    → ((fates : List Fate) → AreItemsOf folder fates before → AreItemsOf folder (fates ++ record { image = image; failure = None } ∷ []) after)
+    → KeepsImages folder (image ∷ []) (left out a lost e) (left out b lost e) true before after
+unfolding writes_one
+keeps_one folder image out a b lost e before after put kept = (writes_one folder image out a b lost e put, kept)
+
+-- and that of one of which a failure was told
+pub keeps_failed : (folder : List ℕ) (image : Image) (failure : Failure) (out : Option (List ℕ)) (a b : Option Files) (was lost : Bool) (e f : Option (List ℕ)) (before after : ImageItems) → b ≡ a
+    → IsOfWriting (image_path_of folder image.slot) failure → Told lost e f (failure_line failure)
+    → ((fates : List Fate) → AreItemsOf folder fates before → AreItemsOf folder (fates ++ record { image = image; failure = Some failure } ∷ []) after)
+    → KeepsImages folder (image ∷ []) (left out a was e) (left out b lost f) false before after
+unfolding fails_one
+keeps_failed folder image failure out a b was lost e f before after same names told kept = (fails_one folder image failure out a b was lost e f same names told, kept)
+
+-- those of some, and then of others
+pub puts_more : (folder : List ℕ) (is js : List Image) (a b c : Left) (p q : Bool) (first last : ImageItems) → (b.is_lost ≡ true → c.is_lost ≡ true)
+    → PutsImages folder is a b p first → KeepsImages folder js b c q first last → PutsImages folder (is ++ js) a c (p && q) last
+unfolding writes_more
+puts_more folder is js a b c p q first last grows puts keeps = (writes_more folder is js a b c p q grows puts.0 keeps.0, keeps.1 puts.0.fates puts.1)
 
 abbrev of_module : ModuleReport → List Image
 of_module told = image_in told.image

@@ -1,14 +1,18 @@
 -- The lines of a stream, one message after another.
-use Rattle.std.proofs.Common.{◌≡◌, ◌∙◌, ℕ, ◌+◌, ◌-◌, List, [], ◌∷◌, ◌++◌, length, flat_map, Option, Some, None, All, codes, refl, sym, ap, arith, append_assoc, length-append}
-use Rattle.std.proofs.lemmas.List.{append-nil}
+use Rattle.std.proofs.Common.{◌≡◌, ◌∙◌, ℕ, ◌+◌, ◌-◌, ◌<◌, Bool, true, false, List, [], ◌∷◌, ◌++◌, length, flat_map, take, Option, Some, None, IfSome, All, codes, option_map, refl, sym, ap, subst, arith, append_assoc, length-append}
+use Rattle.std.specs.Prelude.{min, nat_lt}
+use Rattle.std.proofs.lemmas.Bool.{lt-ltb, ltb-false, ltb-true}
+use Rattle.std.proofs.lemmas.List.{append-nil, length-take, take_all}
 use Rattle.std.proofs.lemmas.List.Elements.{All-nil, All-cons, All-append}
 use Rattle.lfi_frame.specs.declared.fault.FrameFault.{FrameFault}
 use Rattle.lfi_frame.specs.Streams.{Cut, Message, IsMessage, spelling}
 use Rattle.lfi_reference.specs.Messages.{Begins}
 use Rattle.lfi_reference.proofs.Messages.{one_more}
+use Rattle.lfi_file_commands.specs.declared.ending.Ending.{Ending}
 use Rattle.lfi_file_commands.specs.declared.ending.Ending.TheVariants.{Well, NotWell}
-use Rattle.lfi_file_commands.specs.Info.{IsStreamInfo, ending_of_fault, fault_line, fault_of, message_line, message_lines, stream_text}
+use Rattle.lfi_file_commands.specs.Info.{IsShortInfo, IsStreamInfo, ending_of_fault, fault_line, fault_of, message_line, message_lines}
 use Rattle.lfi_file_commands.specs.inner.Infos.{PushesMessages}
+use Rattle.lfi_file_commands.proofs.Explained.{Knows, carried}
 
 -- the lines of one message more
 lines_more : (at : ℕ) (done : List Message) (message : Message) → message_lines at (done ++ message ∷ []) ≡ message_lines at done ++ message_line (at + length (flat_map spelling done)) message
@@ -73,3 +77,27 @@ stream_faulty bytes rest begun mid text fault is pushed some told = (
       ∙ ap (λ f. codes "stream\n" ++ message_lines 0 pushed.messages ++ fault_line (length (flat_map spelling pushed.messages)) f) (sym some),
   ap ending_of_fault (sym some),
 )
+
+-- what is told of the first bytes, up to one more than are told, is told of all of them
+all_told : (most more : ℕ) (all read text : List ℕ) (ending : Ending) → more ≡ most + 1 → read ≡ take more all → IsShortInfo (nat_lt most (length read)) read text ending
+    → IsShortInfo (nat_lt most (length all)) all text ending
+all_told most more all read text ending next same is = go (nat_lt most (length all)) refl
+  where
+    count : length read ≡ min more (length all)
+    count = ap length same ∙ length-take more all
+
+    go : (b : Bool) → nat_lt most (length all) ≡ b → IsShortInfo (nat_lt most (length all)) all text ending
+    go true e =
+        let long = ltb-true most (length all) e in
+        let more_read : most < length read = omega (arith, count, next, long) in
+        subst (λ b. IsShortInfo b all text ending) (sym e) (subst (λ b. IsShortInfo b read text ending) (lt-ltb most (length read) more_read) is)
+    go false e =
+        let short = ltb-false most (length all) e in
+        subst (λ xs. IsShortInfo (nat_lt most (length xs)) xs text ending) (same ∙ take_all more all (omega (arith, next, short))) is
+
+-- the same, of the bytes that are known
+pub info_read : (most more : ℕ) (left known : Option (List ℕ)) (read text : List ℕ) (ending : Ending) → more ≡ most + 1 → Knows left known → IfSome (option_map (take more) left) (λ all. read ≡ all)
+    → IsShortInfo (nat_lt most (length read)) read text ending → (bytes : List ℕ) × IfSome known (λ all. all ≡ bytes) × IsShortInfo (nat_lt most (length bytes)) bytes text ending
+info_read most more None None read text ending next knows same is = (read, tt, is)
+info_read most more None (Some xs) read text ending next knows same is = absurd cc
+info_read most more (Some all) known read text ending next knows same is = (all, carried (λ xs. xs ≡ all) (Some all) known knows refl, all_told most more all read text ending next same is)

@@ -1,5 +1,5 @@
 -- Texts that are put behind one another.
-use Rattle.std.proofs.Common.{◌≡◌, ◌∙◌, ℕ, ◌+◌, zero, suc, List, [], ◌∷◌, ◌++◌, length, ap, append_assoc, arith, refl, sym}
+use Rattle.std.proofs.Common.{◌≡◌, ◌∙◌, ℕ, ◌+◌, suc, List, [], ◌∷◌, ◌++◌, length, ap, append_assoc, arith}
 use Rattle.lfi_model.specs.Texts.{lines_from}
 
 -- one more is put behind those that were

@@ -1,5 +1,5 @@
 -- What `lfiload info` tells of files. Source: this project's profile, docs/COMMANDS.md.
-use Rattle.std.specs.Prelude.{◌≡◌, ◌⊎◌, ℕ, ◌+◌, ◌==◌, if◌then◌else◌, List, [], ◌∷◌, ◌++◌, length, flat_map, map, Option, Some, None, IfSome, codes, decimal}
+use Rattle.std.specs.Prelude.{◌≡◌, ◌⊎◌, ℕ, ◌+◌, ◌==◌, nat_lt, Bool, true, false, if◌then◌else◌, List, [], ◌∷◌, ◌++◌, length, flat_map, map, Option, Some, None, IfSome, codes, decimal}
 use Rattle.std.specs.Io.KnownBytes.{Appends}
 use Rattle.a64_word.specs.Words.{words_of}
 use Rattle.lfi_module.specs.Numbers.{base_of, large_page}
@@ -122,11 +122,24 @@ IsInfo kinds.Image bytes text ending = IsImageInfo bytes text ending
 IsInfo kinds.Stream bytes text ending = IsStreamInfo bytes text ending
 IsInfo kinds.Plain bytes text ending = IsCodeInfo bytes text ending
 
+-- how many bytes a file has at the most of which more is told: those of a stream of 16 whole modules, each with an Open, 4,096 pages of 4,096 bytes with their headers, and a Close
+abbrev pub most_told : ℕ
+most_told = 269222272
+
+-- what is told of a longer one
+abbrev pub long_text : List ℕ
+long_text = codes "too long, more than 269222272 bytes\n"
+
+-- the same, where the file isn't too long
+abbrev pub IsShortInfo : (is_long : Bool) → (bytes text : List ℕ) → Ending → Type 0
+IsShortInfo true bytes text ending = (text ≡ long_text) × (ending ≡ NotWell)
+IsShortInfo false bytes text ending = IsInfo (file_kind bytes) bytes text ending
+
 -- The same, where the bytes are known.
 pub record IsInfoOf (known : Option (List ℕ)) (text : List ℕ) (ending : Ending) : Type 0 where
   pub bytes : List ℕ
   pub same : IfSome known (λ all. all ≡ bytes)
-  pub info : IsInfo (file_kind bytes) bytes text ending
+  pub info : IsShortInfo (nat_lt most_told (length bytes)) bytes text ending
 
 -- What is told of a file was written behind a name, and nothing else was done.
 pub record HasTold (name : List ℕ) (known : Option (List ℕ)) (old new : Left) (ending : Ending) : Type 0 where

@@ -1,5 +1,5 @@
 -- What is told as JSON: which key has which value. Source: this project's profile, docs/COMMANDS.md; of JSON RFC 8259.
-use Rattle.std.specs.Prelude.{◌≡◌, ℕ, ◌==◌, if◌then◌else◌, List, [], ◌++◌, length, Option, IfSome, Result, Ok, Err, codes, decimal}
+use Rattle.std.specs.Prelude.{◌≡◌, ℕ, ◌==◌, if◌then◌else◌, List, [], ◌++◌, length, Option, Some, None, IfSome, Result, Ok, Err, codes, decimal}
 use Rattle.json.specs.Print as print
 use Rattle.a64_word.specs.Words.{words_of}
 use Rattle.a64_word.specs.declared.instruction.Instruction.{Instruction}
@@ -34,6 +34,7 @@ use Rattle.lfi_file_commands.specs.declared.finding.Finding.TheVariants as findi
 use Rattle.lfi_file_commands.specs.declared.kind.FileKind.{FileKind}
 use Rattle.lfi_file_commands.specs.declared.kind.FileKind.TheVariants.{Plain}
 use Rattle.lfi_file_commands.specs.Failures.{failure_text}
+use Rattle.lfi_file_commands.specs.Images.{Fate, image_path_of}
 use Rattle.lfi_file_commands.specs.Kinds.{file_kind, kind_text}
 
 -- a text as a JSON string: between quotes, with the shortest escapes
@@ -111,6 +112,15 @@ file_object before path profile told =
 -- that of a file that can't be read
 abbrev pub unread_object : (before : ℕ) → (path : List ℕ) → Failure → List ℕ
 unread_object before path failure = before_file before ++ codes "{\"path\":" ++ quoted path ++ codes ",\"error\":" ++ quoted (failure_text failure) ++ codes "}"
+
+-- why a file could not be written, where it couldn't
+abbrev pub error_member : Option Failure → List ℕ
+error_member None = []
+error_member (Some failure) = codes ",\"error\":" ++ quoted (failure_text failure)
+
+-- one of several images that were to be put into a folder: its file, and why that could not be written
+abbrev pub image_item : (folder : List ℕ) → ℕ → Fate → List ℕ
+image_item folder n fate = comma n ++ codes "{\"path\":" ++ quoted (image_path_of folder fate.image.slot) ++ error_member fate.failure ++ codes "}"
 
 -- why a machine stops
 abbrev pub stop_members : StopCause → List ℕ

@@ -16,4 +16,5 @@ pub mod Packing
 pub mod Unpacking
 pub mod Info
 pub mod Json
+pub mod Items
 pub mod inner

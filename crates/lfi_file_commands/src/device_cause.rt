@@ -62,7 +62,7 @@ impl DeviceCause {
     }
 
     /// In words, as the system has them; nothing for another cause.
-    pub(crate) fn text(self) -> &'static str
+    pub fn text(self) -> &'static str
         ensures { result.now ≡ cause_text self }
     {
         match self {

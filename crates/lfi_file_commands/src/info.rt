@@ -1,6 +1,6 @@
 //! `info`: what files are, and what they hold.
 
-ghost use Rattle.std.specs.Prelude.{◌≡◌, ◌≢◌, ◌++◌, ℕ, Some, length, codes, false, IfOk, IfErr, MatchOption, OnOk, OnErr, string_bytes};
+ghost use Rattle.std.specs.Prelude.{◌≡◌, ◌≢◌, ◌++◌, ℕ, Some, length, nat_lt, codes, false, IfOk, IfErr, MatchOption, OnOk, OnErr, string_bytes};
 ghost use Rattle.std.specs.Io.KnownBytes.{Appends};
 ghost use Rattle.lfi_frame.specs.Streams.{rest_of, whole};
 ghost use Rattle.lfi_run_image.specs.Texts.{address_text};
@@ -33,7 +33,11 @@ use lfi_reference::{PlainMessage, PlainRest, first_message, rest_at};
 use lfi_run_image::ImageRun;
 use std::alloc::{AllocError, Global};
 use std::fmt;
-use std::io::Write;
+use std::io::{Read, Write};
+
+/// How many bytes a file has at the most of which more is told: those of a stream of 16 whole modules, each with an Open, 4,096
+/// pages of 4,096 bytes with their headers, and a Close.
+const MOST_TOLD: u64 = 269_222_272;
 
 /// What is told of a file.
 #[derive(Drop)]
@@ -348,6 +352,29 @@ fn info_of(alloc: Global, bytes: &[u8]) -> Result<Info, CommandFault>
     }
 }
 
+/// What is told of a file that is too long.
+fn long_info(alloc: Global) -> Result<Info, CommandFault>
+    ensures info { IfOk result (λ info. (string_bytes info.text ≡ spec.long_text) × (info.ending ≡ Ending.NotWell)) }
+    ensures fault { IfErr result (λ fault. is_of_a_write fault ≡ false) }
+{
+    Info::of(
+        format!(in alloc; "too long, more than 269222272 bytes\n"),
+        Ending::NotWell,
+    )
+}
+
+/// What is told of a file with these bytes, where it isn't too long.
+fn short_info(alloc: Global, bytes: &[u8]) -> Result<Info, CommandFault>
+    ensures info { IfOk result (λ info. spec.IsShortInfo (nat_lt spec.most_told (length bytes.now)) bytes.now (string_bytes info.text) info.ending) }
+    ensures fault { IfErr result (λ fault. is_of_a_write fault ≡ false) }
+{
+    if bytes.len() as u64 > MOST_TOLD {
+        long_info(alloc)
+    } else {
+        info_of(alloc, bytes)
+    }
+}
+
 /// Writes what is told of a file, behind the name.
 fn write_info<W: Write>(
     alloc: Global,
@@ -364,7 +391,7 @@ fn write_info<W: Write>(
     }
 }
 
-/// What is told of the file at this path, which is read whole.
+/// What is told of the file at this path. No more of it is read than tells that it is too long.
 fn info_at<'a, D: Disk>(alloc: Global, disk: &D, path: &'a str) -> Result<Info, Failure<'a>>
     ensures info { IfOk result (λ info. spec.IsInfoOf (D.file_at disk.now path.entry.now) (string_bytes info.text) info.ending) }
     ensures failure { IfErr result (IsOfReading path.entry.now) }
@@ -373,11 +400,11 @@ fn info_at<'a, D: Disk>(alloc: Global, disk: &D, path: &'a str) -> Result<Info, 
         Ok(reader) => reader,
         Err(failure) => return Err(failure),
     };
-    let bytes = match read_all(alloc, reader) {
+    let bytes = match read_all(alloc, reader.take(MOST_TOLD + 1)) {
         Ok(bytes) => bytes,
         Err(fault) => return Err(Failure::of(fault, path)),
     };
-    match info_of(alloc, &bytes) {
+    match short_info(alloc, &bytes) {
         Ok(info) => Ok(info),
         Err(fault) => Err(Failure::of(fault, path)),
     }

@@ -52,7 +52,7 @@ impl FileKind {
     }
 
     /// What it is, and what to do with it.
-    pub(crate) fn text(self) -> &'static str
+    pub fn text(self) -> &'static str
         ensures { result.now ≡ spec.kind_text self }
     {
         match self {

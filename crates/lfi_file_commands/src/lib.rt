@@ -33,7 +33,7 @@
 //!   the object does. Strings are quoted by the kit's `serde_json`. A file's object is written whole, and no value is built of it.
 //! - **`run --format json` tells on the errors**, where its line stands: the output is that of the code.
 //! - **`check` and `info` tell of each of several files by itself**: one that can't be read is no failure of the command.
-//! - **`info` reads a file whole**, and cuts a stream by the plain program's `first_message`: nobody asks it to be fast.
+//! - **`info` reads a file up to a bound**, and cuts a stream by the plain program's `first_message`: it needn't be fast.
 //! - **`pack` reads all its files before it writes**, so that one which is no code leaves nothing on the output. It then ends
 //!   with 1, as code that is refused: nothing failed.
 //! - **Why a device failed is told by the kind of the system's error**, since a library's text is in no contract.
@@ -48,6 +48,7 @@ mod errors;
 mod explaining;
 mod failure;
 mod finding;
+mod image_items;
 mod images;
 mod info;
 mod judging;
@@ -75,15 +76,19 @@ pub use errors::{Errors, ended, tell_failure, tell_unread_arguments};
 pub use explaining::disassemble;
 pub use failure::{Failure, Target};
 pub use finding::Finding;
+pub use image_items::ImageItems;
 pub use images::write_asked_images;
 pub use info::run_info;
 pub use judging::run_check;
 pub use kind::{FileKind, KindLine};
+pub use members::{push_comma, push_explanation, push_plain, push_quoted};
 pub use naming::Naming;
 pub use no_code::NoCode;
+pub use objects::write_object;
 pub use opening::open_all;
 pub use outputs::Outputs;
-pub use refused::write_refused;
+pub use refused::{refusal_of, write_refused};
+pub use run_object::FaultMembers;
 pub use running::{run_disassemble, run_pack, run_run};
 pub use texts::write_text;
 pub use unpacking::run_unpack;

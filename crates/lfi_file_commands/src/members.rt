@@ -25,7 +25,7 @@ use std::fmt::Display;
 ///
 /// Where there is no memory for it, as in all functions here.
 #[tactic(auto, unfolding(crate::specs::Json::quoted))]
-pub(crate) fn push_quoted<T: Display + Drop>(
+pub fn push_quoted<T: Display + Drop>(
     alloc: Global,
     what: T,
     text: &mut String,
@@ -38,14 +38,22 @@ pub(crate) fn push_quoted<T: Display + Drop>(
 }
 
 /// Puts a text behind another as it is.
-pub(crate) fn push_plain(plain: &str, text: &mut String) -> Result<(), AllocError>
+///
+/// # Errors
+///
+/// Where there is no memory for it.
+pub fn push_plain(plain: &str, text: &mut String) -> Result<(), AllocError>
     ensures { OnOk result (string_bytes text.new ≡ string_bytes text.old ++ plain.now) }
 {
     text.push_str(plain)
 }
 
 /// Puts what stands before one of several, of which so many stand before it.
-fn push_comma(before: usize, text: &mut String) -> Result<(), AllocError>
+///
+/// # Errors
+///
+/// Where there is no memory for it.
+pub fn push_comma(before: usize, text: &mut String) -> Result<(), AllocError>
     ensures { OnOk result (string_bytes text.new ≡ string_bytes text.old ++ spec.comma before) }
 {
     match before {
@@ -100,7 +108,11 @@ fn push_mend(
 }
 
 /// Puts what is told of a fault beside its word and rule.
-pub(crate) fn push_explanation(
+///
+/// # Errors
+///
+/// Where there is no memory for it.
+pub fn push_explanation(
     alloc: Global,
     explanation: &Explanation,
     text: &mut String,

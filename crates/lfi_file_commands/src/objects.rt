@@ -259,7 +259,11 @@ fn judged_at<'a, D: Disk>(
 }
 
 /// Writes a text.
-pub(crate) fn write_object<W: Write>(text: &str, out: &mut W) -> Result<(), DeviceCause>
+///
+/// # Errors
+///
+/// Where the write fails, for this cause.
+pub fn write_object<W: Write>(text: &str, out: &mut W) -> Result<(), DeviceCause>
     ensures { OnOk result (Appends (W.contents out.old) (W.contents out.new) text.now) }
 {
     match out.write_all(text.as_bytes()) {

@@ -26,7 +26,7 @@ fn known_of(refused: &RefusedModule) -> KnownFault
 }
 
 /// What is told of a module's fault, where it was refused.
-fn refusal_of(refused: &Option<RefusedModule>) -> Option<Explanation>
+pub fn refusal_of(refused: &Option<RefusedModule>) -> Option<Explanation>
     ensures { IsRefusal refused.now result }
 {
     match refused {

@@ -9,9 +9,9 @@ use lfi_rules::Fault;
 use lfi_run_image::{Halt, ImageRun, StopCause};
 use std::fmt;
 
-/// A fault of code.
+/// A fault of code: its word, and the rule that this breaks.
 #[derive(Clone, Copy)]
-struct FaultMembers(Fault);
+pub struct FaultMembers(pub Fault);
 
 impl fmt::Display for FaultMembers {
     ghost output = { λ fault. Some (spec.fault_members fault.0) };

@@ -9,4 +9,5 @@ returns c =
     let verifiers = c.with-verifiers.ensures _ _ made c.verifiers_argument.ensures.rule c.verifiers_argument.ensures.local in
     let out = c.with-out.ensures _ _ verifiers c.out_argument.ensures.rule c.out_argument.ensures.local in
     let streams = c.with-streams.ensures _ _ out c.several_arguments.ensures.rule c.several_arguments.ensures.local in
-    c.with.ensures _ _ streams c.explain_modules.ensures.rule c.explain_modules.ensures.local
+    let explain = c.with-explain.ensures _ _ streams c.explain_modules.ensures.rule c.explain_modules.ensures.local in
+    c.with.ensures _ _ explain c.format_argument.ensures.rule c.format_argument.ensures.local

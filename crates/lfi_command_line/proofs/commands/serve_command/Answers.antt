@@ -11,4 +11,5 @@ returns c =
     let verifiers = c.with-verifiers.ensures _ _ connections c.verifiers_argument.ensures.rule c.verifiers_argument.ensures.local in
     let seconds = c.with-seconds.ensures _ _ verifiers c.number_argument.ensures.rule c.number_argument.ensures.local in
     let out = c.with-out.ensures _ _ seconds c.out_argument.ensures.rule c.out_argument.ensures.local in
-    c.with.ensures _ _ out c.explain_modules.ensures.rule c.explain_modules.ensures.local
+    let explain = c.with-explain.ensures _ _ out c.explain_modules.ensures.rule c.explain_modules.ensures.local in
+    c.with.ensures _ _ explain c.format_argument.ensures.rule c.format_argument.ensures.local

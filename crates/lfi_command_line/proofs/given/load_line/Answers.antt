@@ -20,7 +20,7 @@ returns-clause-line c =
     let values : all.0 ≡ map (λ s. s.now) paths = some_same (sym all.1 ∙ same) in
     let count : length all.0 ≡ length paths = ap length values ∙ map_length (λ s. s.now) paths in (
       refl,
-      c.report_options.ensures,
+      c.in-Ok.ensures.asked,
       c.number_or.ensures 1 8 c.requires.verifiers,
       same ∙ ap (λ xs. Some (map (λ s. s.now) xs)) (sym items),
       rw items (omega (count, all.2, arith)),

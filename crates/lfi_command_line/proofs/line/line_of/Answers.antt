@@ -36,7 +36,8 @@ returns-in-Some-subcommand_matches-clause-line c = λ words by_words.
 
 pub returns-in-Some-subcommand_matches-clause-fault : goal.returns-in-Some-subcommand_matches-clause-fault
 returns-in-Some-subcommand_matches-clause-fault c = λ words by_words.
-    IfErr-weaker c.load_line.result _ _ (λ fault by. no_memory words fault by) c.load_line.ensures.fault
+    let taken = taken_for words c.args.matches.now (codes "load") _ by_words (c.in-Some-subcommand_matches.ensures.found.0 refl) c.in-Some-subcommand_matches.ensures.rows in
+    IfErr-weaker c.load_line.result _ _ (λ fault by. format_fault words (codes "load") (rows_of (found_of c.in-Some-subcommand_matches.load.now)) fault taken by) c.load_line.ensures.fault
 
 pub serve_line-requires-clause-socket : goal.serve_line-requires-clause-socket
 serve_line-requires-clause-socket c =
@@ -66,7 +67,12 @@ serve_line-requires-clause-seconds c =
 pub returns-in-Some-subcommand_matches-2-clause-line : goal.returns-in-Some-subcommand_matches-2-clause-line
 returns-in-Some-subcommand_matches-2-clause-line c = λ words by_words.
     let taken = taken_for words c.args.matches.now (codes "serve") _ by_words (c.in-Some-subcommand_matches-2.ensures.found.0 refl) c.in-Some-subcommand_matches-2.ensures.rows in
-    (codes "serve", rows_of (found_of c.in-Some-subcommand_matches-2.serve.now), taken, c.serve_line.ensures)
+    IfOk-weaker c.serve_line.result _ _ (λ line by. (codes "serve", rows_of (found_of c.in-Some-subcommand_matches-2.serve.now), taken, by)) c.serve_line.ensures.line
+
+pub returns-in-Some-subcommand_matches-2-clause-fault : goal.returns-in-Some-subcommand_matches-2-clause-fault
+returns-in-Some-subcommand_matches-2-clause-fault c = λ words by_words.
+    let taken = taken_for words c.args.matches.now (codes "serve") _ by_words (c.in-Some-subcommand_matches-2.ensures.found.0 refl) c.in-Some-subcommand_matches-2.ensures.rows in
+    IfErr-weaker c.serve_line.result _ _ (λ fault by. format_fault words (codes "serve") (rows_of (found_of c.in-Some-subcommand_matches-2.serve.now)) fault taken by) c.serve_line.ensures.fault
 
 pub disassemble_line-requires : goal.disassemble_line-requires
 disassemble_line-requires c =

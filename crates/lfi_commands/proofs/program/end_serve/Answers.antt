@@ -1,9 +1,8 @@
-use Rattle.std.proofs.Common.{◌∙◌, [], ap, subst}
+use Rattle.std.proofs.Common.{◌∙◌, ap, subst}
 use Rattle.lfi_file_commands.specs.Errors.{is_lost_of, writer_of}
 use Rattle.lfi_file_commands.specs.Failures.{Told}
 use Rattle.lfi_file_commands.specs.Left.{Left}
 use Rattle.lfi_commands.specs.Clients.{fate_lines}
-use Rattle.lfi_commands.specs.Loading.{TellsReport}
 use Rattle.lfi_commands.proofs.program.end_serve.Goals as goal
 
 pub returns-in-Ok-clause-told : goal.returns-in-Ok-clause-told
@@ -16,7 +15,7 @@ returns-in-Ok-clause-told g c =
     record {
       before = now;
       by_load = c.in-Ok.by_load;
-      reported = subst (λ taken. TellsReport served.report [] served.clients.read_errors taken c.args.asked.now c.args.outputs.now now c.in-Ok.by_load) c.are_all_taken.ensures c.in-Ok.ensures.told;
+      reported = c.in-Ok.ensures.told;
       out = ap (λ (left : Left). left.out) is;
       put = ap (λ (left : Left). left.put) is;
       told = subst (λ before. Told lost before tells (fate_lines served.clients.fates)) (ap (λ (left : Left). left.errors) is) c.tell_fates.ensures.told;

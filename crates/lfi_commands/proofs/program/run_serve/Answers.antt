@@ -13,6 +13,9 @@ serve_on-requires-clause-connections g c κs within = c.requires.connections
 pub serve_on-requires-clause-verifiers : goal.serve_on-requires-clause-verifiers
 serve_on-requires-clause-verifiers g c κs within = c.requires.verifiers
 
+pub end_serve-requires : goal.end_serve-requires
+end_serve-requires g c = c.requires.connections.1
+
 pub returns-in-Err : goal.returns-in-Err
 returns-in-Err g c = record { found = tt; failure = refl; output = λ other. refl; untold = (refl, (refl, refl)) }
 
@@ -37,7 +40,7 @@ returns-in-Ok-serve_on g c =
     let old = c.args.outputs.now in
     let new = did.new.outputs in
     record {
-      found = IfOk-weaker result (TellsServed served asked.report old new) (HasServedAll asked old new) (λ ending told. record {
+      found = IfOk-weaker result (TellsServed asked.connections served asked.report old new) (HasServedAll asked old new) (λ ending told. record {
         found = served;
         served = subst (λ limit. HasServed asked.connections asked.verifiers limit served) (sym is.limited) is;
         limited = subst (IsLimit asked.seconds) (sym (is.limited ∙ c.new-acceptor.ensures)) c.limit_of.ensures;

@@ -1,4 +1,4 @@
-use Rattle.std.proofs.Common.{rules, ◌≡◌, ◌∙◌, ◌<◌, ◌++◌, ℕ, List, ap, get_or, length, subst, take}
+use Rattle.std.proofs.Common.{rules, ◌∙◌, ◌<◌, ◌++◌, ℕ, ap, length, take}
 use Rattle.std.specs.Prelude.{string_bytes}
 use Rattle.lfi_model.specs.Texts.{lines_from}
 use Rattle.lfi_model.proofs.Lines.{lines_more, lines_whole}
