@@ -1,5 +1,5 @@
 -- How a word that breaks a rule is mended. Source: this project's profile, docs/PROFILE.md; the mends are those of lfi_mends.
-use Rattle.std.specs.Prelude.{◌≡◌, ℕ, ◌==◌, length, Bool, true, false, List, [], ◌++◌, codes, flat_map, Option, Some, None, Result, Ok, Err, IfOk, IfSome, IsTrue}
+use Rattle.std.specs.Prelude.{◌≡◌, ◌≢◌, ℕ, ◌==◌, length, Bool, true, false, List, [], ◌++◌, codes, flat_map, Option, Some, None, Result, Ok, Err, IfOk, IfSome, IsTrue}
 use Rattle.std.specs.List.{list_any}
 use Rattle.a64_word.specs.declared.instruction.Instruction.{Instruction}
 use Rattle.a64_word.specs.Profiles.{SpellsIn}
@@ -15,7 +15,7 @@ use Rattle.lfi_mends.specs.declared.reason.Reason.{Reason}
 use Rattle.lfi_mends.specs.declared.reason.Reason.TheVariants as reasons
 use Rattle.lfi_mends.specs.Mends.{Leads, mended}
 use Rattle.lfi_mends.specs.Obstacles.{IsReason, refusal}
-use Rattle.lfi_mends.specs.Outcomes.{DoesTheSame, DoesTheSameBounded, moves_bounded, moves_plainly}
+use Rattle.lfi_mends.specs.Outcomes.{DoesTheSame, DoesTheSameBounded, meeting, moves_bounded, moves_plainly}
 use Rattle.lfi_mends.specs.Registers.{first_scratch, second_scratch}
 use Rattle.lfi_mends.specs.Texts.{reason_text}
 use Rattle.lfi_explain.specs.declared.explanation.Explanation.{Explanation}
@@ -44,12 +44,12 @@ abbrev pub IsDecoded : Profile → Option ℕ → Option Instruction → Type 0
 IsDecoded profile None found = found ≡ None
 IsDecoded profile (Some word) found = IfSome found (λ i. SpellsIn profile i word) × ((i : Instruction) → SpellsIn profile i word → found ≡ Some i)
 
--- It is what mend_of of lfi_mends answers: a mend that keeps the rules after what leaves this need open, and does the same as a plain access, and as one of
--- reserved registers, as far as these may hold it; or the reason why there is none. `next` is the instruction after the word.
+-- It is what mend_of of lfi_mends answers: a mend that keeps the rules after what leaves this need open, and does the same as what meets the need and then
+-- a plain access, or one of reserved registers, as far as these may hold it; or the reason why there is none. `next` is the instruction after the word.
 pub record IsMend (profile : Profile) (rule : Rule) (word : ℕ) (need : Need) (next : Option Instruction) (mend : Result Mend Reason) : Type 0 where
   pub leads : IfOk mend (λ m. Leads profile need (mended m) Nothing)
-  pub does : (i : Instruction) → rule ≡ rules.AccessConfined → need ≡ Nothing → SpellsIn profile i word → IsTrue (moves_plainly i) → IfOk mend (λ m. DoesTheSame (mended m) i)
-  pub bounded : (i : Instruction) → rule ≡ rules.AccessConfined → need ≡ Nothing → SpellsIn profile i word → IsTrue (moves_bounded i) → IfOk mend (λ m. DoesTheSameBounded (mended m) i)
+  pub does : (i : Instruction) → rule ≢ rules.NeedMet → SpellsIn profile i word → IsTrue (moves_plainly i) → IfOk mend (λ m. DoesTheSame (meeting need) (mended m) i)
+  pub bounded : (i : Instruction) → rule ≢ rules.NeedMet → SpellsIn profile i word → IsTrue (moves_bounded i) → IfOk mend (λ m. DoesTheSameBounded (meeting need) (mended m) i)
   pub told : IsReason profile rule word need next (refusal mend)
 
 -- The same of a word that breaks a rule, by the words before it and after it, where there are any.

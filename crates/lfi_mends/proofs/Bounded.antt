@@ -69,14 +69,14 @@ not_in_base rn n h = elim (cases_Bool (eqb rn n)) [
 ]
 
 -- which registers an access writes that doesn't change its base
-one_written : (store : Bool) (rt n : ℕ) (w : Width) → n < 31 → is_some (width_in (if store then [] else general rt w []) n) ≡ true → (store ≡ false) × (n ≡ rt)
+pub one_written : (store : Bool) (rt n : ℕ) (w : Width) → n < 31 → is_some (width_in (if store then [] else general rt w []) n) ≡ true → (store ≡ false) × (n ≡ rt)
 one_written true rt n w below h = absurd (true≢false (sym h))
 one_written false rt n w below h = elim (in_general rt n w [] below h) [
   | inl same ↦ (refl, same)
   | inr none ↦ absurd (true≢false (sym none))
 ]
 
-none_written : (store : Bool) (rt n : ℕ) (w : Width) → n < 31 → is_some (width_in (if store then [] else general rt w []) n) ≡ false → store ≡ false → n ≢ rt
+pub none_written : (store : Bool) (rt n : ℕ) (w : Width) → n < 31 → is_some (width_in (if store then [] else general rt w []) n) ≡ false → store ≡ false → n ≢ rt
 none_written true rt n w below h load = absurd (true≢false load)
 none_written false rt n w below h load = (not_in_general rt n w [] below h).0
 
@@ -154,7 +154,7 @@ pub record Points (s1 s : State) (sum index a : ℕ) : Type 0 where
   pub count : length s1.registers.x ≡ 31
   pub memory : s1.memory ≡ s.memory
 
-pub slot_after : (s1 s : State) → HasSlot s → x_at s1.registers 21 ≡ x_at s.registers 21 → length s1.registers.x ≡ 31 → HasSlot s1
+abbrev pub slot_after : (s1 s : State) → HasSlot s → x_at s1.registers 21 ≡ x_at s.registers 21 → length s1.registers.x ≡ 31 → HasSlot s1
 slot_after s1 s h e count = record { slot = h.slot; base = e ∙ h.base; room = h.room; count = count }
 
 -- The same, where the second register holds a value.
@@ -235,7 +235,7 @@ abbrev pub slot_of : (s : State) (a n : ℕ) (b : Bool) → IsWhole s.registers 
 slot_of s a n b whole lie = record { slot = lie.slot; base = lie.base; room = lie.room; count = whole.count }
 
 -- at a base and a distance
-bounded_at : (i : Instruction) (size : Size) (transfer : Transfer) (rt rn : ℕ) (below : Bool) (bytes : ℕ) (s : State) → writes_of i ≡ (if is_store transfer then [] else general rt (data_width size transfer) [])
+pub bounded_at : (i : Instruction) (size : Size) (transfer : Transfer) (rt rn : ℕ) (below : Bool) (bytes : ℕ) (s : State) → writes_of i ≡ (if is_store transfer then [] else general rt (data_width size transfer) [])
     → bytes < 32768 → no_base_loaded transfer rt → IsWhole s.registers
     → InSlot s.registers (record { address = reached below bytes (x_or_sp_at s.registers rn); bytes = 2 ^ size_code size; stores = is_store transfer })
     → AgreeBounded i (x_at s.registers 21) (after_all (any_accessed size transfer rt rn below bytes) s) (at_address size transfer rt s (reached below bytes (x_or_sp_at s.registers rn)))
@@ -263,7 +263,7 @@ unloaded transfer rt h load = elim (cases_Bool (eqb rt 21)) [
 
 pub unsigned_bounded : (size : Size) (transfer : Transfer) (imm12 rn rt bytes : ℕ) (is : List Instruction) → bytes ≡ imm12 * 2 ^ size_code size → bytes < 32768
     → (is_store transfer ≡ false → eqb rt 21 ≡ false) → is ≡ any_accessed size transfer rt rn false bytes
-    → DoesTheSameBounded is (instructions.UnsignedOffset (record { size = size; transfer = transfer; imm12 = imm12; rn = rn; rt = rt }))
+    → DoesTheSameBounded [] is (instructions.UnsignedOffset (record { size = size; transfer = transfer; imm12 = imm12; rn = rn; rt = rt }))
 unsigned_bounded size transfer imm12 rn rt bytes is far fits no_base e s whole lies =
     let refused = instructions.UnsignedOffset (record { size = size; transfer = transfer; imm12 = imm12; rn = rn; rt = rt }) in
     let there : reached false bytes (x_or_sp_at s.registers rn) ≡ (x_or_sp_at s.registers rn + imm12 * 2 ^ size_code size) % 18446744073709551616 =
@@ -275,7 +275,7 @@ unsigned_bounded size transfer imm12 rn rt bytes is far fits no_base e s whole l
 
 pub unscaled_bounded : (size : Size) (transfer : Transfer) (imm9 : ℤ) (rn rt : ℕ) (below : Bool) (bytes : ℕ) (is : List Instruction) → offset_of below bytes ≡ imm9 → bytes < 32768
     → (below ≡ true → 1 ≤ bytes) → (is_store transfer ≡ false → eqb rt 21 ≡ false) → is ≡ any_accessed size transfer rt rn below bytes
-    → DoesTheSameBounded is (instructions.SignedOffset (record { size = size; transfer = transfer; mode = modes.Unscaled; imm9 = imm9; rn = rn; rt = rt }))
+    → DoesTheSameBounded [] is (instructions.SignedOffset (record { size = size; transfer = transfer; mode = modes.Unscaled; imm9 = imm9; rn = rn; rt = rt }))
 unscaled_bounded size transfer imm9 rn rt below bytes is far fits some no_base e s whole lies =
     let refused = instructions.SignedOffset (record { size = size; transfer = transfer; mode = modes.Unscaled; imm9 = imm9; rn = rn; rt = rt }) in
     let b = x_or_sp_at s.registers rn in
@@ -288,7 +288,7 @@ unscaled_bounded size transfer imm9 rn rt below bytes is far fits some no_base e
 -- at a base and an index
 pub indexed_bounded : (size : Size) (transfer : Transfer) (rm : ℕ) (extend : IndexExtend) (scaled : Bool) (rn rt : ℕ) (is : List Instruction) → (is_store transfer ≡ false → eqb rt 21 ≡ false)
     → is ≡ any_indexed size transfer rt rn rm (amount_of size scaled)
-    → DoesTheSameBounded is (instructions.RegisterOffset (record { size = size; transfer = transfer; rm = rm; extend = extend; scaled = scaled; rn = rn; rt = rt }))
+    → DoesTheSameBounded [] is (instructions.RegisterOffset (record { size = size; transfer = transfer; rm = rm; extend = extend; scaled = scaled; rn = rn; rt = rt }))
 indexed_bounded size transfer rm extend scaled rn rt is no_base e s whole lies =
     let refused = instructions.RegisterOffset (record { size = size; transfer = transfer; rm = rm; extend = extend; scaled = scaled; rn = rn; rt = rt }) in
     let sum = sum_for transfer rt in

@@ -173,7 +173,7 @@ bounded_low base rn c slot e = elim (cases_Bool (eqb rn 22)) [
 pub pre_bounded : (size : Size) (transfer : Transfer) (imm9 : ℤ) (rn rt : ℕ) (below : Bool) (bytes : ℕ) (is : List Instruction) → offset_of below bytes ≡ imm9 → bytes < 4096
     → (below ≡ true → 1 ≤ bytes) → eqb rn 31 ≡ false → eqb rn 21 ≡ false → rn < 32 → rn ≢ rt → (is_store transfer ≡ false → eqb rt 21 ≡ false)
     → is ≡ any_changing true size transfer rt rn below bytes
-    → DoesTheSameBounded is (instructions.SignedOffset (record { size = size; transfer = transfer; mode = modes.PreIndex; imm9 = imm9; rn = rn; rt = rt }))
+    → DoesTheSameBounded [] is (instructions.SignedOffset (record { size = size; transfer = transfer; mode = modes.PreIndex; imm9 = imm9; rn = rn; rt = rt }))
 pre_bounded size transfer imm9 rn rt below bytes is far fits some stack no_base inside32 apart unloaded e s whole lies =
     let refused = instructions.SignedOffset (record { size = size; transfer = transfer; mode = modes.PreIndex; imm9 = imm9; rn = rn; rt = rt }) in
     let r = s.registers in
@@ -222,7 +222,7 @@ pre_bounded size transfer imm9 rn rt below bytes is far fits some stack no_base 
 pub post_bounded : (size : Size) (transfer : Transfer) (imm9 : ℤ) (rn rt : ℕ) (below : Bool) (bytes : ℕ) (is : List Instruction) → offset_of below bytes ≡ imm9 → bytes < 4096
     → (below ≡ true → 1 ≤ bytes) → eqb rn 31 ≡ false → eqb rn 21 ≡ false → rn < 32 → rn ≢ rt → (is_store transfer ≡ false → eqb rt 21 ≡ false)
     → is ≡ any_changing false size transfer rt rn below bytes
-    → DoesTheSameBounded is (instructions.SignedOffset (record { size = size; transfer = transfer; mode = modes.PostIndex; imm9 = imm9; rn = rn; rt = rt }))
+    → DoesTheSameBounded [] is (instructions.SignedOffset (record { size = size; transfer = transfer; mode = modes.PostIndex; imm9 = imm9; rn = rn; rt = rt }))
 post_bounded size transfer imm9 rn rt below bytes is far fits some stack no_base inside32 apart unloaded e s whole lies =
     let refused = instructions.SignedOffset (record { size = size; transfer = transfer; mode = modes.PostIndex; imm9 = imm9; rn = rn; rt = rt }) in
     let r = s.registers in

@@ -25,7 +25,7 @@ use Rattle.lfi_mends.proofs.BoundedBases.{Based, based_by, bounded_low}
 use Rattle.lfi_mends.proofs.BoundedPairs.{link_of, link_only, ArePair, pair_moved, first_at, second_at, stores_at, same_stored, others_kept, stack_kept, first_loaded, second_loaded}
 
 -- ---- what a pair writes, before what else it writes
-pair_written : (load : Bool) (rt rt2 n : ℕ) (w : Width) (uses : List Use) → n < 31 → is_some (width_in (if load then general rt w (general rt2 w uses) else uses) n) ≡ true
+pub pair_written : (load : Bool) (rt rt2 n : ℕ) (w : Width) (uses : List Use) → n < 31 → is_some (width_in (if load then general rt w (general rt2 w uses) else uses) n) ≡ true
     → ((load ≡ true) × (n ≡ rt)) ⊎ (((load ≡ true) × (n ≡ rt2)) ⊎ (is_some (width_in uses n) ≡ true))
 pair_written false rt rt2 n w uses below h = inr (inr h)
 pair_written true rt rt2 n w uses below h = elim (in_general rt n w (general rt2 w uses) below h) [
@@ -34,12 +34,12 @@ pair_written true rt rt2 n w uses below h = elim (in_general rt n w (general rt2
 ]
 
 -- what isn't among them
-record Unwritten (load : Bool) (rt rt2 n : ℕ) (uses : List Use) : Type 0 where
-  first : load ≡ true → n ≢ rt
-  second : load ≡ true → n ≢ rt2
-  rest : is_some (width_in uses n) ≡ false
+pub record Unwritten (load : Bool) (rt rt2 n : ℕ) (uses : List Use) : Type 0 where
+  pub first : load ≡ true → n ≢ rt
+  pub second : load ≡ true → n ≢ rt2
+  pub rest : is_some (width_in uses n) ≡ false
 
-pair_unwritten : (load : Bool) (rt rt2 n : ℕ) (w : Width) (uses : List Use) → n < 31 → is_some (width_in (if load then general rt w (general rt2 w uses) else uses) n) ≡ false → Unwritten load rt rt2 n uses
+pub pair_unwritten : (load : Bool) (rt rt2 n : ℕ) (w : Width) (uses : List Use) → n < 31 → is_some (width_in (if load then general rt w (general rt2 w uses) else uses) n) ≡ false → Unwritten load rt rt2 n uses
 pair_unwritten false rt rt2 n w uses below h = record { first = λ l. absurd (true≢false (sym l)); second = λ l. absurd (true≢false (sym l)); rest = h }
 pair_unwritten true rt rt2 n w uses below h =
     let one = not_in_general rt n w (general rt2 w uses) below h in
@@ -120,7 +120,7 @@ loaded_apart w true rt2 rt h l = elim (cases_Bool (may_move_two true rt2 rt)) [
 -- ---- at an offset
 pub offset_bounded : (w : Width) (load : Bool) (imm7 : ℤ) (rt2 rn rt sum : ℕ) (below : Bool) (bytes : ℕ) (is : List Instruction) → offset_of below bytes ≡ pair_offset w imm7 → bytes < 4096
     → (below ≡ true → 1 ≤ bytes) → ArePair w load rt2 rt → IsPairSum load rt2 rt sum → is ≡ any_paired sum w load rt2 rt rn below bytes
-    → DoesTheSameBounded is (instructions.Pair (record { width = w; load = load; mode = modes.Offset; imm7 = imm7; rt2 = rt2; rn = rn; rt = rt }))
+    → DoesTheSameBounded [] is (instructions.Pair (record { width = w; load = load; mode = modes.Offset; imm7 = imm7; rt2 = rt2; rn = rn; rt = rt }))
 offset_bounded w load imm7 rt2 rn rt sum below bytes is far fits some pair psum e s whole lies =
     let refused = instructions.Pair (record { width = w; load = load; mode = modes.Offset; imm7 = imm7; rt2 = rt2; rn = rn; rt = rt }) in
     let r = s.registers in
@@ -179,23 +179,23 @@ offset_bounded w load imm7 rt2 rn rt sum below bytes is far fits some pair psum 
 
 -- ---- with a base that is changed
 -- A pair, and a base, in either order.
-record PairDone (s2 s : State) (w : Width) (load : Bool) (rt2 rt rn c a : ℕ) : Type 0 where
-  first : load ≡ true → rt < 31 → x_at s2.registers rt ≡ bounded_in (x_at s.registers 21) rt (low_bits w (first_at w s a))
-  second : load ≡ true → rt2 < 31 → x_at s2.registers rt2 ≡ bounded_in (x_at s.registers 21) rt2 (low_bits w (second_at w s a))
-  based : x_at s2.registers rn ≡ bounded_in (x_at s.registers 21) rn c
-  general : (n : ℕ) → is_working n ≡ false → n ≢ rn → (load ≡ true → n ≢ rt) → (load ≡ true → n ≢ rt2) → x_at s2.registers n ≡ x_at s.registers n
-  stack : s2.registers.sp ≡ s.registers.sp
-  flags : s2.registers.nzcv ≡ s.registers.nzcv
-  memory : s2.memory ≡ stores_at w load rt2 rt s a
+pub record PairDone (s2 s : State) (w : Width) (load : Bool) (rt2 rt rn c a : ℕ) : Type 0 where
+  pub first : load ≡ true → rt < 31 → x_at s2.registers rt ≡ bounded_in (x_at s.registers 21) rt (low_bits w (first_at w s a))
+  pub second : load ≡ true → rt2 < 31 → x_at s2.registers rt2 ≡ bounded_in (x_at s.registers 21) rt2 (low_bits w (second_at w s a))
+  pub based : x_at s2.registers rn ≡ bounded_in (x_at s.registers 21) rn c
+  pub general : (n : ℕ) → is_working n ≡ false → n ≢ rn → (load ≡ true → n ≢ rt) → (load ≡ true → n ≢ rt2) → x_at s2.registers n ≡ x_at s.registers n
+  pub stack : s2.registers.sp ≡ s.registers.sp
+  pub flags : s2.registers.nzcv ≡ s.registers.nzcv
+  pub memory : s2.memory ≡ stores_at w load rt2 rt s a
 
 -- the base, beside both registers
-record IsBase (rn rt2 rt : ℕ) : Type 0 where
-  inside : rn < 31
-  stack : eqb rn 31 ≡ false
-  first : rn ≢ rt
-  second : rn ≢ rt2
+pub record IsBase (rn rt2 rt : ℕ) : Type 0 where
+  pub inside : rn < 31
+  pub stack : eqb rn 31 ≡ false
+  pub first : rn ≢ rt
+  pub second : rn ≢ rt2
 
-changing_bounded : (i : Instruction) (w : Width) (load : Bool) (rt2 rt rn c a : ℕ) (s s2 : State)
+pub changing_bounded : (i : Instruction) (w : Width) (load : Bool) (rt2 rt rn c a : ℕ) (s s2 : State)
     → writes_of i ≡ (if load then general rt w (general rt2 w (or_sp rn widths.X [])) else or_sp rn widths.X [])
     → length s.registers.x ≡ 31 → IsBase rn rt2 rt → (load ≡ true → rt ≢ rt2) → c < 18446744073709551616
     → PairDone s2 s w load rt2 rt rn c a → AgreeBounded i (x_at s.registers 21) s2 (pairs.changing_at w load rt2 rt rn c s a)
@@ -240,7 +240,7 @@ changing_bounded i w load rt2 rt rn c a s s2 uses count base apart small d =
     loaded_second false l low = absurd (true≢false (sym l))
 
 -- what a base owes
-base_is : (rn rt2 rt : ℕ) → rn < 32 → eqb rn 31 ≡ false → rn ≢ rt → rn ≢ rt2 → IsBase rn rt2 rt
+pub base_is : (rn rt2 rt : ℕ) → rn < 32 → eqb rn 31 ≡ false → rn ≢ rt → rn ≢ rt2 → IsBase rn rt2 rt
 base_is rn rt2 rt inside stack one two = let no_stack = eqb-false rn 31 stack in record { inside = omega (arith, inside, no_stack); stack = stack; first = one; second = two }
 
 in_slot : (base c slot : ℕ) → base ≡ slot * 4294967296 → slot * 4294967296 ≤ c → c < (slot + 1) * 4294967296 → bounded_in base 18 c ≡ c
@@ -249,7 +249,7 @@ in_slot base c slot e first last = omega (arith, e, first, last)
 pub pre_pair_bounded : (w : Width) (load : Bool) (imm7 : ℤ) (rt2 rn rt sum : ℕ) (below : Bool) (bytes : ℕ) (is : List Instruction) → offset_of below bytes ≡ pair_offset w imm7 → bytes < 4096
     → (below ≡ true → 1 ≤ bytes) → ArePair w load rt2 rt → IsPairSum load rt2 rt sum → eqb rn 31 ≡ false → eqb rn 21 ≡ false → rn < 32 → rn ≢ rt → rn ≢ rt2
     → is ≡ any_changing_pair true sum w load rt2 rt rn below bytes
-    → DoesTheSameBounded is (instructions.Pair (record { width = w; load = load; mode = modes.PreIndex; imm7 = imm7; rt2 = rt2; rn = rn; rt = rt }))
+    → DoesTheSameBounded [] is (instructions.Pair (record { width = w; load = load; mode = modes.PreIndex; imm7 = imm7; rt2 = rt2; rn = rn; rt = rt }))
 pre_pair_bounded w load imm7 rt2 rn rt sum below bytes is far fits some pair psum stack no_base inside32 one two e s whole lies =
     let refused = instructions.Pair (record { width = w; load = load; mode = modes.PreIndex; imm7 = imm7; rt2 = rt2; rn = rn; rt = rt }) in
     let r = s.registers in
@@ -296,7 +296,7 @@ pre_pair_bounded w load imm7 rt2 rn rt sum below bytes is far fits some pair psu
 pub post_pair_bounded : (w : Width) (load : Bool) (imm7 : ℤ) (rt2 rn rt sum : ℕ) (below : Bool) (bytes : ℕ) (is : List Instruction) → offset_of below bytes ≡ pair_offset w imm7 → bytes < 4096
     → (below ≡ true → 1 ≤ bytes) → ArePair w load rt2 rt → IsPairSum load rt2 rt sum → (load ≡ true → (rt ≢ sum) × (rt2 ≢ sum)) → eqb rn 31 ≡ false → eqb rn 21 ≡ false → (load ≡ true → (21 ≢ rt) × (21 ≢ rt2))
     → rn < 32 → rn ≢ rt → rn ≢ rt2 → is ≡ any_changing_pair false sum w load rt2 rt rn below bytes
-    → DoesTheSameBounded is (instructions.Pair (record { width = w; load = load; mode = modes.PostIndex; imm7 = imm7; rt2 = rt2; rn = rn; rt = rt }))
+    → DoesTheSameBounded [] is (instructions.Pair (record { width = w; load = load; mode = modes.PostIndex; imm7 = imm7; rt2 = rt2; rn = rn; rt = rt }))
 post_pair_bounded w load imm7 rt2 rn rt sum below bytes is far fits some pair psum unsummed stack no_base unloaded inside32 one two e s whole lies =
     let refused = instructions.Pair (record { width = w; load = load; mode = modes.PostIndex; imm7 = imm7; rt2 = rt2; rn = rn; rt = rt }) in
     let r = s.registers in

@@ -36,7 +36,7 @@ pub record Changed (r1 r : Registers) (rn c : ℕ) : Type 0 where
   pub flags : r1.nzcv ≡ r.nzcv
   pub count : length r1.x ≡ 31
 
-reached_by : (below : Bool) (bytes b : ℕ) → bytes < 4096 → b < 18446744073709551616
+pub reached_by : (below : Bool) (bytes b : ℕ) → bytes < 4096 → b < 18446744073709551616
     → (b + (if below then 18446744073709551615 - bytes else bytes) + (if below then 1 else 0)) % 18446744073709551616 % 18446744073709551616 ≡ reached below bytes b
 reached_by true bytes b fits small = omega (arith, fits, small)
 reached_by false bytes b fits small = omega (arith, fits, small)
@@ -66,7 +66,7 @@ abbrev pub moved_and_based : (store : Bool) → Width → (rt value rn c : ℕ) 
 moved_and_based store width rt value rn c r = put_all (if store then to_or_sp rn widths.X c [] else to_general rt width value (to_or_sp rn widths.X c [])) r
 
 -- the base last
-based : (store : Bool) (width : Width) (rt value rn c : ℕ) (r : Registers) → moved_and_based store width rt value rn c r ≡ put_all (to_or_sp rn widths.X c []) (moved store width rt value r)
+pub based : (store : Bool) (width : Width) (rt value rn c : ℕ) (r : Registers) → moved_and_based store width rt value rn c r ≡ put_all (to_or_sp rn widths.X c []) (moved store width rt value r)
 based true width rt value rn c r = refl
 based false width rt value rn c r = elim (cases_Bool (eqb rt 31)) [
   | inl zr ↦ rw zr refl
@@ -165,7 +165,7 @@ reached_small false bytes b = omega arith
 
 pub pre_same : (size : Size) (transfer : Transfer) (imm9 : ℤ) (rn rt : ℕ) (below : Bool) (bytes : ℕ) (is : List Instruction) → offset_of below bytes ≡ imm9 → bytes < 4096
     → (below ≡ true → 1 ≤ bytes) → eqb rn 31 ≡ false → eqb rn 21 ≡ false → rn < 32 → rn ≢ rt → is ≡ changing true size transfer rt rn below bytes
-    → DoesTheSame is (instructions.SignedOffset (record { size = size; transfer = transfer; mode = modes.PreIndex; imm9 = imm9; rn = rn; rt = rt }))
+    → DoesTheSame [] is (instructions.SignedOffset (record { size = size; transfer = transfer; mode = modes.PreIndex; imm9 = imm9; rn = rn; rt = rt }))
 pre_same size transfer imm9 rn rt below bytes is far fits some other no_base inside32 apart e s whole lies =
     let r = s.registers in
     let x = x_at r rn in
@@ -193,7 +193,7 @@ pre_same size transfer imm9 rn rt below bytes is far fits some other no_base ins
 
 pub post_same : (size : Size) (transfer : Transfer) (imm9 : ℤ) (rn rt : ℕ) (below : Bool) (bytes : ℕ) (is : List Instruction) → offset_of below bytes ≡ imm9 → bytes < 4096
     → (below ≡ true → 1 ≤ bytes) → eqb rn 31 ≡ false → rn < 32 → rn ≢ rt → is ≡ changing false size transfer rt rn below bytes
-    → DoesTheSame is (instructions.SignedOffset (record { size = size; transfer = transfer; mode = modes.PostIndex; imm9 = imm9; rn = rn; rt = rt }))
+    → DoesTheSame [] is (instructions.SignedOffset (record { size = size; transfer = transfer; mode = modes.PostIndex; imm9 = imm9; rn = rn; rt = rt }))
 post_same size transfer imm9 rn rt below bytes is far fits some other inside32 apart e s whole lies =
     let r = s.registers in
     let x = x_at r rn in

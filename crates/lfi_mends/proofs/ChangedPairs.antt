@@ -150,7 +150,7 @@ change_agrees below bytes rn one two h count1 count2 inside other free fits smal
 pub pre_pair_same : (width : Width) (load : Bool) (imm7 : ℤ) (rt2 rn rt : ℕ) (below : Bool) (bytes : ℕ) (is : List Instruction) → offset_of below bytes ≡ pair_offset width imm7 → bytes < 4096
     → (below ≡ true → 1 ≤ bytes) → moves_both rt2 rt ≡ true → eqb rn 31 ≡ false → eqb rn 21 ≡ false → rn < 32 → rn ≢ rt → rn ≢ rt2
     → is ≡ changing_pair true width load rt2 rt rn below bytes
-    → DoesTheSame is (instructions.Pair (record { width = width; load = load; mode = modes.PreIndex; imm7 = imm7; rt2 = rt2; rn = rn; rt = rt }))
+    → DoesTheSame [] is (instructions.Pair (record { width = width; load = load; mode = modes.PreIndex; imm7 = imm7; rt2 = rt2; rn = rn; rt = rt }))
 pre_pair_same width load imm7 rt2 rn rt below bytes is far fits some free other no_base inside32 apart apart2 e s whole lies =
     let r = s.registers in
     let x = x_at r rn in
@@ -183,7 +183,7 @@ pre_pair_same width load imm7 rt2 rn rt below bytes is far fits some free other 
 pub post_pair_same : (width : Width) (load : Bool) (imm7 : ℤ) (rt2 rn rt : ℕ) (below : Bool) (bytes : ℕ) (is : List Instruction) → offset_of below bytes ≡ pair_offset width imm7 → bytes < 4096
     → (below ≡ true → 1 ≤ bytes) → moves_both rt2 rt ≡ true → eqb rn 31 ≡ false → eqb rn 18 ≡ false → eqb rn 22 ≡ false → is_scratch rn ≡ false → rn < 32 → rn ≢ rt → rn ≢ rt2
     → is ≡ changing_pair false width load rt2 rt rn below bytes
-    → DoesTheSame is (instructions.Pair (record { width = width; load = load; mode = modes.PostIndex; imm7 = imm7; rt2 = rt2; rn = rn; rt = rt }))
+    → DoesTheSame [] is (instructions.Pair (record { width = width; load = load; mode = modes.PostIndex; imm7 = imm7; rt2 = rt2; rn = rn; rt = rt }))
 post_pair_same width load imm7 rt2 rn rt below bytes is far fits some free other no_first no_offset kept inside32 apart apart2 e s whole lies =
     let r = s.registers in
     let x = x_at r rn in

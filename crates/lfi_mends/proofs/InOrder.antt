@@ -16,10 +16,10 @@ use Rattle.lfi_mends.proofs.Beside.{agree_after}
 use Rattle.lfi_mends.proofs.Summed.{reached, after_more}
 use Rattle.lfi_mends.proofs.Paired.{Guarded, guarded_at}
 
-at_none : (a : ℕ) → a < 18446744073709551616 → (a + 0) % 18446744073709551616 ≡ a
+pub at_none : (a : ℕ) → a < 18446744073709551616 → (a + 0) % 18446744073709551616 ≡ a
 at_none a small = omega (arith, small)
 
-small_reached : (b : ℕ) → reached false 0 b < 18446744073709551616
+pub small_reached : (b : ℕ) → reached false 0 b < 18446744073709551616
 small_reached b = omega arith
 
 -- An ordered access at x18 does what one does at the address that x18 holds.
@@ -43,7 +43,7 @@ by_guard size load rt a s s2 h free count small =
     subst (λ x. Agree (at_address size t rt s2 x) (at_address size t rt s a)) (sym address) here
 
 pub ordered_same : (size : Size) (load : Bool) (rn rt : ℕ) (is : List Instruction) → is_reserved rt ≡ false → is ≡ in_order size load rt rn
-    → DoesTheSame is (instructions.Ordered (record { size = size; load = load; rn = rn; rt = rt }))
+    → DoesTheSame [] is (instructions.Ordered (record { size = size; load = load; rn = rn; rt = rt }))
 ordered_same size load rn rt is free e s whole lies =
     let b = x_or_sp_at s.registers rn in
     let a = reached false 0 b in

@@ -179,7 +179,7 @@ guarded_at rn below bytes s fits whole slot base room first last =
 
 pub pair_same : (width : Width) (load : Bool) (imm7 : ℤ) (rt2 rn rt : ℕ) (below : Bool) (bytes : ℕ) (is : List Instruction) → offset_of below bytes ≡ pair_offset width imm7 → bytes < 4096
     → (below ≡ true → 1 ≤ bytes) → moves_both rt2 rt ≡ true → is ≡ paired 22 width load rt2 rt rn below bytes
-    → DoesTheSame is (instructions.Pair (record { width = width; load = load; mode = modes.Offset; imm7 = imm7; rt2 = rt2; rn = rn; rt = rt }))
+    → DoesTheSame [] is (instructions.Pair (record { width = width; load = load; mode = modes.Offset; imm7 = imm7; rt2 = rt2; rn = rn; rt = rt }))
 pair_same width load imm7 rt2 rn rt below bytes is far fits some free e s whole lies =
     let b = x_or_sp_at s.registers rn in
     let a = reached below bytes b in

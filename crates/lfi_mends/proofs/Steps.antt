@@ -42,7 +42,7 @@ not-false false h = absurd (true≢false h)
 pub sets_value : (s2 s : State) (d v w : ℕ) → v ≡ w → Sets s2 s d v → Sets s2 s d w
 sets_value s2 s d v w e h = subst (Sets s2 s d) e h
 
-no_stack : (d : ℕ) → d < 31 → eqb d 31 ≡ false
+pub no_stack : (d : ℕ) → d < 31 → eqb d 31 ≡ false
 no_stack d below = elim (cases_Bool (eqb d 31)) [
   | inl same ↦ let e = eqb-true d 31 same in absurd (omega (arith, e, below))
   | inr other ↦ other
@@ -218,7 +218,7 @@ slot_kept size transfer rt a s h other = record {
 }
 
 -- of x30
-link_moved : (scratch a : ℕ) (s : State) → HasSlot s → Moved (after (guard_of 30 30) (at_address sizes.Double transfers.Load 30 s a)) s sizes.Double transfers.Load 30 scratch a
+pub link_moved : (scratch a : ℕ) (s : State) → HasSlot s → Moved (after (guard_of 30 30) (at_address sizes.Double transfers.Load 30 s a)) s sizes.Double transfers.Load 30 scratch a
 link_moved scratch a s h =
     let v = loaded s.memory sizes.Double transfers.Load a in
     let s1 = at_address sizes.Double transfers.Load 30 s a in

@@ -183,7 +183,7 @@ same_access size transfer rt rn below bytes s fits other whole lies = elim (case
 -- What mends of plain accesses do, at an unsigned offset and at a signed one.
 pub unsigned_same : (size : Size) (transfer : Transfer) (imm12 rn rt bytes : ℕ) (is : List Instruction) → bytes ≡ imm12 * 2 ^ size_code size → bytes < 32768
     → eqb rt 22 ≡ false → is ≡ accessed size transfer rt rn false bytes
-    → DoesTheSame is (instructions.UnsignedOffset (record { size = size; transfer = transfer; imm12 = imm12; rn = rn; rt = rt }))
+    → DoesTheSame [] is (instructions.UnsignedOffset (record { size = size; transfer = transfer; imm12 = imm12; rn = rn; rt = rt }))
 unsigned_same size transfer imm12 rn rt bytes is far fits free e s whole lies =
     let there : reached false bytes (x_or_sp_at s.registers rn) ≡ (x_or_sp_at s.registers rn + imm12 * 2 ^ size_code size) % 18446744073709551616 =
     ap (λ d. (x_or_sp_at s.registers rn + d) % 18446744073709551616) far in
@@ -195,7 +195,7 @@ unsigned_same size transfer imm12 rn rt bytes is far fits free e s whole lies =
 
 pub signed_same : (size : Size) (transfer : Transfer) (imm9 : ℤ) (rn rt : ℕ) (below : Bool) (bytes : ℕ) (is : List Instruction) → offset_of below bytes ≡ imm9 → bytes < 32768
     → (below ≡ true → 1 ≤ bytes) → eqb rt 22 ≡ false → is ≡ accessed size transfer rt rn below bytes
-    → DoesTheSame is (instructions.SignedOffset (record { size = size; transfer = transfer; mode = modes.Unscaled; imm9 = imm9; rn = rn; rt = rt }))
+    → DoesTheSame [] is (instructions.SignedOffset (record { size = size; transfer = transfer; mode = modes.Unscaled; imm9 = imm9; rn = rn; rt = rt }))
 signed_same size transfer imm9 rn rt below bytes is far fits some free e s whole lies =
     let b = x_or_sp_at s.registers rn in
     let there : reached below bytes b ≡ displaced b imm9 = displaced_by below bytes b some ∙ ap (displaced b) far in
@@ -247,7 +247,7 @@ index_in_slot sizes.Double true base b e x slot low at room first last = omega (
 
 pub index_same : (size : Size) (transfer : Transfer) (rm : ℕ) (extend : IndexExtend) (scaled : Bool) (rn rt : ℕ) (is : List Instruction) → eqb rt 22 ≡ false
     → is ≡ indexed 22 size transfer rt rn rm (amount_of size scaled)
-    → DoesTheSame is (instructions.RegisterOffset (record { size = size; transfer = transfer; rm = rm; extend = extend; scaled = scaled; rn = rn; rt = rt }))
+    → DoesTheSame [] is (instructions.RegisterOffset (record { size = size; transfer = transfer; rm = rm; extend = extend; scaled = scaled; rn = rn; rt = rt }))
 index_same size transfer rm extend scaled rn rt is free e s whole lies =
     let b = x_or_sp_at s.registers rn in
     let x = x_at s.registers rm in

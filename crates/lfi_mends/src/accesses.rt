@@ -7,7 +7,7 @@ ghost use Rattle.a64_word.specs.Encoding.{IsAccess, IsLegal, fields};
 ghost use Rattle.a64_word.specs.Fields.{AllFit};
 ghost use Rattle.a64_word.specs.declared.instruction.Instruction.{Instruction};
 ghost use Rattle.lfi_mends.specs.Mends.{KeepsRules, mended};
-ghost use Rattle.lfi_mends.specs.Outcomes.{DoesTheSame, DoesTheSameBounded, moves_itself, moves_bounded, moves_plainly};
+ghost use Rattle.lfi_mends.specs.Outcomes.{DoesTheSame, DoesTheSameBounded, moves_itself, moves_bounded, moves_plainly, probe};
 ghost use Rattle.lfi_mends.specs.Obstacles.{refusal, of_access, of_single, is_double};
 ghost use Rattle.lfi_mends.specs.Registers as spec;
 ghost use Rattle.lfi_mends.specs.inner.Rows as rows;
@@ -187,6 +187,7 @@ pub(crate) fn with_change(mend: Mend, base: Register, distance: Distance, sum: R
     ensures keeps { (profile : Profile) → KeepsRules profile (mended result) }
     ensures items { IsTrue (spec.is_free base) → mended result ≡ mended mend ++ rows.changed_of distance.below distance.bytes base ∷ [] }
     ensures all { (base == 31) ≡ false → mended result ≡ mended mend ++ rows.change_of sum base distance.below distance.bytes }
+    ensures stack { base ≡ 31 → mended result ≡ mended mend ++ rows.changed_of distance.below distance.bytes 31 ∷ probe ∷ [] }
     ensures count { result.count ≤ mend.count + 2 }
 {
     let number = base.number();
@@ -264,8 +265,8 @@ fn unsigned(i: &UnsignedOffset) -> Result<Mend, Reason>
     requires fits { AllFit (fields (Instruction.UnsignedOffset i.now)) }
     ensures keeps { IfOk result (λ mend. (profile : Profile) → KeepsRules profile (mended mend)) }
     ensures count { IfOk result (λ mend. mend.count ≤ 7) }
-    ensures does { IfOk result (λ mend. IsTrue (moves_itself i.now.transfer i.now.rt) → DoesTheSame (mended mend) (Instruction.UnsignedOffset i.now)) }
-    ensures bounded { IfOk result (λ mend. DoesTheSameBounded (mended mend) (Instruction.UnsignedOffset i.now)) }
+    ensures does { IfOk result (λ mend. IsTrue (moves_itself i.now.transfer i.now.rt) → DoesTheSame [] (mended mend) (Instruction.UnsignedOffset i.now)) }
+    ensures bounded { IfOk result (λ mend. DoesTheSameBounded [] (mended mend) (Instruction.UnsignedOffset i.now)) }
     ensures told { refusal result ≡ of_access (Instruction.UnsignedOffset i.now) }
 {
     if loads_base(i.transfer, i.rt) {
@@ -312,6 +313,7 @@ fn changing(single: Single, base: Register, distance: Distance, before: bool) ->
     ensures keeps { (profile : Profile) → KeepsRules profile (mended result) }
     ensures items { IsTrue (moves_itself single.transfer single.moved) → IsTrue (spec.is_free base) → mended result ≡ rows.changing before single.size single.transfer single.moved base distance.below distance.bytes }
     ensures all { (base == 31) ≡ false → mended result ≡ rows.any_changing before single.size single.transfer single.moved base distance.below distance.bytes }
+    ensures stack { base ≡ 31 → mended result ≡ rows.stack_changing before single.size single.transfer single.moved base distance.below distance.bytes }
     ensures count { result.count ≤ 7 }
 {
     let sum = sum_beside(single.moved);
@@ -328,8 +330,8 @@ fn signed(i: &SignedOffset) -> Result<Mend, Reason>
     requires legal { IsLegal (Instruction.SignedOffset i.now) }
     ensures keeps { IfOk result (λ mend. (profile : Profile) → KeepsRules profile (mended mend)) }
     ensures count { IfOk result (λ mend. mend.count ≤ 7) }
-    ensures does { IfOk result (λ mend. IsTrue (moves_plainly (Instruction.SignedOffset i.now)) → DoesTheSame (mended mend) (Instruction.SignedOffset i.now)) }
-    ensures bounded { IfOk result (λ mend. IsTrue (moves_bounded (Instruction.SignedOffset i.now)) → DoesTheSameBounded (mended mend) (Instruction.SignedOffset i.now)) }
+    ensures does { IfOk result (λ mend. IsTrue (moves_plainly (Instruction.SignedOffset i.now)) → DoesTheSame [] (mended mend) (Instruction.SignedOffset i.now)) }
+    ensures bounded { IfOk result (λ mend. DoesTheSameBounded [] (mended mend) (Instruction.SignedOffset i.now)) }
     ensures told { refusal result ≡ of_access (Instruction.SignedOffset i.now) }
 {
     if i.mode != IndexMode::Unscaled && i.rn.number() == BASE {
@@ -356,8 +358,8 @@ fn indexed(i: &RegisterOffset) -> Result<Mend, Reason>
     requires legal { IsLegal (Instruction.RegisterOffset i.now) }
     ensures keeps { IfOk result (λ mend. (profile : Profile) → KeepsRules profile (mended mend)) }
     ensures count { IfOk result (λ mend. mend.count ≤ 7) }
-    ensures does { IfOk result (λ mend. IsTrue (moves_itself i.now.transfer i.now.rt) → DoesTheSame (mended mend) (Instruction.RegisterOffset i.now)) }
-    ensures bounded { IfOk result (λ mend. DoesTheSameBounded (mended mend) (Instruction.RegisterOffset i.now)) }
+    ensures does { IfOk result (λ mend. IsTrue (moves_itself i.now.transfer i.now.rt) → DoesTheSame [] (mended mend) (Instruction.RegisterOffset i.now)) }
+    ensures bounded { IfOk result (λ mend. DoesTheSameBounded [] (mended mend) (Instruction.RegisterOffset i.now)) }
     ensures told { refusal result ≡ of_access (Instruction.RegisterOffset i.now) }
 {
     if loads_base(i.transfer, i.rt) {
@@ -380,40 +382,48 @@ fn loads_reserved(size: Size, load: bool, moved: Register) -> bool
     load && is_reserved(moved) && !(moved.number() == LINK && size == Size::Double)
 }
 
+/// The address of a base, in x18.
+fn with_address(mend: Mend, base: Register) -> Mend
+    requires room { mend.count ≤ 4 }
+    requires keeps { (profile : Profile) → KeepsRules profile (mended mend) }
+    ensures keeps { (profile : Profile) → KeepsRules profile (mended result) }
+    ensures items { mended result ≡ mended mend ++ rows.sums 22 base false 0 ++ rows.guard_of 18 (rows.index_of 22 base 0) ∷ [] }
+    ensures count { result.count ≤ mend.count + 3 }
+{
+    let sum = Register::new(OFFSET);
+    let index = index_of(base, 0, sum);
+    with_sum(mend, base, NONE, sum).and(address_guard(index))
+}
+
 /// What stands in the place of LDAR or STLR, of the second profile.
 fn in_order(i: &Ordered) -> Result<Mend, Reason>
     ensures keeps { IfOk result (λ mend. KeepsRules Two (mended mend)) }
-    ensures items { IfOk result (λ mend. spec.is_reserved i.now.rt ≡ false → mended mend ≡ rows.in_order i.now.size i.now.load i.now.rt i.now.rn) }
+    ensures free { IfOk result (λ mend. spec.is_reserved i.now.rt ≡ false → mended mend ≡ rows.in_order i.now.size i.now.load i.now.rt i.now.rn) }
+    ensures link { IfOk result (λ mend. (i.now.load && spec.is_reserved i.now.rt && not (i.now.rt == 30 && is_double i.now.size)) ≡ false) }
+    ensures reserved { IfOk result (λ mend. spec.is_reserved i.now.rt ≡ true → mended mend ≡ rows.in_order_reserved i.now.size i.now.load i.now.rt i.now.rn) }
     ensures count { IfOk result (λ mend. mend.count ≤ 7) }
     ensures told { refusal result ≡ of_access (Instruction.Ordered i.now) }
 {
     if loads_reserved(i.size, i.load, i.rt) {
         return Err(Reason::Reserved);
     }
-    let sum = Register::new(OFFSET);
-    let index = index_of(i.rn, 0, sum);
+    if !is_reserved(i.rt) {
+        let mend = with_address(Mend::new(), i.rn);
+        return Ok(mend.and_ordered(ordered(i.size, i.load, i.rt)));
+    }
+    if i.load {
+        return Ok(with_address(Mend::new(), i.rn).and_ordered_guarded(link_ordered()));
+    }
     let scratch = scratch_beside(i.rn);
-    let copies = !i.load && is_reserved(i.rt);
-    let data = if copies { scratch } else { i.rt };
-    let mend = if copies {
-        Mend::new().and(copied(scratch, i.rt))
-    } else {
-        Mend::new()
-    };
-    let mend = with_sum(mend, i.rn, NONE, sum).and(address_guard(index));
-    if !i.load {
-        return Ok(mend.and_ordered(ordered(i.size, false, data)));
-    }
-    if is_reserved(i.rt) {
-        return Ok(mend.and_ordered_guarded(link_ordered()));
-    }
-    Ok(mend.and_ordered(ordered(i.size, true, i.rt)))
+    let copy = Mend::new().and(copied(scratch, i.rt));
+    Ok(with_address(copy, i.rn).and_ordered(ordered(i.size, false, scratch)))
 }
 
 /// The same, by what it does.
 fn ordered_access(i: &Ordered) -> Result<Mend, Reason>
     ensures keeps { IfOk result (λ mend. KeepsRules Two (mended mend)) }
-    ensures does { IfOk result (λ mend. IsTrue (moves_plainly (Instruction.Ordered i.now)) → DoesTheSame (mended mend) (Instruction.Ordered i.now)) }
+    ensures does { IfOk result (λ mend. IsTrue (moves_plainly (Instruction.Ordered i.now)) → DoesTheSame [] (mended mend) (Instruction.Ordered i.now)) }
+    ensures bounded { IfOk result (λ mend. DoesTheSameBounded [] (mended mend) (Instruction.Ordered i.now)) }
     ensures count { IfOk result (λ mend. mend.count ≤ 7) }
     ensures told { refusal result ≡ of_access (Instruction.Ordered i.now) }
 {
@@ -427,8 +437,8 @@ pub(crate) fn confined(profile: Profile, instruction: &Instruction) -> Result<Me
     requires fits { AllFit (fields instruction.now) }
     ensures keeps { IfOk result (λ mend. KeepsRules profile (mended mend)) }
     ensures count { IfOk result (λ mend. mend.count ≤ 7) }
-    ensures does { IfOk result (λ mend. IsTrue (moves_plainly instruction.now) → DoesTheSame (mended mend) instruction.now) }
-    ensures bounded { IfOk result (λ mend. IsTrue (moves_bounded instruction.now) → DoesTheSameBounded (mended mend) instruction.now) }
+    ensures does { IfOk result (λ mend. IsTrue (moves_plainly instruction.now) → DoesTheSame [] (mended mend) instruction.now) }
+    ensures bounded { IfOk result (λ mend. IsTrue (moves_bounded instruction.now) → DoesTheSameBounded [] (mended mend) instruction.now) }
     ensures told { refusal result ≡ of_access instruction.now }
 {
     match instruction {

@@ -10,6 +10,7 @@ ghost use Rattle.lfi_rules.specs.Needs.{opens_of, window};
 ghost use Rattle.a64_word.specs.Encoding.{IsAccess, IsLegal, fields};
 ghost use Rattle.a64_word.specs.Fields.{AllFit};
 ghost use Rattle.lfi_mends.specs.Mends.{Stands};
+ghost use Rattle.lfi_mends.specs.Outcomes as outcomes;
 ghost use Rattle.lfi_mends.specs.Registers as spec;
 ghost use Rattle.lfi_mends.specs.inner.Computing.{is_computing};
 ghost use Rattle.lfi_mends.specs.inner.Rows as rows;
@@ -95,6 +96,7 @@ pub(crate) fn link_guard() -> Instruction
 
 /// LDR XZR, [SP].
 pub(crate) fn probe() -> Instruction
+    ensures is { result ≡ outcomes.probe }
     ensures stands { (profile : Profile) (count : ℕ) → Stands profile (Probe count) result }
     ensures opens { (profile : Profile) → opens_of profile result ≡ Nothing }
 {
@@ -320,6 +322,7 @@ pub(crate) fn link_pair(second: Register, first: Register) -> Instruction
 /// ADD or SUB SP, SP, #imm12.
 pub(crate) fn stack_moved(subtract: bool, imm12: u16) -> Instruction
     requires { imm12 < 4096 }
+    ensures is { result ≡ rows.changed_of subtract imm12 31 }
     ensures stands { (profile : Profile) → Stands profile Nothing result }
     ensures opens { (profile : Profile) → opens_of profile result ≡ Probe (window profile) }
 {
@@ -351,6 +354,7 @@ pub(crate) fn ordered(size: Size, load: bool, moved: Register) -> Instruction
 
 /// LDAR X30 at x18.
 pub(crate) fn link_ordered() -> Instruction
+    ensures is { result ≡ rows.ordered_of Double true 30 }
     ensures stands { Stands Two Nothing result }
     ensures opens { opens_of Two result ≡ Guard }
 {
@@ -377,6 +381,7 @@ pub(crate) fn computing(instruction: Instruction) -> Instruction
 /// MOV Xd, Xm.
 pub(crate) fn copied(into: Register, from: Register) -> Instruction
     requires { IsTrue (spec.is_free into) }
+    ensures is { result ≡ rows.move_of into from }
     ensures stands { (profile : Profile) → Stands profile Nothing result }
     ensures opens { (profile : Profile) → opens_of profile result ≡ Nothing }
 {

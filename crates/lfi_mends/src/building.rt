@@ -5,6 +5,7 @@ ghost use Rattle.lfi_module.specs.declared.profile.Profile.{Profile};
 ghost use Rattle.lfi_module.specs.declared.profile.Profile.TheVariants.{Two};
 ghost use Rattle.lfi_rules.specs.declared.needs.Need.TheVariants.{Nothing, Guard, Probe};
 ghost use Rattle.lfi_rules.specs.Needs.{opens_of, window};
+ghost use Rattle.lfi_mends.specs.Outcomes as outcomes;
 ghost use Rattle.lfi_mends.specs.inner.Rows as rows;
 ghost use Rattle.lfi_mends.specs.Mends.{Stands, Leads, KeepsRules, mended};
 ghost use Rattle.lfi_rules.specs.declared.needs.Need.{Need};
@@ -71,6 +72,7 @@ impl Mend {
         requires stands { (profile : Profile) → Stands profile Nothing instruction }
         requires opens { (profile : Profile) → opens_of profile instruction ≡ Probe (window profile) }
         ensures keeps { (profile : Profile) → KeepsRules profile (mended result) }
+        ensures items { mended result ≡ mended self ++ instruction ∷ outcomes.probe ∷ [] }
         ensures count { result.count ≡ self.count + 2 }
     {
         self.then(instruction).then(probe())
@@ -96,6 +98,7 @@ impl Mend {
         requires stands { Stands Two Nothing instruction }
         requires opens { opens_of Two instruction ≡ Guard }
         ensures keeps { KeepsRules Two (mended result) }
+        ensures items { mended result ≡ mended self ++ instruction ∷ rows.guard_of 30 30 ∷ [] }
         ensures count { result.count ≡ self.count + 2 }
     {
         self.then(instruction).then(link_guard())
@@ -107,6 +110,7 @@ impl Mend {
         requires keeps { KeepsRules profile (mended self) }
         requires stands { Stands profile need first }
         requires opens { opens_of profile first ≡ Nothing }
+        ensures items { mended result ≡ first ∷ mended self }
         ensures leads { Leads profile need (mended result) Nothing }
     {
         let mut mend = Mend::new().then(first);

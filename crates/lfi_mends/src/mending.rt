@@ -1,13 +1,14 @@
 //! What stands in the place of a word, by the rule that it breaks.
 
-ghost use Rattle.std.specs.Prelude.{◌≡◌, ◌≢◌, ◌≤◌, IfOk, IfSome, IsTrue, is_some, is_none, false, ◌==◌, ◌+◌};
+ghost use Rattle.std.specs.Prelude.{◌≡◌, ◌≢◌, ◌≤◌, IfOk, IfSome, IfNone, IsTrue, is_some, is_none, false, ◌==◌, ◌+◌, ◌++◌, ◌∷◌, []};
 ghost use Rattle.lfi_module.specs.declared.profile.Profile.{Profile};
 ghost use Rattle.lfi_rules.specs.declared.needs.Need.TheVariants.{Nothing, Call};
 ghost use Rattle.lfi_rules.specs.Needs.{opens_of};
 ghost use Rattle.a64_word.specs.Encoding.{IsLegal, fields};
 ghost use Rattle.a64_word.specs.Fields.{AllFit};
 ghost use Rattle.a64_word.specs.Profiles.{is_of, SpellsIn};
-ghost use Rattle.lfi_rules.specs.declared.rule.Rule.TheVariants.{AccessConfined};
+ghost use Rattle.lfi_rules.specs.declared.rule.Rule.TheVariants.{NeedMet};
+ghost use Rattle.lfi_mends.specs.Outcomes as spec;
 ghost use Rattle.lfi_mends.specs.Outcomes.{DoesTheSame, DoesTheSameBounded, moves_bounded, moves_plainly};
 ghost use Rattle.a64_word.specs.declared.instruction.Instruction.{Instruction};
 ghost use Rattle.lfi_mends.specs.Mends.{Leads, KeepsRules, Stands, mended};
@@ -33,6 +34,8 @@ use lfi_rules::{Need, Rule};
 fn meeting(need: Need) -> Option<Instruction>
     ensures stands { IfSome result (λ i. (profile : Profile) → Stands profile need i) }
     ensures opens { IfSome result (λ i. (profile : Profile) → opens_of profile i ≡ Nothing) }
+    ensures some { IfSome result (λ i. spec.meeting need ≡ i ∷ []) }
+    ensures none { IfNone result (spec.meeting need ≡ []) }
     ensures told { is_some result ≡ is_none (obstacles.of_need need) }
 {
     match need {
@@ -155,6 +158,8 @@ fn written(profile: Profile, instruction: &Instruction) -> Result<Mend, Reason>
     requires fits { AllFit (fields instruction.now) }
     ensures keeps { IfOk result (λ mend. KeepsRules profile (mended mend)) }
     ensures count { IfOk result (λ mend. mend.count ≤ 7) }
+    ensures does { IfOk result (λ mend. IsTrue (moves_plainly instruction.now) → DoesTheSame [] (mended mend) instruction.now) }
+    ensures bounded { IfOk result (λ mend. IsTrue (moves_bounded instruction.now) → DoesTheSameBounded [] (mended mend) instruction.now) }
     ensures told { refusal result ≡ obstacles.of_write instruction.now }
 {
     if address_of(instruction).is_some() {
@@ -173,8 +178,8 @@ fn alone(profile: Profile, rule: Rule, instruction: &Instruction) -> Result<Mend
     requires fits { AllFit (fields instruction.now) }
     ensures keeps { IfOk result (λ mend. KeepsRules profile (mended mend)) }
     ensures count { IfOk result (λ mend. mend.count ≤ 7) }
-    ensures does { rule ≡ AccessConfined → IfOk result (λ mend. IsTrue (moves_plainly instruction.now) → DoesTheSame (mended mend) instruction.now) }
-    ensures bounded { rule ≡ AccessConfined → IfOk result (λ mend. IsTrue (moves_bounded instruction.now) → DoesTheSameBounded (mended mend) instruction.now) }
+    ensures does { IfOk result (λ mend. IsTrue (moves_plainly instruction.now) → DoesTheSame [] (mended mend) instruction.now) }
+    ensures bounded { IfOk result (λ mend. IsTrue (moves_bounded instruction.now) → DoesTheSameBounded [] (mended mend) instruction.now) }
     ensures told { refusal result ≡ obstacles.obstacle rule instruction.now }
 {
     match rule {
@@ -201,8 +206,8 @@ fn of_word(
 ) -> Result<Mend, Reason>
     ensures keeps { IfOk result (λ mend. KeepsRules profile (mended mend)) }
     ensures count { IfOk result (λ mend. mend.count ≤ 7) }
-    ensures does { (i : Instruction) → rule ≡ AccessConfined → SpellsIn profile i word → IsTrue (moves_plainly i) → IfOk result (λ mend. DoesTheSame (mended mend) i) }
-    ensures bounded { (i : Instruction) → rule ≡ AccessConfined → SpellsIn profile i word → IsTrue (moves_bounded i) → IfOk result (λ mend. DoesTheSameBounded (mended mend) i) }
+    ensures does { (i : Instruction) → SpellsIn profile i word → IsTrue (moves_plainly i) → IfOk result (λ mend. DoesTheSame [] (mended mend) i) }
+    ensures bounded { (i : Instruction) → SpellsIn profile i word → IsTrue (moves_bounded i) → IfOk result (λ mend. DoesTheSameBounded [] (mended mend) i) }
     ensures told { IsReasonOfWord profile rule word next.now (refusal result) }
 {
     match decode(word, profile) {
@@ -228,7 +233,7 @@ fn behind_need(profile: Profile, need: Need, mend: Mend) -> Mend
     requires room { mend.count ≤ 7 }
     requires keeps { KeepsRules profile (mended mend) }
     requires other { need ≢ Call }
-    ensures items { need ≡ Nothing → mended result ≡ mended mend }
+    ensures items { mended result ≡ spec.meeting need ++ mended mend }
     ensures leads { Leads profile need (mended result) Nothing }
 {
     match meeting(need) {
@@ -255,8 +260,8 @@ pub fn mend_of(
     next: &Option<Instruction>,
 ) -> Result<Mend, Reason>
     ensures leads { IfOk result (λ mend. Leads profile unmet (mended mend) Nothing) }
-    ensures does { (i : Instruction) → rule ≡ AccessConfined → unmet ≡ Nothing → SpellsIn profile i word → IsTrue (moves_plainly i) → IfOk result (λ mend. DoesTheSame (mended mend) i) }
-    ensures bounded { (i : Instruction) → rule ≡ AccessConfined → unmet ≡ Nothing → SpellsIn profile i word → IsTrue (moves_bounded i) → IfOk result (λ mend. DoesTheSameBounded (mended mend) i) }
+    ensures does { (i : Instruction) → rule ≢ NeedMet → SpellsIn profile i word → IsTrue (moves_plainly i) → IfOk result (λ mend. DoesTheSame (spec.meeting unmet) (mended mend) i) }
+    ensures bounded { (i : Instruction) → rule ≢ NeedMet → SpellsIn profile i word → IsTrue (moves_bounded i) → IfOk result (λ mend. DoesTheSameBounded (spec.meeting unmet) (mended mend) i) }
     ensures told { IsReason profile rule word unmet next.now (refusal result) }
 {
     if rule == Rule::NeedMet {

@@ -1,6 +1,7 @@
 //! What stands in the place of pairs.
 
-ghost use Rattle.std.specs.Prelude.{◌≡◌, ◌≢◌, ◌<◌, ◌≤◌, ◌+◌, IfOk, IfSome, IsTrue, true, false, not, ◌||◌, ◌⊎◌, is_some, ◌==◌, ◌++◌, ◌∷◌, []};
+ghost use Rattle.std.specs.Prelude.{◌≡◌, ◌≢◌, ◌<◌, ◌≤◌, ◌+◌, IfOk, IfSome, IsTrue, true, false, not, ◌||◌, is_some, ◌==◌, ◌++◌, ◌∷◌, []};
+ghost use Rattle.a64_semantics.specs.Accesses.{register_bytes};
 ghost use Rattle.a64_effects.specs.Effects.{changes_base, form_of_pair_mode, pair_offset};
 ghost use Rattle.a64_word.specs.declared.operands.PairMode.TheVariants.{Offset, PreIndex, PostIndex};
 ghost use Rattle.lfi_mends.specs.Outcomes.{DoesTheSame, DoesTheSameBounded, moves_both, moves_bounded, moves_plainly};
@@ -64,7 +65,8 @@ fn spare(one: Register, two: Register, three: Register) -> Option<Register>
 
 /// How many bytes each register of a pair has.
 fn bytes(width: Width) -> u16
-    ensures { (result ≡ 4) ⊎ (result ≡ 8) }
+    ensures is { result ≡ register_bytes width }
+    ensures few { result ≤ 8 }
 {
     match width {
         Width::W => 4,
@@ -73,7 +75,9 @@ fn bytes(width: Width) -> u16
 }
 
 /// How many bytes a single access has that moves one register of a pair.
-fn size(width: Width) -> Size {
+fn size(width: Width) -> Size
+    ensures { result ≡ rows.size_of width }
+{
     match width {
         Width::W => Size::Word,
         Width::X => Size::Double,
@@ -86,6 +90,7 @@ fn with_singles(mend: Mend, two: &Two, index: Register, sum: Register) -> Mend
     requires keeps { (profile : Profile) → KeepsRules profile (mended mend) }
     requires holds { IsTrue (spec.may_hold sum) }
     ensures keeps { (profile : Profile) → KeepsRules profile (mended result) }
+    ensures items { mended result ≡ mended mend ++ rows.two_stores two.now.width two.now.second two.now.first index sum }
     ensures count { result.count ≤ mend.count + 3 }
 {
     let size = size(two.width);
@@ -113,6 +118,7 @@ fn with_pair(mend: Mend, two: &Two, index: Register, sum: Register) -> Mend
     ensures keeps { (profile : Profile) → KeepsRules profile (mended result) }
     ensures items { IsTrue (moves_both two.now.second two.now.first) → mended result ≡ mended mend ++ rows.guard_of 18 index ∷ rows.pair_of two.now.width two.now.load two.now.second two.now.first ∷ [] }
     ensures all { rows.stores_first two.now.load two.now.second two.now.first ≡ false → mended result ≡ mended mend ++ rows.guard_of 18 index ∷ rows.pair_with two.now.width two.now.load two.now.second two.now.first }
+    ensures stored { rows.stores_first two.now.load two.now.second two.now.first ≡ true → mended result ≡ mended mend ++ rows.two_stores two.now.width two.now.second two.now.first index sum }
     ensures count { result.count ≤ mend.count + 3 }
 {
     if stores_first_address(two) {
@@ -136,6 +142,7 @@ fn plain(mend: Mend, two: &Two, base: Register, distance: Distance, sum: Registe
     ensures keeps { (profile : Profile) → KeepsRules profile (mended result) }
     ensures items { IsTrue (moves_both two.now.second two.now.first) → mended result ≡ mended mend ++ rows.paired sum two.now.width two.now.load two.now.second two.now.first base distance.below distance.bytes }
     ensures all { rows.stores_first two.now.load two.now.second two.now.first ≡ false → mended result ≡ mended mend ++ rows.any_paired sum two.now.width two.now.load two.now.second two.now.first base distance.below distance.bytes }
+    ensures stored { rows.stores_first two.now.load two.now.second two.now.first ≡ true → mended result ≡ mended mend ++ rows.stored_at sum two.now.width two.now.second two.now.first base distance.below distance.bytes }
     ensures count { result.count ≤ mend.count + 5 }
 {
     let index = index_of(base, distance.bytes, sum);
@@ -155,6 +162,9 @@ fn placed(two: &Two, base: Register, distance: Distance, mode: PairMode, sum: Re
     ensures before_all { mode ≡ PreIndex → (base == 31) ≡ false → rows.stores_first two.now.load two.now.second two.now.first ≡ false → mended result ≡ rows.any_changing_pair true sum two.now.width two.now.load two.now.second two.now.first base distance.below distance.bytes }
     ensures after_all { mode ≡ PostIndex → (base == 31) ≡ false → rows.stores_first two.now.load two.now.second two.now.first ≡ false → mended result ≡ rows.any_changing_pair false sum two.now.width two.now.load two.now.second two.now.first base distance.below distance.bytes }
     ensures all { mode ≡ Offset → rows.stores_first two.now.load two.now.second two.now.first ≡ false → mended result ≡ rows.any_paired sum two.now.width two.now.load two.now.second two.now.first base distance.below distance.bytes }
+    ensures stored { mode ≡ Offset → rows.stores_first two.now.load two.now.second two.now.first ≡ true → mended result ≡ rows.stored_at sum two.now.width two.now.second two.now.first base distance.below distance.bytes }
+    ensures before_stored { mode ≡ PreIndex → (base == 31) ≡ false → rows.stores_first two.now.load two.now.second two.now.first ≡ true → mended result ≡ rows.changing_stored true sum two.now.width two.now.second two.now.first base distance.below distance.bytes }
+    ensures after_stored { mode ≡ PostIndex → (base == 31) ≡ false → rows.stores_first two.now.load two.now.second two.now.first ≡ true → mended result ≡ rows.changing_stored false sum two.now.width two.now.second two.now.first base distance.below distance.bytes }
     ensures items { mode ≡ Offset → IsTrue (moves_both two.now.second two.now.first) → mended result ≡ rows.paired sum two.now.width two.now.load two.now.second two.now.first base distance.below distance.bytes }
     ensures count { result.count ≤ 7 }
 {
@@ -209,8 +219,8 @@ pub(crate) fn paired(i: &Pair) -> Result<Mend, Reason>
     requires legal { IsLegal (Instruction.Pair i.now) }
     ensures keeps { IfOk result (λ mend. (profile : Profile) → KeepsRules profile (mended mend)) }
     ensures count { IfOk result (λ mend. mend.count ≤ 7) }
-    ensures does { IfOk result (λ mend. IsTrue (moves_plainly (Instruction.Pair i.now)) → DoesTheSame (mended mend) (Instruction.Pair i.now)) }
-    ensures bounded { IfOk result (λ mend. IsTrue (moves_bounded (Instruction.Pair i.now)) → DoesTheSameBounded (mended mend) (Instruction.Pair i.now)) }
+    ensures does { IfOk result (λ mend. IsTrue (moves_plainly (Instruction.Pair i.now)) → DoesTheSame [] (mended mend) (Instruction.Pair i.now)) }
+    ensures bounded { IfOk result (λ mend. IsTrue (moves_bounded (Instruction.Pair i.now)) → DoesTheSameBounded [] (mended mend) (Instruction.Pair i.now)) }
     ensures told { refusal result ≡ of_access (Instruction.Pair i.now) }
 {
     if i.mode != PairMode::Offset && i.rn.number() == BASE {

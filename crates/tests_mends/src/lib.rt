@@ -14,3 +14,5 @@ mod rows;
 mod states;
 #[cfg(test)]
 mod tables;
+#[cfg(test)]
+mod writes;

@@ -16,7 +16,7 @@ pub struct Row {
 const NOP: u32 = 0xD503201F;
 
 /// Single loads and stores.
-pub const SINGLES: [Row; 22] = [
+pub const SINGLES: [Row; 24] = [
     // ldr x0, [x1]: ldr x0, [x21, w1, uxtw]
     Row {
         profile: Profile::One,
@@ -215,10 +215,28 @@ pub const SINGLES: [Row; 22] = [
         next: NOP,
         mend: &[0x8B2142B2, 0xC8DFFE5E, 0x8B3E42BE],
     },
+    // stlr x22, [x16]: mov x17, x22; add x18, x21, w16, uxtw; stlr x17, [x18]
+    Row {
+        profile: Profile::Two,
+        rule: Rule::AccessConfined,
+        unmet: Need::Nothing,
+        word: 0xC89FFE16,
+        next: NOP,
+        mend: &[0xAA1603F1, 0x8B3042B2, 0xC89FFE51],
+    },
+    // ldrb w18, [x24, #1]!: add w22, w24, #1; add x24, x21, w22, uxtw; ldrb w16, [x21, w24, uxtw]; add x18, x21, w16, uxtw
+    Row {
+        profile: Profile::One,
+        rule: Rule::AccessConfined,
+        unmet: Need::Nothing,
+        word: 0x38401F12,
+        next: NOP,
+        mend: &[0x11000716, 0x8B3642B8, 0x38784AB0, 0x8B3042B2],
+    },
 ];
 
 /// Pairs.
-pub const PAIRS: [Row; 7] = [
+pub const PAIRS: [Row; 10] = [
     // stp x0, x1, [x2]: add x18, x21, w2, uxtw; stp x0, x1, [x18]
     Row {
         profile: Profile::One,
@@ -282,239 +300,37 @@ pub const PAIRS: [Row; 7] = [
         next: NOP,
         mend: &[0x11002031, 0x8B3142B2, 0xA9004256],
     },
-];
-
-/// Registers that only few instructions may write.
-pub const WRITES: [Row; 25] = [
-    // add x23, x0, #16: add w22, w0, #16; add x23, x21, w22, uxtw
+    // stp x18, x0, [x1, #16]!: add x1, x1, #16; str x18, [x21, w1, uxtw]; add w22, w1, #8; str x0, [x21, w22, uxtw]
     Row {
         profile: Profile::One,
-        rule: Rule::AddressGuarded,
+        rule: Rule::AccessConfined,
         unmet: Need::Nothing,
-        word: 0x91004017,
+        word: 0xA9810032,
         next: NOP,
-        mend: &[0x11004016, 0x8B3642B7],
+        mend: &[0x91004021, 0xF8214AB2, 0x11002036, 0xF8364AA0],
     },
-    // mov x18, x1: add x18, x21, w1, uxtw
+    // stp w0, w18, [x22], #-8: str w0, [x21, w22, uxtw]; add w16, w22, #4; str w18, [x21, w16, uxtw]; sub w22, w22, #8
     Row {
         profile: Profile::One,
-        rule: Rule::AddressGuarded,
+        rule: Rule::AccessConfined,
         unmet: Need::Nothing,
-        word: 0xAA0103F2,
+        word: 0x28BF4AC0,
         next: NOP,
-        mend: &[0x8B2142B2],
+        mend: &[0xB8364AA0, 0x110012D0, 0xB8304AB2, 0x510022D6],
     },
-    // lsr x24, x1, #3: lsr x16, x1, #3; add x24, x21, w16, uxtw
+    // stp x22, x18, [x23, #16]!: add w16, w23, #16; add x23, x21, w16, uxtw; str x22, [x21, w23, uxtw]; add w16, w23, #8; str x18, [x21, w16, uxtw]
     Row {
         profile: Profile::One,
-        rule: Rule::AddressGuarded,
+        rule: Rule::AccessConfined,
         unmet: Need::Nothing,
-        word: 0xD343FC38,
+        word: 0xA9814AF6,
         next: NOP,
-        mend: &[0xD343FC30, 0x8B3042B8],
-    },
-    // movk x23, #1: mov x16, x23; movk x16, #1; add x23, x21, w16, uxtw
-    Row {
-        profile: Profile::One,
-        rule: Rule::AddressGuarded,
-        unmet: Need::Nothing,
-        word: 0xF2800037,
-        next: NOP,
-        mend: &[0xAA1703F0, 0xF2800030, 0x8B3042B7],
-    },
-    // bfi x23, x1, #4, #8: mov x16, x23; bfi x16, x1, #4, #8; add x23, x21, w16, uxtw
-    Row {
-        profile: Profile::One,
-        rule: Rule::AddressGuarded,
-        unmet: Need::Nothing,
-        word: 0xB37C1C37,
-        next: NOP,
-        mend: &[0xAA1703F0, 0xB37C1C30, 0x8B3042B7],
-    },
-    // csel x18, x0, x1, eq: csel x16, x0, x1, eq; add x18, x21, w16, uxtw
-    Row {
-        profile: Profile::One,
-        rule: Rule::AddressGuarded,
-        unmet: Need::Nothing,
-        word: 0x9A810012,
-        next: NOP,
-        mend: &[0x9A810010, 0x8B3042B2],
-    },
-    // udiv x18, x0, x1: udiv x16, x0, x1; add x18, x21, w16, uxtw
-    Row {
-        profile: Profile::One,
-        rule: Rule::AddressGuarded,
-        unmet: Need::Nothing,
-        word: 0x9AC10812,
-        next: NOP,
-        mend: &[0x9AC10810, 0x8B3042B2],
-    },
-    // clz x18, x0: clz x16, x0; add x18, x21, w16, uxtw
-    Row {
-        profile: Profile::One,
-        rule: Rule::AddressGuarded,
-        unmet: Need::Nothing,
-        word: 0xDAC01012,
-        next: NOP,
-        mend: &[0xDAC01010, 0x8B3042B2],
-    },
-    // umulh x18, x0, x1: umulh x16, x0, x1; add x18, x21, w16, uxtw
-    Row {
-        profile: Profile::One,
-        rule: Rule::AddressGuarded,
-        unmet: Need::Nothing,
-        word: 0x9BC17C12,
-        next: NOP,
-        mend: &[0x9BC17C10, 0x8B3042B2],
-    },
-    // and x18, x0, #0xff: and x16, x0, #0xff; add x18, x21, w16, uxtw
-    Row {
-        profile: Profile::One,
-        rule: Rule::AddressGuarded,
-        unmet: Need::Nothing,
-        word: 0x92401C12,
-        next: NOP,
-        mend: &[0x92401C10, 0x8B3042B2],
-    },
-    // adds x18, x0, #1: adds x16, x0, #1; add x18, x21, w16, uxtw
-    Row {
-        profile: Profile::One,
-        rule: Rule::AddressGuarded,
-        unmet: Need::Nothing,
-        word: 0xB1000412,
-        next: NOP,
-        mend: &[0xB1000410, 0x8B3042B2],
-    },
-    // ldr x23, [sp, #8]: add w22, wsp, #8; ldr x16, [x21, w22, uxtw]; add x23, x21, w16, uxtw
-    Row {
-        profile: Profile::One,
-        rule: Rule::AddressGuarded,
-        unmet: Need::Nothing,
-        word: 0xF94007F7,
-        next: NOP,
-        mend: &[0x110023F6, 0xF8764AB0, 0x8B3042B7],
-    },
-    // mov x30, x19: add x30, x21, w19, uxtw
-    Row {
-        profile: Profile::One,
-        rule: Rule::LinkGuarded,
-        unmet: Need::Nothing,
-        word: 0xAA1303FE,
-        next: NOP,
-        mend: &[0x8B3342BE],
-    },
-    // add x30, x0, x1, lsl #2: add w22, w0, w1, lsl #2; add x30, x21, w22, uxtw
-    Row {
-        profile: Profile::One,
-        rule: Rule::LinkGuarded,
-        unmet: Need::Nothing,
-        word: 0x8B01081E,
-        next: NOP,
-        mend: &[0x0B010816, 0x8B3642BE],
-    },
-    // ldr w30, [sp]: add w22, wsp, #0; ldr w16, [x21, w22, uxtw]; add x30, x21, w16, uxtw
-    Row {
-        profile: Profile::One,
-        rule: Rule::LinkGuarded,
-        unmet: Need::Nothing,
-        word: 0xB94003FE,
-        next: NOP,
-        mend: &[0x110003F6, 0xB8764AB0, 0x8B3042BE],
-    },
-    // add x22, x0, #16: add w22, w0, #16
-    Row {
-        profile: Profile::One,
-        rule: Rule::OffsetNarrow,
-        unmet: Need::Nothing,
-        word: 0x91004016,
-        next: NOP,
-        mend: &[0x11004016],
-    },
-    // mov x22, x1: mov w22, w1
-    Row {
-        profile: Profile::One,
-        rule: Rule::OffsetNarrow,
-        unmet: Need::Nothing,
-        word: 0xAA0103F6,
-        next: NOP,
-        mend: &[0x2A0103F6],
-    },
-    // mul x22, x1, x2: mul w22, w1, w2
-    Row {
-        profile: Profile::One,
-        rule: Rule::OffsetNarrow,
-        unmet: Need::Nothing,
-        word: 0x9B027C36,
-        next: NOP,
-        mend: &[0x1B027C36],
-    },
-    // mov x22, #5: mov w22, #5
-    Row {
-        profile: Profile::One,
-        rule: Rule::OffsetNarrow,
-        unmet: Need::Nothing,
-        word: 0xD28000B6,
-        next: NOP,
-        mend: &[0x528000B6],
-    },
-    // lsr x22, x1, #2: lsr x16, x1, #2; mov w22, w16
-    Row {
-        profile: Profile::One,
-        rule: Rule::OffsetNarrow,
-        unmet: Need::Nothing,
-        word: 0xD342FC36,
-        next: NOP,
-        mend: &[0xD342FC30, 0x2A1003F6],
-    },
-    // sub x22, x1, x2, sxtx #1: sub w22, w1, w2, sxtw #1
-    Row {
-        profile: Profile::One,
-        rule: Rule::OffsetNarrow,
-        unmet: Need::Nothing,
-        word: 0xCB22E436,
-        next: NOP,
-        mend: &[0x4B22C436],
-    },
-    // mov sp, x29: add sp, x21, w29, uxtw
-    Row {
-        profile: Profile::One,
-        rule: Rule::StackBounded,
-        unmet: Need::Nothing,
-        word: 0x910003BF,
-        next: NOP,
-        mend: &[0x8B3D42BF],
-    },
-    // sub sp, x29, #16: sub w22, w29, #16; add sp, x21, x22, uxtx
-    Row {
-        profile: Profile::One,
-        rule: Rule::StackBounded,
-        unmet: Need::Nothing,
-        word: 0xD10043BF,
-        next: NOP,
-        mend: &[0x510043B6, 0x8B3662BF],
-    },
-    // sub sp, sp, x1: sub w22, wsp, w1, uxtw; add sp, x21, x22, uxtx
-    Row {
-        profile: Profile::One,
-        rule: Rule::StackBounded,
-        unmet: Need::Nothing,
-        word: 0xCB2163FF,
-        next: NOP,
-        mend: &[0x4B2143F6, 0x8B3662BF],
-    },
-    // and sp, x1, #0xfffffffffffffff0: and x16, x1, #0xfffffffffffffff0; add sp, x21, w16, uxtw
-    Row {
-        profile: Profile::One,
-        rule: Rule::StackBounded,
-        unmet: Need::Nothing,
-        word: 0x927CEC3F,
-        next: NOP,
-        mend: &[0x927CEC30, 0x8B3042BF],
+        mend: &[0x110042F0, 0x8B3042B7, 0xF8374AB6, 0x110022F0, 0xF8304AB2],
     },
 ];
 
 /// Branches through registers, and needs.
-pub const OTHERS: [Row; 7] = [
+pub const OTHERS: [Row; 10] = [
     // br x0: add x18, x21, w0, uxtw; br x18
     Row {
         profile: Profile::One,
@@ -578,10 +394,37 @@ pub const OTHERS: [Row; 7] = [
         next: NOP,
         mend: &[0xF94003FF, 0x8B2042B2, 0xD61F0240],
     },
+    // str x0, [x1]: ldr xzr, [sp]; str x0, [x21, w1, uxtw]
+    Row {
+        profile: Profile::One,
+        rule: Rule::AccessConfined,
+        unmet: Need::Probe(1),
+        word: 0xF9000020,
+        next: NOP,
+        mend: &[0xF94003FF, 0xF8214AA0],
+    },
+    // stp x18, x0, [x1]: add x30, x21, w30, uxtw; str x18, [x21, w1, uxtw]; add w22, w1, #8; str x0, [x21, w22, uxtw]
+    Row {
+        profile: Profile::One,
+        rule: Rule::AccessConfined,
+        unmet: Need::Guard,
+        word: 0xA9000032,
+        next: NOP,
+        mend: &[0x8B3E42BE, 0xF8214AB2, 0x11002036, 0xF8364AA0],
+    },
+    // ror x0, x1, #8: ldr xzr, [sp]; orr x0, xzr, x1, ror #8
+    Row {
+        profile: Profile::Two,
+        rule: Rule::Spelled,
+        unmet: Need::Probe(2),
+        word: 0x93C12020,
+        next: NOP,
+        mend: &[0xF94003FF, 0xAAC123E0],
+    },
 ];
 
 /// Instructions that the profile leaves out.
-pub const OUTSIDE: [Row; 22] = [
+pub const OUTSIDE: [Row; 23] = [
     // ror x0, x1, #8: orr x0, xzr, x1, ror #8
     Row {
         profile: Profile::One,
@@ -758,6 +601,15 @@ pub const OUTSIDE: [Row; 22] = [
         word: 0xA8010440,
         next: NOP,
         mend: &[0x11004056, 0x8B3642B2, 0xA9000640],
+    },
+    // ldnp x29, x30, [x1, #16]: add w22, w1, #16; add x18, x21, w22, uxtw; ldp x29, x30, [x18]; add x30, x21, w30, uxtw
+    Row {
+        profile: Profile::One,
+        rule: Rule::Spelled,
+        unmet: Need::Nothing,
+        word: 0xA841783D,
+        next: NOP,
+        mend: &[0x11004036, 0x8B3642B2, 0xA9407A5D, 0x8B3E42BE],
     },
     // prfm pldl1keep, [x1, #64]: nothing
     Row {

@@ -3,8 +3,9 @@
 ghost use Rattle.std.specs.Prelude.{◌<◌};
 
 use crate::machine::{Machine, Stored, sign_extended};
-use crate::rows::{OUTSIDE, PAIRS, Row, SINGLES, WRITES};
+use crate::rows::{OUTSIDE, PAIRS, Row, SINGLES};
 use crate::tables::answer;
+use crate::writes::WRITES;
 use a64_semantics::Registers;
 use a64_word::{Instruction, Register, Size, Width, decode};
 use std::test::Fail;
@@ -345,6 +346,6 @@ fn what_is_left_out_accesses_the_same(rt: HostRuntime) -> Result<(), Fail> {
             }
         }
     }
-    assert!(rt; count == 5 * STATES, "{count}");
+    assert!(rt; count == 6 * STATES, "{count}");
     Ok(())
 }

@@ -1,6 +1,7 @@
 //! The tables beside `mend_of`, and the mends beside the rules.
 use crate::reasons::REASONS;
-use crate::rows::{OTHERS, OUTSIDE, PAIRS, Row, SINGLES, WRITES};
+use crate::rows::{OTHERS, OUTSIDE, PAIRS, Row, SINGLES};
+use crate::writes::WRITES;
 use a64_encode::encode;
 use a64_word::{Instruction, Words, decode};
 use lfi_mends::{Mend, Reason, mend_of};

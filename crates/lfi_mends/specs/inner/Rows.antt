@@ -15,7 +15,9 @@ use Rattle.a64_word.specs.declared.operands.Transfer.TheVariants as transfers
 use Rattle.a64_word.specs.declared.operands.Logical.TheVariants as logicals
 use Rattle.a64_word.specs.declared.operands.Shift.TheVariants as shifts
 use Rattle.a64_effects.specs.Effects.{is_store}
+use Rattle.a64_semantics.specs.Accesses.{register_bytes}
 use Rattle.lfi_rules.specs.Needs.{is_load_64}
+use Rattle.lfi_mends.specs.Outcomes.{probe}
 use Rattle.lfi_mends.specs.Registers.{is_reserved, may_move, may_move_two, spare}
 
 -- ADD or SUB Wd, Wn, #imm12
@@ -104,6 +106,11 @@ in_order size load rt rn = sums 22 rn false 0 ++ guard_of 18 (index_of 22 rn 0) 
 
 -- ---- reserved registers
 
+-- MOV Xd, Xm
+abbrev pub move_of : (rd rm : ℕ) → Instruction
+move_of rd rm =
+    instructions.LogicalShifted (record { width = widths.X; operation = logicals.Orr; invert = false; shift = shifts.Lsl; amount = 0; rm = rm; rn = 31; rd = rd })
+
 -- MOV W22, Wm
 abbrev pub copy_of : (rm : ℕ) → Instruction
 copy_of rm =
@@ -155,6 +162,11 @@ abbrev pub any_changing : (before : Bool) → Size → Transfer → (rt rn : ℕ
 any_changing true size transfer rt rn below bytes = change_of (sum_beside rt) rn below bytes ++ access_with size transfer rn rt (scratch_of rn)
 any_changing false size transfer rt rn below bytes = access_with size transfer rn rt (scratch_of rn) ++ change_of (sum_beside rt) rn below bytes
 
+-- an access of any register at sp, which is changed before it or after it
+abbrev pub stack_changing : (before : Bool) → Size → Transfer → (rt rn : ℕ) → (below : Bool) → (bytes : ℕ) → List Instruction
+stack_changing true size transfer rt rn below bytes = changed_of below bytes rn ∷ probe ∷ any_accessed size transfer rt rn false 0
+stack_changing false size transfer rt rn below bytes = any_accessed size transfer rt rn false 0 ++ changed_of below bytes rn ∷ probe ∷ []
+
 -- a pair stores x18
 abbrev pub stores_first : (load : Bool) → (rt2 rt : ℕ) → Bool
 stores_first load rt2 rt = not load && (rt == 18 || rt2 == 18)
@@ -175,3 +187,28 @@ any_paired sum width load rt2 rt rn below bytes = sums sum rn below bytes ++ gua
 abbrev pub any_changing_pair : (before : Bool) → (sum : ℕ) → Width → (load : Bool) → (rt2 rt rn : ℕ) → (below : Bool) → (bytes : ℕ) → List Instruction
 any_changing_pair true sum width load rt2 rt rn below bytes = change_of sum rn below bytes ++ guard_of 18 rn ∷ pair_with width load rt2 rt
 any_changing_pair false sum width load rt2 rt rn below bytes = guard_of 18 rn ∷ pair_with width load rt2 rt ++ change_of sum rn below bytes
+
+-- an ordered access of a reserved register at a base: x30 is loaded with its guard, and of any other a copy is stored
+abbrev pub in_order_reserved : Size → (load : Bool) → (rt rn : ℕ) → List Instruction
+in_order_reserved size true rt rn = sums 22 rn false 0 ++ guard_of 18 (index_of 22 rn 0) ∷ ordered_of sizes.Double true 30 ∷ guard_of 30 30 ∷ []
+in_order_reserved size false rt rn = move_of (scratch_of rn) rt ∷ in_order size false (scratch_of rn) rn
+
+-- by the size of a register of a pair
+abbrev pub size_of : Width → Size
+size_of widths.W = sizes.Word
+size_of widths.X = sizes.Double
+
+-- two stores one after another, at a W register and behind it
+abbrev pub two_stores : Width → (rt2 rt index sum : ℕ) → List Instruction
+two_stores width rt2 rt index sum =
+    access_of (size_of width) transfers.Store index rt ∷ sum_of_immediate sum false false (register_bytes width) index
+    ∷ access_of (size_of width) transfers.Store sum rt2 ∷ []
+
+-- two stores at a base and a distance
+abbrev pub stored_at : (sum : ℕ) → Width → (rt2 rt rn : ℕ) → (below : Bool) → (bytes : ℕ) → List Instruction
+stored_at sum width rt2 rt rn below bytes = sums sum rn below bytes ++ two_stores width rt2 rt (index_of sum rn bytes) sum
+
+-- two stores at a base alone, which is changed before them or after them
+abbrev pub changing_stored : (before : Bool) → (sum : ℕ) → Width → (rt2 rt rn : ℕ) → (below : Bool) → (bytes : ℕ) → List Instruction
+changing_stored true sum width rt2 rt rn below bytes = change_of sum rn below bytes ++ two_stores width rt2 rt rn sum
+changing_stored false sum width rt2 rt rn below bytes = two_stores width rt2 rt rn sum ++ change_of sum rn below bytes
