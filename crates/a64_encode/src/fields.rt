@@ -6,7 +6,7 @@ ghost use Rattle.a64_word.specs.Fields as spec;
 
 use a64_word::Field;
 
-/// A field of so many bits, with its value.
+/// A field of `width` bits, with its value.
 pub(crate) fn field(width: u32, value: u32) -> Field
     ensures { result ≡ spec.bits width value }
 {

@@ -1,4 +1,4 @@
--- Of which instructions the plain program tells a result, and what of it stays as it was: C6.2 of the Arm manual.
+-- Of which instructions the reference implementation tells a result, and what of it stays as it was: C6.2 of the Arm manual.
 use Rattle.std.specs.Prelude.{◌≡◌, ℕ, Bool, true, false, ◌||◌, slice_index}
 use Rattle.a64_word.specs.declared.instruction.Instruction.{Instruction}
 use Rattle.a64_word.specs.declared.instruction.Instruction.TheVariants as instruction

@@ -1,4 +1,4 @@
-//! A plain slow program: what an instruction computes, bit by bit.
+//! A reference implementation: what an instruction computes, bit by bit.
 //!
 //! # How data flows
 //!

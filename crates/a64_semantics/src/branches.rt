@@ -13,7 +13,7 @@ use a64_word::{
     Width,
 };
 
-/// The address that lies so many words from pc.
+/// The address that lies `offset` words from pc.
 #[inline(always)]
 fn words_on(registers: &Registers, offset: i32) -> u64
     ensures { result ≡ words_on registers.now offset }

@@ -4,7 +4,7 @@ ghost use Rattle.std.specs.Prelude.{◌≡◌, ◌+◌, ◌-◌, ◌^◌, pos, n
 ghost use Rattle.a64_semantics.specs.Results.{pc_relative};
 ghost use Rattle.a64_semantics.specs.FarEnds.{adr, adrp};
 
-/// How far ADR and ADRP reach, by their least and their greatest immediate: 2^20 bytes down and one less up, from pc; so many
+/// How far ADR and ADRP reach, by their least and their greatest immediate: 2^20 bytes down and one less up, from pc; as many
 /// pages, from the page of pc. Both go on from the last address to 0.
 pub fn addresses_at_the_far_ends()
     ensures adr_least { pc_relative (adr (negsuc 1048575)) (2 ^ 32) ≡ 2 ^ 32 - 1048576 }

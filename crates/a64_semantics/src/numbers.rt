@@ -29,7 +29,7 @@ pub(crate) fn complement(width: Width, x: u64) -> u64
     }
 }
 
-/// So many ones.
+/// `count` ones.
 #[inline(always)]
 pub(crate) fn ones(count: u32) -> u64
     requires some { 1 ≤ count }

@@ -1,7 +1,7 @@
 -- Bytes of a memory as numbers, the lowest byte first. A memory is the byte at each address.
 use Rattle.std.specs.Prelude.{ℕ, zero, suc, ◌+◌, ◌*◌, ◌/◌, ◌%◌, ◌==◌, if◌then◌else◌, List, [], ◌∷◌}
 
--- so many bytes from an address on
+-- the number that `bytes` bytes from an address on spell, the lowest first
 abbrev pub number_at : (memory : ℕ → ℕ) → (bytes address : ℕ) → ℕ
 number_at memory zero address = 0
 number_at memory (suc bytes) address = memory address + 256 * number_at memory bytes (address + 1)

@@ -1,4 +1,4 @@
-//! How long a receiver needs for a message that is passed over: `bench closes COUNT [ROUNDS]`. It is given so many Closes of a
+//! How long a receiver needs for a message that is passed over: `bench closes COUNT [ROUNDS]`. It is given COUNT Closes of a
 //! module that wasn't opened, in pieces of 4,092 bytes; with a second word it prints the least time of one.
 
 ghost use Rattle.std.specs.Prelude.{◌≡◌};
@@ -45,7 +45,7 @@ fn turn_over(board: &Board, intake: &Intake<Item>, receiver: &mut Receiver, piec
     }
 }
 
-/// Turns the receiver over a piece, so many times.
+/// Turns the receiver over a piece, `times` times.
 fn turn_often(
     board: &Board,
     intake: &Intake<Item>,
@@ -61,7 +61,7 @@ fn turn_often(
     }
 }
 
-/// The nanoseconds in which a new receiver is given so many pieces, and the strays that it counted.
+/// The nanoseconds in which a new receiver is given `pieces` pieces, and the strays that it counted.
 fn give<R: Clock>(rt: &R, alloc: Global, pieces: u64) -> Result<(u64, u64), Fault> {
     let piece = piece_of_closes();
     let (board, mut seats) = Board::new(alloc, 1, 1)?;
@@ -74,7 +74,7 @@ fn give<R: Clock>(rt: &R, alloc: Global, pieces: u64) -> Result<(u64, u64), Faul
     Ok((nanos_since(rt, start)?, receiver.strays()))
 }
 
-/// Gives a receiver at least so many Closes, in so many rounds. Prints how many it counted, and with rounds the least time.
+/// Gives a receiver at least `closes` Closes, in `rounds` rounds. Prints how many it counted, and with rounds the least time.
 pub(crate) fn run(rt: &HostRuntime, closes: u64, rounds: Option<u64>) -> Result<(), Fault> {
     let pieces = closes.div_ceil(PIECE_CLOSES as u64);
     let mut least = u64::MAX;

@@ -6,7 +6,7 @@ use std::{fmt, io};
 /// Why something can't be measured.
 #[derive(Clone, Copy)]
 pub(crate) enum Fault {
-    /// A device failed, or memory was refused.
+    /// An I/O error, or memory was refused.
     System(io::Error),
     /// This.
     Is(&'static str),

@@ -25,7 +25,7 @@ const NOP: [u8; 4] = [0x1F, 0x20, 0x03, 0xD5];
 /// More than any gap between the pages of an image, so that it is taken from behind them.
 const BEHIND_BYTES: usize = 65_536;
 
-/// A page of this size, of so many NOPs.
+/// A page of this size, of `words` NOPs.
 fn page(alloc: Global, size: PageSize, words: usize) -> Result<SealedPage, Fault>
     ensures size { IfOk result (λ page. page.size ≡ size) }
     ensures words { IfOk result (λ page. length (words_of page.bytes) ≡ words) }
@@ -57,13 +57,13 @@ fn append_page(alloc: Global, builder: &mut Builder) -> Result<(), Fault> {
     }
 }
 
-/// The module of so many words, which is to be entered at the first.
+/// The module of `words` words, which is to be entered at the first.
 fn extent(words: u32) -> Option<Extent> {
     let words = WordCount::new(words)?;
     Extent::new(words, 0, Profile::One, PageSize::SMALL)
 }
 
-/// An image of so many NOPs.
+/// An image of `words` NOPs.
 fn image(alloc: Global, words: u32) -> Result<CompleteImage, Fault> {
     let Some(extent) = extent(words) else {
         return Err(Fault::Is("no module has so many words"));
@@ -141,7 +141,7 @@ fn read_in_place(rt: &HostRuntime, built: CompleteImage, words: u32) -> Result<u
     time
 }
 
-/// Judges so many words by a page of them, and nothing else: in how many nanoseconds.
+/// Judges `words` words by a page of them, and nothing else: in how many nanoseconds.
 fn judge_by(rt: &HostRuntime, page: &SealedPage, words: u32) -> Result<u64, Fault> {
     let start = Instant::now(rt)?;
     if faulty_pages(page, words) == 0 {
@@ -151,7 +151,7 @@ fn judge_by(rt: &HostRuntime, page: &SealedPage, words: u32) -> Result<u64, Faul
     }
 }
 
-/// Judges so many words of a page.
+/// Judges `words` words of a page.
 fn judge_alone(rt: &HostRuntime, words: u32) -> Result<u64, Fault> {
     let page = page(rt.alloc(), PageSize::SMALL, 1024)?;
     judge_by(rt, &page, words)
@@ -242,7 +242,7 @@ fn print_peak(rt: &HostRuntime) -> io::Result<()> {
     println!(rt; "peak memory {}", peak_of(&status))
 }
 
-/// The least times of so many rounds.
+/// The least times of `rounds` rounds.
 fn least_of(rt: &HostRuntime, words: u32, rounds: u64) -> Result<Round, Fault> {
     let mut least = Round::NEVER;
     for _ in 0..rounds {
@@ -251,7 +251,7 @@ fn least_of(rt: &HostRuntime, words: u32, rounds: u64) -> Result<Round, Fault> {
     Ok(least)
 }
 
-/// Measures an image of so many words; with rounds it prints the least times of so many.
+/// Measures an image of `words` words; with rounds it prints their least times.
 pub(crate) fn run(rt: &HostRuntime, words: u64, rounds: Option<u64>) -> Result<(), Fault> {
     let words = u32::try_from(words).or(Err(Fault::Is("no module has so many words")))?;
     let least = least_of(rt, words, rounds.unwrap_or(1))?;

@@ -3,10 +3,10 @@
 //!
 //! | Words | What is measured |
 //! |---|---|
-//! | `image WORDS [ROUNDS]` | an image of so many words, built, written to a file and read back, the least time of each part in so many rounds, and the most memory |
+//! | `image WORDS [ROUNDS]` | an image of WORDS words, built, written to a file and read back, the least time of each part in ROUNDS rounds, and the most memory |
 //! | `pages ROUNDS [time]` | 256 pages, written in each round |
-//! | `closes COUNT [ROUNDS]` | so many Closes that a receiver passes over |
-//! | `queues ITEMS [ROUNDS]` | so many items, put and taken, by one thread and by four |
+//! | `closes COUNT [ROUNDS]` | COUNT Closes that a receiver passes over |
+//! | `queues ITEMS [ROUNDS]` | ITEMS items, put and taken, by one thread and by four |
 //!
 //! The third word asks for times. Without words each is run once, by small counts and without times.
 #![tactic(auto)]

@@ -71,7 +71,7 @@ impl Written {
     }
 }
 
-/// Writes pages in so many rounds, and prints their speed where it is asked for.
+/// Writes pages in `rounds` rounds, and prints their speed where it is asked for.
 pub(crate) fn run(rt: &HostRuntime, rounds: u64, timed: Option<u64>) -> Result<(), Fault> {
     let source = [0x1F; PAGE_BYTES];
     let mut written = Written {

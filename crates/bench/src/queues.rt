@@ -1,5 +1,5 @@
 //! How long a put and a take need, of the intake and beside it of an array queue: `bench queues ITEMS [ROUNDS]`. With a
-//! second word it passes so many items through as many times, and prints the least time of an item.
+//! second word it passes a number of items through as many times, and prints the least time of an item.
 
 ghost use Rattle.std.specs.Prelude.{◌≡◌};
 
@@ -37,7 +37,7 @@ fn by_turns<R: Wait, P: Puts + Drop, T: Takes + Drop>(
     came
 }
 
-/// Puts so many, unless it is told to stop.
+/// Puts `items` items, unless it is told to stop.
 fn put_many<R: Wait, P: Puts + Drop>(rt: &R, stop: &AtomicBool, mut put: P, items: u64) -> u64 {
     let mut done = 0u64;
     for _ in rt.forever() {
@@ -53,7 +53,7 @@ fn put_many<R: Wait, P: Puts + Drop>(rt: &R, stop: &AtomicBool, mut put: P, item
     done
 }
 
-/// Takes so many, unless it is told to stop.
+/// Takes `items` items, unless it is told to stop.
 fn take_many<R: Wait, T: Takes + Drop>(rt: &R, stop: &AtomicBool, mut take: T, items: u64) -> u64 {
     let mut done = 0u64;
     for _ in rt.forever() {
@@ -107,7 +107,7 @@ fn run_pairs<R: Threads + Wait + Sync + Clock, P: Puts + Drop + Send, T: Takes +
     }
 }
 
-/// The nanoseconds in which one thread puts and takes so many.
+/// The nanoseconds in which one thread puts and takes `items` items.
 fn alone<R: Wait + Clock, P: Puts + Drop, T: Takes + Drop>(
     rt: &R,
     mut pair: Pair<P, T>,
@@ -153,21 +153,21 @@ fn ring_pair<'a>(
     }
 }
 
-/// The nanoseconds in which one thread puts so many to the intake and takes them.
+/// The nanoseconds in which one thread puts `items` items to the intake and takes them.
 fn intake_alone<R: Wait + Clock + AllocGlobal>(rt: &R, items: u64) -> Result<u64, Fault> {
     let (intake, mut puts, mut takes) = Intake::<Piece>::new(rt.alloc(), 1, 1)?;
     let pair = part_pair(&intake, puts.swap_remove(0), takes.swap_remove(0));
     alone(rt, pair, items)
 }
 
-/// The nanoseconds in which one thread puts so many to the array queue and takes them.
+/// The nanoseconds in which one thread puts `items` items to the array queue and takes them.
 fn ring_alone<R: Wait + Clock + AllocGlobal>(rt: &R, items: u64) -> Result<u64, Fault> {
     let (ring, mut puts, mut takes) = Ring::new(rt.alloc(), 1, 1)?;
     let pair = ring_pair(&ring, puts.swap_remove(0), takes.swap_remove(0));
     alone(rt, pair, items)
 }
 
-/// The nanoseconds in which two threads put so many each to the intake, and two take as many.
+/// The nanoseconds in which two threads put `items` items each to the intake, and two take as many.
 fn intake_together<R: Threads + Wait + Sync + Clock + AllocGlobal>(
     rt: &R,
     items: u64,
@@ -178,7 +178,7 @@ fn intake_together<R: Threads + Wait + Sync + Clock + AllocGlobal>(
     run_pairs(rt, first, second, items)
 }
 
-/// The nanoseconds in which two threads put so many each to the array queue, and two take as many.
+/// The nanoseconds in which two threads put `items` items each to the array queue, and two take as many.
 fn ring_together<R: Threads + Wait + Sync + Clock + AllocGlobal>(
     rt: &R,
     items: u64,
@@ -189,7 +189,7 @@ fn ring_together<R: Threads + Wait + Sync + Clock + AllocGlobal>(
     run_pairs(rt, first, second, items)
 }
 
-/// The least times of so many rounds, in nanoseconds: of the intake by one thread, of the array queue by one, and of both by four.
+/// The least times of all rounds, in nanoseconds: of the intake by one thread, of the array queue by one, and of both by four.
 #[derive(Clone, Copy)]
 struct Least {
     intake_alone: u64,
@@ -206,7 +206,7 @@ impl Least {
         ring_together: u64::MAX,
     };
 
-    /// Passes so many items through once more.
+    /// Passes `items` items through once more.
     fn round<R: Threads + Wait + Sync + Clock + AllocGlobal>(
         self,
         rt: &R,
@@ -245,7 +245,7 @@ impl Least {
     }
 }
 
-/// Passes so many items through, in so many rounds. Prints how many, and with rounds the least times.
+/// Passes `items` items through, in `rounds` rounds. Prints how many, and with rounds the least times.
 pub(crate) fn run<R: Threads + Wait + Sync + Clock + AllocGlobal + Print>(
     rt: &R,
     items: u64,

@@ -3,7 +3,7 @@
 //!
 //! # What it may not know
 //!
-//! What the bytes mean, whose they are, what is told of a device that fails.
+//! What the bytes mean, whose they are, what is told of an I/O error.
 #![tactic(auto)]
 
 mod reading;

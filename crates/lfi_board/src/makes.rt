@@ -27,7 +27,7 @@ fn receiver(seat: Seat<(), View>) -> ReceiverSeat
     }
 }
 
-// The seats of so many receivers, of which `first` knows what all know.
+// The seats of `count` receivers, of which `first` knows what all know.
 fn receiver_seats(
     top: &Top,
     mut first: Seat<(), View>,

@@ -6,7 +6,7 @@ use Rattle.lfi_rules.specs.Faults.{FirstFault}
 use Rattle.lfi_rules.specs.Verdicts.{LeavesOpen}
 use Rattle.lfi_check.specs.declared.beginning.Beginning.{Beginning}
 
--- The bytes, which are whole words, are those that have been judged of a module of so many words.
+-- The bytes, which are whole words, are those that have been judged of the beginning's module.
 pub record Begins (beginning : Beginning) (bytes : List ℕ) : Type 0 where
   pub whole : length bytes ≡ 4 * beginning.judged
   pub room : beginning.judged ≤ beginning.words

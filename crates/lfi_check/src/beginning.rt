@@ -28,7 +28,7 @@ pub struct Beginning {
 ghost use Rattle.lfi_check.specs.Begun.{Begins};
 
 impl Beginning {
-    /// That of a module of so many words, none of which has been judged.
+    /// That of a module of `words` words, none of which has been judged.
     pub fn none(words: u32, profile: Profile) -> Beginning
         requires some { 1 ≤ words }
         requires most { words ≤ most_words }

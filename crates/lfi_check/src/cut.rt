@@ -57,7 +57,7 @@ impl CutBeginning {
         }
     }
 
-    /// Whether so many bytes more are no more than are to come.
+    /// Whether `bytes` bytes more are no more than are to come.
     pub fn has_room(self, bytes: usize) -> bool
         ensures yes { result ≡ true → count_of self + bytes ≤ 4 * self.whole.words }
         ensures no { result ≡ false → 4 * self.whole.words < count_of self + bytes }

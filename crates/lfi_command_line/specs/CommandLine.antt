@@ -1,4 +1,4 @@
--- What the words of the command line ask for, and what is wrong with them. (docs/COMMANDS.md)
+-- What the arguments ask for, and what is wrong with them. (docs/COMMANDS.md)
 use Rattle.std.specs.Prelude.{◌≡◌, ⊤, ℕ, ◌≤◌, ◌&&◌, if◌then◌else◌, Bool, List, [], codes, length, map, Option, Some, None, true, false, option_map}
 use Rattle.clap.specs.Words.{IsAmong, Row, Text, all_of, fault_of, first_of, kind_of, one_of, subcommand_of}
 use Rattle.std.specs.Str.{bytes_eq}

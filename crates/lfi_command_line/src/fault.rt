@@ -1,4 +1,4 @@
-//! What is wrong with the words of the command line.
+//! What is wrong with the arguments.
 
 ghost use Rattle.lfi_command_line.specs.CommandLine.{fault_from};
 
@@ -8,7 +8,7 @@ use clap::error::ErrorKind;
 use std::alloc::{AllocError, AllocFailed};
 use thiserror::Error;
 
-/// Why the words of the command line ask for nothing that can be carried out.
+/// Why the arguments ask for nothing that can be carried out.
 #[derive(Debug, Drop, Error)]
 pub enum LineFault {
     /// There was no memory to read them.

@@ -1,4 +1,4 @@
-//! What the words of the command line ask for.
+//! What the arguments ask for.
 
 ghost use Rattle.std.specs.Prelude.{◌≡◌, List, None, IfOk, IfErr, map, string_bytes};
 ghost use Rattle.clap.specs.Words.{Text};
@@ -71,14 +71,14 @@ fn line_of<'a>(alloc: Global, matches: &ArgMatches<'a>) -> Result<Line<'a>, Line
     run_line(matches.subcommand_matches("run").unwrap())
 }
 
-/// Parses the words of the command line, of which the first is the program's name.
+/// Parses the arguments, of which the first is the program's name.
 ///
 /// Which words make which line, and which kind of fault, is what the parser's own definitions say
 /// of this program's command; its texts are in no contract.
 ///
 /// # Errors
 ///
-/// Why there is no command to carry out: help was asked for, the words are wrong, what they ask for can't be carried out
+/// Why there is no command to carry out: help was asked for, there is a usage error, what they ask for can't be carried out
 /// (`Flaw`), or there was no memory to read them.
 pub fn read_line<'a>(alloc: Global, words: &'a [String]) -> Result<Line<'a>, LineFault>
     ensures line { IfOk result (IsLine (map string_bytes words.now)) }

@@ -59,7 +59,7 @@ pub struct LoadOptions<'a> {
     pub report: ReportOptions<'a>,
 }
 
-/// `serve`: it is listened at a socket's path, and the modules of the streams of so many connections are loaded.
+/// `serve`: it listens at a socket's path, and loads the modules of the streams of `connections` connections.
 #[derive(Clone, Copy)]
 pub struct ServeOptions<'a> {
     /// The path of the socket.
@@ -68,7 +68,7 @@ pub struct ServeOptions<'a> {
     pub connections: usize,
     /// How many verifiers there are, 1 to 8.
     pub verifiers: usize,
-    /// For how many seconds it is listened and read at the most, 1 to 86,400; without limit, where nothing is said.
+    /// For how many seconds it listens and reads at most, 1 to 86,400; without limit by default.
     pub seconds: Option<u64>,
     pub report: ReportOptions<'a>,
 }
@@ -78,7 +78,7 @@ pub struct ServeOptions<'a> {
 pub struct RunOptions<'a> {
     /// The path of the file.
     pub image: &'a str,
-    /// For how many steps at the most, 0 to 1,000,000,000.
+    /// At most how many steps it runs, 0 to 1,000,000,000.
     pub steps: u64,
     pub format: Format,
 }
@@ -96,7 +96,7 @@ pub struct DisassembleOptions<'a> {
 /// `pack`: a stream is written of the code in 1 to 16 files, one module each.
 #[derive(Drop)]
 pub struct PackOptions<'a> {
-    /// The number of the first module. That of the last one is 15 at the most.
+    /// The number of the first module. That of the last one is at most 15.
     pub first: usize,
     /// The word at which each module is entered, 0 to 4,194,303.
     pub entry: u32,

@@ -1,4 +1,4 @@
--- What `lfiload load --explain` and `serve --explain` tell: of refused modules, of who has claimed each module, and of connections. Source: this project's
+-- What `lfiload load --explain` and `serve --explain` tell: of refused modules, of which connection has claimed each module, and of connections. Source: this project's
 -- profile, docs/COMMANDS.md.
 use Rattle.std.specs.Prelude.{◌≡◌, ℕ, ◌==◌, ◌&&◌, Bool, true, false, List, [], ◌++◌, Option, Some, None, codes, decimal, slice_get, slice_index, if◌then◌else◌}
 use Rattle.lfi_frame.specs.declared.fault.FrameFault.{FrameFault}
@@ -61,7 +61,7 @@ connection_lines starts strays paths c fault = fault_lines c fault (slice_get st
 abbrev pub all_connection_lines : List (Option FrameFault) → (starts : List MessageStart) → (strays : List ℕ) → (paths : List (List ℕ)) → List ℕ
 all_connection_lines faults starts strays paths = lines_from (connection_lines starts strays paths) 0 faults
 
--- what is told of a report: of its refused modules, of who has claimed each module, and of the connections, whose streams have these paths, where that is asked for; and else nothing
+-- what is told of a report: of its refused modules, of which connection has claimed each module, and of the connections, whose streams have these paths, where that is asked for; and else nothing
 abbrev pub TellsExplained : Bool → Report → (paths : List (List ℕ)) → List ℕ → Type 0
 TellsExplained true report paths text =
     (refused : List ℕ) × TellRefused report.modules refused × (text ≡ refused ++ (holder_lines report.holders ++ all_connection_lines report.faults report.starts report.connection_strays paths))

@@ -13,7 +13,7 @@ use Rattle.lfi_command_line.specs.declared.options.ReportOptions.{ReportOptions}
 use Rattle.lfi_command_line.specs.declared.options.ServeOptions.{ServeOptions}
 use Rattle.lfi_file_commands.specs.Left.{Left}
 
--- the limit of time of so many seconds; none where they aren't said
+-- the limit of time in seconds; none where they aren't given
 abbrev pub IsLimit : (seconds : Option ℕ) → Option Duration → Type 0
 IsLimit None limit = limit ≡ None
 IsLimit (Some seconds) limit = (time : Duration) × (limit ≡ Some time) × (as_nanos time ≡ seconds * 1000000000)

@@ -1,4 +1,4 @@
-//! The program: from the words of the command line to its ending; and the commands that load streams on threads, `load`
+//! The program: from the arguments to its ending; and the commands that load streams on threads, `load`
 //! and `serve`.
 //!
 //! # How data flows

@@ -187,7 +187,7 @@ fn end_serve<'a, P: ImageStore, O: Write, E: Write>(
     }
 }
 
-/// The limit of time of so many seconds, where they are said.
+/// The limit of time in seconds, where one is given.
 fn limit_of(seconds: Option<u64>) -> Option<Duration>
     ensures { IsLimit seconds result }
 {
@@ -294,7 +294,7 @@ fn tell_fault<P: ImageStore, O: Write, E: Write>(
     }
 }
 
-/// What the words of the command line ask for. Its numbers are in their ranges.
+/// What the arguments ask for. Its numbers are in their ranges.
 fn line_of<'a>(alloc: Global, words: &'a [String]) -> Result<Line<'a>, LineFault>
     ensures line { IfOk result (IsLine (map string_bytes words.now)) }
     ensures sound { IfOk result (λ line. flaw_of line ≡ None) }
@@ -307,7 +307,7 @@ fn line_of<'a>(alloc: Global, words: &'a [String]) -> Result<Line<'a>, LineFault
     }
 }
 
-/// Carries out what the words of the command line ask for, of which the first is the program's name: reads files of the disk,
+/// Carries out what the arguments ask for, of which the first is the program's name: reads files of the disk,
 /// writes the answer and the images, and tells what went wrong. While modules are loaded, the notices are told of those that
 /// are refused.
 pub fn run_words<

@@ -18,7 +18,7 @@ pub record InSlot (from address : ℕ) : Type 0 where
 abbrev pub is_in_slot : (from address : ℕ) → Bool
 is_in_slot from address = nat_le from address && nat_lt address (from + slot_size)
 
--- So many bytes from an address on lie in slot and guards.
+-- `bytes` bytes from an address on lie in slot and guards.
 abbrev pub is_guarded : (from address bytes : ℕ) → Bool
 is_guarded from address bytes = nat_le from (address + guard_size) && nat_le (address + bytes) (from + slot_size + guard_size)
 

@@ -18,7 +18,7 @@
 //! - **Memory is a function of addresses; table and code are computed from the words.** So "no step changes the words"
 //!   is true by definition, and only the bytes that may be written are state.
 //! - **The invariant is about the words that come next**: registers are lawful but for what the open need weakens, and
-//!   the instruction at pc, if there is one, meets that need; or it is calm, and a probe comes among so many (`Awaits`).
+//!   the instruction at pc, if there is one, meets that need; or it is calm, and a probe comes in time (`Awaits`).
 //!   It asks for no number of them but that it isn't 0, so one proof serves both profiles.
 #![tactic(auto)]
 

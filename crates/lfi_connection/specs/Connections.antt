@@ -13,7 +13,7 @@ use Rattle.lfi_connection.specs.DuePages.{bytes_of}
 abbrev pub made_of : (claimed : ℕ → Bool) → (messages : List Message) → (rest : Rest) → ℕ → Share
 made_of claimed messages rest m = share_of (claimed m) m messages rest
 
--- The payload that is coming is that of this page, which is the next one of an open module, and so many of its bytes came.
+-- The payload that is coming is that of this page, which is the next one of an open module, and `page.come` of its bytes came.
 pub record IsDue (page : DuePage) (progress : Progress) (rest : List ℕ) : Type 0 where
   pub going : progress ≡ Going page.extent page.pages
   pub header : rest_of rest ≡ unfinished page.«module» page.extent.pages page.pages (bytes_of page)

@@ -10,7 +10,7 @@ use Rattle.lfi_connection.specs.declared.event.Event.{Event}
 use Rattle.lfi_connection.specs.declared.event.Event.TheVariants.{Nothing, End}
 use Rattle.lfi_connection.specs.Modules.{IsPossible}
 
--- Module k was open, so large, when so many pages had come, and none of a lesser number was; it has ended, and no other is otherwise than it was.
+-- Module k was open, with this extent and after `pages` pages, and none of a lesser number was; it has ended, and no other is otherwise than it was.
 pub record IsLost (old new : ℕ → Progress) (k : ℕ) (extent : ExtentView) (pages : ℕ) : Type 0 where
   pub was : old k ≡ Going extent pages
   pub possible : IsPossible (Going extent pages)

@@ -48,7 +48,7 @@ abbrev pub Continues : Event → (coming : Option DuePage) → (count : ℕ) →
 Continues (Code page ended) coming count = (coming ≡ Some page) × GoesOn page count ended
 Continues event coming count = Unit {0}
 
--- Which page is coming after an event: the one that begins; of which code came with so many bytes more, or none where it ended; else the same.
+-- Which page is coming after an event: the one that begins; of which code came with `count` bytes more, or none where it ended; else the same.
 abbrev pub coming_after : Event → (count : ℕ) → Option DuePage → Option DuePage
 coming_after (Begin page) count coming = Some page
 coming_after (Code page true) count coming = None

@@ -37,7 +37,7 @@ impl DuePage {
         self.extent.pages().bytes() as usize * self.pages as usize + self.come as usize
     }
 
-    /// Whether some of it is to come, and so many bytes more end it, or leave some of it to come.
+    /// Whether some of it is to come, and `count` bytes more end it, or leave some of it to come.
     #[inline(always)]
     pub(crate) fn goes_on(&self, count: usize, ended: bool) -> bool
         ensures { result ≡ true ↔ GoesOn self.now count «ended» }

@@ -12,7 +12,7 @@ use lfi_module::{Extent, ModuleNumber};
 pub enum Event {
     /// Nothing that a host has to do.
     Nothing,
-    /// This module opens: so many words, entered at this one, by this profile, with pages of this size.
+    /// This module opens: how many words it has, where it is entered, its profile and the size of its pages.
     Open {
         module: ModuleNumber,
         extent: Extent,
@@ -28,7 +28,7 @@ pub enum Event {
     Stray {
         module: ModuleNumber,
     },
-    /// This module, which is so large, ended when so many of its pages had come.
+    /// This module, with this extent, ended when `pages` of its pages had come.
     End {
         module: ModuleNumber,
         extent: Extent,
@@ -38,7 +38,7 @@ pub enum Event {
 }
 
 impl Event {
-    /// Which page is coming after this event of so many bytes, where this one was before.
+    /// Which page is coming after this event of `count` bytes, where this one was before.
     pub fn coming_after(&self, count: usize, coming: Option<DuePage>) -> Option<DuePage>
         requires { Continues self.now coming count }
         ensures { result ≡ coming_after self.now count coming }

@@ -67,7 +67,7 @@ fn close<P: ProgressTable>(table: &mut P, module: ModuleNumber) -> Event
     }
 }
 
-/// Whether page `index` of this size, with `len` payload bytes, is the one due of an open module of which so many came.
+/// Whether page `index` of this size, with `len` payload bytes, is the one due of an open module of which `pages` came.
 #[inline(always)]
 fn is_next(extent: Extent, pages: u32, size: PageSize, index: u32, len: u32) -> bool
     ensures { result ≡ (size == extent.pages && is_due extent.pages extent.words pages index len) }
@@ -151,7 +151,7 @@ fn payload<P: ProgressTable>(
     Event::Code { page, ended: true }
 }
 
-/// What is told of what so many bytes brought, which a feed has told, where this page is coming. Where a module opens,
+/// What is told of what `count` bytes brought, which a feed has told, where this page is coming. Where a module opens,
 /// `is_free` answers whether this connection may claim it; it is asked for nothing else. Code is told of the page that is
 /// coming alone, and as far as that has bytes to come, whatever the numbers are.
 #[inline(always)]

@@ -43,7 +43,7 @@ told_text e =
 abbrev pub explanation_text : Explanation → List ℕ
 explanation_text e = told_text e ++ codes "\n  mend: " ++ mending_text e
 
--- Its text has at most so many bytes.
+-- Its text has at most `room` bytes.
 pub record FitsIn (room : ℕ) (e : Explanation) : Type 0 where
   pub bytes : length (explanation_text e) ≤ room
 

@@ -4,7 +4,7 @@ use Rattle.std.specs.Prelude.{ℕ, ◌/◌, ◌%◌, ◌^◌, ◌==◌, ◌&&◌
 use Rattle.lfi_explain.specs.declared.group.Group.{Group}
 use Rattle.lfi_explain.specs.declared.group.Group.TheVariants.{Reserved, Unallocated, Sme, Sve, Immediate, Exception, System, Branch, Exclusive, Atomic, LoadStore, VectorAccess, Register, Vector}
 
--- so many bits of a word, the lowest of them with this number
+-- `width` bits of a word, the lowest of them with this number
 abbrev pub bits_of : (word low width : ℕ) → ℕ
 bits_of word low width = word / 2 ^ low % 2 ^ width
 

@@ -8,7 +8,7 @@ use Rattle.lfi_rules.specs.Faults.{IsDue, IsOpenAt}
 use Rattle.lfi_explain.specs.declared.opener.Opener.{Opener}
 use Rattle.lfi_explain.specs.Spellings.{IsSpelling, opened_by}
 
--- what a word asks of one behind so many calm words: nothing, where that comes too late
+-- what a word asks of one behind the calm words after it: nothing, where that comes too late
 abbrev pub asked_by : Opener → Need
 asked_by opener = if nat_lt opener.gone (term_of (opened_by opener.spelling)) then opened_by opener.spelling else Nothing
 

@@ -88,7 +88,7 @@ abbrev pub last_text : Need → List ℕ
 last_text Nothing = codes "a move of sp by an immediate is followed by a load or store at [sp] within 4 words, with only calm words before it; this word isn't that"
 last_text opened = codes "the last word asks nothing of a next one; this one asks for " ++ meeting_text opened
 
--- a need that isn't met, of a word before, behind which so many calm words stand; or else that of the last word
+-- a need that isn't met, of a word before, behind which `gone` calm words stand; or else that of the last word
 abbrev pub unmet_text : (need opened : Need) → (gone : ℕ) → (calm : Bool) → List ℕ
 unmet_text Nothing opened gone calm = last_text opened
 unmet_text need opened gone calm = opening_text need ++ codes " is followed by " ++ meeting_text need ++ within_text need gone calm

@@ -37,7 +37,7 @@ pub enum Group {
     Vector,
 }
 
-/// So many bits of a word, the lowest of them with this number.
+/// `width` bits of a word, the lowest of them with this number.
 fn bits(word: u32, low: u32, width: u32) -> u32
     requires some { 0 < width }
     requires narrow { width < 32 }

@@ -16,7 +16,7 @@
 //! - **Texts have no aliases**: one name a class, so that what is read is what the rules speak of. `ret x30` has its
 //!   register too.
 //! - **Places are written from the instruction itself** (`.+8`). GNU as and LLVM read that the same way; `#8`, which
-//!   LLVM prints, is an absolute address to GNU as. For ADRP both leave `.+4096` to the linker, which gives so many
+//!   LLVM prints, is an absolute address to GNU as. For ADRP both leave `.+4096` to the linker, which gives as many
 //!   pages.
 //! - **The text of every `Instruction` is fixed, also of one that no word spells**, since `Display` has no condition. A
 //!   bitmask that is none prints as `#?`.
@@ -30,7 +30,7 @@
 //! - **All refusals are told, not only the first of each cause**: a word after one that opens a need may be told for
 //!   that need alone.
 //! - **A word that no instruction of the profile spells is told with its group** (`Group`), by the manual's own tables, so
-//!   that who meets it knows what to ask of a compiler. No group says that a word is an instruction.
+//!   that whoever meets it knows what to ask of a compiler. No group says that a word is an instruction.
 //! - **A listing marks broken rules where that is asked for**: it looks at each place as `write_refusals` does.
 //! - **A number is a line of its own form** (`words refused: 1`), which needs no plural.
 //! - **A mend is lines of its own, below `mend:`**: the instructions of lfi_mends, one a line, so that they can be put

@@ -37,7 +37,7 @@ pub struct ListedWord {
     pub broken: Option<Rule>,
 }
 
-/// Where a direct branch goes, in a module of so many words.
+/// Where a direct branch goes, by the number of the module's words.
 #[derive(Clone, Copy)]
 struct Arrow {
     target: Option<i64>,

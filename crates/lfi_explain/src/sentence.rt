@@ -146,14 +146,14 @@ impl fmt::Display for BranchesThrough {
     }
 }
 
-/// Whether a word misses a need of which so many words are left only since it is the module's last.
+/// Whether a word misses a need of which `left` words are left only since it is the module's last.
 fn runs_out(left: u8, calm: bool) -> bool
     ensures { result ≡ (calm && nat_lt 1 left) }
 {
     calm && left > 1
 }
 
-/// How many words of a need are left behind so many calm ones.
+/// How many words of a need are left behind `gone` calm ones.
 fn left_behind(count: u8, gone: u8) -> u8
     ensures { result ≡ count - gone }
 {
@@ -175,7 +175,7 @@ impl fmt::Display for Left {
     }
 }
 
-/// How a word behind calm ones misses a need of so many words: by itself, or since it is the module's last.
+/// How a word behind calm ones misses a need: by itself, or since it is the module's last.
 #[derive(Clone, Copy)]
 struct Missed {
     count: u8,

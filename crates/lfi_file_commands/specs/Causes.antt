@@ -1,4 +1,4 @@
--- Why a device failed, and what is told of it. Source: this project's profile, docs/COMMANDS.md.
+-- The causes of I/O errors, and what is told of them. Source: this project's profile, docs/COMMANDS.md.
 use Rattle.std.specs.Prelude.{ℕ, List, [], ◌++◌, codes}
 use Rattle.std.specs.declared.io.ErrorKind.{ErrorKind}
 use Rattle.std.specs.declared.io.ErrorKind.TheVariants as kind

@@ -84,7 +84,7 @@ paths_of asked = map (λ path. path.now) asked.files.items
 abbrev pub ChecksPath : CheckOptions → (List ℕ → Option (List ℕ)) → (before : ℕ) → (path : List ℕ) → (old new : Left) → Ending → Type 0
 ChecksPath asked file_at before path = ChecksOne (name_before (length asked.files.items) path) asked path (file_at path)
 
--- It is the object of the file at a path, before which so many stand: it tells this finding.
+-- It is the object of the file at a path, behind `before` others: it tells this finding.
 pub record IsObjectOf (asked : CheckOptions) (before : ℕ) (path : List ℕ) (bytes : Option (List ℕ)) (finding : Finding) (object : List ℕ) : Type 0 where
   pub found : IfSome bytes (λ xs. IsFound asked.profile xs finding)
   pub told : List ℕ

@@ -31,7 +31,7 @@ use Rattle.lfi_file_commands.specs.Several.{DoesEach}
 abbrev pub code_text : ℕ → List ℕ
 code_text n = codes "code, " ++ decimal n ++ codes " words\n"
 
--- what is no code, of so many bytes
+-- what is no code, by the number of its bytes
 abbrev pub no_code_text : ℕ → List ℕ
 no_code_text n = codes "no code, " ++ decimal n ++ codes " bytes\n"
 

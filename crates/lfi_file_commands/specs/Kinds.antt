@@ -41,7 +41,7 @@ kind_line = elim [ Plain ↦ [] | kind ↦ codes "  file: " ++ kind_text kind ++
 abbrev pub counted : List ℕ → ℕ
 counted bytes = length (take 16777217 bytes)
 
--- The bytes are no code; they are of this kind, and so many.
+-- The bytes are no code; the kind and the number are theirs.
 abbrev pub IsNoCode : List ℕ → NoCode → Type 0
 IsNoCode bytes n = ¬ (IsCode bytes) × (n.kind ≡ file_kind bytes) × (n.bytes ≡ counted bytes)
 

@@ -22,7 +22,7 @@ abbrev pub EndsRun : (is_lost : Bool) → ImageRun → Ending → Type 0
 EndsRun true run ending = ending ≡ Failed
 EndsRun false run ending = ending ≡ ending_of_run run
 
--- What `lfiload run` did with a file that has these bytes, as far as they are known: it ran it as an image for at most so many steps,
+-- What `lfiload run` did with a file that has these bytes, as far as they are known: it ran it as an image for at most `steps` steps,
 -- told what came of it in this form, put no file, and ended by it.
 pub record HasRun (bytes : Option (List ℕ)) (steps : ℕ) (format : Format) (old new : Left) (ending : Ending) : Type 0 where
   pub run : ImageRun

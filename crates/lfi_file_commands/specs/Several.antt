@@ -10,7 +10,7 @@ use Rattle.lfi_file_commands.specs.Endings.{EndsUnlessLost}
 use Rattle.lfi_file_commands.specs.Failures.{Told, failure_line}
 use Rattle.lfi_file_commands.specs.Left.{Left}
 
--- what came of the first of these paths, so many of them, one after another, of each by how many stand before it; the ending is the worst of theirs
+-- what came of the first `count` of these paths, one after another, of each by how many stand before it; the ending is the worst of theirs
 abbrev pub AreDone : (One : ℕ → List ℕ → Left → Left → Ending → Type 0) → (paths : List (List ℕ)) → (count : ℕ) → (old new : Left) → Ending → Type 0
 AreDone One paths zero old new ending = (new ≡ old) × (ending ≡ Well)
 AreDone One paths (suc k) old new ending =

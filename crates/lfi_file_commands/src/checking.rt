@@ -127,7 +127,7 @@ fn judge_whole<R: Read + Drop>(
     }
 }
 
-/// Judges the code that a reader has left, up to its end, which is to be so many words, piece by piece.
+/// Judges the code that a reader has left, up to its end, which is to be `words` words, piece by piece.
 fn judge_known<R: Read + Drop>(
     alloc: Global,
     reader: R,
@@ -148,7 +148,7 @@ fn judge_known<R: Read + Drop>(
     }
 }
 
-/// Judges the code that a reader has left, up to its end, which has so many bytes, where that is known.
+/// Judges the code that a reader has left, up to its end, which has `length` bytes, where that is known.
 fn judge_unkept<R: Read + Drop>(
     alloc: Global,
     reader: R,
@@ -180,7 +180,7 @@ pub(crate) fn write_verdict<W: Write>(
     }
 }
 
-/// How many words code of so many bytes has, where it can be code: 1 to 4,194,304 of them.
+/// How many words code of `length` bytes has, where it can be code: 1 to 4,194,304 of them.
 fn words_in(length: Option<u64>) -> Option<u32>
     ensures { IfSome result (λ words. (1 ≤ words) × (words ≤ most_words)) }
 {

@@ -1,4 +1,4 @@
-//! Why a device failed, as far as the program tells it.
+//! The cause of an I/O error, as far as the program tells it.
 
 ghost use Rattle.std.specs.Prelude.{◌≡◌, Some};
 ghost use Rattle.std.specs.IoError.{error_kind};
@@ -6,7 +6,7 @@ ghost use Rattle.lfi_file_commands.specs.Causes.{cause_of, cause_line, cause_tex
 
 use std::{fmt, io};
 
-/// Why a device failed.
+/// The cause of an I/O error.
 #[derive(Clone, Copy, Debug, PartialEq, Eq)]
 pub enum DeviceCause {
     NotFound,

@@ -16,9 +16,9 @@ pub enum Ending {
     Well,
     /// It isn't so: the printed lines say why.
     NotWell,
-    /// The words of the command line are wrong.
+    /// A usage error.
     WrongWords,
-    /// A device failed, or memory was refused.
+    /// An I/O error, or memory was refused.
     Failed,
 }
 

@@ -125,7 +125,7 @@ fn write_fault<W: Write>(
     }
 }
 
-/// Writes the line of lawful code of so many words, behind the name.
+/// Writes the line of lawful code of `words` words, behind the name.
 fn write_lawful<W: Write>(
     alloc: Global,
     name: Naming<'_>,

@@ -11,7 +11,7 @@
 //!
 //! # What it may not know
 //!
-//! Threads and the stage; the words of the command line; how words are judged, explained, listed or packed or images run;
+//! Threads and the stage; the arguments; how words are judged, explained, listed or packed or images run;
 //! which system its files are on.
 //!
 //! # Decisions
@@ -33,10 +33,10 @@
 //!   the object does. Strings are quoted by the kit's `serde_json`. A file's object is written whole, and no value is built of it.
 //! - **`run --format json` tells on the errors**, where its line stands: the output is that of the code.
 //! - **`check` and `info` tell of each of several files by itself**: one that can't be read is no failure of the command.
-//! - **`info` reads a file up to a bound**, and cuts a stream by the plain program's `first_message`: it needn't be fast.
+//! - **`info` reads a file up to a bound**, and cuts a stream by the reference implementation's `first_message`: it needn't be fast.
 //! - **`pack` reads all its files before it writes**, so that one which is no code leaves nothing on the output. It then ends
 //!   with 1, as code that is refused: nothing failed.
-//! - **Why a device failed is told by the kind of the system's error**, since a library's text is in no contract.
+//! - **The cause of an I/O error is told by the kind of the system's error**, since a library's text is in no contract.
 //! - **Where values live that are dropped, an early return is a `match` and not a `?`**: its proof costs less.
 #![tactic(auto)]
 

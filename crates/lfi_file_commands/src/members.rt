@@ -48,7 +48,7 @@ pub fn push_plain(plain: &str, text: &mut String) -> Result<(), AllocError>
     text.push_str(plain)
 }
 
-/// Puts what stands before one of several, of which so many stand before it.
+/// Puts what stands before one of several, by how many of them stand before it.
 ///
 /// # Errors
 ///

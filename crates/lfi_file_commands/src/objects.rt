@@ -143,7 +143,7 @@ fn push_no_code(no_code: NoCode, text: &mut String) -> Result<(), AllocError>
     push_kind(no_code.kind, text)
 }
 
-/// Puts what is told of lawful code of so many words.
+/// Puts what is told of lawful code of `words` words.
 fn push_lawful(words: u32, text: &mut String) -> Result<(), AllocError>
     ensures { OnOk result (string_bytes text.new ≡ string_bytes text.old ++ (codes ",\"verdict\":\"lawful\",\"words\":" ++ decimal words)) }
 {
@@ -168,7 +168,7 @@ fn push_finding(
     }
 }
 
-/// Puts what stands before the object of a file, of which so many stand before it.
+/// Puts what stands before the object of a file, by how many of them stand before it.
 fn push_before(before: usize, text: &mut String) -> Result<(), AllocError>
     ensures { OnOk result (string_bytes text.new ≡ string_bytes text.old ++ spec.before_file before) }
 {

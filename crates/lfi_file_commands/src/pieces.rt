@@ -19,7 +19,7 @@ use std::io::Read;
 /// How many bytes are read at once.
 const PIECE_BYTES: usize = 65_536;
 
-/// A buffer of so many bytes.
+/// A buffer of `size` bytes.
 fn buffer(alloc: Global, size: usize) -> Result<Vec<u8>, CommandFault>
     ensures size { IfOk result (λ buffer. length buffer.items ≡ size) }
     ensures fault { IfErr result (λ fault. fault ≡ CommandFault.NoMemory) }
@@ -88,7 +88,7 @@ fn is_at_end<R: Read + Drop>(alloc: Global, reader: R) -> Result<bool, CommandFa
     }
 }
 
-/// Judges the code that a reader has left, which is to be so many words, up to its end.
+/// Judges the code that a reader has left, which is to be `words` words, up to its end.
 ///
 /// # Errors
 ///

@@ -149,7 +149,7 @@ fn tell_run<E: Write>(run: ImageRun, format: Format, errors: &mut Errors<E>)
     }
 }
 
-/// Runs the image in a file for at most so many steps, and tells what comes of it.
+/// Runs the image in a file for at most the steps that are asked for, and tells what comes of it.
 ///
 /// # Errors
 ///

@@ -122,7 +122,7 @@ pub data Rest : Type 0 where
   unfinished : (m size index len : ℕ) → Rest
   whole : Rest
 
--- a text that begins with this header, and has so many bytes after it
+-- a text that begins with this header, by how many bytes it has after it
 abbrev pub rest_after : Option FrameFault → Header → ℕ → Rest
 rest_after (Some fault) h payload = faulty fault
 rest_after None h payload = if is_page h.kind && nat_lt payload h.b then unfinished h.«module» (size_by h.kind) h.a h.b else whole

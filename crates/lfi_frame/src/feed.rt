@@ -12,9 +12,9 @@ use crate::header::{HEADER_BYTES, Header};
 /// Where in its stream a feed is.
 #[derive(Clone, Copy, PartialEq, Eq)]
 pub enum Position {
-    /// So many bytes of a header have come, 0 to 11. With 0 it is between two messages.
+    /// `filled` bytes of a header have come, 0 to 11. With 0 it is between two messages.
     Header { filled: usize },
-    /// So many bytes of a payload are still to come, at least 1.
+    /// `left` bytes of a payload are still to come, at least 1.
     Payload { left: u32 },
     /// The stream has this fault.
     Faulty(FrameFault),

@@ -33,7 +33,7 @@
 //!   format's numbers as literals, and the profile's by the specs of `lfi_module`.
 //! - **A fault prints as words** (`Display`, stated by `fault_text`), and reports print its `number()`.
 //! - **What a feed holds is told by a relation of its own** (`HoldsHeader`), and not by `FeedStands`: a caller who wants to
-//!   know where a message begins keeps both; who makes a feed of numbers (`at`) answers for the second alone.
+//!   know where a message begins keeps both; whoever makes a feed of numbers (`at`) answers for the second alone.
 //! - **`new` and `default` promise that the feed has no fault**, beside what they stand for: a feed with the fault
 //!   NoMemory stands for no messages and no rest too.
 //! - **Four clauses of `feed` beside the cut** shut what the cut alone leaves open: `header`, `payload`, `empty` and

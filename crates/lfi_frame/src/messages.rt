@@ -46,7 +46,7 @@ pub fn open_bytes(module: ModuleNumber, extent: Extent) -> [u8; HEADER_BYTES]
     .bytes()
 }
 
-/// The header of a module's page `index`, a small or a large one, of so many bytes.
+/// The header of a module's page `index`, a small or a large one, of `len` bytes.
 pub fn page_bytes(module: ModuleNumber, size: PageSize, index: u32, len: u32) -> [u8; HEADER_BYTES]
     ensures { result ≡ header_bytes (page_header «module» size index len) }
 {

@@ -27,7 +27,7 @@
 //!   is large enough, and the branch of `append` in which the push would be refused is proved never to come.
 //! - The type of `CompleteImage` keeps `IsImage`. A caller gets it from `words()`, whose clause `lawful` hands it out.
 //! - **A module's pages are small or large**, as its extent says, and its builder and each judged page keep it.
-//! - **Memory for a builder can be reserved before the module is known** (`PageMemory`, `Builder::in_memory`), so that who
+//! - **Memory for a builder can be reserved before the module is known** (`PageMemory`, `Builder::in_memory`), so that whoever
 //!   takes modules from others has all memory at its start.
 //! - **An image lends its pages** (`pages`), as words one after another and nothing of their sizes: lfi_image_file writes
 //!   them straight from their memory. It can't change one, and an image is made of placed pages alone.

@@ -26,7 +26,7 @@ impl Model for PageMemory {
 }
 
 impl PageMemory {
-    /// Reserves memory for a module of at most so many words: for as many small pages as they take.
+    /// Reserves memory for a module of at most `words` words: for as many small pages as they take.
     ///
     /// # Errors
     ///

@@ -44,7 +44,7 @@ fn profile_of(number: u32) -> Option<Profile>
     Profile::new(number)
 }
 
-/// The header of an image of so many words.
+/// The header of an image.
 pub(crate) fn encode(
     words: u32,
     entry: u32,

@@ -12,7 +12,7 @@ pub fn file_of_an_image()
         → (fault ≡ NoMemory) ⊎ (fault ≡ Device) }
 {}
 
-/// A file is that of one image: who reads the file of an image has that image again.
+/// A file is that of one image: whoever reads the file of an image has that image again.
 pub fn one_image()
     ensures { (one other : Image) (bytes : List ℕ) → IsImage one → IsImage other → FileOf one bytes → FileOf other bytes → one ≡ other }
 {}

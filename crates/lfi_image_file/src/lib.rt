@@ -23,7 +23,7 @@
 //!   so it isn't judged.
 //! - An interrupted read or write is a fault 9 like any other: it isn't tried again. After an Unlawful the reader
 //!   stands behind the page with the fault; after any other Err of `read_image` it may be left anywhere.
-//! - **That a file which ends early is no failing device is shown by tests.** What a clause knows of a reader is the
+//! - **That a file which ends early is no I/O error is shown by tests.** What a clause knows of a reader is the
 //!   bytes that it has left, and a read that fails leaves as many as one that finds the end. So no clause on a reader's
 //!   bytes tells the two apart, for a body that gets either.
 //! - **"Ok exactly where"** is said by three clauses: Ok gives an image whose file is all that was read; each Err is a

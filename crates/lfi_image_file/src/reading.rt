@@ -58,7 +58,7 @@ fn sealed(alloc: Global, bytes: &[u8]) -> Result<SealedPage, ImageFault>
     }
 }
 
-/// Reads a small page of so many bytes.
+/// Reads a small page of `len` bytes.
 fn read_sealed<R: Read>(alloc: Global, reader: &mut R, len: usize) -> Result<SealedPage, ImageFault>
     requires { (0 < len) × (len ≤ 4 * small_page) × (len % 4 ≡ 0) }
     ensures read { IfOk result (λ page. Consumes (R.remaining reader.old) (R.remaining reader.new) page.bytes) }

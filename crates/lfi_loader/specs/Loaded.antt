@@ -5,7 +5,7 @@ use Rattle.lfi_stage.specs.declared.settlement.Report.{Report}
 use Rattle.lfi_stage.specs.Reports.{Reports, verifiers_of}
 use Rattle.lfi_thread_loops.specs.Heard.{IsHeard}
 
--- The report is one plain pass over what was heard of these texts, one a connection, judged by so many verifiers.
+-- The report is one plain pass over what was heard of these texts, one a connection, judged by `verifiers` verifiers.
 pub record IsLoaded (connections verifiers : ℕ) (texts : ℕ → List ℕ) (report : Report) : Type 0 where
   pub heard : ℕ → List ℕ
   pub causes : ℕ → EndCause

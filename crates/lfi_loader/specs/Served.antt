@@ -8,7 +8,7 @@ use Rattle.lfi_sync.specs.declared.fate.ClientFate.TheVariants.{Heard}
 use Rattle.lfi_sync.specs.Fates.{fate_at, is_absent, is_out_of_time}
 use Rattle.lfi_loader.specs.declared.serve.Served.{Served}
 
--- The report is one plain pass over some texts, one a connection, judged by so many verifiers.
+-- The report is one plain pass over some texts, one a connection, judged by `verifiers` verifiers.
 pub record IsServed (connections verifiers : ℕ) (report : Report) : Type 0 where
   pub texts : ℕ → List ℕ
   pub causes : ℕ → EndCause

@@ -18,7 +18,7 @@ use std::sync::Wait;
 use std::thread::{self, Threads};
 
 /// Loads the modules of the streams that these inputs have, each up to its end. Each input is read
-/// by a thread of its own, each of so many verifiers has one, and one turns all sequencers. The gate
+/// by a thread of its own, each of the verifiers has one, and one turns all sequencers. The gate
 /// is told of each item before and after it is judged, and the notices of refused modules.
 ///
 /// # Errors

@@ -57,7 +57,7 @@ fn settled<S: Wait>(rt: &S, back: Back, shared: Shared) -> Served
     Served { report, clients }
 }
 
-/// Takes so many clients of an acceptor, and loads the modules of the streams that they send, each up
+/// Takes clients of an acceptor, one a connection, and loads the modules of the streams that they send, each up
 /// to its end. Each connection is read by a thread of its own from when it was accepted, each of so
 /// many verifiers has a thread, and one turns all sequencers. The connections have numbers in the
 /// order in which they were accepted. After the last one was, or where it comes to an error, the

@@ -115,7 +115,7 @@ impl Machine {
         )
     }
 
-    /// At least one step and at most so many, or a halt: words that follow one another, as far as the first branch.
+    /// At least one step and at most `most`, or a halt: words that follow one another, as far as the first branch.
     #[inline(always)]
     fn steps<R: Runtime>(&mut self, most: u64, runtime: &mut R) -> (Result<(), Halt>, u64)
         requires { 1 ≤ most }
@@ -135,7 +135,7 @@ impl Machine {
         )
     }
 
-    /// So many steps, or until one is halted: why it ends, and how many were carried out.
+    /// `steps` steps, or until one is halted: why it ends, and how many were carried out.
     ///
     /// ```
     /// let registers = start_registers(&image);

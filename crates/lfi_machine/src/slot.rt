@@ -167,7 +167,7 @@ impl SlotMemory {
         }
     }
 
-    /// Whether so many bytes from an address on may be written.
+    /// Whether `bytes` bytes from an address on may be written.
     #[inline(always)]
     fn is_all_data(&self, bytes: u32, address: u64) -> bool
         requires { bytes ≤ 16 }
@@ -178,7 +178,7 @@ impl SlotMemory {
         self.first <= offset && offset <= SLOT_BYTES - u64::from(bytes)
     }
 
-    /// The least address of so many from one on whose byte may not be accessed so, looked for one by one.
+    /// The least address of `bytes` from one on whose byte may not be accessed so, looked for one by one.
     #[inline(never)]
     #[cold]
     fn first_denied(&self, access: AccessKind, bytes: u32, address: u64) -> Option<u64>
@@ -194,7 +194,7 @@ impl SlotMemory {
         }
     }
 
-    /// The least address of so many from one on whose byte may not be accessed so, if there is one.
+    /// The least address of `bytes` from one on whose byte may not be accessed so, if there is one.
     #[inline(always)]
     pub(crate) fn denied(&self, access: AccessKind, bytes: u32, address: u64) -> Option<u64>
         requires few { bytes ≤ 16 }
@@ -208,7 +208,7 @@ impl SlotMemory {
         }
     }
 
-    /// The offset of so many bytes that may be accessed so; or the least address of one of them that may not.
+    /// The offset of `bytes` bytes that may be accessed so; or the least address of one of them that may not.
     ///
     /// # Errors
     ///
@@ -287,7 +287,7 @@ impl SlotMemory {
         }
     }
 
-    /// The number that so many bytes from an offset on spell, read one by one.
+    /// The number that `bytes` bytes from an offset on spell, read one by one.
     #[inline(never)]
     #[cold]
     fn number(&self, offset: u64, bytes: u32) -> u64
@@ -321,7 +321,7 @@ impl SlotMemory {
         }
     }
 
-    /// Makes room for so many bytes from an offset on: the only call here that takes memory, beside `new` and `write`.
+    /// Makes room for `bytes` bytes from an offset on: the only call here that takes memory, beside `new` and `write`.
     ///
     /// # Errors
     ///

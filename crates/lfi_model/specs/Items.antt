@@ -38,7 +38,7 @@ with_item s item progress = record { items = s.items ++ item ∷ []; strays = s.
 abbrev pub item_of : (m ordinal : ℕ) → ExtentView → KindView → ItemView
 item_of m ordinal extent kind = record { «module» = m; ordinal = ordinal; extent = extent; kind = kind }
 
--- page `index` of so many bytes, of pages of this size, is the one that has to come next of a module of this extent, of which the first p pages have come
+-- page `index` of `bytes` bytes, of pages of this size, is the one that has to come next of a module of this extent, of which the first p pages have come
 abbrev pub is_page_due : ExtentView → (p size index bytes : ℕ) → Bool
 is_page_due extent p size index bytes = size == extent.pages && is_due extent.pages extent.words p index bytes
 

@@ -18,7 +18,7 @@ pub enum EndCause {
 pub enum Progress {
     /// The connection hasn't claimed it.
     Unclaimed,
-    /// It is open: so large, and so many pages of it have come.
+    /// It is open, and `pages` of its pages have come.
     Going { extent: Extent, pages: u32 },
     /// It has ended.
     Ended,

@@ -15,9 +15,9 @@
 //!
 //! - **`Lost` carries the frame fault as an enum** and not a number: the number is for reports alone.
 //! - **`Summary` is the one text of a run**: outcomes, faults and strays, without images. The stage's report and the
-//!   plain program's each give one, the program prints it, tests compare it, and whether a run went well is asked of
+//!   reference implementation's each give one, the program prints it, tests compare it, and whether a run went well is asked of
 //!   it.
-//! - **`Outcome::Complete` carries a plain number**, and no `WordCount`: an outcome is for telling, the plain program
+//! - **`Outcome::Complete` carries a plain number**, and no `WordCount`: an outcome is for telling, the reference implementation
 //!   makes it of plain numbers, and nothing rests on its range.
 //! - **`ItemsOf` is stated module by module**: outcomes read it so, and the order between the modules of one connection
 //!   is never used.

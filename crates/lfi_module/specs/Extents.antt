@@ -11,7 +11,7 @@ pub record ExtentView : Type 0 where
   pub profile : Profile
   pub pages : ℕ
 
--- a module has so many words, its entry is one of them, and its profile has such pages
+-- a module's words are within their range, its entry is one of them, and its profile has such pages
 pub record IsExtent (extent : ExtentView) : Type 0 where
   pub some : 1 ≤ extent.words
   pub most : extent.words ≤ most_words

@@ -17,7 +17,7 @@ HasPages profile size = (size ≡ small_page) ⊎ ((is_two profile ≡ true) × 
 abbrev pub page_count : (size n : ℕ) → ℕ
 page_count size n = (n + (size - 1)) / size
 
--- how many words the next page of a module of n words has, when so many have come
+-- how many words the next page of a module of n words has, after `come` of them
 abbrev pub words_due : (size n come : ℕ) → ℕ
 words_due size n come = min size (n - come)
 
@@ -29,6 +29,6 @@ words_in_page size n index = words_due size n (size * index)
 abbrev pub bytes_in_page : (size n index : ℕ) → ℕ
 bytes_in_page size n index = 4 * words_in_page size n index
 
--- page `index` of so many bytes is the one that has to come after the first `come` pages
+-- page `index` of `bytes` bytes is the one that has to come after the first `come` pages
 abbrev pub is_due : (size n come : ℕ) → (index bytes : ℕ) → Bool
 is_due size n come index bytes = index == come && nat_lt index (page_count size n) && bytes == bytes_in_page size n index

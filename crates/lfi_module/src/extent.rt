@@ -34,7 +34,7 @@ impl WordCount {
     /// How many bytes these are: four a word, 16 MiB.
     pub const MOST_BYTES: usize = 16_777_216;
 
-    /// So many words; `None` where they are none, or more than a module has.
+    /// This number of words; `None` where it is 0, or more than a module has.
     pub fn new(words: u32) -> Option<WordCount>
         ensures some { IfSome result (λ n. n ≡ words) }
         ensures none { IfNone result ((words ≡ 0) ⊎ (most_words < words)) }
@@ -46,7 +46,7 @@ impl WordCount {
         }
     }
 
-    /// So many words, which are known to be in range: 1 to 4,194,304.
+    /// This number of words, which is known to be in range: 1 to 4,194,304.
     pub fn of(words: u32) -> WordCount
         requires { (1 ≤ words) × (words ≤ most_words) }
         ensures { result ≡ words }
@@ -85,7 +85,7 @@ impl WordCount {
         4 * left.min(u64::from(size.words())) as u32
     }
 
-    /// Whether page `index`, of so many bytes, is the one that has to come after the first `come` pages.
+    /// Whether page `index`, of `bytes` bytes, is the one that has to come after the first `come` pages.
     pub fn is_due(self, size: PageSize, come: u32, index: u32, bytes: usize) -> bool
         ensures { result ≡ is_due size self come index bytes }
     {
@@ -118,7 +118,7 @@ impl Model for Extent {
 }
 
 impl Extent {
-    /// A module of so many words that is entered at the word `entry`, goes by a profile and has pages of this size;
+    /// A module of `words` words that is entered at the word `entry`, goes by a profile and has pages of this size;
     /// `None` where that isn't one of its words, or the profile hasn't such pages.
     pub fn new(words: WordCount, entry: u32, profile: Profile, pages: PageSize) -> Option<Extent>
         ensures some { IfSome result (λ extent. extent ≡ record { words = words; entry = entry; profile = profile; pages = pages }) }
@@ -136,7 +136,7 @@ impl Extent {
         }
     }
 
-    /// A module of so many words that is entered at the word `entry`, which is known to be one of them, goes by a
+    /// A module of `words` words that is entered at the word `entry`, which is known to be one of them, goes by a
     /// profile, and has pages of a size that is known to be one of the profile's.
     pub fn of(words: WordCount, entry: u32, profile: Profile, pages: PageSize) -> Extent
         requires entry { entry < words }

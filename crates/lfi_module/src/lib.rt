@@ -14,7 +14,7 @@
 //! # Decisions
 //!
 //! - **One crate at the bottom owns the profile's numbers** (`lfi_module`): each stands once in its code and once in
-//!   its specs. Its types keep the ranges. The plain program alone has numbers of its own beside it, which its contracts
+//!   its specs. Its types keep the ranges. The reference implementation alone has numbers of its own beside it, which its contracts
 //!   tie to these definitions.
 //! - **How many connections and verifiers there may be stands here too** (`CONNECTIONS`, `VERIFIERS`): the command line,
 //!   the stage, its threads and the report name it, and have no other crate of the repository in common.

@@ -10,7 +10,7 @@ fault_text Longer = codes "code longer than told"
 fault_text (ReadFailed kind) = codes "read failed"
 fault_text (WriteFailed kind) = codes "write failed"
 
--- The fault of code that is to have so many bytes, where it is known; a device can fail at any time.
+-- The fault of code that is to have this length, where it is known; an I/O error can come at any time.
 abbrev pub IsPackFault : Option (List ℕ) → ℕ → PackFault → Type 0
 IsPackFault code len Shorter = IfSome code (λ bytes. length bytes < len)
 IsPackFault code len Longer = IfSome code (λ bytes. len < length bytes)

@@ -10,7 +10,7 @@ use Rattle.lfi_frame.specs.Streams.{Message, open_message, page_message, close_m
 abbrev pub joined : List (List ℕ) → List ℕ
 joined pages = flat_map (λ page. page) pages
 
--- These are the first of the pages of n words, so many, each of `size` words but for the last: each has its length.
+-- These are the first `count` of the pages of n words, each of `size` words but for the last: each has its length.
 pub record AreFirst (size n count : ℕ) (pages : List (List ℕ)) : Type 0 where
   pub all : length pages ≡ count
   pub each : (index : ℕ) (page : List ℕ) → slice_get pages index ≡ Some page → length page ≡ bytes_in_page size n index

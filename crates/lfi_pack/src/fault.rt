@@ -9,9 +9,9 @@ use std::{fmt, io};
 /// Why a module isn't packed.
 #[derive(Clone, Copy, Debug, PartialEq, Eq)]
 pub enum PackFault {
-    /// The input ends before so many words have come.
+    /// The input ends before all words of the module have come.
     Shorter,
-    /// The input has a byte after so many words.
+    /// The input has a byte after the module's last word.
     Longer,
     /// A read of the input failed, with an error of this kind.
     ReadFailed(io::ErrorKind),

@@ -12,7 +12,7 @@ use lfi_frame::messages;
 use lfi_module::{Extent, ModuleNumber, PageSize, WordCount};
 use std::io::{Read, Write};
 
-/// Writes the next page of a module, a small or a large one of so many bytes, which are read.
+/// Writes the next page of a module, a small or a large one of `len` bytes, which are read.
 fn pack_page<R: Read, W: Write>(
     module: ModuleNumber,
     size: PageSize,
@@ -57,8 +57,8 @@ fn pack_pages<R: Read, W: Write>(
 ///
 /// # Errors
 ///
-/// `Shorter` and `Longer` where the code isn't of so many words, `ReadFailed` and `WriteFailed`
-/// where a device fails. What was written then is a beginning of a module of so many words, which
+/// `Shorter` and `Longer` where the code hasn't the module's length, `ReadFailed` and `WriteFailed`
+/// on an I/O error. What was written then is a beginning of such a module, which
 /// isn't whole.
 pub fn pack_module<R: Read, W: Write>(
     module: ModuleNumber,

@@ -97,7 +97,7 @@ module _ {X : Type 0} where
   abbrev pub items_in : List (PassView X) → ℕ → List X
   items_in passes k = option_map_or (λ pass. pass.items) (slice_get passes k) []
 
-  -- it is pass k of so many
+  -- it is pass k of `count`
   abbrev pub IsPass : QueueId → ℕ → ℕ → PassView X → Type 0
   IsPass queue count k pass = (k < count) × (pass.queue ≡ queue) × (pass.number ≡ k)
 

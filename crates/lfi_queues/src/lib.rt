@@ -12,7 +12,7 @@
 //!
 //! # What it may not know
 //!
-//! What it carries, and who puts and takes.
+//! What it carries, and which threads put and take.
 //!
 //! # Decisions
 //!

@@ -17,7 +17,7 @@ use lfi_auxiliary::{Auxiliary, Reading};
 use std::alloc::{AllocError, Global};
 use std::collections::LinkedList;
 
-/// Which intake has these parts, and so many takers.
+/// Which intake has these parts, and how many takers.
 pub(crate) struct HomeOf;
 
 impl<'a, T> Reading<(&'a Vec<Owner<T>>, usize), Home> for HomeOf {
@@ -99,7 +99,7 @@ fn new_taker<T>(alloc: Global, number: usize) -> TakeEnds<T>
     }
 }
 
-/// So many takers of an intake that has no parts yet.
+/// `count` takers of an intake that has no parts yet.
 pub(crate) fn new_takers<T: Drop>(
     alloc: Global,
     count: usize,
@@ -128,7 +128,7 @@ fn new_owner<T: Drop>(alloc: Global, takers: &mut Vec<TakeEnds<T>>) -> Result<Ow
     Ok(owner)
 }
 
-/// So many new parts, of each of which each of these takers gets an end.
+/// `count` new parts, of each of which each of these takers gets an end.
 pub(crate) fn new_owners<T: Drop>(
     alloc: Global,
     count: usize,

@@ -116,7 +116,7 @@ impl Receiver {
         }
     }
 
-    /// So many bytes more have come.
+    /// `used` bytes more have come.
     #[inline(always)]
     fn count(&mut self, used: usize)
         ensures { self.new ≡ record self.old { came = (self.old.came + used) % 2 ^ 64 } }
@@ -124,7 +124,7 @@ impl Receiver {
         self.came = self.came.wrapping_add(used as u64);
     }
 
-    /// So many bytes more have come, and with them a header with this fault: the input is over.
+    /// `used` bytes more have come, and with them a header with this fault: the input is over.
     fn stop(&mut self, used: usize, fault: FrameFault)
         ensures over { self.new ≡ record self.old { came = (self.old.came + used) % 2 ^ 64; cause = Some cause_kind.End; fault = Some «fault»; start = self.new.start } }
         ensures byte { self.new.start.byte ≡ bytes_before 12 ((self.old.came + used) % 2 ^ 64) }
@@ -171,7 +171,7 @@ impl Receiver {
         self.strays = self.strays.saturating_add(1);
     }
 
-    /// The End of an open module, of which so many pages came, comes into the hand.
+    /// The End of an open module, of which `pages` pages came, comes into the hand.
     #[inline(always)]
     fn end_module(&mut self, module: ModuleNumber, extent: Extent, pages: u32, reason: Reason)
         requires free { self.old.hand ≡ None }
@@ -451,7 +451,7 @@ impl Receiver {
     }
 
     /// Tells the end of the input, or that a read of it failed. A second call, or one after a fault, changes
-    /// nothing. Who calls `pull` needn't call it: `pull` reads, and tells both.
+    /// nothing. Whoever calls `pull` needn't call it: `pull` reads, and tells both.
     pub fn end(&mut self, failed: bool)
         ensures stands { (bytes : List ℕ) → StandsFor self.old bytes → StandsFor self.new bytes }
         ensures ended { cause_of self.new ≡ Some (cause_with (cause_of self.old) (cause_told «failed»)) }
@@ -523,7 +523,7 @@ impl Receiver {
         self.start
     }
 
-    /// Its pass and its seat, for who settles what all receivers have put.
+    /// Its pass and its seat, for whoever settles what all receivers have put.
     pub fn into_parts(self) -> (PutPass<Item>, ReceiverSeat)
         ensures pass { result.0 ≡ pass_of self }
         ensures seat { result.1 ≡ seat_of self }

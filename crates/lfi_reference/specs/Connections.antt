@@ -1,4 +1,4 @@
--- What the plain program's lists of all modules stand for. Source: this project's format, docs/PROFILE.md.
+-- What the reference implementation's lists of all modules stand for. Source: this project's format, docs/PROFILE.md.
 use Rattle.std.specs.Prelude.{ℕ, List, Bool, false, Option, ◌++◌, slice_index_or}
 use Rattle.lfi_frame.specs.declared.fault.FrameFault.{FrameFault}
 use Rattle.lfi_frame.specs.Streams.{Message, Rest}

@@ -1,4 +1,4 @@
--- What the plain program's messages and rests stand for. Source: this project's format, docs/PROFILE.md.
+-- What the reference implementation's messages and rests stand for. Source: this project's format, docs/PROFILE.md.
 use Rattle.std.specs.Prelude.{◌≡◌, ℕ, Bool, if◌then◌else◌, List, ◌++◌}
 use Rattle.lfi_frame.specs.Streams.{Message, open_message, page_message, close_message, spelling, IsMessage, Rest, short, faulty, unfinished, whole}
 use Rattle.lfi_module.specs.Numbers.{small_page, large_page}
@@ -17,13 +17,13 @@ size_of large = if large then large_page else small_page
 abbrev pub extent_by : PlainExtent → ExtentView
 extent_by extent = record { words = extent.words; entry = extent.entry; profile = extent.profile; pages = size_of extent.large }
 
--- a message of the plain program
+-- a message of the reference implementation
 abbrev pub message_of : PlainMessage → Message
 message_of (Open m extent) = open_message m (extent_by extent)
 message_of (Page m large index payload) = page_message m (size_of large) index payload.items
 message_of (Close m) = close_message m
 
--- a rest of the plain program
+-- a rest of the reference implementation
 abbrev pub rest_by : PlainRest → Rest
 rest_by Short = short
 rest_by (Faulty fault) = faulty fault

@@ -1,4 +1,4 @@
--- What the plain program's pages stand for.
+-- What the reference implementation's pages stand for.
 use Rattle.std.specs.Prelude.{ℕ, List, [], ◌∷◌, map, ◌==◌, if◌then◌else◌, Option, Some, None, IsSome}
 use Rattle.std.specs.Global.{Vec}
 use Rattle.lfi_model.specs.Item.{ItemView}
@@ -19,7 +19,7 @@ abbrev pub IsEnded : List ItemView → Type 0
 IsEnded [] = Unit {0}
 IsEnded (item ∷ items) = IsSome (end_of (item ∷ items))
 
--- the outcome of a module of n words, in pages of `size`, by its End, where so many words and pages came and have no fault
+-- the outcome of a module of n words, in pages of `size`, by its End, where `words` words and `pages` pages came and have no fault
 abbrev pub outcome_by : (size n words pages : ℕ) → Reason → Outcome
 outcome_by size n words pages Close = if words == n then outcome.Complete n else outcome.Incomplete pages (page_count size n)
 outcome_by size n words pages (Lost fault) = outcome.Lost fault

@@ -1,4 +1,4 @@
--- What the plain program reports of several streams.
+-- What the reference implementation reports of several streams.
 use Rattle.std.specs.Prelude.{◌≡◌, ℕ, ◌+◌, ◌≤◌, List, [], ◌∷◌, length, Option, Some, None, position, slice_get}
 use Rattle.lfi_module.specs.Numbers.{module_count, most_words, small_page}
 use Rattle.lfi_module.specs.Extents.{ExtentView}

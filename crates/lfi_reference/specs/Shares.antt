@@ -1,4 +1,4 @@
--- What the plain program's items and shares stand for. Source: this project's format, docs/PROFILE.md.
+-- What the reference implementation's items and shares stand for. Source: this project's format, docs/PROFILE.md.
 use Rattle.std.specs.Prelude.{ℕ, List, [], map, slice_index_or}
 use Rattle.std.specs.Global.{Vec}
 use Rattle.lfi_model.specs.Item.{ItemView, KindView}
@@ -14,13 +14,13 @@ use Rattle.lfi_reference.specs.Messages.{extent_by}
 use Rattle.lfi_reference.specs.declared.share.PlainItem.{PlainItem}
 use Rattle.lfi_reference.specs.declared.share.PlainShare.{PlainShare}
 
--- what an item of the plain program is
+-- what an item of the reference implementation is
 abbrev pub kind_by : PlainKind → KindView
 kind_by Open = kind.Open
 kind_by (Page bytes) = kind.Page bytes.items
 kind_by (End reason) = kind.End reason
 
--- an item of the plain program
+-- an item of the reference implementation
 abbrev pub item_by : PlainItem → ItemView
 item_by item = record { «module» = item.«module»; ordinal = item.ordinal; extent = extent_by item.extent; kind = kind_by item.kind }
 

@@ -1,4 +1,4 @@
-//! The plain program: it computes what a connection's text makes of its modules, and what becomes of them, over whole
+//! The reference implementation: it computes what a connection's text makes of its modules, and what becomes of them, over whole
 //! lists, one simple step after another. It is slow, and copies a lot. It stands beside the definitions of lfi_model,
 //! which each of its functions is proved to answer, so that the loader can be compared with it.
 //!

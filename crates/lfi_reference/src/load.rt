@@ -54,7 +54,7 @@ fn by_end(extent: PlainExtent, words: usize, pages: usize, reason: Reason) -> Ou
     }
 }
 
-/// The outcome of a module of this extent, of which so many words and pages came, by their first fault
+/// The outcome of a module of this extent, by the words and pages of it that came, by their first fault
 /// and why it ended.
 fn outcome(
     extent: PlainExtent,

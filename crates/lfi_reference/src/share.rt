@@ -44,7 +44,7 @@ pub struct PlainItem {
 pub enum PlainProgress {
     /// The connection hasn't claimed it.
     Unclaimed,
-    /// It is open: so many words in all, and so many pages of it have come.
+    /// It is open, and `pages` of its pages have come.
     Going { extent: PlainExtent, pages: u32 },
     /// It has ended.
     Ended,
@@ -61,7 +61,7 @@ pub struct PlainShare {
     pub progress: PlainProgress,
 }
 
-/// How many pages a module of so many words has, large ones or small ones.
+/// How many pages a module of `words` words has, large ones or small ones.
 pub fn page_count(large: bool, words: u32) -> u32
     ensures { result ≡ page_count (size_of large) words }
 {
@@ -73,7 +73,7 @@ pub fn page_count(large: bool, words: u32) -> u32
 }
 
 /// Whether page `index` of `len` bytes is the one that has to come after the first `pages` small
-/// pages of a module of so many words.
+/// pages of a module of `words` words.
 fn is_due_small(words: u32, pages: u32, index: u32, len: usize) -> bool
     ensures { result ≡ is_due small_page words pages index len }
 {
@@ -182,7 +182,7 @@ impl PlainShare {
         }
     }
 
-    /// One more message of a module that is open, and of which so many pages have come.
+    /// One more message of a module that is open, and of which `pages` pages have come.
     fn going(
         self,
         alloc: Global,

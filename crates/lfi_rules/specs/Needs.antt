@@ -60,7 +60,7 @@ opens_of profile i =
 abbrev pub term_of : Need → ℕ
 term_of = elim [ Nothing ↦ 0 | Call ↦ 1 | Guard ↦ 1 | Probe count ↦ count ]
 
--- what is left of a need after so many words that may go by
+-- what is left of a need after `gone` words that may go by
 abbrev pub rest_of : Need → ℕ → Need
 rest_of (Probe count) gone = Probe (count - gone)
 rest_of need gone = need

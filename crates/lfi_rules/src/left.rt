@@ -37,7 +37,7 @@ fn kind_of(word: u32, profile: Profile) -> (Need, bool)
     }
 }
 
-/// What is left of a need after so many words that went by: nothing, where it had no more.
+/// What is left of a need after `gone` words that went by: nothing, where it had no more.
 fn rest_of(need: Need, gone: u8) -> Need
     ensures { result ≡ (if nat_lt gone (spec.term_of need) then spec.rest_of need gone else Nothing) }
 {

@@ -19,7 +19,7 @@ pub enum Need {
     Call,
     /// The guard of x30 by itself, after any other load of 64 bits into it.
     Guard,
-    /// An access at sp, after sp was moved by an immediate, among so many words; those before it are calm.
+    /// An access at sp, after sp was moved by an immediate, among as many words as this number says; those before it are calm.
     Probe(u8),
 }
 

@@ -63,7 +63,7 @@ fn reach_between(start: u32, stop: u32, n: u32, profile: Profile) -> Reach
     }
 }
 
-/// Marks the places of so many words from one on, those of words that aren't quiet, behind `marked` places that are marked: writes
+/// Marks the places of `count` words from one on, those of words that aren't quiet, behind `marked` places that are marked: writes
 /// them down in order, and answers how many are marked then. Without a branch by what a word is.
 #[inline(always)]
 fn mark_loud<W: Words>(

@@ -13,7 +13,7 @@ use Rattle.lfi_run_image.specs.declared.image_run.ImageRun.TheVariants.{Refused,
 use Rattle.lfi_run_image.specs.Serving.{serves}
 
 -- A machine was made of the image, at the registers of its start and with no byte written, from which no run escapes. It ran for
--- so many steps with the program's runtime, which wrote what is printed to the output, and then halted.
+-- `count` steps with the program's runtime, which wrote what is printed to the output, and then halted.
 pub record RunsImage (image : Image) (steps : ℕ) (old new : Option (List ℕ)) (halt : Halt) (count : ℕ) : Type 0 where
   pub start : Config
   pub registers : start.registers ≡ start_of image

@@ -27,7 +27,7 @@ fn run_served<W: Write>(
     machine.run(steps, console)
 }
 
-/// Runs an image from its start, for at most so many steps. What its code prints is written to the output at its calls.
+/// Runs an image from its start, for at most `steps` steps. What its code prints is written to the output at its calls.
 fn run_from_start<W: Write>(
     alloc: Global,
     image: CompleteImage,
@@ -49,7 +49,7 @@ fn run_from_start<W: Write>(
     Ok(ended)
 }
 
-/// Reads an image's file, which is all that the reader has left, and runs the image from its start, for at most so many steps.
+/// Reads an image's file, which is all that the reader has left, and runs the image from its start, for at most `steps` steps.
 /// Each byte that its code prints is written at its call. A byte that can't be written ends the run at this call, with the
 /// status 255.
 ///

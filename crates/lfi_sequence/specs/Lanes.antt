@@ -15,12 +15,12 @@ new_row lanes number = map (λ lane. new_pass lane number) lanes
 abbrev pub row_at : List (Vec (PassView ItemView)) → ℕ → Option (List (PassView ItemView))
 row_at rows place = option_map (λ row. row.items) (slice_get rows place)
 
--- There are so many rows, and each has the pass of its number of each of these lanes.
+-- There are `count` rows, and each has the pass of its number of each of these lanes.
 pub record AreRows (lanes : List QueueId) (count : ℕ) (rows : List (Vec (PassView ItemView))) : Type 0 where
   pub all : length rows ≡ count
   pub each : (place : ℕ) → place < count → row_at rows place ≡ Some (new_row lanes place)
 
--- A lane for each module, with a row of passes for each of so many verifiers, and one that takes from it.
+-- A lane for each module, with a row of passes for each of the verifiers, and one that takes from it.
 pub record AreNewLanes (verifiers : ℕ) (made : Lanes) : Type 0 where
   pub lanes : length made.lanes.items ≡ module_count
   pub counts : (m : ℕ) (lane : QueueId) → slice_get made.lanes.items m ≡ Some lane → (lane.putters ≡ verifiers) × (lane.takers ≡ 1)

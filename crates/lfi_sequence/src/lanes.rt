@@ -20,7 +20,7 @@ pub struct Lanes {
     pub takes: Vec<LaneTake<Judged>>,
 }
 
-/// So many rows, with nothing in them yet.
+/// `count` rows, with nothing in them yet.
 fn empty_rows(alloc: Global, count: usize) -> Result<Vec<Vec<LanePut<Judged>>>, AllocError>
     ensures { IfOk result (λ rows. AreRows [] count rows.items) }
 {
@@ -66,7 +66,7 @@ impl Lanes {
         deal(&mut self.puts, puts)
     }
 
-    /// A lane for each module, with passes for so many verifiers.
+    /// A lane for each module, with passes for `verifiers` verifiers.
     ///
     /// # Errors
     ///

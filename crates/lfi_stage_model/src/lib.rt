@@ -16,7 +16,7 @@
 //!
 //! # Decisions
 //!
-//! - **It is a crate of its own** since who makes and settles a stage and who gives its parts to threads need nothing
+//! - **It is a crate of its own** since whoever makes and settles a stage and whoever gives its parts to threads need nothing
 //!   else of one another: lfi_stage and lfi_thread_loops are proved beside each other.
 //! - **What is asked of a stage's parts** is that these are all parts of one stage (`AreAllParts`). Each turn keeps what
 //!   is asked of its part (the law `parts_stay`, and the clauses on pass and seat of receivers).

@@ -36,11 +36,11 @@ position_at place number =
 abbrev pub profile_at : ℕ → Option Profile
 profile_at number = if number == 1 then Some One else if number == 2 then Some Two else None
 
--- pages of so many words, where a module of a profile can have such
+-- the size of pages by their words, where a module of a profile can have such
 abbrev pub pages_at : Profile → (words : ℕ) → Option ℕ
 pages_at profile words = if words == small_page then Some small_page else if words == large_page && is_two profile then Some large_page else None
 
--- how large a module of so many words is that is entered at this one, goes by this profile and has pages of so many words, where these are a module's
+-- the extent of a module by its words, its entry, its profile and the size of its pages, where these are a module's
 abbrev pub extent_of : (words entry : ℕ) → Profile → Option ℕ → Option ExtentView
 extent_of words entry profile None = None
 extent_of words entry profile (Some pages) =
@@ -55,7 +55,7 @@ extent_by words entry page_words (Some profile) = extent_of words entry profile 
 abbrev pub extent_at : (words entry profile page_words : ℕ) → Option ExtentView
 extent_at words entry profile page_words = extent_by words entry page_words (profile_at profile)
 
--- how far an open module is that is so large, of which so many pages came; numbers that no module has are those of one that has ended
+-- how far an open module is, by its extent and how many of its pages came; numbers that no module has are those of one that has ended
 abbrev pub going_by : Option ExtentView → (pages : ℕ) → Progress
 going_by None pages = Ended
 going_by (Some extent) pages = if nat_lt (page_count extent.pages extent.words) pages then Ended else Going extent pages
@@ -74,7 +74,7 @@ untouched = record { phase = 0; words = 0; entry = 0; profile = 0; page_words = 
 abbrev pub progress_at : List LfiStreamModule → ℕ → Progress
 progress_at modules m = progress_of (get_or modules m untouched)
 
--- the next page of an open module, of which so many bytes came, where it has more than these
+-- the next page of an open module, of which `come` bytes came, where it has more than these
 abbrev pub page_of : (m come : ℕ) → Progress → Option DuePage
 page_of m come (Going extent pages) =
     if nat_lt come (bytes_in_page extent.pages extent.words pages) then Some (record { «module» = m; extent = extent; pages = pages; come = come }) else None
@@ -88,7 +88,7 @@ names_none page = nat_le module_count page.«module»
 abbrev pub page_at : LfiStreamText → Option DuePage
 page_at stream = if names_none stream.page then None else page_of stream.page.«module» stream.page.come (progress_at stream.modules stream.page.«module»)
 
--- So many bytes of the page are to come: it has them, beside those that came.
+-- The bytes of the page that the position says are to come: the page has them, beside those that came.
 abbrev pub IsLeft : Option DuePage → Position → Type 0
 IsLeft (Some page) (Payload left) = page.come + left ≡ bytes_of page
 IsLeft page position = ⊥

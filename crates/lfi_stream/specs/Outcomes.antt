@@ -25,7 +25,7 @@ abbrev pub outcome_by : ExtentView → List ItemView → Option Fault → Reason
 outcome_by extent items (Some fault) reason = Refused fault
 outcome_by extent items None reason = by_end extent items reason
 
--- The items of an open module of which so many pages came: these pages, whole, each one's words after those of the one before; and no End.
+-- The items of an open module of which `pages` pages came: these pages, whole, each one's words after those of the one before; and no End.
 pub record HasWholePages (extent : ExtentView) (pages : ℕ) (items : List ItemView) : Type 0 where
   pub count : length (pages_of items) ≡ pages
   pub size : length (code_of items) ≡ 4 * min (extent.pages * pages) extent.words

@@ -125,7 +125,7 @@ fn profile_of(number: u32) -> Option<Profile>
     Profile::new(number)
 }
 
-/// Pages of so many words; `None` where a module of the profile has none such.
+/// The size of pages of `words` words; `None` where a module of the profile has none such.
 fn pages_of(profile: Profile, words: u32) -> Option<PageSize>
     ensures value { result ≡ pages_at profile words }
     ensures fits { IfSome result (HasPages profile) }
@@ -137,7 +137,7 @@ fn pages_of(profile: Profile, words: u32) -> Option<PageSize>
     }
 }
 
-/// How large a module of so many words is, entered at this one, by the profile with this number, with pages of so many
+/// The extent of a module of `words` words, entered at `entry`, by the profile with this number, with pages of `page_words`
 /// words; `None` where these numbers are none of a module.
 fn extent_of(words: u32, entry: u32, profile: u32, page_words: u32) -> Option<Extent>
     ensures { result ≡ extent_at words entry profile page_words }
@@ -150,7 +150,7 @@ fn extent_of(words: u32, entry: u32, profile: u32, page_words: u32) -> Option<Ex
     Some(Extent::of(WordCount::of(words), entry, by, pages))
 }
 
-/// How far an open module is that is so large, of which so many pages came. Where its numbers are none of a module, it is
+/// How far an open module of this extent is, of which `pages` pages came. Where its numbers are none of a module, it is
 /// as one that has ended.
 fn going(size: Option<Extent>, pages: u32) -> Progress
     ensures { result ≡ going_by size pages }
@@ -254,7 +254,7 @@ impl LfiStreamPage {
     }
 }
 
-/// The next page of a module that is so far, of which so many bytes came; `None` where it hasn't more than these.
+/// The next page of a module that is so far, of which `come` bytes came; `None` where it hasn't more than these.
 fn page_of(module: ModuleNumber, come: usize, progress: Progress) -> Option<DuePage>
     ensures { result ≡ page_of «module» come progress }
 {

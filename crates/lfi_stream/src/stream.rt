@@ -18,7 +18,7 @@ use crate::numbers::{LfiStreamFeed, LfiStreamPage, LfiStreamText, feed_at, posit
 use lfi_connection::{Event, advance};
 use lfi_frame::{Feed, FrameFault, Got, Position, Step};
 
-/// What is told of what so many bytes brought.
+/// What is told of what `count` bytes brought.
 fn brought(stream: &mut LfiStreamText, got: Got, count: usize) -> Event
     ensures moves { (feed : Feed) (messages : List Message) (rest used : List ℕ) → length used ≡ count → (got ≢ More → used ≢ []) → Holds (progress_at stream.old.modules) (page_at stream.old) all messages rest →
         IsTold got feed messages rest used → Moves feed (progress_at stream.new.modules) (page_at stream.old) all messages rest used result }

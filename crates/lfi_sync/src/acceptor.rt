@@ -117,7 +117,7 @@ impl<'a, S: Files> Acceptor<'a, S> {
             return Err(Absence::NotTaken(error.kind()));
         }
         for _ in self.rt.forever() {
-            // Before it looks: who came in time is taken.
+            // Before it looks: whoever came in time is taken.
             let left = span.left(self.rt);
             match self.listener.accept() {
                 Ok((stream, _)) => return Ok(stream),
@@ -153,7 +153,7 @@ pub struct Closed {
 }
 
 impl Closed {
-    /// Waits until the threads of the first so many receivers have nothing more to hear, where the time
+    /// Waits until the threads of the first `count` receivers have nothing more to hear, where the time
     /// is limited. When it is over all connections are ended. The answer is which of them had not ended
     /// by themselves.
     pub fn wait_in_time<S: Wait + Clock>(

@@ -75,7 +75,7 @@ impl Unheard {
         }
     }
 
-    /// Those of the first so many that aren't among these flags, one bit a connection.
+    /// Those of the first `count` that aren't among these flags, one bit a connection.
     pub(crate) fn of(heard: u32, count: usize) -> Unheard
         ensures { (c : ℕ) → count ≤ c → is_unheard result c ≡ false }
     {

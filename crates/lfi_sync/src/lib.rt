@@ -3,7 +3,7 @@
 //! # How data flows
 //!
 //! One value, `Lifecycle`, is lent to all threads. Its word tells how far they are to go, and its wait sets (`WaitSets`)
-//! are where they wait: a thread with nothing to do waits at one (`Waiter`), and who brings it something calls it there
+//! are where they wait: a thread with nothing to do waits at one (`Waiter`), and whoever brings it something calls it there
 //! (`WaitSet`, `Notifier`). Another word tells which lanes have got items (`LaneSet`). Clients come in by an `Acceptor`,
 //! which keeps the limit of time; their streams lie in `Streams`, each read as a `Client`. `keep` keeps the handle of a
 //! thread that was started, and `join_all` joins such threads. Where memory or a thread is refused, all are told to stop,
@@ -19,11 +19,11 @@
 //!   threads have ended or all are to stop; `Going`, once the start was waited for. A thread that gives up does so with
 //!   one of them: one that gives up by itself, or doesn't wait, doesn't compile. The word only grows (`State`).
 //! - **Who brings something calls who waits for it, and nobody yields or sleeps for a time** (`WaitSet`). A thread that
-//!   found nothing sets its bit, turns once more, and then sleeps. Who has put or taken something reads the bits, takes
+//!   found nothing sets its bit, turns once more, and then sleeps. Whoever has put or taken something reads the bits, takes
 //!   one away and wakes its thread. Each step is SeqCst: where the second turn doesn't see what was put, the bit was
-//!   set before the put, and who put sees it. A bit that another one took away meanwhile is as good. While nobody waits
+//!   set before the put, and whoever put sees it. A bit that another one took away meanwhile is as good. While nobody waits
 //!   a wait set costs one load. Each change of `Lifecycle`'s word calls all threads, which ask it before they sleep.
-//! - **Streams of clients lie in places that are written once and lent** (`Streams`): no descriptor is doubled, and who
+//! - **Streams of clients lie in places that are written once and lent** (`Streams`): no descriptor is doubled, and whoever
 //!   accepts can shut them all down while their threads read. A connection is shut down where its reader is dropped.
 //! - **The path is removed where the acceptor is dropped**, and only where it still is the socket that was bound, by device
 //!   and inode. A signal leaves the path: the toolchain catches none.

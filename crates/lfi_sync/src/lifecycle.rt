@@ -211,7 +211,7 @@ impl Lifecycle {
         self.heard.wake_all();
     }
 
-    /// Waits until the threads of the first so many receivers have nothing more to hear, or this time
+    /// Waits until the threads of the first `count` receivers have nothing more to hear, or this time
     /// is over. The answer is which of them still had something to hear then.
     pub(crate) fn wait_for_heard<S: Wait + Clock>(
         &self,

@@ -5,7 +5,7 @@ use std::array;
 use std::io::{self, ErrorKind, Read};
 use std::sync::OnceLock;
 
-/// Why reads of connections failed, by the connections' numbers. Who reads tells it here, and each
+/// Why reads of connections failed, by the connections' numbers. Whoever reads tells it here, and each
 /// connection's first error counts. No clause knows what it holds.
 #[derive(Drop)]
 pub struct ReadErrors {

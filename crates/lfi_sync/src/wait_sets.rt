@@ -18,7 +18,7 @@ fn bit_of(number: usize) -> u64 {
 
 /// Where threads wait for one thing, and where who brings it calls them.
 ///
-/// A thread that found nothing says that it waits, looks once more, and only then sleeps. Who brings
+/// A thread that found nothing says that it waits, looks once more, and only then sleeps. Whoever brings
 /// something puts it where it belongs, and only then looks who waits. All these steps have one order:
 /// so either the thread finds in its second look what was brought, or it is called.
 #[derive(Drop)]

@@ -17,14 +17,14 @@ use Rattle.lfi_thread_loops.specs.declared.serving.Back.{Back}
 use Rattle.lfi_thread_loops.specs.Heard.{HasHeard}
 use Rattle.lfi_thread_loops.specs.Seated.{AreVerifiersOf, HasEnded}
 
--- These are all parts of a stage with so many receivers, of which no byte has come.
+-- These are all parts of a stage with `count` receivers, of which no byte has come.
 pub record AreReady (shared : Shared) (count : ℕ) (parts : Parts) : Type 0 where
   pub all : ArePartsOf shared parts
   pub seated : AreVerifiersOf shared parts.verifiers.items
   pub counted : length parts.receivers.items ≡ count
   pub fresh : (c : ℕ) (r : Receiver) → slice_get parts.receivers.items c ≡ Some r → IsFresh r
 
--- These are all parts of a stage with so many receivers and verifiers. Each receiver has heard what its input had, as far as that is known, and each verifier has ended after all receivers had.
+-- These are all parts of a stage with `count` receivers and `verifiers` verifiers. Each receiver has heard what its input had, as far as that is known, and each verifier has ended after all receivers had.
 pub record AreBack (shared : Shared) (count verifiers : ℕ) (had : ℕ → Option (List ℕ)) (parts : Parts) : Type 0 where
   pub all : ArePartsOf shared parts
   pub counted : length parts.receivers.items ≡ count

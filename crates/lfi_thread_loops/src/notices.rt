@@ -13,7 +13,7 @@ use lfi_receive::Receiver;
 /// depends on it.
 pub trait Notices {
     /// A receiver's thread has seen for the first time that this module is refused. Each receiver's
-    /// thread calls it once a module at the most, while others may call it too.
+    /// thread calls it at most once a module, while others may call it too.
     fn refused(&self, module: ModuleNumber);
 }
 

@@ -17,7 +17,7 @@ use std::io::Read;
 use std::sync::Wait;
 use std::time::Duration;
 
-/// In every so many turns of a receiver its thread looks at the modules' phases.
+/// In how many turns of a receiver its thread looks at the modules' phases once.
 const LOOK_TURNS: u32 = 64;
 
 /// For how many items a receiver calls one more verifier, at the latest, where one waits.

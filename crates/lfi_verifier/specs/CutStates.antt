@@ -8,7 +8,7 @@ use Rattle.lfi_check.specs.Cuts.{BeginsCut}
 use Rattle.lfi_verifier.specs.declared.cut_state.LfiCutState.{LfiCutState}
 use Rattle.lfi_verifier.specs.States.{Keeps, IsInRange}
 
--- the cut word that so many of these bytes are
+-- the cut word that the first `count` of these bytes are
 abbrev pub word_at : (count : ℕ) (held : List ℕ) → Option CutWord
 word_at count held =
     if count == 0 then Some Nothing else (if count == 1 then Some (One (slice_index held 0))
@@ -26,14 +26,14 @@ pub record IsCutState (state : LfiCutState) : Type 0 where
   pub keeps : KeepsCut state cut
   pub in_range : IsInRange cut.whole
 
--- These bytes came of a module of so many words that is judged by a profile.
+-- These bytes came of a module of `words` words that is judged by a profile.
 pub record IsCutOf (cut : CutBeginning) (profile : Profile) (words : ℕ) (bytes : List ℕ) : Type 0 where
   pub judged_by : cut.whole.profile ≡ profile
   pub count : cut.whole.words ≡ words
   pub some : 1 ≤ words
   pub begins : BeginsCut cut bytes
 
--- The state is one of a module of so many words that is judged by a profile, of which these bytes came, cut anywhere.
+-- The state is one of a module of `words` words that is judged by a profile, of which these bytes came, cut anywhere.
 pub record StandsForCut (state : LfiCutState) (profile : Profile) (words : ℕ) (bytes : List ℕ) : Type 0 where
   pub cut : CutBeginning
   pub keeps : KeepsCut state cut

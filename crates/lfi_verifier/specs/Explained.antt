@@ -20,7 +20,7 @@ pub record IsTold (slot words : ℕ) (told : LfiFault) (fault : Fault) : Type 0 
 abbrev pub earlier : (place before : ℕ) → Option ℕ
 earlier place before = if place == 0 then None else Some before
 
--- the word after a place of a module of so many words, if there is one
+-- the word after a place of a module of `words` words, if there is one
 abbrev pub later : (words place after : ℕ) → Option ℕ
 later words place after = if nat_lt (place + 1) words then Some after else None
 

@@ -13,7 +13,7 @@ use Rattle.lfi_verifier.specs.Explained.{earlier, later}
 use Rattle.lfi_verifier.specs.Faults.{fault_at}
 use Rattle.lfi_verifier.specs.States.{IsWordCount}
 
--- the numbers are those of a fault at one of so many words
+-- the numbers are those of a fault at one of `words` words
 pub record IsFaultOf (words : ℕ) (told : LfiFault) (fault : Fault) : Type 0 where
   pub in_range : IsWordCount words
   pub found : fault_at told ≡ Some (Some fault)

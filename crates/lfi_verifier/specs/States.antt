@@ -17,11 +17,11 @@ use Rattle.lfi_verifier.specs.declared.status.Status.TheVariants.{Lawful, Refuse
 use Rattle.lfi_verifier.specs.Faults.{fault_at, fault_told}
 use Rattle.lfi_verifier.specs.Statuses.{status_number}
 
--- a module has so many words
+-- a number of words that a module can have
 abbrev pub IsWordCount : ℕ → Type 0
 IsWordCount words = (1 ≤ words) × (words ≤ most_words)
 
--- a need by its number in a state: a probe that is among so many words has that number and 3 more
+-- a need by its number in a state: a probe that is due within n words has the number n + 3
 abbrev pub need_at : ℕ → Option Need
 need_at k = if k == 0 then Some Nothing else (if k == 1 then Some Call else (if k == 2 then Some Guard else (if nat_lt k 259 then Some (Probe (k - 3)) else None)))
 
@@ -43,7 +43,7 @@ pub record IsState (state : LfiState) : Type 0 where
   pub keeps : Keeps state beginning
   pub in_range : IsInRange beginning
 
--- The state is one of a module of so many words that is judged by a profile, of which these bytes came, and it holds their first
+-- The state is one of a module of `words` words that is judged by a profile, of which these bytes came, and it holds their first
 -- fault.
 pub record StandsFor (state : LfiState) (profile : Profile) (words : ℕ) (bytes : List ℕ) : Type 0 where
   pub beginning : Beginning
@@ -53,7 +53,7 @@ pub record StandsFor (state : LfiState) (profile : Profile) (words : ℕ) (bytes
   pub some : 1 ≤ words
   pub begins : Begins beginning bytes
 
--- a piece of whole words, no more than are to come of a module of so many words of which these bytes came
+-- a piece of whole words, no more than are to come of a module of `words` words of which these bytes came
 abbrev pub Fits : (words : ℕ) → (bytes piece : List ℕ) → Type 0
 Fits words bytes piece = (length piece % 4 ≡ 0) × (length bytes + length piece ≤ 4 * words)
 
@@ -66,7 +66,7 @@ abbrev pub status_after : Option Fault → Status
 status_after (Some fault) = Refused
 status_after None = Lawful
 
--- The status tells whether these bytes, the first of a module of so many words, have a fault by a profile.
+-- The status tells whether these bytes, the first of a module of `words` words, have a fault by a profile.
 pub record TellsSoFar (profile : Profile) (words : ℕ) (bytes : List ℕ) (number : ℕ) : Type 0 where
   pub fault : Option Fault
   pub first : FirstFault profile (words_of bytes) words fault
@@ -77,7 +77,7 @@ abbrev pub status_within : Option Fault → Status
 status_within (Some fault) = Refused
 status_within None = Incomplete
 
--- Status and fault tell the first fault by a profile of these bytes, the first of a module of so many words, or that there is none and words are missing.
+-- Status and fault tell the first fault by a profile of these bytes, the first of a module of `words` words, or that there is none and words are missing.
 pub record TellsPart (profile : Profile) (words : ℕ) (bytes : List ℕ) (number : ℕ) (told : LfiFault) : Type 0 where
   pub fault : Option Fault
   pub first : FirstFault profile (words_of bytes) words fault

@@ -46,7 +46,7 @@ nothing_found = record { status = Lawful; fault = None }
 abbrev pub bad_found : Finding
 bad_found = record { status = BadState; fault = None }
 
--- What is told of these bytes, the first of a module of so many words: the first fault by a profile of the whole words of them, or that there is none.
+-- What is told of these bytes, the first of a module of `words` words: the first fault by a profile of the whole words of them, or that there is none.
 pub record FindsSoFar (profile : Profile) (words : ℕ) (bytes : List ℕ) (finding : Finding) : Type 0 where
   pub fault : Option Fault
   pub first : FirstFault profile (words_of bytes) words fault

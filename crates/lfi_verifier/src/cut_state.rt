@@ -19,7 +19,7 @@ pub struct LfiCutState {
     pub held: [u8; 3],
 }
 
-/// The cut word that so many of these bytes are.
+/// The cut word that the first `count` of these bytes are.
 fn word_of(count: u32, held: [u8; 3]) -> Option<CutWord>
     ensures { result ≡ word_at count held }
 {

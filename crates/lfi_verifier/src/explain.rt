@@ -49,7 +49,7 @@ pub(crate) fn earlier(place: u32, before: u32) -> Option<u32>
     if place == 0 { None } else { Some(before) }
 }
 
-/// Tells a fault of a module of so many words, by the word at its place and the one before it, as text.
+/// Tells a fault of a module of `words` words, by the word at its place and the one before it, as text.
 #[unsafe(no_mangle)]
 pub extern "C" fn lfi_explain(
     profile: u32,

@@ -19,7 +19,7 @@ use lfi_check::Beginning;
 use lfi_module::WordCount;
 use lfi_rules::Fault;
 
-/// Begins to judge a module of so many words by a profile.
+/// Begins to judge a module of `words` words by a profile.
 #[unsafe(no_mangle)]
 pub extern "C" fn lfi_verify_init(state: &mut LfiState, words: u32, profile: u32) -> u32
     ensures begun { (by : Profile) → profile_number by ≡ profile → IsWordCount words → StandsFor state.new by words [] × (result ≡ status_number Status.Lawful) }

@@ -11,7 +11,7 @@ pub(crate) enum Status {
     Lawful,
     /// A word breaks a rule.
     Refused,
-    /// Code isn't 1 to 4,194,304 whole words, a module hasn't so many, or a piece isn't whole words or is longer than what
+    /// Code isn't 1 to 4,194,304 whole words, a module hasn't as many, or a piece isn't whole words or is longer than what
     /// is to come.
     BadLength,
     /// Words are still to come, and those that came break no rule.

@@ -34,7 +34,7 @@ fn hold_standard_descriptors(rt: &HostRuntime) {
     }
 }
 
-/// The words of the command line.
+/// The arguments.
 fn words(rt: &HostRuntime) -> io::Result<Vec<String>> {
     Ok(env::args(rt)?.collect(rt.alloc())?)
 }

@@ -47,7 +47,7 @@ fn sit(top: &Top) -> PoolSeat
     PoolSeat { seat }
 }
 
-/// So many seats at a table.
+/// `count` seats at a table.
 fn sit_all(alloc: Global, top: &Top, count: usize) -> Result<Vec<PoolSeat>, AllocError>
     requires { 0 < top.now.table_id.words }
     ensures count { IfOk result (λ seats. length seats.items ≡ count) }

@@ -23,7 +23,7 @@ byte_at kept offset = if slice_index kept.table (offset / page_size) == 0 then 0
 abbrev pub IsKept : Kept → ℕ → Type 0
 IsKept kept offset = 0 < slice_index kept.table (offset / page_size)
 
--- each page of so many bytes from an offset on is kept
+-- each page of `bytes` bytes from an offset on is kept
 abbrev pub AreKept : Kept → (offset bytes : ℕ) → Type 0
 AreKept kept offset bytes = (k : ℕ) → k < bytes → IsKept kept (offset + k)
 
@@ -35,7 +35,7 @@ SameBytes old new = (offset : ℕ) → byte_at new offset ≡ byte_at old offset
 abbrev pub KeepsAll : Kept → Kept → Type 0
 KeepsAll old new = (offset : ℕ) → IsKept old offset → IsKept new offset
 
--- no page is kept that wasn't, but those of so many bytes from an offset on
+-- no page is kept that wasn't, but those of `bytes` bytes from an offset on
 abbrev pub KeepsOnly : Kept → Kept → (offset bytes : ℕ) → Type 0
 KeepsOnly old new offset bytes =
     (other : ℕ) → IsKept new other → IsKept old other ⊎ ((k : ℕ) × (k < bytes) × (other / page_size ≡ (offset + k) / page_size))

@@ -151,7 +151,7 @@ fn files_of_another_length(rt: HostRuntime) {
     assert!(rt; other.is_none() && tells_a_later_fault(rt.alloc()) == Ok(true));
 }
 
-/// Whether this comes of RET, of which a read fails after so many bytes, and exactly this is written.
+/// Whether this comes of RET, of which a read fails after `left` bytes, and exactly this is written.
 fn checks(
     alloc: Global,
     left: usize,
@@ -196,7 +196,7 @@ fn ends_so<S: Threads + Wait + Sync + AllocGlobal>(
     }
 }
 
-/// Whether the load of a stream, of which a read fails after so many bytes, ends so, writes exactly this, and has its module
+/// Whether the load of a stream, of which a read fails after `left` bytes, ends so, writes exactly this, and has its module
 /// complete or not.
 fn loads<S: Threads + Wait + Sync + AllocGlobal>(
     rt: &S,
@@ -217,7 +217,7 @@ fn loads<S: Threads + Wait + Sync + AllocGlobal>(
     is_so && out.as_slice() == written.as_bytes()
 }
 
-/// What is told of the stream, where a read fails after so many bytes.
+/// What is told of the stream, where a read fails after `left` bytes.
 fn told_after(left: usize) -> &'static str {
     if left < 12 {
         "connection 0: fault 10\nstrays 0\n"
@@ -390,7 +390,7 @@ const UNTOLD: [&str; 7] = [
     "lfiload pack /dev/null",
 ];
 
-/// Where a run with this output fails, of which so many bytes of what it tells are taken, and tells that some are lost: the
+/// Where a run with this output fails, of which a number of bytes of what it tells are taken, and tells that some are lost: the
 /// output.
 pub fn loses<
     S: Threads + Wait + Files<File = File> + Net + Clock + Sync + AllocGlobal,

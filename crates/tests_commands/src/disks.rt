@@ -30,7 +30,7 @@ struct MemoryDisk<'a> {
     file: &'a [u8],
 }
 
-/// Takes so many images.
+/// Takes a number of images.
 #[derive(Drop)]
 pub struct MemoryStore {
     put: Vec<PutFile>,
@@ -72,7 +72,7 @@ impl ImageStore for MemoryStore {
 const LINE: &str = "lfiload load --out folder any.stream";
 
 impl MemoryStore {
-    /// Has room for so many images.
+    /// Has room for `room` images.
     pub fn with_room(alloc: Global, room: usize) -> MemoryStore {
         MemoryStore {
             put: Vec::new(alloc),
@@ -80,7 +80,7 @@ impl MemoryStore {
         }
     }
 
-    /// Whether so many files were put, each the image of the one module at its path.
+    /// Whether `count` files were put, each the image of the one module at its path.
     fn has_put(&self, count: usize) -> bool {
         for file in &self.put {
             if file.path.as_str() != "folder/module-00.img"
@@ -93,7 +93,7 @@ impl MemoryStore {
     }
 }
 
-/// Whether the run over a disk with room for so many images fills it, writes the report, ends with this status and tells
+/// Whether the run over a disk with room for a number of images fills it, writes the report, ends with this status and tells
 /// exactly this.
 fn fills<S: Threads + Wait + Files<File = File> + Net + Clock + Sync + AllocGlobal>(
     rt: &S,

@@ -36,7 +36,7 @@ const HELLO_FILES: [(&str, &[u8]); 1] = [("hello.tmp/hello.img", &HELLO)];
 /// The run of the first.
 const LINE: &str = "lfiload run hello.tmp/hello.img --steps 1000";
 
-/// Keeps so many bytes, and takes no more.
+/// Keeps a number of bytes, and takes no more.
 #[derive(Drop)]
 struct PartWriter {
     bytes: Vec<u8>,
@@ -56,7 +56,7 @@ impl Write for PartWriter {
     }
 }
 
-/// What is in an output that takes so many bytes, and what is told: the run ends at the call that prints a byte more.
+/// What is in an output that takes a number of bytes, and what is told: the run ends at the call that prints a byte more.
 #[derive(Clone, Copy)]
 struct Taken {
     left: usize,
@@ -177,7 +177,7 @@ fn outputs_of_an_image(rt: HostRuntime) -> io::Result<()> {
 /// The file of the second.
 const PRINTS_FILES: [(&str, &[u8]); 1] = [("much.tmp/prints.img", &PRINTS)];
 
-/// Whether a run of 30,000 steps prints so many bytes to an output that takes so many, and exactly this is told.
+/// Whether a run of 30,000 steps prints all that an output has room for, and exactly this is told.
 fn prints<S: Threads + Wait + Files<File = File> + Net + Clock + Sync + AllocGlobal>(
     rt: &S,
     room: usize,

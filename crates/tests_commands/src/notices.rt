@@ -27,7 +27,7 @@ const TWO: [u8; 84] = [
 /// Closes module 9, which nobody opened.
 const STRAY: [u8; 12] = [3, 0, 9, 0, 0, 0, 0, 0, 0, 0, 0, 0];
 
-/// How many strays follow a text at the most.
+/// At most how many strays follow a text.
 const TURNS: u32 = 10_000_000;
 
 /// Whether something was written to this file.

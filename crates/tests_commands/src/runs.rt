@@ -38,7 +38,7 @@ pub const WELL: u8 = 0;
 /// That of a run of code that isn't lawful, or of modules of which one isn't whole.
 pub const NOT_WELL: u8 = 1;
 
-/// That of a run in which a device failed.
+/// That of a run with an I/O error.
 pub const FAILED: u8 = 3;
 
 /// No exit status: there was no memory for the words.

@@ -24,17 +24,17 @@ pub const WRITE_BASE: u32 = 0xAA0003F5;
 /// A message, or several.
 #[derive(Clone, Copy)]
 pub enum Sent {
-    /// Opens a module of so many words, entered at word 0.
+    /// Opens a module of a number of words, entered at word 0.
     Open(u16, u32),
-    /// A page of a module by its index, of so many words: NOP, but for the last one.
+    /// A page of a module by its index, of a number of words: NOP, but for the last one.
     Page(u16, u32, u32, u32),
     /// A page of a module by its index, of 1,024 words: NOP, but for one at a place.
     Full(u16, u32, u32, u32),
-    /// So many full pages of NOPs of a module, from index 0 on.
+    /// A number of full pages of NOPs of a module, from index 0 on.
     Pages(u16, u32),
-    /// Opens a module of so many words, by the second profile, with large pages.
+    /// Opens a module of a number of words, by the second profile, with large pages.
     OpenLarge(u16, u32),
-    /// A large page of a module by its index, of so many words: NOP, but for the last one.
+    /// A large page of a module by its index, of a number of words: NOP, but for the last one.
     Large(u16, u32, u32, u32),
     /// Closes a module.
     Close(u16),
@@ -68,7 +68,7 @@ fn alone(kind: [u8; 2], module: u16, number: u32) -> Messages {
     }
 }
 
-/// A page of a module, of so many words: NOPs, but for one at a place.
+/// A page of a module, of `words` words: NOPs, but for one at a place.
 fn page(kind: u8, module: u16, index: u32, words: u32, place: u32, word: u32) -> Messages {
     Messages {
         kind: [kind, 0],
@@ -202,7 +202,7 @@ pub const MODULE_7: [u8; 40] = [
     3, 0, 7, 0, 0, 0, 0, 0, 0, 0, 0, 0, // Close
 ];
 
-/// So many bytes of a text from a place on, or what is left of it there.
+/// `size` bytes of a text from a place on, or what is left of it there.
 pub fn piece(text: &[u8], from: usize, size: usize) -> &[u8] {
     let from = from.min(text.len());
     let to = from.saturating_add(size).min(text.len());

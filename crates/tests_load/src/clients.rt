@@ -49,7 +49,7 @@ fn are_all_taken(fates: &[ClientFate]) -> bool {
     taken
 }
 
-/// What is told of so many connections, 1 to 8.
+/// What is told of a number of connections, 1 to 8.
 pub(crate) fn served<S: Threads + Wait + Files + Clock + Sync + AllocGlobal, G: Gate + Sync>(
     rt: &S,
     listener: UnixListener,
@@ -70,7 +70,7 @@ pub(crate) fn served<S: Threads + Wait + Files + Clock + Sync + AllocGlobal, G: 
     })
 }
 
-/// So many clients, one after the other.
+/// A number of clients, one after the other.
 pub(crate) fn connect_all<S: Net + AllocGlobal>(
     rt: &S,
     path: &str,

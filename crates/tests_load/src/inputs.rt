@@ -27,7 +27,7 @@ pub fn comes_to(counter: &AtomicU64, count: u64) -> bool {
     false
 }
 
-/// A text in memory, of which a read gives at most so many bytes. Where it fails, one read does so
+/// A text in memory, of which a read gives at most a number of bytes. Where it fails, one read does so
 /// once these bytes were given, and the rest follows.
 #[derive(Clone, Copy)]
 pub struct Pieces<'a> {
@@ -89,7 +89,7 @@ pub fn reported<
     Ok(load_all(rt, rt.alloc(), inputs, verifiers, gate, notices)?.summary())
 }
 
-/// The report on these texts, of which it takes one to eight, each in pieces of so many bytes.
+/// The report on these texts, of which it takes one to eight, each in pieces of a number of bytes.
 pub fn loaded<S: Threads + Wait + Sync + AllocGlobal, G: Gate + Sync>(
     rt: &S,
     texts: &[&[u8]],
@@ -119,7 +119,7 @@ pub fn loaded_of<S: Threads + Wait + Sync + AllocGlobal, G: Gate + Sync>(
     loaded(rt, &[text.as_slice()], 4096, verifiers, gate)
 }
 
-/// Whether this is told of these texts, each in pieces of so many bytes.
+/// Whether this is told of these texts, each in pieces of a number of bytes.
 pub fn tells<S: Threads + Wait + Sync + AllocGlobal>(
     rt: &S,
     texts: &[&[u8]],

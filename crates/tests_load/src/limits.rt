@@ -35,7 +35,7 @@ enum Then {
 /// How long clients are waited for.
 #[derive(Clone, Copy)]
 enum Waits {
-    /// So many milliseconds.
+    /// A number of milliseconds.
     For(u64),
     /// The listener doesn't wait, and there is no limit.
     Never,
@@ -61,7 +61,7 @@ impl Waits {
     }
 }
 
-/// The clients' texts, of which each sends so many bytes, and what they do then. How many are taken,
+/// The clients' texts, of which each sends a number of bytes, and what they do then. How many are taken,
 /// in what time; whether these were all, and what is told.
 #[derive(Clone, Copy)]
 struct Row {

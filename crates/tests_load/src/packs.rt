@@ -1,4 +1,4 @@
-//! Tests of packing: streams by hand, devices that fail, and packed modules loaded by the stage.
+//! Tests of packing: streams by hand, I/O errors, and packed modules loaded by the stage.
 
 mod devices;
 mod loaded;

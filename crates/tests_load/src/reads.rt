@@ -73,7 +73,7 @@ const ROWS: [(usize, u64, Answer, &str); 9] = [
     ),
 ];
 
-/// Whether what a row says is told of module 0, of which a read gives so many bytes and one is
+/// Whether what a row says is told of module 0, of which a read gives a number of bytes and one is
 /// answered otherwise, which is the last.
 fn is_so<S: Threads + Wait + Sync + AllocGlobal>(
     rt: &S,
@@ -99,7 +99,7 @@ fn a_read_that_is_answered_otherwise_is_the_last(rt: HostRuntime) {
     }
 }
 
-/// So many headers, a read each, that are strays.
+/// A number of headers, a read each, that are strays.
 #[derive(Clone, Copy)]
 struct Strays {
     left: u32,

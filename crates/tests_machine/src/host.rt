@@ -100,7 +100,7 @@ pub fn image_by(
     }
 }
 
-/// The extent of a module of so many words.
+/// The extent of a module of `count` words.
 fn extent_of(count: u64, entry: u32, profile: Profile) -> Option<Extent> {
     let count = WordCount::new(u32::try_from(count).ok()?)?;
     Extent::new(count, entry, profile, PageSize::SMALL)
@@ -188,7 +188,7 @@ pub struct Outcome {
     pub after: Registers,
 }
 
-/// Runs a machine for at most so many steps.
+/// Runs a machine for at most `steps` steps.
 pub fn run(machine: &mut Machine, steps: u64) -> Outcome {
     let (halt, count) = machine.run(steps, &mut Host);
     let after = *machine.registers();

@@ -208,7 +208,7 @@ fn an_index_of_32_bits(rt: HostRuntime) -> Result<(), Fail> {
     Ok(())
 }
 
-/// So many NOPs, but word 1 is B to word 2048, that one B to word 2050, and word 2049 B to word 1.
+/// `count` NOPs, but word 1 is B to word 2048, that one B to word 2050, and word 2049 B to word 1.
 fn jumps(alloc: Global, count: u32) -> Result<Vec<u32>, Fail> {
     let mut words = Vec::new(alloc);
     for place in 0..count {

@@ -1,4 +1,4 @@
-//! Tables of instructions, with what they make of registers, flags and pc; the plain program beside the crates; and the
+//! Tables of instructions, with what they make of registers, flags and pc; the reference implementation beside the crates; and the
 //! sparse memory.
 
 mod bits;

@@ -86,7 +86,7 @@ struct Sum {
     flags: u8,
 }
 
-/// The sum of two numbers of so many bits, and of a carry.
+/// The sum of two numbers of `bits` bits, and of a carry.
 fn sum_of(bits: u32, one: u64, other: u64, carry: u64) -> Sum
     requires { bits ≡ 32 ⊎ (bits ≡ 64) }
 {

@@ -148,7 +148,7 @@ pub fn has_one_fault(rt: &HostRuntime, words: &[u32], profile: Profile) -> Resul
     )
 }
 
-/// The first of so many modules at random that has several faults, and how many of them have none.
+/// The first of a number of modules at random that has several faults, and how many of them have none.
 fn first_several(
     rt: &HostRuntime,
     draws: &mut Draws,

@@ -111,7 +111,7 @@ fn apart(alloc: Global, count: usize, moved: usize, stored: usize) -> Result<Vec
     Ok(words)
 }
 
-/// So many words, the places of a move and of a store, and where the second profile finds the fault: a probe in the next
+/// How many words, the places of a move and of a store, and where the second profile finds the fault: a probe in the next
 /// page, among four words or too late, and far from the ends of a module.
 const APART: [(usize, u32, usize, Option<u32>); 8] = [
     (1026, 1022, 1025, None),

@@ -37,7 +37,7 @@ pub fn fault_with(
     Ok(fault_after(n, tail, verdict, count))
 }
 
-/// The first fault of a module that is cut into pages of so many words, by their verdicts.
+/// The first fault of a module that is cut into pages of `size` words, by their verdicts.
 pub fn fault_by_pages(words: &[u32], size: usize, profile: Profile) -> Result<Option<Fault>, Fail>
     requires { 1 ≤ size }
 {

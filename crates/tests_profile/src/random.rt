@@ -77,7 +77,7 @@ const INDICES: [u32; 16] = [
     0, 1, 2, 1023, 1024, 2047, 2048, 2049, 4096, 6142, 6143, 6144, 6145, 7168, 8190, 8191,
 ];
 
-/// The first of so many words at random whose verdict, on a page of this word alone, isn't that of the rules one by one.
+/// The first of `count` words at random whose verdict, on a page of this word alone, isn't that of the rules one by one.
 fn first_other(draws: &mut Draws, count: u32, profile: Profile) -> Result<Option<u32>, Fail> {
     for _i in 0..count {
         let word = draws.word();

@@ -6,7 +6,7 @@ ghost use Rattle.lfi_queues.specs.Passes.{AreAllPasses, IsPass, IsSamePass};
 use lfi_queues::{Intake, PutPass, TakePass, Taken};
 use std::thread::{self, Threads};
 
-/// Puts the numbers from this one on, so many: how many were put.
+/// Puts the numbers from this one on, `count` of them: how many were put.
 fn fill(intake: &Intake<u64>, pass: &mut PutPass<u64>, first: u64, count: u64) -> u64
     requires { pass.old.queue ≡ intake.now }
     ensures { IsSamePass pass.old pass.new }
@@ -19,7 +19,7 @@ fn fill(intake: &Intake<u64>, pass: &mut PutPass<u64>, first: u64, count: u64) -
     done
 }
 
-/// Takes in so many tries: how many of the numbers from 0 on came, in order.
+/// Takes in `tries` tries: how many of the numbers from 0 on came, in order.
 fn take_some(intake: &Intake<u64>, pass: &mut TakePass<u64>, tries: u64) -> u64
     requires { pass.old.queue ≡ intake.now }
     ensures { IsSamePass pass.old pass.new }
@@ -32,7 +32,7 @@ fn take_some(intake: &Intake<u64>, pass: &mut TakePass<u64>, tries: u64) -> u64
     next
 }
 
-/// Takes so many numbers: whether they are those from 0 on, and there are no more.
+/// Takes `count` numbers: whether they are those from 0 on, and there are no more.
 fn is_emptied(intake: &Intake<u64>, pass: &mut TakePass<u64>, count: u64) -> bool
     requires { pass.old.queue ≡ intake.now }
 {
@@ -107,7 +107,7 @@ fn three_parts_by_turns(rt: HostRuntime) {
     assert!(rt; put == [1, 1, 1, 1] && is_emptied(&intake, &mut takes[0], 4));
 }
 
-/// Puts the numbers from 0 on, so many: how many were put, and the pass.
+/// Puts the numbers from 0 on, `count` of them: how many were put, and the pass.
 fn put_all(intake: &Intake<u64>, mut pass: PutPass<u64>, count: u64) -> (u64, PutPass<u64>)
     requires { IsPass intake.now 1 0 pass }
     ensures { IsPass intake.now 1 0 result.1 }
@@ -116,7 +116,7 @@ fn put_all(intake: &Intake<u64>, mut pass: PutPass<u64>, count: u64) -> (u64, Pu
     (done, pass)
 }
 
-/// Takes in so many tries: how many of the numbers from 0 on came, in order, and the pass.
+/// Takes in `tries` tries: how many of the numbers from 0 on came, in order, and the pass.
 fn take_all(intake: &Intake<u64>, mut pass: TakePass<u64>, tries: u64) -> (u64, TakePass<u64>)
     requires { IsPass intake.now 1 0 pass }
     ensures { IsPass intake.now 1 0 result.1 }

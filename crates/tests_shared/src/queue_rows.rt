@@ -8,7 +8,7 @@ use lfi_queues::{Lane, LanePut, LaneTake, RuledQueue};
 use std::process::Abort;
 use std::sync::Wait;
 
-/// Puts the numbers from 0 on, so many, and one more: whether that one alone is handed back.
+/// Puts the numbers from 0 on, `CAPACITY` of them, and one more: whether that one alone is handed back.
 fn is_filled<const CAPACITY: usize>(
     rt: &impl Wait,
     queue: &RuledQueue<u64, CAPACITY>,
@@ -26,7 +26,7 @@ fn is_filled<const CAPACITY: usize>(
     queue.put(rt, pass, more) == Err(more) && all
 }
 
-/// Takes so many numbers and one more: whether they are those from 0 on, and there are no more.
+/// Takes `CAPACITY` numbers and one more: whether they are those from 0 on, and there are no more.
 fn is_emptied<const CAPACITY: usize>(
     rt: &impl Wait,
     queue: &RuledQueue<u64, CAPACITY>,

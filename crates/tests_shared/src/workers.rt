@@ -64,7 +64,7 @@ fn put_all<R: Wait>(
     pass
 }
 
-/// Takes numbers until so many putting threads have ended and nothing is left.
+/// Takes numbers until all putting threads have ended and nothing is left.
 fn take_all<R: Wait + Abort>(
     rt: &R,
     queue: &Queue,

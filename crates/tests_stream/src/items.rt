@@ -23,7 +23,7 @@ pub enum Part {
     Open,
     /// A page of NOPs, by its index, with this word at its end.
     Page(u32, u32),
-    /// The End after so many pages.
+    /// The End after a number of pages.
     End(u32, Reason),
 }
 
@@ -39,7 +39,7 @@ pub fn module() -> ModuleNumber
     ModuleNumber::at(3)
 }
 
-/// A page of this size and of so many words, which it has room for: NOPs, and this word at its end.
+/// A page of this size and of `words` words, which it has room for: NOPs, and this word at its end.
 pub fn page_ending(
     rt: &(impl Abort + AllocGlobal),
     size: PageSize,
@@ -82,7 +82,7 @@ fn end(rt: &impl Abort, extent: Extent, pages: u32, reason: Reason) -> Item {
     }
 }
 
-/// A module of so many words, entered at word 7, or its last one, that goes by a profile and has small pages.
+/// A module of `words` words, entered at word 7, or its last one, that goes by a profile and has small pages.
 pub fn extent_of(words: WordCount, profile: Profile) -> Extent {
     let entry = 7.min(words.number() - 1);
     Extent::of(words, entry, profile, PageSize::SMALL)

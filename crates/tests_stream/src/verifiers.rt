@@ -48,7 +48,7 @@ impl Row {
         }
     }
 
-    /// Puts an item to the intake, so many times.
+    /// Puts an item to the intake, `times` times.
     fn put(&mut self, rt: &(impl Abort + AllocGlobal), part: Part, times: usize) {
         let extent = extent_of(WordCount::of(WORDS), Profile::One);
         for _ in 0..times {
@@ -57,7 +57,7 @@ impl Row {
         }
     }
 
-    /// Whether the next turn does this, so many times.
+    /// Whether the next turn does this, `turns` times.
     fn did<R: Wait>(&mut self, rt: &R, did: VerifierTurn, turns: usize) -> bool {
         let mut all = true;
         for _ in 0..turns {
@@ -86,7 +86,7 @@ type Brought = (u16, u32, Option<bool>, Option<Reason>);
 /// What is done with a verifier, and what comes of it.
 #[derive(Clone, Copy)]
 enum Step {
-    /// The next turn does this, so many times.
+    /// The next turn does this, a number of times.
     Turn(VerifierTurn, usize),
     /// The next item of the lane brings this.
     Take(Option<Brought>),

@@ -43,7 +43,7 @@ pub record HeldFor (from : ℕ) (need : Need) (r : Registers) : Type 0 where
   pub pc : InSlot from r.pc
   pub flags : r.nzcv < 16
 
--- From an address on a probe comes among so many instructions, and those before it are calm; or the code ends before it.
+-- From an address on a probe comes among `count` instructions, and those before it are calm; or the code ends before it.
 abbrev pub Awaits : Image → (address count : ℕ) → Type 0
 Awaits c address zero = ⊥
 Awaits c address (suc count) =

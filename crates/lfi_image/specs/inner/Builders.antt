@@ -23,7 +23,7 @@ AreFull size [] = ⊤
 AreFull size (page ∷ []) = length (words_of page.bytes) ≤ size
 AreFull size (page ∷ next ∷ pages) = IsFull size page × AreFull size (next ∷ pages)
 
--- These pages of a size are placed, with so many words, and these leave a need open.
+-- These pages of a size are placed, with `placed` words, and these leave a need open.
 pub record IsBuilt (profile : Profile) (size words entry slot placed : ℕ) (open_need : Need) (pages : List PageView) : Type 0 where
   pub sized : IsPageSize size
   pub some : 1 ≤ words

@@ -18,7 +18,7 @@ IsShort known len Truncated = IfSome known (λ xs. length xs < len)
 IsShort known len Device = ⊤
 IsShort known len _ = ⊥
 
--- There is no page of so many bytes: they aren't all there, or memory ran out, or the reader failed.
+-- There is no page of this length: its bytes aren't all there, or memory ran out, or the reader failed.
 abbrev pub IsNoPage : Option (List ℕ) → ℕ → ImageFault → Type 0
 IsNoPage known len Truncated = IfSome known (λ xs. length xs < len)
 IsNoPage known len NoMemory = ⊤

@@ -20,14 +20,14 @@ IsPageFault left len Shorter = IfSome left (λ bytes. length bytes < len)
 IsPageFault left len Longer = ⊥
 IsPageFault left len fault = ⊤
 
--- a page of so many bytes was read, and written as page `index`, a small or a large one
+-- a page of `len` bytes was read, and written as page `index`, a small or a large one
 pub record CopiesPage (m size index len : ℕ) (left rest : Option (List ℕ)) (old new : Option (List ℕ)) : Type 0 where
   pub page : List ℕ
   pub long : length page ≡ len
   pub read : Consumes left rest page
   pub written : Appends old new (spelling (page_message m size index page))
 
--- the first pages of n words were read and written, so many
+-- the first `count` pages of n words were read and written
 pub record CopiesFirst (m size n count : ℕ) (left rest : Option (List ℕ)) (old new : Option (List ℕ)) : Type 0 where
   pub pages : List (List ℕ)
   pub first : AreFirst size n count pages
@@ -38,7 +38,7 @@ pub record CopiesFirst (m size n count : ℕ) (left rest : Option (List ℕ)) (o
 abbrev pub CopiesPages : (m size n : ℕ) (left rest : Option (List ℕ)) (old new : Option (List ℕ)) → Type 0
 CopiesPages m size n left rest old new = CopiesFirst m size n (page_count size n) left rest old new
 
--- a beginning of page `index`, of so many bytes, was written, and not all of it
+-- a beginning of page `index`, of `len` bytes, was written, and not all of it
 pub record BeginsPage (m size index len : ℕ) (old new : Option (List ℕ)) : Type 0 where
   pub page : List ℕ
   pub long : length page ≡ len

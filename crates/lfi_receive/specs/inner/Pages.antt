@@ -13,7 +13,7 @@ abbrev pub coming_of : Option ComingPage → Option DuePage
 coming_of (Some c) = Some (due_page c)
 coming_of None = None
 
--- so many bytes go on in the page that is kept
+-- `count` bytes go on in the page that is kept
 abbrev pub Fits : Option ComingPage → (count : ℕ) → (ended : Bool) → Type 0
 Fits (Some c) count ended = GoesOn (due_page c) count ended
 Fits None count ended = ⊥

@@ -11,7 +11,7 @@ use Rattle.lfi_receive.specs.declared.receiver.Parsed.{Parsed}
 use Rattle.lfi_receive.specs.declared.receiver.Parsed.TheVariants.{Stray}
 use Rattle.lfi_receive.specs.inner.Pages.{due_page, IsLonger}
 
--- so many bytes before the one to which these were counted, modulo 2^64
+-- the place `count` bytes before the one to which these were counted, modulo 2^64
 abbrev pub bytes_before : (count came : ℕ) → ℕ
 bytes_before count came = (came + (2 ^ 64 - count)) % 2 ^ 64
 

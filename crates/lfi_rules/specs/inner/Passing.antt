@@ -44,7 +44,7 @@ pub record IsFarFromEnds (k n : ℕ) : Type 0 where
   pub start : 2048 ≤ k
   pub end : k + 2048 ≤ n
 
--- So many words before a place are calm.
+-- `gone` words before a place are calm.
 pub record AreCalmBefore (profile : Profile) (ws : List ℕ) (place gone : ℕ) : Type 0 where
   pub calm : (j word : ℕ) → place ≤ j + gone → j < place → slice_get ws j ≡ Some word → IsCalm profile word
 
@@ -63,7 +63,7 @@ pub record IsFine (profile : Profile) (ws : List ℕ) (first n i : ℕ) : Type 0
 pub record AreFine (profile : Profile) (ws : List ℕ) (first n start stop : ℕ) : Type 0 where
   pub each : (i : ℕ) → start ≤ i → i < stop → IsFine profile ws first n i
 
--- So many words after place i of ws are calm.
+-- `gone` words after place i of ws are calm.
 pub record AreCalmAfter (profile : Profile) (ws : List ℕ) (i gone : ℕ) : Type 0 where
   pub calm : (j word : ℕ) → i < j → j ≤ i + gone → slice_get ws j ≡ Some word → IsCalm profile word
 
@@ -75,7 +75,7 @@ pub record OpensAt (profile : Profile) (ws : List ℕ) (first n i : ℕ) (need :
   pub alone : IsLeastBroken profile word Nothing (first + i) n None
   pub opens : Opens profile word need
 
--- So many words after place i, whose word opens a need, break no rule, and don't fail that need; and what is open after them.
+-- `gone` words after place i, whose word opens a need, break no rule, and don't fail that need; and what is open after them.
 pub record AreKeptAfter (profile : Profile) (ws : List ℕ) (first n i gone : ℕ) (need : Need) : Type 0 where
   pub left : IsOpenAt profile ws (i + gone + 1) need
   pub none : AreFine profile ws first n 0 i → NoneBefore profile ws first n (i + gone + 1)

@@ -44,7 +44,7 @@ const NOP: [u8; 4] = [0x1F, 0x20, 0x03, 0xD5];
 /// RET.
 pub const RET: [u8; 4] = [0xC0, 0x03, 0x5F, 0xD6];
 
-/// So many words of code: NOPs, and then a RET.
+/// `words` words of code: NOPs, and then a RET.
 pub fn code(alloc: Global, words: u32) -> Result<Vec<u8>, AllocError> {
     let mut bytes = Vec::new(alloc);
     for left in (0..words).rev() {

@@ -135,7 +135,7 @@ fn modules_by_hand(rt: HostRuntime) {
     }
 }
 
-/// Whether packing one RET fails once so many bytes are written, and these are its first ones.
+/// Whether packing one RET fails once `left` bytes are written, and these are its first ones.
 fn fails_after(alloc: Global, left: usize) -> bool {
     let mut stream = StreamWriter::new(alloc, left, 5);
     let packed = pack(&ONE_WORD, Pieces::of(&RET, 5), &mut stream);

@@ -1,4 +1,4 @@
-//! Several connections through the stage, and through the plain program beside it.
+//! Several connections through the stage, and through the reference implementation beside it.
 
 use crate::build::Sent::{Close, Open, Page};
 use crate::build::{MODULE_0, MODULE_3, MODULE_5, NOP, Sent, eight, one_word, piece, push_all};
@@ -58,7 +58,7 @@ module 15: complete, 2049 words
 strays 0
 ";
 
-/// Whether the stage tells this of these texts, in pieces of so many bytes, with each number of
+/// Whether the stage tells this of these texts, in pieces of a number of bytes, with each number of
 /// verifiers.
 fn all_tell(
     rt: &(impl Threads + Wait + Sync + AllocGlobal),
@@ -75,7 +75,7 @@ fn all_tell(
 }
 
 /// Whether the stage tells of all 16 modules that they are complete, where eight connections bring
-/// their texts, in pieces of so many bytes and with each number of verifiers.
+/// their texts, in pieces of at most `most` bytes and with each number of verifiers.
 fn sixteen_are_complete(rt: &(impl Threads + Wait + Sync + AllocGlobal), most: usize) -> bool {
     match sixteen_modules(rt.alloc()) {
         Ok(texts) => {

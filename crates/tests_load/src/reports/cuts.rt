@@ -46,7 +46,7 @@ pub fn cut_short(len: usize, cause: EndCause) -> &'static str {
     }
 }
 
-/// The first length at which the plain program tells otherwise of a module of one word that is cut
+/// The first length at which the reference implementation tells otherwise of a module of one word that is cut
 /// there, where its input ended so.
 fn first_otherwise(alloc: Global, cause: EndCause) -> Option<usize> {
     for len in 0..=40usize {

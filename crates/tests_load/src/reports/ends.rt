@@ -1,4 +1,4 @@
-//! Two connections, of which the first sends all it has before the second begins: who has each module, where each
+//! Two connections, of which the first sends all it has before the second begins: which has each module, where each
 //! connection ended, and how many strays it has.
 
 use crate::build::Sent::{Close, Large, Open, OpenLarge, Page};

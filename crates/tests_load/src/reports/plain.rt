@@ -1,4 +1,4 @@
-//! Streams in memory through the plain program.
+//! Streams in memory through the reference implementation.
 
 use crate::build::is_told;
 use lfi_model::{EndCause, Summary};
@@ -53,14 +53,14 @@ fn streams_of(alloc: Global, given: &[Given<'_>]) -> Result<Vec<PlainStream>, Al
     Ok(streams)
 }
 
-/// The plain program's report on these streams, of which it takes at most eight.
+/// The reference implementation's report on these streams, of which it takes at most eight.
 pub fn plainly(alloc: Global, given: &[Given<'_>]) -> Result<Summary, AllocError> {
     let mut streams = streams_of(alloc, given)?;
     streams.truncate(8);
     Ok(report_on(alloc, streams.as_slice())?.summary())
 }
 
-/// How many pages the plain program has placed of module 0 of a stream, and how many words are in
+/// How many pages the reference implementation has placed of module 0 of a stream, and how many words are in
 /// the first of them.
 pub fn placed_of(alloc: Global, given: Given<'_>) -> Result<(usize, usize), AllocError> {
     let streams = streams_of(alloc, &[given])?;
@@ -75,7 +75,7 @@ pub fn placed_of(alloc: Global, given: Given<'_>) -> Result<(usize, usize), Allo
     Ok((loaded.placed.len(), words))
 }
 
-/// Whether the plain program tells this of these streams.
+/// Whether the reference implementation tells this of these streams.
 pub fn tells_plainly(alloc: Global, given: &[Given<'_>], want: &str) -> bool {
     is_told(alloc, plainly(alloc, given), want)
 }

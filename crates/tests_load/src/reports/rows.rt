@@ -1,4 +1,4 @@
-//! Streams of one connection with what is told of them, by the stage and by the plain program.
+//! Streams of one connection with what is told of them, by the stage and by the reference implementation.
 
 use crate::build::Sent::{Close, Full, Large, Open, OpenLarge, Page, Pages};
 use crate::build::{GUARD_LINK, LOAD_LINK, NOP, RET, SVC, Sent, WRITE_BASE, text_of};
@@ -219,7 +219,7 @@ const ROWS: [Row; 29] = [
     },
 ];
 
-/// Whether the stage and the plain program both tell what is wanted of a row.
+/// Whether the stage and the reference implementation both tell what is wanted of a row.
 fn is_told(rt: &(impl Threads + Wait + Sync + AllocGlobal), row: &Row) -> bool {
     match text_of(rt.alloc(), row.sent) {
         Ok(text) => both_tell(rt, text.as_slice(), &ALL, row.want),

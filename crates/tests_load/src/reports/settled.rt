@@ -43,12 +43,12 @@ enum Step {
     First(usize, ReceiverTurn),
     /// Receiver 1 does so with the second text.
     Second(usize, ReceiverTurn),
-    /// Verifier 0 turns until a turn isn't Worked, at most so often. So many turns are Worked, and the
+    /// Verifier 0 turns until a turn isn't Worked, at most so often. The second number says how many are Worked, and the
     /// last one does this.
     Verify(usize, usize, VerifierTurn),
     /// The sequencer of module 9 turns once, and does this.
     Sequence(SequencerTurn),
-    /// Verifier 1 and all sequencers turn, so many rounds.
+    /// Verifier 1 and all sequencers turn, for a number of rounds.
     GoOn(usize),
     /// Receiver 1 looks at module 3, and sees this.
     LookAt3(Phase),

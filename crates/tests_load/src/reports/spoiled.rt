@@ -54,7 +54,7 @@ const STREAMS: [Stream; 3] = [
 /// Every module may be claimed for the one connection.
 const ALL: [u16; 16] = [0, 1, 2, 3, 4, 5, 6, 7, 8, 9, 10, 11, 12, 13, 14, 15];
 
-/// Whether the stage and the plain program tell the same of a text.
+/// Whether the stage and the reference implementation tell the same of a text.
 fn is_told_alike(rt: &(impl Threads + Wait + Sync + AllocGlobal), text: &[u8]) -> bool {
     let Ok(plain) = plainly(rt.alloc(), &[Given::whole(text, &ALL)]) else {
         return false;

@@ -1,4 +1,4 @@
-//! Streams through the stage, and through the plain program beside it.
+//! Streams through the stage, and through the reference implementation beside it.
 
 use crate::build::Sent::{Close, Open, Page};
 use crate::build::{MODULE_0, RET, Sent, is_told, text_of};
@@ -12,8 +12,8 @@ use std::io::ErrorKind;
 use std::sync::Wait;
 use std::thread::Threads;
 
-/// The first length at which the stage tells otherwise of a module of one word, of which so many
-/// bytes come, in pieces of so many, and then its input ends so: where it fails, all others follow.
+/// The first length at which the stage tells otherwise of a module of one word, of which some
+/// bytes come, in pieces of a given size, and then its input ends so: where it fails, all others follow.
 fn first_cut_otherwise(
     rt: &(impl Threads + Wait + Sync + AllocGlobal),
     most: usize,
@@ -103,7 +103,7 @@ fn claimed_by(kind: u8, module: u8) -> [u16; 1] {
     }]
 }
 
-/// Whether the stage and the plain program tell the same of a module of one word, of which this
+/// Whether the stage and the reference implementation tell the same of a module of one word, of which this
 /// byte is another one.
 fn both_tell_the_same(
     rt: &(impl Threads + Wait + Sync + AllocGlobal),
@@ -124,7 +124,7 @@ fn both_tell_the_same(
     plain == told
 }
 
-/// The first place of a module of one word at which this byte makes the stage and the plain program
+/// The first place of a module of one word at which this byte makes the stage and the reference implementation
 /// tell otherwise than each other.
 fn first_spoiled_otherwise(
     rt: &(impl Threads + Wait + Sync + AllocGlobal),
@@ -145,7 +145,7 @@ fn spoiled_in_every_byte(rt: HostRuntime) {
     }
 }
 
-/// Whether the stage and the plain program, for which these modules are claimed, both tell this of
+/// Whether the stage and the reference implementation, for which these modules are claimed, both tell this of
 /// a text.
 pub fn both_tell(
     rt: &(impl Threads + Wait + Sync + AllocGlobal),

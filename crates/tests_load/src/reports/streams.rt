@@ -6,7 +6,7 @@ use crate::reports::plain::{Given, tells_plainly};
 use crate::reports::stage::both_tell;
 use std::alloc::Global;
 
-/// Whether the plain program, for which module 1 is claimed, tells this of what is sent.
+/// Whether the reference implementation, for which module 1 is claimed, tells this of what is sent.
 fn is_told_of_module_1(alloc: Global, sent: &[Sent], want: &str) -> bool {
     match text_of(alloc, sent) {
         Ok(text) => tells_plainly(alloc, &[Given::whole(text.as_slice(), &[1])], want),

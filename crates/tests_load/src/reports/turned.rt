@@ -115,7 +115,7 @@ fn place_all<S: Wait>(rt: &S, stage: &mut Stage)
     }
 }
 
-/// So many rounds of a verifier and all sequencers.
+/// `rounds` rounds of a verifier and all sequencers.
 pub fn go_on<S: Wait>(rt: &S, stage: &mut Stage, number: usize, rounds: usize)
     requires pair { IsPair stage.old }
     requires number { number < 2 }

@@ -1,4 +1,4 @@
-//! The plain program beside the crates: the words of the tables, on operands at their edges.
+//! The reference implementation beside the crates: the words of the tables, on operands at their edges.
 use crate::semantics::rows::{after, registers_of};
 use a64_reference::plain_result;
 use a64_semantics::Registers;

@@ -43,7 +43,7 @@ fn encodes_what_it_decodes(rt: HostRuntime) {
     assert!(rt; count > 100_000, "{count}");
 }
 
-/// The word of a branch by so many words.
+/// The word of a branch by `offset` words.
 fn branch_by(offset: i32) -> Option<u32> {
     let branch = Instruction::Branch(Branch {
         link: false,

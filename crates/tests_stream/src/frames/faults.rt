@@ -134,7 +134,7 @@ fn faulty_headers(rt: HostRuntime) {
 /// How many bytes of a page's header came, at most 12, and the fault of the end or the stop after them.
 type Brought = (usize, FrameFault);
 
-/// Whether all is over after so many bytes and this fault.
+/// Whether all is over after a number of bytes and this fault.
 fn is_over_within(row: &Brought) -> bool {
     let (used, fault) = *row;
     let page = header((2, 0, 0, 0, 8));

@@ -56,7 +56,7 @@ fn told(bytes: &[u8], piece: usize) -> Fed {
     (got, parts, feed.end().err())
 }
 
-/// Whether each call on one feed uses so many bytes from there and brings this, and the stream may end then.
+/// Whether each call on one feed uses this number of bytes from there and brings this, and the stream may end then.
 fn is_told(calls: &[(usize, usize, Got)]) -> bool {
     let mut feed = Feed::default();
     let mut all = true;
@@ -95,7 +95,7 @@ fn in_pieces_of_any_size(rt: HostRuntime) {
     }
 }
 
-/// The first bytes, from so many to so many: how many messages they bring, with the page's header, and the fault.
+/// The first bytes, from one length to another: how many messages they bring, with the page's header, and the fault.
 type Cut = (usize, usize, usize, Option<FrameFault>);
 
 const CUTS: [Cut; 8] = [
@@ -109,7 +109,7 @@ const CUTS: [Cut; 8] = [
     (40, 40, 4, None),
 ];
 
-/// The first of so many bytes that bring anything else, at once or byte by byte.
+/// The first length of a row at which its bytes bring anything else, at once or byte by byte.
 fn first_other(row: &Cut) -> Option<usize> {
     let (first, last, count, fault) = *row;
     let mut want = messages();

@@ -86,7 +86,7 @@ fn read_by(
     (fault, reader.calls, reader.bytes.len())
 }
 
-/// A file that is read: how many of its bytes there are, after how many of them the device fails, how many it gives a
+/// A file that is read: how many of its bytes there are, after how many of them an I/O error comes, how many it gives a
 /// call, and the fault.
 type Reading = (usize, usize, usize, Option<ImageFault>);
 
@@ -128,7 +128,7 @@ fn write_by(image: &CompleteImage, due: &[u8], left: usize, step: usize) -> Writ
     (answer, writer.calls, writer.due.len(), writer.is_due)
 }
 
-/// Whether a writer that fails after so many bytes is told of, and has the beginning of the file.
+/// Whether a writer that fails after `left` bytes is told of, and has the beginning of the file.
 fn is_cut_at(image: &CompleteImage, file: &[u8], left: usize, step: usize) -> bool {
     let (answer, _, due, is_due) = write_by(image, file, left, step);
     answer == Err(ImageFault::Device) && is_due && file.len().checked_sub(due) == Some(left)
@@ -154,7 +154,7 @@ fn long_image(rt: &(impl Abort + AllocGlobal)) -> CompleteImage {
 /// The bytes of its file.
 const LONG_FILE: usize = 69_660;
 
-/// Bytes after which a device fails: at the ends of the header and of pages, and beside them.
+/// Bytes after which an I/O error comes: at the ends of the header and of pages, and beside them.
 const FAILS_AFTER: [usize; 7] = [24, 25, 4120, 65_559, 65_560, 65_561, 69_659];
 
 #[test]
@@ -169,7 +169,7 @@ fn long_files_are_written(rt: HostRuntime) {
     }
 }
 
-/// The long file in small pieces, and on a device that fails: at the ends of the header and of pages, and beside them.
+/// The long file in small pieces, and with an I/O error: at the ends of the header and of pages, and beside them.
 const LONG: [Reading; 14] = [
     (LONG_FILE, ALL, 1, None),
     (LONG_FILE, ALL, 7, None),
@@ -211,7 +211,7 @@ fn faulty_file(rt: &(impl Abort + AllocGlobal)) -> Vec<u8> {
     file
 }
 
-/// The faulty file on a device that fails, and with an early end or a late one: the fault comes before them.
+/// The faulty file with an I/O error, and with an early end or a late one: the fault comes before them.
 const FAILING: [Reading; 9] = [
     (LONG_FILE, 8215, 4096, Some(ImageFault::Device)),
     (LONG_FILE, 8216, 4096, FAULTY),

@@ -15,7 +15,7 @@ const FIRST_UNKNOWN: ImageFault = ImageFault::Unlawful(Fault {
     rule: Rule::Spelled,
 });
 
-/// The fault of so many bytes of the file of one RET and a 0 behind it; none where they are read.
+/// The fault of `len` bytes of the file of one RET and a 0 behind it; none where they are read.
 fn fault_at(alloc: Global, len: usize) -> Option<ImageFault> {
     let mut bytes = [0; 29];
     bytes[..28].copy_from_slice(&ONE_RET);

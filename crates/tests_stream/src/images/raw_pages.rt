@@ -22,7 +22,7 @@ fn is_full(page: OpenPage, size: PageSize) -> bool {
     }
 }
 
-/// Writes so many bytes at a time to a page of this size: whether so many of each are taken, and the page is full then.
+/// Writes a number of bytes at a time to a page of this size: whether as many of each are taken, and the page is full then.
 fn is_filled(rt: &(impl Abort + AllocGlobal), size: PageSize, writes: &[(usize, usize)]) -> bool {
     let bytes = [7; 16_000];
     let mut page = OpenPage::new(rt.alloc(), size).expect(rt, "no page");
@@ -114,7 +114,7 @@ fn given(
     }
 }
 
-/// Gives small pages of 4,096 bytes, so many: whether the pool takes all.
+/// Gives small pages of 4,096 bytes, `pages` of them: whether the pool takes all.
 fn takes(rt: &(impl Abort + AllocGlobal), member: &mut PoolMember, pages: u32) -> bool {
     let mut all = true;
     for _ in 0..pages {
@@ -136,7 +136,7 @@ fn is_used_again(member: &mut PoolMember) -> bool {
     }
 }
 
-/// Whether so many pages are got and written, and the next one is none.
+/// Whether `pages` pages are got and written, and the next one is none.
 fn are_used_again(mut member: PoolMember, pages: u32) -> bool {
     let mut all = true;
     for _ in 0..pages {
@@ -173,7 +173,7 @@ fn keeps(member: &mut PoolMember) -> bool {
     }
 }
 
-/// Gets a page and gives it back, so many times: how many it got and didn't give back.
+/// Gets a page and gives it back, `rounds` times: how many it got and didn't give back.
 fn get_and_give(mut member: PoolMember, rounds: u32) -> u64 {
     let mut kept = 0u64;
     for _ in 0..rounds {
