@@ -7,9 +7,9 @@ pub const PROGRAM: &str = "Exit status:
      disassemble, pack, unpack: all was written. info: each file is code, or a stream or an image
      without a fault.
   1  It isn't so: the printed lines say why.
-  2  The words of the command line are wrong.
-  3  A device failed, or memory was refused: a line on the standard error says which, and a second
-     one why, where the system tells.
+  2  A usage error: a message on the standard error says which.
+  3  An I/O error, or no memory: a line on the standard error says which, and a second one why,
+     where the system tells.
 
 `lfiload COMMAND --help` has each line that a command prints, and an example.
 
@@ -39,7 +39,7 @@ pub const ALL: &str = "say so of each word that breaks a rule, and how many they
 pub const MARKS: &str = "also judge the code, and mark each word that breaks a rule";
 
 /// Of `--verifiers`.
-pub const VERIFIERS: &str = "how many verifiers judge pages, 1 to 8; 2 where it isn't said";
+pub const VERIFIERS: &str = "how many verifiers judge pages, 1 to 8; 2 by default";
 
 /// Of `--out`.
 pub const OUT: &str = "the folder that the images of complete modules are written to";
@@ -54,8 +54,7 @@ pub const SOCKET: &str = "the path of the Unix socket; it is removed after the l
 pub const CONNECTIONS: &str = "how many connections are taken, 1 to 8";
 
 /// Of `--seconds`.
-pub const SECONDS: &str =
-    "how long it serves at the most, 1 to 86400; no limit where it isn't said";
+pub const SECONDS: &str = "for how many seconds it serves at most, 1 to 86400; no limit by default";
 
 /// Of `--steps`.
 pub const STEPS: &str = "how many steps it may take, 0 to 1000000000";
@@ -64,19 +63,19 @@ pub const STEPS: &str = "how many steps it may take, 0 to 1000000000";
 pub const IMAGE: &str = "the file of an image, as load --out writes it";
 
 /// Of `--module`.
-pub const MODULE: &str = "the number of the first file's module, 0 to 15; 0 where it isn't said";
+pub const MODULE: &str = "the number of the first file's module, 0 to 15; 0 by default";
 
 /// Of `--entry`.
-pub const ENTRY: &str = "the word at which each module is entered; 0 where it isn't said";
+pub const ENTRY: &str = "the word at which each module is entered; 0 by default";
 
 /// Of `--profile`.
-pub const PROFILE: &str = "the profile that the code goes by, 1 or 2; 1 where it isn't said";
+pub const PROFILE: &str = "the profile that the code goes by, 1 or 2; 1 by default";
 
 /// Of `--pages`.
-pub const PAGES: &str = "small or large, of 4096 or 16384 bytes; small where it isn't said";
+pub const PAGES: &str = "small or large, of 4096 or 16384 bytes; small by default";
 
 /// Of `--format`.
-pub const FORMAT: &str = "text, or json for one JSON object; text where it isn't said";
+pub const FORMAT: &str = "text, or json for one JSON object; text by default";
 
 /// Of the files with code.
 pub const CODE: &str = "1 to 16 files, each with the plain code words of one module";
@@ -201,7 +200,7 @@ Prints the report once all of them have ended, as load does, and writes images a
 report waits for each connection, also for one that sends nothing. The status is load's; it is 3 as
 well where a connection was not taken: that one has no messages.
 
-With --seconds N it waits for N seconds at the most. A connection that has not come by then has no
+With --seconds N it waits for at most N seconds. A connection that has not come by then has no
 messages (status 3), and one that is open ends where it is, as if its client had closed it (status 1
 or 3, also where its modules are complete).
 
@@ -283,8 +282,8 @@ Example: lfiload disassemble module.code";
 /// Of `pack`: what it writes, and its lines.
 pub const PACK: &str =
     "Writes a stream to the standard output, as load and serve read it: of each file an Open, its pages
-and a Close. The first file is module M, the next M + 1, and so on, up to 15 at the most. The code
-isn't judged: who receives it does that (status 0). Large pages are of profile 2 alone.
+and a Close. The first file is module M, the next M + 1, and so on, up to 15. The code
+isn't judged: its receiver does that (status 0). Large pages are of profile 2 alone.
 
 On the standard error:
   lfiload: bad length PATH       The file is empty, no multiple of 4 bytes, or above 16,777,216
