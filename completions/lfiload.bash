@@ -26,6 +26,10 @@ _lfiload() {
             compopt +o default -o dirnames 2>/dev/null
             return
             ;;
+        load:--format)
+            compopt +o default 2>/dev/null
+            return
+            ;;
         serve:--socket)
             return
             ;;
@@ -45,6 +49,10 @@ _lfiload() {
             ;;
         serve:--out)
             compopt +o default -o dirnames 2>/dev/null
+            return
+            ;;
+        serve:--format)
+            compopt +o default 2>/dev/null
             return
             ;;
         run:--steps)
@@ -83,8 +91,8 @@ _lfiload() {
     [[ $word == -* ]] || return
     case ${COMP_WORDS[1]} in
         check) offered='--explain --all --profile --format --help' ;;
-        load) offered='--verifiers --out --explain --help' ;;
-        serve) offered='--socket --connections --verifiers --seconds --out --explain --help' ;;
+        load) offered='--verifiers --out --explain --format --help' ;;
+        serve) offered='--socket --connections --verifiers --seconds --out --explain --format --help' ;;
         run) offered='--steps --format --help' ;;
         disassemble) offered='--check --profile --help' ;;
         pack) offered='--module --entry --profile --pages --help' ;;

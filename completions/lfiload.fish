@@ -13,6 +13,7 @@ complete -c lfiload -n __fish_use_subcommand -a load -d 'Loads the modules of st
 complete -c lfiload -n '__fish_seen_subcommand_from load' -l verifiers -x -a '1 2 3 4 5 6 7 8' -d 'how many verifiers judge pages, 1 to 8; 2 where it isn'\''t said'
 complete -c lfiload -n '__fish_seen_subcommand_from load' -l out -x -a '(__fish_complete_directories)' -d 'the folder that the images of complete modules are written to'
 complete -c lfiload -n '__fish_seen_subcommand_from load' -l explain -d 'also explain each refused module'\''s first fault, and tell of connections'
+complete -c lfiload -n '__fish_seen_subcommand_from load' -l format -x -d 'text, or json for one JSON object; text where it isn'\''t said'
 complete -c lfiload -n '__fish_seen_subcommand_from load' -s h -l help -d 'Print help'
 complete -c lfiload -n '__fish_seen_subcommand_from load' -F
 complete -c lfiload -n __fish_use_subcommand -a serve -d 'Loads the modules of streams that come over a Unix socket, and prints the report'
@@ -22,6 +23,7 @@ complete -c lfiload -n '__fish_seen_subcommand_from serve' -l verifiers -x -a '1
 complete -c lfiload -n '__fish_seen_subcommand_from serve' -l seconds -x -d 'how long it serves at the most, 1 to 86400; no limit where it isn'\''t said'
 complete -c lfiload -n '__fish_seen_subcommand_from serve' -l out -x -a '(__fish_complete_directories)' -d 'the folder that the images of complete modules are written to'
 complete -c lfiload -n '__fish_seen_subcommand_from serve' -l explain -d 'also explain each refused module'\''s first fault, and tell of connections'
+complete -c lfiload -n '__fish_seen_subcommand_from serve' -l format -x -d 'text, or json for one JSON object; text where it isn'\''t said'
 complete -c lfiload -n '__fish_seen_subcommand_from serve' -s h -l help -d 'Print help'
 complete -c lfiload -n __fish_use_subcommand -a run -d 'Runs an image in a simulated machine'
 complete -c lfiload -n '__fish_seen_subcommand_from run' -l steps -x -d 'how many steps it may take, 0 to 1000000000'
