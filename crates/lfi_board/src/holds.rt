@@ -1,4 +1,4 @@
-//! Who holds a module, asked with the seats of all receivers.
+//! Which receiver holds a module, asked with the seats of all receivers.
 
 ghost use Rattle.std.specs.Prelude.{◌≡◌, ◌+◌, ◌<◌, ◌≤◌, [], length, drop};
 ghost use Rattle.lfi_board.specs.inner.Plays.{Told};

@@ -8,7 +8,7 @@
 //!
 //! # What it may not know
 //!
-//! Who asks; files, streams, C.
+//! Its callers; files, streams, C.
 //!
 //! # Decisions
 //!

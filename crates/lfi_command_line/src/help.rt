@@ -11,7 +11,8 @@ pub const PROGRAM: &str = "Exit status:
   3  An I/O error, or no memory: a line on the standard error says which, and a second one why,
      where the system tells.
 
-`lfiload COMMAND --help` has each line that a command prints, and an example.
+`lfiload COMMAND --help` has each line that a command prints, and an example. Wherever a file is
+read, `-` is the standard input.
 
 Example: lfiload check --explain module.code";
 
@@ -42,7 +43,7 @@ pub const MARKS: &str = "also judge the code, and mark each word that breaks a r
 pub const VERIFIERS: &str = "how many verifiers judge pages, 1 to 8; 2 by default";
 
 /// Of `--out`.
-pub const OUT: &str = "the folder that the images of complete modules are written to";
+pub const OUT: &str = "the folder for the images of complete modules; it has to exist";
 
 /// Of the streams.
 pub const STREAM: &str = "1 to 8 files, each with one connection's bytes";
@@ -135,9 +136,11 @@ pub const LOAD: &str =
   connection C: fault F               Its stream has fault F: 1 to 7 a header, 8 no memory, 9 its
                                       end, 10 a read that failed.
   strays N                            N messages belonged to no open module of their connection.
-Each stream is a connection, numbered from 0 in the order of the words. The first that opens a
-module is the one that it is loaded from. The status is 0 where each module is complete and no
-connection has a fault, 3 where a read failed, else 1.
+Each stream is a connection, numbered from 0 in the order in which they are named. Where several
+open one module, it is loaded from the one whose Open is read first, which may be another in each
+run; what the others send for it are strays. --explain tells which one it was, and faults in words.
+The status is 0 where each module is complete and no connection has a fault, 3 where a read failed,
+else 1.
 
 With --explain, these lines follow for each module M that was refused:
   module M: word K rule R   Its first fault.
@@ -168,7 +171,7 @@ With --format json images are written first, and then it prints one object in pl
                          and \"rule\", \"incomplete\" with \"pages\" and \"of\", \"lost\" with \"fault\", \"page
                          fault\" with \"index\", or \"no memory\".
   \"explanation\", \"mend\"  With --explain, of a refused one: as check prints them.
-  \"connection\"           The one from which it is loaded.
+  \"connection\"           The one from which it is loaded, if it was opened.
 Each connection has:
   \"connection\", \"path\"   Its number and its file.
   \"strays\"               Its own.
@@ -196,6 +199,7 @@ Example: lfiload load --verifiers 4 --out images a.stream b.stream";
 /// Of `serve`: its lines.
 pub const SERVE: &str =
     "Takes C connections, numbers them from 0 as they come, and reads each by a thread of its own.
+Clients can connect once the path is there.
 Prints the report once all of them have ended, as load does, and writes images as load does. The
 report waits for each connection, also for one that sends nothing. The status is load's; it is 3 as
 well where a connection was not taken: that one has no messages.
@@ -238,8 +242,8 @@ Prints one line on the standard error, and a second one where it says so:
   halt 2 at ADDRESS after N steps  The byte at ADDRESS may not be accessed so (status 1).
   halt 3 at ADDRESS after N steps  No word of the code begins at pc, which is ADDRESS (status 1).
   halt 4 at ADDRESS after N steps  BRK, at ADDRESS (status 0).
-  halt 5 status S after N steps    The code ended the run with S; 255 where a byte that it prints
-                                   can't be written (status 0).
+  halt 5 status S after N steps    The code ended the run with S in a further step; 255 where a byte
+                                   that it prints can't be written (status 0).
   halt 6 after N steps             The runtime answered registers that aren't lawful (status 1).
   halt 7 after N steps             There was no memory for a byte that is written (status 3).
   image refused, fault F           There is no image: 1 it doesn't begin with LFI1, 2 its profile,
@@ -282,8 +286,9 @@ Example: lfiload disassemble module.code";
 /// Of `pack`: what it writes, and its lines.
 pub const PACK: &str =
     "Writes a stream to the standard output, as load and serve read it: of each file an Open, its pages
-and a Close. The first file is module M, the next M + 1, and so on, up to 15. The code
-isn't judged: its receiver does that (status 0). Large pages are of profile 2 alone.
+and a Close. The first file is module M, the next M + 1, and so on, up to 15. The code isn't judged:
+its receiver does that (status 0). So an ELF file is packed too; lfiload info tells what a file is.
+Large pages are of profile 2 alone.
 
 On the standard error:
   lfiload: bad length PATH       The file is empty, no multiple of 4 bytes, or above 16,777,216
@@ -329,7 +334,7 @@ pub const INFO: &str = "Prints for each file what it is, and what it holds:
                           It is longer than a stream of 16 whole modules of the most words; no more
                           of it is read (status 1).
 Where several files are named, the path of each and a colon stand before its first line, and the
-status is the worst of theirs. Each is read whole.
+status is the worst of theirs. Each is read whole, unless it is too long.
 
 On the standard error:
   lfiload: cannot read PATH  The file can't be read (status 3).

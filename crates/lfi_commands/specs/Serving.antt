@@ -18,11 +18,11 @@ abbrev pub IsLimit : (seconds : Option ℕ) → Option Duration → Type 0
 IsLimit None limit = limit ≡ None
 IsLimit (Some seconds) limit = (time : Duration) × (limit ≡ Some time) × (as_nanos time ≡ seconds * 1000000000)
 
--- what is known of so many connections that were served
+-- what is known of the connections that were served, by their number
 abbrev pub of_served : (connections : ℕ) → Served → Sources
 of_served connections served = record { count = connections; paths = []; clients = served.clients.fates; kinds = served.clients.read_errors }
 
--- What was done with the report on so many connections that were served: what is done with the report on a load, and then it was told what became of the clients. By all that it ends.
+-- What was done with the report on connections that were served, by their number: what is done with the report on a load, and then it was told what became of the clients. By all that it ends.
 pub record TellsServed (connections : ℕ) (served : Served) (asked : ReportOptions) (old new : Left) (ending : Ending) : Type 0 where
   -- what was left before it was told of clients, and how it ends but for those that were cut off
   pub before : Left

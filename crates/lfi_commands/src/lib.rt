@@ -5,7 +5,8 @@
 //!
 //! `run_words` reads the words (lfi_command_line) and carries the line out: by a command of lfi_file_commands, or by `load`
 //! or `serve`, which load streams on threads (lfi_loader) and write the report; then what is asked for beside it is told,
-//! and images are put. Where an object is asked for, images are put first, since it tells what came of them. What failed is told by `Errors`; how it ended is an `Ending`, whose number is the exit status.
+//! and images are put. Where an object is asked for, images are put first, since it tells what came of them. What failed is
+//! told by `Errors`; how it ended is an `Ending`, whose number is the exit status.
 //!
 //! # What it may not know
 //!

@@ -159,7 +159,7 @@ fn run_load<
     }
 }
 
-/// Does the same of what was served on so many connections, and tells what became of the clients. It gives how the run ends.
+/// Does the same of what was served on the connections that were asked for, and tells what became of the clients. It gives how the run ends.
 fn end_serve<'a, P: ImageStore, O: Write, E: Write>(
     alloc: Global,
     count: usize,

@@ -19,7 +19,7 @@
 //!
 //! # What it may not know
 //!
-//! Who keeps the table and how, what becomes of code, who says whether a module may be claimed; memory, boards, queues.
+//! Where and how the table is kept, what becomes of code, what says whether a module may be claimed; memory, boards, queues.
 //!
 //! # Decisions
 //!

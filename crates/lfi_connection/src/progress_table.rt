@@ -9,7 +9,7 @@ ghost use Rattle.lfi_connection.specs.Modules.{IsPossible};
 use lfi_model::Progress;
 use lfi_module::{Extent, ModuleNumber};
 
-/// Who keeps how far a connection is with each of its modules.
+/// Where it is kept how far a connection is with each of its modules.
 pub trait ProgressTable {
     ghost use Rattle.std.specs.Prelude.{◌≡◌, ℕ, ◌==◌, if◌then◌else◌};
     ghost use Rattle.lfi_model.specs.declared.connection.Progress.{Progress};

@@ -122,7 +122,7 @@ IsInfo kinds.Image bytes text ending = IsImageInfo bytes text ending
 IsInfo kinds.Stream bytes text ending = IsStreamInfo bytes text ending
 IsInfo kinds.Plain bytes text ending = IsCodeInfo bytes text ending
 
--- how many bytes a file has at the most of which more is told: those of a stream of 16 whole modules, each with an Open, 4,096 pages of 4,096 bytes with their headers, and a Close
+-- the most bytes of a file whose content is told: a stream of 16 whole modules, each with an Open, 4,096 pages of 4,096 bytes with their headers, and a Close
 abbrev pub most_told : ℕ
 most_told = 269222272
 

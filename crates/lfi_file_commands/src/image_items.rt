@@ -50,7 +50,7 @@ fn push_path(
     push_quoted(alloc, path.as_str(), text)
 }
 
-/// Puts the item of an image that was to be put into a folder, of which this came. So many stand before it.
+/// Puts the item of an image that was to be put into a folder, of which this came, behind `before` others.
 fn push_item(
     alloc: Global,
     before: usize,

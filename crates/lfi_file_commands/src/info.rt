@@ -35,7 +35,7 @@ use std::alloc::{AllocError, Global};
 use std::fmt;
 use std::io::{Read, Write};
 
-/// How many bytes a file has at the most of which more is told: those of a stream of 16 whole modules, each with an Open, 4,096
+/// The most bytes of a file whose content is told: a stream of 16 whole modules, each with an Open, 4,096
 /// pages of 4,096 bytes with their headers, and a Close.
 const MOST_TOLD: u64 = 269_222_272;
 

@@ -8,7 +8,7 @@ ghost use Rattle.lfi_frame.specs.Streams.{AreBytes, Message, Cut, header_at, hea
 ghost use Rattle.lfi_frame.specs.Feeds.{FeedStands};
 ghost use Rattle.lfi_frame.specs.Runs.{Call, AreCalls, used_by, hear, nothing_heard, joined, UseUp};
 
-/// Who reads the twelve bytes of a header, whose numbers fit theirs, has that header again.
+/// Whoever reads the twelve bytes of a header, whose numbers fit theirs, has that header again.
 pub fn header_reads_back()
     ensures { (h : Header) → h.module < 2 ^ 16 → h.a < 2 ^ 32 → h.b < 2 ^ 32 → header_at (header_bytes h) ≡ h }
 {}

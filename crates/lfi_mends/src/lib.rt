@@ -22,7 +22,7 @@
 //!   registers, flags and bytes are those of the refused access, wherever it lies in the slot, but for scratch registers. Where
 //!   it writes reserved registers, each of them ends with what it may hold of its value (`DoesTheSameBounded`,
 //!   `moves_bounded`): x22 with the lowest 32 bits, the others with the address in the slot that has these. Tests alone show
-//!   it of mends of results, and of words that no instruction of the profile spells.
+//!   it of mends of results and branches, and of words that no instruction of the profile spells.
 //! - **A builder takes no word.** It makes an instruction, and says after what that stands and what it opens. A mend is a
 //!   chain of these, so its proof needs no look at the chain.
 //! - **An address goes by x21 and a sum in w22**, and not by a guarded base with an offset: the first is the address that

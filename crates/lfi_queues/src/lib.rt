@@ -24,7 +24,7 @@
 //! - **The intake has a part for each putter.** A putter never waits for another, and where a part can't grow its putter
 //!   alone is refused. In which order items of several parts come no clause says.
 //! - **A put of the intake is refused only where memory is**, and no putter's first 256 are. What the intake holds is bounded
-//!   by what is put: in a load by the pages of the claimed modules.
+//!   by whoever puts.
 //! - **"Full" and "empty" can't be said exactly of one pass**: lists of the other passes that go with it can always be made
 //!   up. A body that never takes is refused by tests, and, through all passes, by `rest`.
 //! - **What a round did is told by counts of answers.** Each end of a part counts, for contracts alone, how often the part

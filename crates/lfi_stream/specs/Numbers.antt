@@ -46,7 +46,7 @@ extent_of words entry profile None = None
 extent_of words entry profile (Some pages) =
     if words == 0 || nat_lt most_words words || nat_le words entry then None else Some (record { words = words; entry = entry; profile = profile; pages = pages })
 
--- the extent of a module of this profile, of pages with so many words; none, where the numbers are those of none
+-- the extent of a module of this profile, by the words of its pages; none, where the numbers are those of none
 abbrev pub extent_by : (words entry page_words : ℕ) → Option Profile → Option ExtentView
 extent_by words entry page_words None = None
 extent_by words entry page_words (Some profile) = extent_of words entry profile (pages_at profile page_words)

@@ -146,7 +146,7 @@ impl<'a, S: Files> Acceptor<'a, S> {
 }
 
 /// An acceptor that was closed: until when those are heard who came. None but `Acceptor::close` gives it, so
-/// who waits for them has removed the path.
+/// whoever waits for them has removed the path.
 #[derive(Clone, Copy)]
 pub struct Closed {
     deadline: Deadline,

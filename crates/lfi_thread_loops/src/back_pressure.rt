@@ -40,7 +40,7 @@ impl<'a> BackPressure<'a> {
         self.untaken = self.untaken.saturating_add(1);
     }
 
-    /// Whether too many of its items are untaken. It looks only where there may be so many.
+    /// Whether too many of its items are untaken. It looks only where they may be.
     #[inline(always)]
     pub(crate) fn is_too_far(&mut self, part: PartId<'_>, receiver: &mut Receiver) -> bool
         requires is { IsReceiver part.shared.now part.number receiver.old }

@@ -31,7 +31,7 @@
 //! - **No receiver sleeps at a full part while no verifier will call it** (back_pressure.rt). It sleeps where 32 items or more
 //!   lay in its part after it said that it waits. Then a verifier is awake, was called after the last of them was put, or
 //!   waits for room in a lane, which it is called for: none finds the intake empty before that part is. Each calls all
-//!   receivers that wait after so many takes, and before it waits or ends; so after the take that leaves fewer than 32. A
+//!   receivers that wait after some takes, and before it waits or ends; so after the take that leaves fewer than 32. A
 //!   verifier ends after all receivers. Where all are to stop, the word calls them. No limit of time or client stops a verifier.
 //! - **In `load_in` no input is read until all threads have been started**: a read of a pipe can't be told to stop. In
 //!   `serve_in` reads wait from the first client on, so where a thread is refused all sockets are shut down.

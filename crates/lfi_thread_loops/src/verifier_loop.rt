@@ -54,7 +54,7 @@ const JUDGED_A_CALL: u32 = 32;
 /// For how many items of each receiver a verifier calls the receivers that wait, at the latest.
 const TAKEN_A_CALL: u64 = 64;
 
-/// After how many items that it took a verifier calls the receivers that wait, where there are so many receivers.
+/// After how many items that it took a verifier calls the receivers that wait, by the number of receivers.
 fn taken_a_call(receivers: u64) -> u32 {
     u32::try_from(TAKEN_A_CALL.saturating_mul(receivers)).unwrap_or(u32::MAX)
 }

@@ -22,7 +22,7 @@ const FIRST: u64 = 100;
 /// By how many pages reads may be ahead of what was judged: 128 that nobody has taken, and one that each verifier has.
 const MOST: u64 = 136;
 
-/// How far a text was read and judged. As a gate it keeps the first item from being judged until 100 pages were read.
+/// How far a text was read and judged. As a gate it keeps items from being judged until 100 pages were read.
 #[derive(Drop)]
 struct Race {
     bytes: AtomicU64,
@@ -44,8 +44,8 @@ impl Race {
 }
 
 impl Gate for Race {
-    fn before(&self, item: &Item) {
-        if item.ordinal == 0 && !comes_to(&self.begun, 1) {
+    fn before(&self, _item: &Item) {
+        if !comes_to(&self.begun, 1) {
             self.ahead.store(u64::MAX, Ordering::SeqCst);
         }
     }

@@ -239,7 +239,7 @@ fn the_path_is_gone_once_all_are_taken(rt: HostRuntime) -> Result<(), Fail> {
         || served(&rt, listener, path, 2, None, &OpenGate),
         || send_once_the_path_is_gone(&rt, path, &TWO),
     );
-    // Who has the path next keeps it.
+    // Whoever has the path next keeps it.
     let kept = is_here(&rt, path) && fs::remove_file(&rt, path).is_ok();
     assert!(rt; gone && kept && are_told(rt.alloc(), told, true, BOTH));
     Ok(())

@@ -16,7 +16,7 @@ struct Row {
     first: &'static [Sent],
     second: &'static [Sent],
     cut: usize,
-    /// Who has the modules 0 and 3.
+    /// Which connection has the modules 0 and 3.
     holders: [Option<usize>; 2],
     /// Where the message begins at which each ended, in bytes.
     bytes: [u64; 2],
