@@ -11,7 +11,7 @@ complete -c lfiload -n '__fish_seen_subcommand_from check' -s h -l help -d 'Prin
 complete -c lfiload -n '__fish_seen_subcommand_from check' -F
 complete -c lfiload -n __fish_use_subcommand -a load -d 'Loads the modules of streams, and prints the report'
 complete -c lfiload -n '__fish_seen_subcommand_from load' -l verifiers -x -a '1 2 3 4 5 6 7 8' -d 'how many verifiers judge pages, 1 to 8; 2 by default'
-complete -c lfiload -n '__fish_seen_subcommand_from load' -l out -x -a '(__fish_complete_directories)' -d 'the folder that the images of complete modules are written to'
+complete -c lfiload -n '__fish_seen_subcommand_from load' -l out -x -a '(__fish_complete_directories)' -d 'the folder for the images of complete modules; it has to exist'
 complete -c lfiload -n '__fish_seen_subcommand_from load' -l explain -d 'also explain each refused module'\''s first fault, and tell of connections'
 complete -c lfiload -n '__fish_seen_subcommand_from load' -l format -x -d 'text, or json for one JSON object; text by default'
 complete -c lfiload -n '__fish_seen_subcommand_from load' -s h -l help -d 'Print help'
@@ -21,7 +21,7 @@ complete -c lfiload -n '__fish_seen_subcommand_from serve' -l socket -r -F -d 't
 complete -c lfiload -n '__fish_seen_subcommand_from serve' -l connections -x -a '1 2 3 4 5 6 7 8' -d 'how many connections are taken, 1 to 8'
 complete -c lfiload -n '__fish_seen_subcommand_from serve' -l verifiers -x -a '1 2 3 4 5 6 7 8' -d 'how many verifiers judge pages, 1 to 8; 2 by default'
 complete -c lfiload -n '__fish_seen_subcommand_from serve' -l seconds -x -d 'for how many seconds it serves at most, 1 to 86400; no limit by default'
-complete -c lfiload -n '__fish_seen_subcommand_from serve' -l out -x -a '(__fish_complete_directories)' -d 'the folder that the images of complete modules are written to'
+complete -c lfiload -n '__fish_seen_subcommand_from serve' -l out -x -a '(__fish_complete_directories)' -d 'the folder for the images of complete modules; it has to exist'
 complete -c lfiload -n '__fish_seen_subcommand_from serve' -l explain -d 'also explain each refused module'\''s first fault, and tell of connections'
 complete -c lfiload -n '__fish_seen_subcommand_from serve' -l format -x -d 'text, or json for one JSON object; text by default'
 complete -c lfiload -n '__fish_seen_subcommand_from serve' -s h -l help -d 'Print help'
