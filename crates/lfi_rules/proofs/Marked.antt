@@ -1,12 +1,9 @@
 -- Places that are marked, one after another.
-use Rattle.std.proofs.Common.{◌≡◌, ◌≢◌, false, ℕ, ◌+◌, ◌<◌, ◌≤◌, List, length, Option, Some, None, subst, sym, ap, ◌∙◌, refl, arith, inl, inr, set, take}
+use Rattle.std.proofs.Common.{◌≡◌, ◌≢◌, true, false, ℕ, ◌+◌, ◌<◌, ◌≤◌, List, length, Option, Some, None, subst, sym, ap, ◌∙◌, arith, inl, inr, set, take}
 use Rattle.std.specs.Prelude.{slice_index, is_some, IfSome, IfNone}
 use Rattle.std.proofs.lemmas.Bool.{cases_lt}
 use Rattle.std.proofs.lemmas.List.{get_or-set_same, get_or-set_other, get_or-take, length-take-le}
 use Rattle.lfi_module.specs.declared.profile.Profile.{Profile}
-use Rattle.lfi_classes.specs.Classes.{least_of}
-use Rattle.lfi_classes.specs.declared.classes.Reach.{Reach}
-use Rattle.lfi_classes.specs.declared.classes.Reach.TheVariants.{Quiet, Near, Ordered}
 use Rattle.lfi_rules.specs.declared.fault.Fault.{Fault}
 use Rattle.lfi_rules.specs.Faults.{IsFirstInside}
 use Rattle.lfi_rules.specs.inner.Passing.{IsFine, AreFine, AreMarked, AreMarkedFine, AreWithin, IsFoundIn}
@@ -158,8 +155,8 @@ pub none_by_look : (profile : Profile) (ws : List ℕ) (first n start stop : ℕ
 none_by_look profile ws first n start stop places None m fine = all_fine profile ws first n start stop places (length places) m fine
 none_by_look profile ws first n start stop places (Some fault) m fine = tt
 
--- only where ordered words count is their number the least
-pub ordered_by_least : (reach : Reach) → least_of reach ≡ least_of Ordered → reach ≡ Ordered
-ordered_by_least Quiet e = absurd (omega arith)
-ordered_by_least Near e = absurd (omega arith)
-ordered_by_least Ordered e = refl
+-- what was found is the first fault, where the words before are fine
+pub found_of_some : (profile : Profile) (ws : List ℕ) (first n start : ℕ) (o : Option Fault) → AreFine profile ws first n 0 start → is_some o ≡ true
+    → IfSome o (λ fault. AreFine profile ws first n 0 start → IsFirstInside profile ws first n (Some fault)) → IsFirstInside profile ws first n o
+found_of_some profile ws first n start None fine e found = cc
+found_of_some profile ws first n start (Some fault) fine e found = found fine

@@ -1,8 +1,9 @@
 -- Where a direct branch's offset stands in its word.
-use Rattle.std.proofs.Common.{◌≡◌, ℕ, ◌-◌, ◌*◌, ◌/◌, ◌^◌, ◌<◌, ◌≤◌, eqb, eqb-true, refl, sym, ◌∙◌, arith, inl, inr}
-use Rattle.std.specs.Prelude.{bit_and}
-use Rattle.std.proofs.lemmas.Bool.{cases_Bool, eqb-false}
-use Rattle.std.proofs.lemmas.Nat.{and_mask, mod_below}
+use Rattle.std.proofs.Common.{◌≡◌, ℕ, ◌+◌, ◌-◌, ◌*◌, ◌/◌, ◌^◌, ◌<◌, ◌≤◌, eqb, eqb-true, refl, sym, ap, ◌∙◌, arith, inl, inr}
+use Rattle.std.specs.Int.Bits.{xor_zero_r}
+use Rattle.std.specs.Prelude.{bit_and, bit_xor, nat_lt, if◌then◌else◌}
+use Rattle.std.proofs.lemmas.Bool.{cases_Bool, cases_lt, eqb-false, lt-ltb, le-ltb}
+use Rattle.std.proofs.lemmas.Nat.{and_mask, mod_below, pow_pos, xor_block}
 use Rattle.a64_word.specs.inner.Bits.{bits_at}
 use Rattle.lfi_rules.specs.inner.Passing.{low_of, half_of, IsOffset, of_branch, of_bit_test, of_other}
 
@@ -56,3 +57,30 @@ pub field_fits : (w bits half : ℕ) → IsOffset w bits half → bits < 2 * hal
 field_fits w bits half (of_branch a b h) = let small = mod_below (w / 2 ^ 0) (2 ^ 26) (omega arith) in omega (arith, b, h, small)
 field_fits w bits half (of_bit_test a b h) = let small = mod_below (w / 2 ^ 5) (2 ^ 14) (omega arith) in omega (arith, b, h, small)
 field_fits w bits half (of_other a c b h) = let small = mod_below (w / 2 ^ 5) (2 ^ 19) (omega arith) in omega (arith, b, h, small)
+
+-- half of the numbers that it may be is a power of two
+pub half_power : (w bits half : ℕ) → IsOffset w bits half → (k : ℕ) × (half ≡ 2 ^ k)
+half_power w bits half (of_branch a b h) = (25, h)
+half_power w bits half (of_bit_test a b h) = (13, h)
+half_power w bits half (of_other a c b h) = (18, h)
+
+-- to flip the highest bit adds half of the numbers that there are, or takes it away
+flips : (k high low : ℕ) → low < 2 ^ k → bit_xor (high * 2 ^ k + low) (2 ^ k) ≡ bit_xor high 1 * 2 ^ k + low
+flips k high low less =
+    let whole : 2 ^ k ≡ 1 * 2 ^ k + 0 = omega arith in
+    ap (bit_xor (high * 2 ^ k + low)) whole ∙ xor_block k high 1 low 0 less (pow_pos k) ∙ ap (λ x. bit_xor high 1 * 2 ^ k + x) (xor_zero_r low)
+
+pub flipped : (k bits : ℕ) → bits < 2 * 2 ^ k → bit_xor bits (2 ^ k) ≡ (if nat_lt bits (2 ^ k) then bits + 2 ^ k else bits - 2 ^ k)
+flipped k bits fits = elim (cases_lt bits (2 ^ k)) [
+  | inl less ↦
+      let same : bits ≡ 0 * 2 ^ k + bits = omega arith in
+      let more : bit_xor (0 * 2 ^ k + bits) (2 ^ k) ≡ 1 * 2 ^ k + bits = flips k 0 bits less in
+      let sum : 1 * 2 ^ k + bits ≡ bits + 2 ^ k = omega arith in
+      rw (lt-ltb bits (2 ^ k) less) (ap (λ x. bit_xor x (2 ^ k)) same ∙ more ∙ sum)
+  | inr above ↦
+      let low : ℕ = bits - 2 ^ k in
+      let same : bits ≡ 1 * 2 ^ k + low = omega arith in
+      let less : bit_xor (1 * 2 ^ k + low) (2 ^ k) ≡ 0 * 2 ^ k + low = flips k 1 low (omega arith) in
+      let rest : 0 * 2 ^ k + low ≡ bits - 2 ^ k = omega arith in
+      rw (le-ltb bits (2 ^ k) above) (ap (λ x. bit_xor x (2 ^ k)) same ∙ less ∙ rest)
+]

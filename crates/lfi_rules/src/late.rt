@@ -15,7 +15,6 @@ use crate::needs::{Need, window};
 use crate::region::Region;
 use crate::straight::is_surely_calm;
 use a64_word::Words;
-use lfi_classes::classes_of;
 use lfi_module::Profile;
 
 /// Whether the word at a place moves sp, and calm words alone stand between it and its probe, or the words' end: it is fine.
@@ -23,7 +22,7 @@ pub fn is_told_late<W: Words>(region: Region<'_, W>, i: usize) -> bool
     requires within { i < length (W.words region.words.now) }
     ensures { IsTrue result → IsFine region.entry.profile (W.words region.entry.words.now) region.entry.first region.entry.n i }
 {
-    if !classes_of(region.words.word(i)).opens_probe() {
+    if !region.tables.classes_of(region.words.word(i)).opens_probe() {
         return false;
     }
     for gone in 0..window(region.profile) {
@@ -59,7 +58,9 @@ fn probes_late<W: Words>(region: Region<'_, W>, i: usize) -> bool
     let past_two = is_surely_calm(three) & is_plain_probe(four);
     let past_one = is_surely_calm(two) & (is_plain_probe(three) | past_two);
     let behind = is_surely_calm(one) & (is_plain_probe(two) | past_one);
-    classes_of(region.words.word(i)).opens_probe() & (window(region.profile) == 4) & behind
+    region.tables.classes_of(region.words.word(i)).opens_probe()
+        & (window(region.profile) == 4)
+        & behind
 }
 
 /// Whether the word after a place surely meets Probe: so it is, where the words end.
@@ -78,7 +79,7 @@ fn probes_next<W: Words>(region: Region<'_, W>, i: usize) -> bool
     requires within { i < length (W.words region.words.now) }
     ensures { IsTrue result → IsFine region.entry.profile (W.words region.entry.words.now) region.entry.first region.entry.n i }
 {
-    classes_of(region.words.word(i)).opens_probe() && probes_after(region.words, i)
+    region.tables.classes_of(region.words.word(i)).opens_probe() && probes_after(region.words, i)
 }
 
 /// Whether the word at a place moves sp, and is told by a probe one to four words behind it: it is fine.

@@ -4,6 +4,7 @@ ghost use Rattle.std.specs.Prelude.{◌+◌, ◌≤◌, length};
 ghost use Rattle.lfi_module.specs.Numbers.{most_words};
 
 use a64_word::Words;
+use lfi_classes::ClassTables;
 use lfi_module::Profile;
 use std::alloc::AllocError;
 
@@ -15,6 +16,8 @@ pub struct Region<'a, W: Words> {
     /// How many words the module has: at most as many as a module may have.
     pub n: u32,
     pub profile: Profile,
+    /// The tables that tell its words' classes.
+    pub tables: ClassTables,
     ghost room: { first + length (W.words words.now) ≤ n },
     ghost most: { n ≤ most_words },
 }

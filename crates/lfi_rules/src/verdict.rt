@@ -12,6 +12,7 @@ use crate::pass::first_inside;
 use crate::region::Region;
 use crate::rule::Rule;
 use a64_word::{Words, decode};
+use lfi_classes::ClassTables;
 use lfi_module::Profile;
 
 /// What the first words of a page meet.
@@ -125,6 +126,7 @@ pub fn judge<W: Words>(words: &W, first: u32, n: u32, profile: Profile) -> PageV
             first,
             n,
             profile,
+            tables: ClassTables::all(),
         }),
         head: head_of(words, profile),
         tail: open_before(words, words.count(), profile),
@@ -265,6 +267,7 @@ pub fn check_all<W: Words>(words: &W, profile: Profile) -> Option<Fault>
         first: 0,
         n,
         profile,
+        tables: ClassTables::all(),
     });
     if inner.is_some() {
         return inner;

@@ -1,13 +1,18 @@
 -- What the pass over quiet words tells.
-use Rattle.std.specs.Prelude.{◌≡◌, ℕ, ◌+◌, ◌-◌, ◌*◌, ◌/◌, ◌^◌, ◌<◌, ◌≤◌, ◌⊎◌, if◌then◌else◌, ◌==◌, nat_lt, ℤ, pos, negsuc, List, length, Some, None, slice_get, slice_index}
+use Rattle.std.specs.Prelude.{◌≡◌, ◌≢◌, ℕ, ◌+◌, ◌-◌, ◌*◌, ◌/◌, ◌^◌, ◌<◌, ◌≤◌, ◌⊎◌, if◌then◌else◌, ◌==◌, nat_lt, ℤ, pos, negsuc, List, length, map, Some, None, slice_get, slice_index}
 use Rattle.a64_word.specs.inner.Bits.{bits_at}
 use Rattle.lfi_module.specs.declared.profile.Profile.{Profile}
+use Rattle.lfi_module.specs.declared.profile.Profile.TheVariants.{Two}
+use Rattle.lfi_classes.specs.Classes.{least_of}
+use Rattle.lfi_classes.specs.declared.classes.Reach.{Reach}
+use Rattle.lfi_classes.specs.declared.classes.Reach.TheVariants.{Quiet, Ordered}
 use Rattle.lfi_rules.specs.declared.needs.Need.{Need}
 use Rattle.lfi_rules.specs.declared.needs.Need.TheVariants.{Nothing, Call, Guard, Probe}
 use Rattle.lfi_rules.specs.declared.fault.Fault.{Fault}
 use Rattle.lfi_rules.specs.Needs.{term_of, window}
 use Rattle.lfi_rules.specs.Calm.{IsCalm}
 use Rattle.lfi_rules.specs.Faults.{Opens, Meets, IsDue, IsOpenAt, IsFirstInside}
+use Rattle.lfi_rules.specs.inner.Quiet.{IsToldWord}
 use Rattle.lfi_rules.specs.inner.Least.{IsLeastBroken, NoneBefore}
 
 -- a need that an instruction opens in the first profile, as it does in a profile
@@ -43,6 +48,11 @@ pub record AreFarFromEnds (start stop n : ℕ) : Type 0 where
 pub record IsFarFromEnds (k n : ℕ) : Type 0 where
   pub start : 2048 ≤ k
   pub end : k + 2048 ≤ n
+
+-- Where the classes from `least` on count as quiet, a word is told, wherever these do.
+abbrev pub IsToldFrom : (least word : ℕ) → Type 0
+IsToldFrom least word = (profile : Profile) (reach : Reach) (k n : ℕ) → least ≡ least_of reach → (reach ≢ Quiet → IsFarFromEnds k n) → (reach ≡ Ordered → profile ≡ Two)
+    → IsToldWord profile word k n Nothing
 
 -- `gone` words before a place are calm.
 pub record AreCalmBefore (profile : Profile) (ws : List ℕ) (place gone : ℕ) : Type 0 where
@@ -104,6 +114,20 @@ pub record IsNextMarked (places : List ℕ) (count stop at x : ℕ) : Type 0 whe
 pub record AreKept (profile : Profile) (ws : List ℕ) (first n : ℕ) (old : List ℕ) (count at : ℕ) (new : List ℕ) (kept : ℕ) : Type 0 where
   pub rest : (p : ℕ) → at ≤ p → slice_index new p ≡ slice_index old p
   pub marked : (start stop x : ℕ) → AreMarked profile ws first n start stop old count → IsNextMarked old count stop at x → AreMarked profile ws first n start x new kept
+
+-- places, each of them moved ahead
+abbrev pub moved : (ahead : ℕ) → List ℕ → List ℕ
+moved ahead notes = map (λ note. note + ahead) notes
+
+-- A list marks places, once each is moved ahead.
+abbrev pub AreNoted : (profile : Profile) (ws : List ℕ) (first n start stop ahead : ℕ) (notes : List ℕ) → Type 0
+AreNoted profile ws first n start stop ahead notes = AreMarked profile ws first n start stop (moved ahead notes) (length notes)
+
+-- Of the places that a list `more` marks those before the first `at` are looked at. The words of those that weren't kept are fine;
+-- the kept ones stand behind the first `before` of a list of old ones.
+pub record AreAdded (profile : Profile) (ws : List ℕ) (first n : ℕ) (old : List ℕ) (before : ℕ) (more : List ℕ) (count at : ℕ) (new : List ℕ) (kept : ℕ) : Type 0 where
+  pub marked : (begin start stop x : ℕ) → begin ≤ start → start ≤ stop → AreMarked profile ws first n begin start old before → AreMarked profile ws first n start stop more count
+      → IsNextMarked more count stop at x → AreMarked profile ws first n begin x new kept
 
 -- each number of a list is below another
 pub record AreWithin (places : List ℕ) (stop : ℕ) : Type 0 where
