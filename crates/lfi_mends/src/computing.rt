@@ -75,6 +75,15 @@ pub(crate) fn keeps_part(instruction: &Instruction) -> bool {
     }
 }
 
+/// The register of which an instruction puts bits into what another register holds: that of BFM. Of any other instruction it
+/// is none, for which number 31 stands.
+pub(crate) fn inserted(instruction: &Instruction) -> Register {
+    match instruction {
+        Instruction::Bitfield(i) => i.rn,
+        _ => Register::new(STACK),
+    }
+}
+
 /// The same instruction into a free register.
 pub(crate) fn into_free(instruction: &Instruction, register: Register) -> Instruction
     requires legal { IsLegal instruction.now }

@@ -41,6 +41,7 @@ mod accesses;
 mod builders;
 mod building;
 mod computing;
+mod edges;
 mod formulas;
 mod mend;
 mod mending;
@@ -49,6 +50,9 @@ mod pairs;
 mod reason;
 mod replacing;
 
+pub use edges::{
+    accesses_are_mended, more_is_not_the_same, nothing_does_less, unlawful_words_keep_no_rules,
+};
 pub use mend::{MOST, Mend};
 pub use mending::mend_of;
 pub use outside::{Outside, outside_of};

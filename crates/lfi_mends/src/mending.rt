@@ -20,7 +20,7 @@ use crate::builders::{
     address_guard, branch, computing, copied, guard, is_reserved, link_guard, probe, ret,
     stack_sum, sum_with_immediate,
 };
-use crate::computing::{computed, into_free, into_offset, keeps_part, source};
+use crate::computing::{computed, inserted, into_free, into_offset, keeps_part, source};
 use crate::mend::Mend;
 use crate::reason::Reason;
 use crate::replacing::replaced;
@@ -79,7 +79,8 @@ fn from_offset(mend: Mend, into: Register) -> Mend
     mend.and(guard(into, Register::new(OFFSET)))
 }
 
-/// What computes a register that only few instructions may write: the same in x16, and then the guard.
+/// What computes a register that only few instructions may write: the same in x16, and then the guard. Bits of x16 that go into
+/// what the register holds would be lost there, so they go into x17.
 fn in_two_steps(instruction: &Instruction, register: Register) -> Mend
     requires legal { IsLegal instruction.now }
     requires fits { AllFit (fields instruction.now) }
@@ -88,7 +89,7 @@ fn in_two_steps(instruction: &Instruction, register: Register) -> Mend
     ensures keeps { (profile : Profile) → KeepsRules profile (mended result) }
     ensures count { result.count ≤ 7 }
 {
-    let scratch = scratch_beside(register);
+    let scratch = scratch_beside(inserted(instruction));
     let first = if keeps_part(instruction) {
         Mend::new().and(copied(scratch, register))
     } else {

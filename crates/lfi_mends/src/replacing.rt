@@ -277,14 +277,16 @@ fn sum_with_flags(i: &AddSubShifted) -> Mend
 }
 
 /// The flags alone of such a sum. C goes to the bit 0 of x17. Where that was 1, both operands are odd and the sum with C isn't 0:
-/// it has the flags of the sum without C, but for that of 0, which is 1 with a carry.
+/// it has the flags of the sum without C, but for that of 0, which is 1 with a carry. C comes into w22 once the operands were
+/// read, of which that may be one.
 fn flags_with_carry(i: &AddSubShifted) -> Mend
     ensures keeps { (profile : Profile) → KeepsRules profile (mended result) }
     ensures count { result.count ≤ 7 }
 {
     let zero = Register::new(STACK);
     let carry = Register::new(OFFSET);
-    operands_by_bits(Mend::new().and(carry_in_offset()), i)
+    operands_by_bits(Mend::new(), i)
+        .and(carry_in_offset())
         .and(joined(i.width, Logical::Ands, false, zero, carry, second()))
         .and(joined(i.width, Logical::Orr, false, second(), second(), carry))
         .and(flags_of_sum_or(i.width, first(), second(), 0))
@@ -336,6 +338,19 @@ fn signed_loads(mend: Mend, i: &Pair, below: bool, bytes: u16) -> Mend
         .and(access(Size::Word, Transfer::LoadSignedX, i.rt2, sum))
 }
 
+/// Where the base is w22, which held the address of the second word last, it holds that of the first again.
+fn with_first_address(mend: Mend, base: Register) -> Mend
+    requires room { mend.count ≤ 7 }
+    requires keeps { (profile : Profile) → KeepsRules profile (mended mend) }
+    ensures keeps { (profile : Profile) → KeepsRules profile (mended result) }
+    ensures count { result.count ≤ mend.count + 1 }
+{
+    if base.number() == OFFSET {
+        return mend.and(sum_with_immediate(base, base, true, false, 4));
+    }
+    mend
+}
+
 /// Why there is no mend of LDPSW.
 fn signed_pair_hindered(i: &Pair) -> Option<Reason>
     ensures told { result ≡ obstacles.of_signed_pair i.now }
@@ -368,10 +383,10 @@ fn signed_pair(i: &Pair) -> Result<Mend, Reason>
         PairMode::Offset => signed_loads(Mend::new(), i, distance.below, distance.bytes),
         PairMode::PreIndex => {
             let mend = with_change(Mend::new(), i.rn, distance, sum);
-            signed_loads(mend, i, false, 0)
+            with_first_address(signed_loads(mend, i, false, 0), i.rn)
         }
         PairMode::PostIndex => {
-            let mend = signed_loads(Mend::new(), i, false, 0);
+            let mend = with_first_address(signed_loads(Mend::new(), i, false, 0), i.rn);
             with_change(mend, i.rn, distance, sum)
         }
     })

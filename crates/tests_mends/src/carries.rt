@@ -16,7 +16,7 @@ use std::test::Fail;
 const NOP: u32 = 0xD503201F;
 
 /// ADCS and SBCS, with a register for the result and with none.
-const CARRIES: [Row; 4] = [
+const CARRIES: [Row; 6] = [
     // adcs x0, x1, x2: and x17, x1, x2; orr x16, x1, x2; csinc x0, x17, x17, lo; adds xzr, xzr, x0, lsl #1; csel x17, x17, x0, eq; add x0, x16, x0; adds xzr, x16, x17
     Row {
         profile: Profile::One,
@@ -39,7 +39,7 @@ const CARRIES: [Row; 4] = [
             0x0A220031, 0x2A220030, 0x1A913620, 0x2B0007FF, 0x1A800231, 0x0B000200, 0x2B11021F,
         ],
     },
-    // sbcs xzr, x1, x3: csinc w22, wzr, wzr, lo; bic x17, x1, x3; orn x16, x1, x3; ands xzr, x22, x17; orr x17, x17, x22; ccmn x16, x17, #0, ne; ccmn x16, x17, #2, ne
+    // sbcs xzr, x1, x3: bic x17, x1, x3; orn x16, x1, x3; csinc w22, wzr, wzr, lo; ands xzr, x22, x17; orr x17, x17, x22; ccmn x16, x17, #0, ne; ccmn x16, x17, #2, ne
     Row {
         profile: Profile::One,
         rule: Rule::Spelled,
@@ -47,10 +47,10 @@ const CARRIES: [Row; 4] = [
         word: 0xFA03003F,
         next: NOP,
         mend: &[
-            0x1A9F37F6, 0x8A230031, 0xAA230030, 0xEA1102DF, 0xAA160231, 0xBA511200, 0xBA511202,
+            0x8A230031, 0xAA230030, 0x1A9F37F6, 0xEA1102DF, 0xAA160231, 0xBA511200, 0xBA511202,
         ],
     },
-    // adcs wzr, w1, w2: csinc w22, wzr, wzr, lo; and w17, w1, w2; orr w16, w1, w2; ands wzr, w22, w17; orr w17, w17, w22; ccmn w16, w17, #0, ne; ccmn w16, w17, #2, ne
+    // adcs wzr, w1, w2: and w17, w1, w2; orr w16, w1, w2; csinc w22, wzr, wzr, lo; ands wzr, w22, w17; orr w17, w17, w22; ccmn w16, w17, #0, ne; ccmn w16, w17, #2, ne
     Row {
         profile: Profile::One,
         rule: Rule::Spelled,
@@ -58,7 +58,29 @@ const CARRIES: [Row; 4] = [
         word: 0x3A02003F,
         next: NOP,
         mend: &[
-            0x1A9F37F6, 0x0A020031, 0x2A020030, 0x6A1102DF, 0x2A160231, 0x3A511200, 0x3A511202,
+            0x0A020031, 0x2A020030, 0x1A9F37F6, 0x6A1102DF, 0x2A160231, 0x3A511200, 0x3A511202,
+        ],
+    },
+    // sbcs xzr, x22, x3: bic x17, x22, x3; orn x16, x22, x3; csinc w22, wzr, wzr, lo; ands xzr, x22, x17; orr x17, x17, x22; ccmn x16, x17, #0, ne; ccmn x16, x17, #2, ne
+    Row {
+        profile: Profile::One,
+        rule: Rule::Spelled,
+        unmet: Need::Nothing,
+        word: 0xFA0302DF,
+        next: NOP,
+        mend: &[
+            0x8A2302D1, 0xAA2302D0, 0x1A9F37F6, 0xEA1102DF, 0xAA160231, 0xBA511200, 0xBA511202,
+        ],
+    },
+    // adcs wzr, w1, w22: and w17, w1, w22; orr w16, w1, w22; csinc w22, wzr, wzr, lo; ands wzr, w22, w17; orr w17, w17, w22; ccmn w16, w17, #0, ne; ccmn w16, w17, #2, ne
+    Row {
+        profile: Profile::One,
+        rule: Rule::Spelled,
+        unmet: Need::Nothing,
+        word: 0x3A16003F,
+        next: NOP,
+        mend: &[
+            0x0A160031, 0x2A160030, 0x1A9F37F6, 0x6A1102DF, 0x2A160231, 0x3A511200, 0x3A511202,
         ],
     },
 ];
@@ -133,9 +155,8 @@ fn sums_the_same(row: &Row, registers: &Registers) -> bool {
 /// Whether it does so of two operands, with C and without.
 fn sums_both(row: &Row, registers: &Registers, one: u64, other: u64) -> bool {
     let mut registers = *registers;
-    registers.x[1] = one;
-    registers.x[2] = other;
-    registers.x[3] = other;
+    registers.put(field(row.word, 5), Width::X, one);
+    registers.put(field(row.word, 16), Width::X, other);
     registers.nzcv = 0b1101;
     let without = sums_the_same(row, &registers);
     registers.nzcv = 0b0010;

@@ -424,7 +424,7 @@ pub const OTHERS: [Row; 10] = [
 ];
 
 /// Instructions that the profile leaves out.
-pub const OUTSIDE: [Row; 23] = [
+pub const OUTSIDE: [Row; 25] = [
     // ror x0, x1, #8: orr x0, xzr, x1, ror #8
     Row {
         profile: Profile::One,
@@ -582,6 +582,28 @@ pub const OUTSIDE: [Row; 23] = [
         next: NOP,
         mend: &[
             0x910043FF, 0xF94003FF, 0x110003F6, 0xB8B64AA0, 0x110012D6, 0xB8B64AA1,
+        ],
+    },
+    // ldpsw x0, x1, [x22], #8: add w22, w22, #0; ldrsw x0, [x21, w22, uxtw]; add w22, w22, #4; ldrsw x1, [x21, w22, uxtw]; sub w22, w22, #4; add w22, w22, #8
+    Row {
+        profile: Profile::One,
+        rule: Rule::Spelled,
+        unmet: Need::Nothing,
+        word: 0x68C106C0,
+        next: NOP,
+        mend: &[
+            0x110002D6, 0xB8B64AA0, 0x110012D6, 0xB8B64AA1, 0x510012D6, 0x110022D6,
+        ],
+    },
+    // ldpsw x0, x1, [x22, #8]!: add w22, w22, #8; add w22, w22, #0; ldrsw x0, [x21, w22, uxtw]; add w22, w22, #4; ldrsw x1, [x21, w22, uxtw]; sub w22, w22, #4
+    Row {
+        profile: Profile::One,
+        rule: Rule::Spelled,
+        unmet: Need::Nothing,
+        word: 0x69C106C0,
+        next: NOP,
+        mend: &[
+            0x110022D6, 0x110002D6, 0xB8B64AA0, 0x110012D6, 0xB8B64AA1, 0x510012D6,
         ],
     },
     // ldtrb w0, [x1, #4]: add w22, w1, #4; ldrb w0, [x21, w22, uxtw]

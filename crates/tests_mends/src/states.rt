@@ -346,6 +346,6 @@ fn what_is_left_out_accesses_the_same(rt: HostRuntime) -> Result<(), Fail> {
             }
         }
     }
-    assert!(rt; count == 6 * STATES, "{count}");
+    assert!(rt; count == 8 * STATES, "{count}");
     Ok(())
 }

@@ -8,7 +8,7 @@ use lfi_rules::{Need, Rule};
 const NOP: u32 = 0xD503201F;
 
 /// Registers that only few instructions may write.
-pub const WRITES: [Row; 44] = [
+pub const WRITES: [Row; 48] = [
     // add x23, x0, #16: add w22, w0, #16; add x23, x21, w22, uxtw
     Row {
         profile: Profile::One,
@@ -53,6 +53,15 @@ pub const WRITES: [Row; 44] = [
         word: 0xB37C1C37,
         next: NOP,
         mend: &[0xAA1703F0, 0xB37C1C30, 0x8B3042B7],
+    },
+    // bfxil x23, x16, #0, #8: mov x17, x23; bfxil x17, x16, #0, #8; add x23, x21, w17, uxtw
+    Row {
+        profile: Profile::One,
+        rule: Rule::AddressGuarded,
+        unmet: Need::Nothing,
+        word: 0xB3401E17,
+        next: NOP,
+        mend: &[0xAA1703F1, 0xB3401E11, 0x8B3142B7],
     },
     // csel x18, x0, x1, eq: csel x16, x0, x1, eq; add x18, x21, w16, uxtw
     Row {
@@ -288,6 +297,24 @@ pub const WRITES: [Row; 44] = [
         next: NOP,
         mend: &[0x4B22C436],
     },
+    // adds x22, x1, x2: adds x16, x1, x2; mov w22, w16
+    Row {
+        profile: Profile::One,
+        rule: Rule::OffsetNarrow,
+        unmet: Need::Nothing,
+        word: 0xAB020036,
+        next: NOP,
+        mend: &[0xAB020030, 0x2A1003F6],
+    },
+    // ands x22, x1, x2: ands x16, x1, x2; mov w22, w16
+    Row {
+        profile: Profile::One,
+        rule: Rule::OffsetNarrow,
+        unmet: Need::Nothing,
+        word: 0xEA020036,
+        next: NOP,
+        mend: &[0xEA020030, 0x2A1003F6],
+    },
     // and x22, x1, #0xff: and x16, x1, #0xff; mov w22, w16
     Row {
         profile: Profile::One,
@@ -350,6 +377,15 @@ pub const WRITES: [Row; 44] = [
         word: 0xB37C1C36,
         next: NOP,
         mend: &[0xAA1603F0, 0xB37C1C30, 0x2A1003F6],
+    },
+    // bfi x22, x16, #8, #8: mov x17, x22; bfi x17, x16, #8, #8; mov w22, w17
+    Row {
+        profile: Profile::One,
+        rule: Rule::OffsetNarrow,
+        unmet: Need::Nothing,
+        word: 0xB3781E16,
+        next: NOP,
+        mend: &[0xAA1603F1, 0xB3781E11, 0x2A1103F6],
     },
     // ldr x22, [sp, #8]: add w22, wsp, #8; ldr x16, [x21, w22, uxtw]; mov w22, w16
     Row {
