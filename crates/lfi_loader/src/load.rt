@@ -18,7 +18,7 @@ use std::sync::Wait;
 use std::thread::{self, Threads};
 
 /// Loads the modules of the streams that these inputs have, each up to its end. Each input is read
-/// by a thread of its own, each of the verifiers has one, and one turns all sequencers. The gate
+/// by a thread of its own, each of the verifiers has one, and this one turns all sequencers. The gate
 /// is told of each item before and after it is judged, and the notices of refused modules.
 ///
 /// # Errors
@@ -55,7 +55,7 @@ pub fn load_all<
     ensures { IfOk result (λ report. (texts : ℕ → List ℕ) → ((c : ℕ) (input : Input R) → slice_get inputs.items c ≡ Some input → left_of R.remaining input ≡ Some (texts c)) → IsLoaded (length inputs.items) verifiers texts report) }
 {
     let Stage { parts, shared } = Stage::new(alloc, inputs.len(), verifiers)?;
-    let lifecycle = Lifecycle::new();
+    let lifecycle = Lifecycle::new(verifiers);
     let back = {
         let env = Env {
             rt,

@@ -87,7 +87,7 @@ pub fn serve_on<'x, S: Threads + Wait + Files + Clock + Sync, G: Gate + Sync, N:
     let Stage { parts, shared } = Stage::new(alloc, size.connections, size.verifiers)?;
     let lent = Lent {
         shared,
-        lifecycle: Lifecycle::new(),
+        lifecycle: Lifecycle::new(size.verifiers),
         streams: Streams::new(),
     };
     let back = {

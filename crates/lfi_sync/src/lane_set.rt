@@ -1,8 +1,8 @@
 //! Lanes, by their modules.
 
-ghost use Rattle.std.specs.Prelude.{◌≡◌, ◌<◌, ℕ, true};
+ghost use Rattle.std.specs.Prelude.{◌≡◌, ◌<◌, ◌^◌, ℕ, true};
 ghost use Rattle.lfi_module.specs.Numbers.{module_count};
-ghost use Rattle.lfi_sync.specs.LaneSets.{has_lane};
+ghost use Rattle.lfi_sync.specs.LaneSets.{has_lane, is_told};
 
 use lfi_module::ModuleNumber;
 
@@ -11,6 +11,14 @@ use lfi_module::ModuleNumber;
 pub struct LaneSet {
     /// Whether the lane of the module with this number is one of them.
     has: [bool; ModuleNumber::COUNT],
+}
+
+/// Whether the bit of the lane of the module with this number is set.
+fn is_told(bits: u64, number: usize) -> bool
+    requires { number < module_count }
+    ensures { result ≡ is_told bits number }
+{
+    (bits >> number) % 2 == 1
 }
 
 impl LaneSet {
@@ -31,15 +39,19 @@ impl LaneSet {
     }
 
     /// The bit of the lane of this module.
-    pub(crate) fn bit_of(module: ModuleNumber) -> u64 {
+    pub(crate) fn bit_of(module: ModuleNumber) -> u64
+        ensures { result ≡ 2 ^ «module» }
+    {
         1 << module.index()
     }
 
     /// Those whose bits are set.
-    pub(crate) fn of(bits: u64) -> LaneSet {
+    pub(crate) fn of(bits: u64) -> LaneSet
+        ensures { (m : ℕ) → m < module_count → has_lane result m ≡ is_told bits m }
+    {
         let mut has = [false; ModuleNumber::COUNT];
         for number in 0..ModuleNumber::COUNT {
-            has[number] = bits & LaneSet::bit_of(ModuleNumber::at(number)) != 0;
+            has[number] = is_told(bits, number);
         }
         LaneSet { has }
     }

@@ -22,7 +22,8 @@
 //!   found nothing sets its bit, turns once more, and then sleeps. Whoever has put or taken something reads the bits, takes
 //!   one away and wakes its thread. Each step is SeqCst: where the second turn doesn't see what was put, the bit was
 //!   set before the put, and whoever put sees it. A bit that another one took away meanwhile is as good. While nobody waits
-//!   a wait set costs one load. Each change of `Lifecycle`'s word calls all threads, which ask it before they sleep.
+//!   a wait set costs one load. A change of `Lifecycle`'s word calls those to whom it tells something, which ask it before
+//!   they sleep: the start receivers, the end of all verifiers the sequencers' thread, and that all are to stop all.
 //! - **Streams of clients lie in places that are written once and lent** (`Streams`): no descriptor is doubled, and whoever
 //!   accepts can shut them all down while their threads read. A connection is shut down where its reader is dropped.
 //! - **The path is removed where the acceptor is dropped**, and only where it still is the socket that was bound, by device

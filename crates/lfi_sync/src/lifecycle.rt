@@ -134,11 +134,15 @@ impl<'a> Going<'a> {
     }
 }
 
-/// One word that all threads of a stage watch, which receivers' threads have nothing more to hear,
-/// which lanes have items, and where the threads wait for one another.
+/// One word that all threads of a stage watch, which receivers' threads have nothing more to hear, how many verifiers' threads
+/// haven't ended, which lanes have items, and where the threads wait for one another.
 #[derive(Drop)]
 pub struct Lifecycle {
     word: AtomicU64,
+    /// How many verifiers there are.
+    verifiers: u64,
+    /// How many verifiers' threads haven't ended.
+    verifying: AtomicU64,
     /// A flag for each receiver's thread that has nothing more to hear.
     heard: AtomicU64,
     /// A bit for each lane that got an item since the sequencers' thread asked last.
@@ -147,14 +151,21 @@ pub struct Lifecycle {
 }
 
 impl Lifecycle {
-    /// The threads are being started.
-    pub fn new() -> Lifecycle {
+    /// The threads are being started, those of `verifiers` verifiers among them.
+    pub fn new(verifiers: usize) -> Lifecycle {
         Lifecycle {
             word: AtomicU64::new(State::Starting.number()),
+            verifiers: verifiers as u64,
+            verifying: AtomicU64::new(verifiers as u64),
             heard: AtomicU64::new(0),
             filled: AtomicU64::new(0),
-            wait_sets: WaitSets::new(),
+            wait_sets: WaitSets::new(verifiers),
         }
+    }
+
+    /// How many verifiers there are.
+    pub fn verifiers(&self) -> u64 {
+        self.verifiers
     }
 
     /// Where the threads wait for one another.
@@ -162,14 +173,17 @@ impl Lifecycle {
         &self.wait_sets
     }
 
-    /// All threads have been started.
+    /// All threads have been started. Those of receivers alone wait for that.
     pub fn go(&self) {
-        self.tell(State::Running);
+        self.say(State::Running);
     }
 
-    /// All verifiers' threads have ended.
-    pub fn verified(&self) {
-        self.tell(State::Verified);
+    /// The thread of a verifier has nothing more to put. Each tells it once, and the last calls the sequencers' thread.
+    pub fn tell_verified(&self) {
+        if self.verifying.fetch_sub(1, Ordering::SeqCst) == 1 {
+            self.say(State::Verified);
+            self.wait_sets.judged.call_all();
+        }
     }
 
     /// A thread couldn't be started, or memory was refused, and all others are to stop. The answer is
@@ -177,7 +191,8 @@ impl Lifecycle {
     pub fn stop(&self, why: LoadError) -> LoadError
         ensures { result ≡ why }
     {
-        self.tell(State::stopping(why));
+        self.say(State::stopping(why));
+        self.wait_sets.call_all();
         why
     }
 
@@ -263,10 +278,9 @@ impl Lifecycle {
         State::of(self.word.load(Ordering::SeqCst))
     }
 
-    /// The word says this from now on, unless it says more, and all that wait are called.
-    fn tell(&self, state: State) {
+    /// The word says this from now on, unless it says more, and all that wait for it are called.
+    fn say(&self, state: State) {
         self.word.fetch_max(state.number(), Ordering::SeqCst);
         self.word.wake_all();
-        self.wait_sets.call_all();
     }
 }

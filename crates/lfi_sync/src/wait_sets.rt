@@ -16,6 +16,15 @@ fn bit_of(number: usize) -> u64 {
     1 << (number % THREADS)
 }
 
+/// The bits of the first `count` threads.
+fn bits_of_first(count: usize) -> u64 {
+    let mut bits = 0;
+    for number in 0..count {
+        bits |= bit_of(number);
+    }
+    bits
+}
+
 /// Where threads wait for one thing, and where who brings it calls them.
 ///
 /// A thread that found nothing says that it waits, looks once more, and only then sleeps. Whoever brings
@@ -25,15 +34,18 @@ fn bit_of(number: usize) -> u64 {
 pub struct WaitSet {
     /// A bit for each thread that waits and wasn't called yet.
     waiting: AtomicU64,
+    /// The bits of all threads that may wait here.
+    all: u64,
     /// Where they sleep, by their numbers.
     sleepers: [Parker; THREADS],
 }
 
 impl WaitSet {
-    /// Nobody waits here yet.
-    fn new() -> WaitSet {
+    /// Nobody waits here yet, and the first `count` threads may.
+    fn new(count: usize) -> WaitSet {
         WaitSet {
             waiting: AtomicU64::new(0),
+            all: bits_of_first(count),
             sleepers: array::from_fn(|_| Parker::new()),
         }
     }
@@ -72,6 +84,14 @@ impl WaitSet {
         }
     }
 
+    /// Calls one of the threads that wait, where all do. One that doesn't looks once more before it sleeps, and finds what was
+    /// brought.
+    fn call_if_all_wait(&self) {
+        if self.waiting.load(Ordering::SeqCst) == self.all {
+            self.call_one();
+        }
+    }
+
     /// Calls all threads that wait.
     pub(crate) fn call_all(&self) {
         if self.waiting.load(Ordering::SeqCst) == 0 {
@@ -97,13 +117,13 @@ pub struct WaitSets {
 }
 
 impl WaitSets {
-    /// Nobody waits for anything yet.
-    pub(crate) fn new() -> WaitSets {
+    /// Nobody waits for anything yet. There are `verifiers` verifiers.
+    pub(crate) fn new(verifiers: usize) -> WaitSets {
         WaitSets {
-            items: WaitSet::new(),
-            intake_room: WaitSet::new(),
-            judged: WaitSet::new(),
-            lane_room: WaitSet::new(),
+            items: WaitSet::new(verifiers),
+            intake_room: WaitSet::new(CONNECTIONS),
+            judged: WaitSet::new(1),
+            lane_room: WaitSet::new(verifiers),
         }
     }
 
@@ -119,7 +139,7 @@ impl WaitSets {
 /// Whom a thread calls of those that wait for what it brings.
 #[derive(Clone, Copy)]
 enum Called {
-    /// One of them, since any of them can use it.
+    /// One of them, where all wait, since any of them can use it, and one that doesn't wait finds it.
     One,
     /// All of them, since it may be of use to one alone.
     All,
@@ -137,7 +157,7 @@ pub struct Notifier<'a> {
 }
 
 impl<'a> Notifier<'a> {
-    /// That of a thread that calls one of those that wait, and has brought nothing yet.
+    /// That of a thread that calls one of those that wait, where all do, and has brought nothing yet.
     pub fn of_one(wait_set: &'a WaitSet, every: u32) -> Notifier<'a> {
         Notifier {
             wait_set,
@@ -147,7 +167,7 @@ impl<'a> Notifier<'a> {
         }
     }
 
-    /// The same, where it calls all that wait.
+    /// That of one that calls all that wait.
     pub fn of_all(wait_set: &'a WaitSet, every: u32) -> Notifier<'a> {
         Notifier {
             wait_set,
@@ -165,18 +185,24 @@ impl<'a> Notifier<'a> {
         }
     }
 
-    /// Calls who waits, where it has brought something since it called.
+    /// Calls who is to be called, where it has brought something since it called.
     pub fn tell_rest(&mut self) {
         if self.untold != 0 {
             self.tell();
         }
     }
 
-    /// Calls who waits.
+    /// Calls one of those that wait, whatever the others do: there is so much that it is of use to one more.
+    pub fn tell_one_more(&mut self) {
+        self.untold = 0;
+        self.wait_set.call_one();
+    }
+
+    /// Calls who is to be called.
     pub fn tell(&mut self) {
         self.untold = 0;
         match self.called {
-            Called::One => self.wait_set.call_one(),
+            Called::One => self.wait_set.call_if_all_wait(),
             Called::All => self.wait_set.call_all(),
         }
     }

@@ -8,11 +8,28 @@ use lfi_receive::Receiver;
 use lfi_sync::{WaitSet, Waiter};
 use std::sync::Wait;
 
-/// With how many untaken items of its own a receiver's thread takes no turn, since pages that wait in the intake are memory.
+/// With how many untaken items of its own a receiver's thread calls one more verifier.
+const MANY_UNTAKEN: usize = 64;
+
+/// With how many it takes no turn, since pages that wait in the intake are memory.
 const MOST_UNTAKEN: usize = 128;
 
 /// With fewer than how many it goes on then.
 const FEW_UNTAKEN: usize = 32;
+
+/// After how many puts a receiver's thread that is far ahead looks again.
+const LOOK_PUTS: usize = 32;
+
+/// How far a receiver's thread is ahead of the verifiers.
+#[derive(Clone, Copy)]
+pub(crate) enum Distance {
+    /// Not far: those that are awake keep up.
+    Near,
+    /// So far that one more is of use.
+    Far,
+    /// So far that it takes no turn now.
+    TooFar,
+}
 
 /// Keeps a receiver's thread from turning while too many of its items are untaken.
 #[derive(Drop)]
@@ -21,6 +38,8 @@ pub(crate) struct BackPressure<'a> {
     room: Waiter<'a>,
     /// How many are untaken, at most: as many as at the last look, and those that were put since.
     untaken: usize,
+    /// With how many it looks again.
+    look_at: usize,
     /// With how many it takes no turn.
     limit: usize,
 }
@@ -31,6 +50,7 @@ impl<'a> BackPressure<'a> {
         BackPressure {
             room: Waiter::new(intake_room, number),
             untaken: 0,
+            look_at: MANY_UNTAKEN,
             limit: MOST_UNTAKEN,
         }
     }
@@ -40,24 +60,38 @@ impl<'a> BackPressure<'a> {
         self.untaken = self.untaken.saturating_add(1);
     }
 
-    /// Whether too many of its items are untaken. It looks only where they may be.
+    /// How far it is ahead. It looks only where that may be far.
     #[inline(always)]
-    pub(crate) fn is_too_far(&mut self, part: PartId<'_>, receiver: &mut Receiver) -> bool
+    pub(crate) fn distance(&mut self, part: PartId<'_>, receiver: &mut Receiver) -> Distance
         requires is { IsReceiver part.shared.now part.number receiver.old }
         ensures same { receiver.new ≡ receiver.old }
     {
-        if self.untaken < self.limit {
-            return false;
+        if self.untaken < self.look_at {
+            return Distance::Near;
         }
         let shared = part.shared;
         self.untaken = receiver.untaken(&shared.intake);
-        if self.untaken < self.limit {
-            self.limit = MOST_UNTAKEN;
-            self.room.end();
-            return false;
+        self.distance_seen()
+    }
+
+    /// How far it is ahead, where it has just looked.
+    fn distance_seen(&mut self) -> Distance {
+        if self.untaken >= self.limit {
+            self.limit = FEW_UNTAKEN;
+            self.look_at = FEW_UNTAKEN;
+            return Distance::TooFar;
         }
-        self.limit = FEW_UNTAKEN;
-        true
+        self.limit = MOST_UNTAKEN;
+        self.look_at = self
+            .untaken
+            .saturating_add(LOOK_PUTS)
+            .clamp(MANY_UNTAKEN, MOST_UNTAKEN);
+        self.room.end();
+        if self.untaken < MANY_UNTAKEN {
+            Distance::Near
+        } else {
+            Distance::Far
+        }
     }
 
     /// Waits until verifiers have taken items, and were told that it waits.

@@ -3,9 +3,9 @@
 //! # How data flows
 //!
 //! `load_in` over readers and `serve_in` over an acceptor are handed a scope, what the threads share (`Env`) and all parts
-//! (`Parts`). They start the threads, join them, and give the parts back (`Parts`, `Back`). What each thread promises of its
-//! part (promises.rt) is what settling the stage asks for. A receiver's thread tells of refused modules (`Notices`). What these
-//! calls do is told by specs/: Running, Seated (who has a seat at the board) and Heard.
+//! (`Parts`). They start the threads, join them, and give the parts back; `load_in` turns the sequencers by itself. What
+//! each thread promises (promises.rt) is what settling asks for. A receiver's thread tells of refused modules (`Notices`).
+//! What these calls do is told by specs/: Running, Seated (who has a seat at the board) and Heard.
 //!
 //! # What it may not know
 //!
@@ -18,21 +18,21 @@
 //! - **What the threads share is one value** (`Env`), and a thread's closure takes its fields one by one: of a closure that
 //!   owns a struct with references no clause is known.
 //! - **A verifier's thread ends by the board's count**: before each turn it asks how many receivers have ended, and ends
-//!   where all had and the turn is Idle. A receiver tells its end after its last put, so no item comes after such a turn.
-//!   The turn is handed the answer and can't ask again, so what it found is later than what was asked (`HasEnded`).
-//! - **Not each thing is called for at once** (docs/PERFORMANCE.md, "A load"): a receiver calls a verifier for every 16th item,
-//!   a verifier the sequencers' thread for every 32nd and receivers for 64 of each, and that thread calls after 16 rounds.
+//!   where all had and the turn is Idle. A receiver tells its end after its last put, and the turn can't ask (`HasEnded`).
+//! - **Not each thing is called for at once**: for how many, constants of receiver_loop, back_pressure, verifier_loop and
+//!   sequencer_loop say (docs/PERFORMANCE.md, "A load").
 //! - **No item waits for a thread that sleeps while no other will come to it.** A receiver calls for what is untold before
-//!   it waits for a reader, a notice, memory or verifiers, and at its end; a verifier before it waits or ends. After a put a
-//!   verifier sets the lane's bit, unless it is set. The sequencers' thread clears all bits, looks at these lanes, and sets
+//!   it waits for a reader, a notice, memory or verifiers, and at its end. It calls none where a verifier doesn't wait: that
+//!   one looks once more after it says that it waits, so after the put. A verifier calls before it waits or ends. After a
+//!   put it sets the lane's bit, unless it is set. The sequencers' thread clears all bits, looks at these lanes, and sets
 //!   the bit of one where it may have left items; so a bit that was found set is cleared before a look that comes after the
 //!   put. It sleeps only where it found none after it said that it waits. Before it ends it looks at all lanes. A gate or a
-//!   notice that keeps a thread also keeps it from calling.
-//! - **No receiver sleeps at a full part while no verifier will call it** (back_pressure.rt). It sleeps where 32 items or more
-//!   lay in its part after it said that it waits. Then a verifier is awake, was called after the last of them was put, or
-//!   waits for room in a lane, which it is called for: none finds the intake empty before that part is. Each calls all
-//!   receivers that wait after some takes, and before it waits or ends; so after the take that leaves fewer than 32. A
-//!   verifier ends after all receivers. Where all are to stop, the word calls them. No limit of time or client stops a verifier.
+//!   notice that keeps a thread also keeps it from calling, and a gate fewer than 96 items of each receiver from verifiers.
+//! - **No receiver sleeps at a full part while no verifier will call it** (back_pressure.rt). After it said that it waits it
+//!   found 32 items or more in its part, and then called a verifier, where one waited. So one is awake, or waits for room in
+//!   a lane, which it is called for: none finds the intake empty before that part is. Each calls all receivers that wait
+//!   after some takes, and before it waits or ends; so after the take that leaves fewer than 32. A verifier ends after all
+//!   receivers. Where all are to stop, each is called. No limit of time or client stops a verifier.
 //! - **In `load_in` no input is read until all threads have been started**: a read of a pipe can't be told to stop. In
 //!   `serve_in` reads wait from the first client on, so where a thread is refused all sockets are shut down.
 //! - **A thread that is told to stop gives no part back** (`PartExit::GaveUp`), and then there is no report, but why it was

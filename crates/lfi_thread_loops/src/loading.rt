@@ -6,7 +6,8 @@ ghost use Rattle.lfi_thread_loops.specs.Running.{AreBack, AreReady, had_by};
 use crate::env::Env;
 use crate::notices::Notices;
 use crate::running::join_parts;
-use crate::starting::{start_receivers, start_sequencers, start_verifiers};
+use crate::sequencer_loop::sequence_loop;
+use crate::starting::{start_receivers, start_verifiers};
 use lfi_receive::Input;
 use lfi_sequence::Gate;
 use lfi_stage_model::Parts;
@@ -15,8 +16,9 @@ use std::io::Read;
 use std::sync::Wait;
 use std::thread::{Scope, Threads};
 
-/// All parts of a stage go through their threads, each receiver with the input of its number: starts the threads, lets them
-/// go, and joins them. The gate is told of each item before and after it is judged, and the notices of refused modules.
+/// All parts of a stage go through their threads, each receiver with the input of its number: starts the threads of receivers
+/// and verifiers, lets them go, turns all sequencers until the verifiers' have ended, and joins them. The gate is told of each
+/// item before and after it is judged, and the notices of refused modules.
 ///
 /// # Errors
 ///
@@ -43,12 +45,12 @@ pub fn load_in<
         verifiers,
         sequencers,
     } = ready;
-    let placing = start_sequencers(scope, env, sequencers)?;
     let mut verifying = Vec::new(env.alloc);
     let mut receiving = Vec::new(env.alloc);
     let begun = start_verifiers(scope, env, verifiers, &mut verifying);
     let started = start_receivers(scope, env, begun, receivers, inputs, &mut receiving);
     env.lifecycle.go();
-    let back = join_parts(env, receiving, verifying, placing);
+    let placed = sequence_loop(env.rt, env.shared, env.lifecycle, sequencers);
+    let back = join_parts(env, receiving, verifying, placed);
     started.and(back)
 }

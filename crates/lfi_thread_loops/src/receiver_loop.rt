@@ -8,7 +8,7 @@ ghost use Rattle.lfi_stage_model.specs.Fresh.{IsFresh};
 ghost use Rattle.lfi_thread_loops.specs.declared.receiver_loop.ReceiverExit.TheVariants as receiver_exit;
 ghost use Rattle.lfi_thread_loops.specs.inner.Hearing.{IsHearing, IsAsBefore, IsHeardBy};
 
-use crate::back_pressure::BackPressure;
+use crate::back_pressure::{BackPressure, Distance};
 use crate::notices::{Notices, SeenRefused};
 use crate::promises::{PartExit, PartId};
 use lfi_receive::{Input, Receiver, ReceiverTurn};
@@ -20,8 +20,8 @@ use std::time::Duration;
 /// In how many turns of a receiver its thread looks at the modules' phases once.
 const LOOK_TURNS: u32 = 64;
 
-/// For how many items a receiver calls one more verifier, at the latest, where one waits.
-const ITEMS_A_CALL: u32 = 16;
+/// For how many items a receiver calls a verifier, at the latest, where all wait.
+const ITEMS_A_CALL: u32 = 32;
 
 /// After how many microseconds a receiver asks again for memory that was refused.
 const REFUSED_PAUSE: u64 = 200;
@@ -52,18 +52,23 @@ impl<'a, N> Watch<'a, N> {
         }
     }
 
-    /// Whether it is to take no turn now, since too many of its items are untaken. Before it waits a verifier is called for
-    /// the items of which none was told yet.
+    /// Whether it is to take no turn now, since too many of its items are untaken. Where many are, one more verifier is called.
     fn holds_back<S: Wait>(&mut self, rt: &S, part: PartId<'_>, receiver: &mut Receiver) -> bool
         requires is { IsReceiver part.shared.now part.number receiver.old }
         ensures same { receiver.new ≡ receiver.old }
     {
-        if !self.ahead.is_too_far(part, receiver) {
-            return false;
+        match self.ahead.distance(part, receiver) {
+            Distance::Near => false,
+            Distance::Far => {
+                self.items.tell_one_more();
+                false
+            }
+            Distance::TooFar => {
+                self.items.tell_one_more();
+                self.ahead.pause(rt);
+                true
+            }
         }
-        self.items.tell_rest();
-        self.ahead.pause(rt);
-        true
     }
 
     /// What comes before a turn over this input: where it may wait for the reader, a verifier is called for the items of

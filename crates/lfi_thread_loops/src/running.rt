@@ -12,7 +12,7 @@ ghost use Rattle.lfi_thread_loops.specs.inner.PartIds.{AreAt};
 ghost use Rattle.lfi_thread_loops.specs.inner.Workers.{AreSequencersOf};
 
 use crate::env::Env;
-use crate::promises::{PartExit, ReceiverThread, SequencersThread, VerifierThread};
+use crate::promises::{PartExit, Placed, ReceiverThread, VerifierThread};
 use lfi_receive::Receiver;
 use lfi_sequence::{Sequencer, Verifier};
 use lfi_stage_model::Parts;
@@ -66,17 +66,17 @@ fn parts_of(
     })
 }
 
-/// Joins all threads, first the receivers', then the verifiers', and then the sequencers', which is
-/// told when the verifiers' have ended. Where a thread gave up, it is why it was told to.
+/// Joins the threads of all receivers and of all verifiers, once the sequencers' loop has ended with this. Where a thread gave
+/// up, it is why it was told to.
 pub(crate) fn join_parts<S: Threads, R: Read + Drop, G, N>(
     env: &Env<'_, S, G, N>,
     receiving: Vec<ReceiverThread<'_, R>>,
     verifying: Vec<VerifierThread<'_>>,
-    placing: SequencersThread<'_>,
+    placed: Placed,
 ) -> Result<Parts, LoadError>
     requires receiving { AreAt env.now.shared.now receiving.items (λ h. h.promise.part) }
     requires verifying { AreAt env.now.shared.now verifying.items (λ h. h.promise.part) }
-    requires placing { placing.promise.shared.now ≡ env.now.shared.now }
+    requires placed { AreSequencersOf env.now.shared.now placed.sequencers.items }
     ensures receiver_count { IfOk result (λ parts. length parts.receivers.items ≡ length receiving.entry.items) }
     ensures receivers { IfOk result (λ parts. (k : ℕ) (r : Receiver) → slice_get parts.receivers.items k ≡ Some r → IsReceiver env.entry.now.shared.now k r) }
     ensures heard { IfOk result (λ parts. (k : ℕ) (r : Receiver) (h : _) → slice_get parts.receivers.items k ≡ Some r → slice_get receiving.entry.items k ≡ Some h → HasHeard (left_of R.remaining h.promise.input.value) r) }
@@ -87,7 +87,5 @@ pub(crate) fn join_parts<S: Threads, R: Read + Drop, G, N>(
 {
     let receivers = join_each(env, receiving);
     let verifiers = join_each(env, verifying);
-    env.lifecycle.verified();
-    let placed = placing.join(env.rt);
     parts_of(receivers, verifiers, placed.sequencers)
 }

@@ -171,7 +171,8 @@ pub fn serve_in<
     streams.shut_down_unless(&accepted);
     let closed = acceptor.close();
     let unheard = closed.wait_in_time(env.rt, env.lifecycle, streams, receiving.len());
-    let back = join_parts(env, receiving, verifying, placing);
+    let placed = placing.join(env.rt);
+    let back = join_parts(env, receiving, verifying, placed);
     let read_errors = streams.read_errors().kinds();
     back_from(accepted, unheard, back, read_errors, closed.limit())
 }

@@ -8,6 +8,7 @@ ghost use Rattle.lfi_thread_loops.specs.Seated.{IsVerifierOf, HasSeenAllEnd};
 ghost use Rattle.lfi_thread_loops.specs.inner.Workers.{FoundNothing, EndsAsTold, IsVerifiedBy};
 
 use crate::promises::{PartExit, PartId};
+use lfi_module::ModuleNumber;
 use lfi_sequence::{Gate, Verifier, VerifierTurn};
 use lfi_stage_model::Shared;
 use lfi_sync::{Lifecycle, Notifier, Stopped, Waiter};
@@ -48,8 +49,15 @@ fn turn_one<S: Wait, G: Gate>(
     verifier.turn(rt, &shared.intake, &shared.lanes, gate)
 }
 
-/// For how many judged items a verifier calls the sequencers' thread, at the latest: half a lane.
+/// For how many judged items in one lane a verifier calls the sequencers' thread, at the latest: half a lane.
 const JUDGED_A_CALL: u32 = 32;
+
+/// For how many in all lanes it does, at the latest, by the numbers of receivers and verifiers: where each stream fills a lane of
+/// its own, all verifiers together then fill half of each.
+fn judged_a_call(receivers: u64, verifiers: u64) -> u32 {
+    let all = u64::from(JUDGED_A_CALL).saturating_mul(receivers) / verifiers.max(1);
+    u32::try_from(all).unwrap_or(u32::MAX).max(JUDGED_A_CALL)
+}
 
 /// For how many items of each receiver a verifier calls the receivers that wait, at the latest.
 const TAKEN_A_CALL: u64 = 64;
@@ -70,6 +78,8 @@ struct VerifierPace<'a> {
     blocked: Waiter<'a>,
     /// Of judged items.
     judged: Notifier<'a>,
+    /// How many judged items it has put in each lane, since it called for one in which half a lane's were.
+    in_lanes: [u32; ModuleNumber::COUNT],
     /// Of room in the intake.
     taken: Notifier<'a>,
 }
@@ -83,8 +93,24 @@ impl<'a> VerifierPace<'a> {
             lifecycle,
             idle: Waiter::new(&wait_sets.items, part.number),
             blocked: Waiter::new(&wait_sets.lane_room, part.number),
-            judged: Notifier::of_one(&wait_sets.judged, JUDGED_A_CALL),
+            judged: Notifier::of_one(
+                &wait_sets.judged,
+                judged_a_call(receivers, lifecycle.verifiers()),
+            ),
+            in_lanes: [0; ModuleNumber::COUNT],
             taken: Notifier::of_all(&wait_sets.intake_room, taken_a_call(receivers)),
+        }
+    }
+
+    /// It has put a judged item in the lane of this module.
+    fn put_in(&mut self, module: ModuleNumber) {
+        self.lifecycle.tell_filled(module);
+        self.judged.brought();
+        let lane = module.index();
+        self.in_lanes[lane] = self.in_lanes[lane].saturating_add(1);
+        if self.in_lanes[lane] >= JUDGED_A_CALL {
+            self.in_lanes = [0; ModuleNumber::COUNT];
+            self.judged.tell();
         }
     }
 
@@ -94,9 +120,8 @@ impl<'a> VerifierPace<'a> {
         match did {
             VerifierTurn::Worked => {
                 if let Some(module) = verifier.last() {
-                    self.lifecycle.tell_filled(module);
+                    self.put_in(module);
                 }
-                self.judged.brought();
                 self.taken.brought();
             }
             VerifierTurn::Blocked => {
@@ -193,7 +218,10 @@ pub(crate) fn verify_loop<S: Wait, G: Gate>(
 {
     let part = PartId { shared, number };
     match verify_on(rt, part, lifecycle, gate, &mut verifier) {
-        VerifierExit::Over => PartExit::Ended(verifier),
+        VerifierExit::Over => {
+            lifecycle.tell_verified();
+            PartExit::Ended(verifier)
+        }
         VerifierExit::Stopped(stopped) => {
             drop(verifier);
             PartExit::GaveUp(stopped)

@@ -1,4 +1,4 @@
-//! A receiver that comes ahead of the verifiers: its thread waits for them.
+//! Receivers that come ahead of the verifiers: their threads wait for them.
 
 ghost use Rattle.std.specs.Prelude.{◌≤◌};
 
@@ -11,7 +11,7 @@ use lfi_sequence::Gate;
 use std::io::{self, Read};
 use std::sync::Wait;
 use std::sync::atomic::{AtomicU64, Ordering};
-use std::thread::Threads;
+use std::thread::{Threads, yield_now};
 
 /// How many bytes a page has in a stream, with its header.
 const PAGE_BYTES: u64 = 4108;
@@ -22,9 +22,17 @@ const FIRST: u64 = 100;
 /// By how many pages reads may be ahead of what was judged: 128 that nobody has taken, and one that each verifier has.
 const MOST: u64 = 136;
 
-/// How far a text was read and judged. As a gate it keeps items from being judged until 100 pages were read.
+/// How many pages of two connections are read before the first item is judged: a read less than both come to.
+const FIRST_OF_TWO: u64 = 230;
+
+/// By how many pages their reads may be ahead: as many as each may wait with, those that verifiers have, and those of a read
+/// that the other one has not used yet.
+const MOST_OF_TWO: u64 = 280;
+
+/// How far texts were read and judged. As a gate it keeps items from being judged until a number of pages were read.
 #[derive(Drop)]
 struct Race {
+    first: u64,
     bytes: AtomicU64,
     judged: AtomicU64,
     begun: AtomicU64,
@@ -33,8 +41,9 @@ struct Race {
 }
 
 impl Race {
-    fn new() -> Race {
+    fn new(first: u64) -> Race {
         Race {
+            first,
             bytes: AtomicU64::new(0),
             judged: AtomicU64::new(0),
             begun: AtomicU64::new(0),
@@ -52,6 +61,7 @@ impl Gate for Race {
 
     fn after(&self, _item: &Judged) {
         self.judged.fetch_add(1, Ordering::SeqCst);
+        yield_now();
     }
 }
 
@@ -62,6 +72,13 @@ struct Runner<'a> {
     race: &'a Race,
 }
 
+impl<'a> Runner<'a> {
+    fn of(text: &'a [u8], race: &'a Race) -> Runner<'a> {
+        let text = Pieces::of(text, 65_536);
+        Runner { text, race }
+    }
+}
+
 impl<'a> Read for Runner<'a> {
     fn read(&mut self, buf: &mut [u8]) -> io::Result<usize> {
         let pages = self.race.bytes.load(Ordering::SeqCst) / PAGE_BYTES;
@@ -69,7 +86,7 @@ impl<'a> Read for Runner<'a> {
         self.race
             .ahead
             .fetch_max(pages.saturating_sub(judged), Ordering::SeqCst);
-        if pages >= FIRST {
+        if pages >= self.race.first {
             self.race.begun.store(1, Ordering::SeqCst);
         }
         let count = self.text.read(buf)?;
@@ -91,14 +108,37 @@ fn is_never_too_far<S: Threads + Wait + Sync + AllocGlobal>(rt: &S, verifiers: u
     let Ok(text) = text_of(rt.alloc(), &SENT) else {
         return false;
     };
-    let race = Race::new();
-    let runner = Runner {
-        text: Pieces::of(text.as_slice(), 65_536),
-        race: &race,
-    };
+    let race = Race::new(FIRST);
+    let runner = Runner::of(text.as_slice(), &race);
     let told = reported(rt, &[runner], verifiers, &race, &NoNotices);
     let ahead = race.ahead.load(Ordering::SeqCst);
     FIRST <= ahead && ahead <= MOST && is_told(rt.alloc(), told, TOLD)
+}
+
+/// Another module of 400 pages.
+const OTHER: [Sent; 3] = [Open(9, 409_600), Pages(9, 400), Close(9)];
+
+const BOTH: &str = "module 0: complete, 409600 words\nmodule 9: complete, 409600 words\nstrays 0\n";
+
+/// Whether two connections that wait at once are both called, and all pages come to be placed.
+fn both_go_on<S: Threads + Wait + Sync + AllocGlobal>(rt: &S, verifiers: usize) -> bool
+    requires verifiers { (1 ≤ verifiers) × (verifiers ≤ 8) }
+{
+    let (Ok(one), Ok(other)) = (text_of(rt.alloc(), &SENT), text_of(rt.alloc(), &OTHER)) else {
+        return false;
+    };
+    let race = Race::new(FIRST_OF_TWO);
+    let one = Runner::of(one.as_slice(), &race);
+    let other = Runner::of(other.as_slice(), &race);
+    let told = reported(rt, &[one, other], verifiers, &race, &NoNotices);
+    let ahead = race.ahead.load(Ordering::SeqCst);
+    FIRST_OF_TWO <= ahead && ahead <= MOST_OF_TWO && is_told(rt.alloc(), told, BOTH)
+}
+
+#[test]
+fn two_receivers_wait_for_verifiers(rt: HostRuntime) {
+    assert!(rt; both_go_on(&rt, 1));
+    assert!(rt; both_go_on(&rt, 8));
 }
 
 #[test]

@@ -1,7 +1,7 @@
 use Rattle.std.proofs.Common.{◌≡◌, ◌<◌, ◌∙◌, None, length, sym, ap, subst, arith}
 use Rattle.std.specs.Option.{option_map_or}
 use Rattle.std.proofs.lemmas.Option.{slice_get_within}
-use Rattle.std.proofs.lemmas.Result.{IfOk-at_ok, IfOk-from_err}
+use Rattle.std.proofs.lemmas.Result.{IfOk-at_ok}
 use Rattle.lfi_receive.specs.Inputs.{left_of}
 use Rattle.lfi_stage_model.proofs.Each.{some_at}
 use Rattle.lfi_thread_loops.specs.Heard.{HasHeard}
@@ -9,8 +9,8 @@ use Rattle.lfi_thread_loops.specs.Running.{had_by}
 use Rattle.lfi_thread_loops.proofs.Through.{back_of, sequencers_of, receivers_of, on_ok, both_ok}
 use Rattle.lfi_thread_loops.proofs.loading.load_in.Goals as goal
 
-pub start_sequencers-requires-clause-are : goal.start_sequencers-requires-clause-are
-start_sequencers-requires-clause-are g c = λ κs within. sequencers_of c.args.env.now.shared.now (length c.args.inputs.items) c.args.ready c.requires.ready
+pub sequence_loop-placed-requires : goal.sequence_loop-placed-requires
+sequence_loop-placed-requires g c = sequencers_of c.args.env.now.shared.now (length c.args.inputs.items) c.args.ready c.requires.ready
 
 pub start_verifiers-begun-requires-clause-are : goal.start_verifiers-begun-requires-clause-are
 start_verifiers-begun-requires-clause-are g c = λ κs within. c.requires.ready.seated
@@ -46,8 +46,8 @@ join_parts-back-requires-clause-receiving g c = c.start_receivers-started.ensure
 pub join_parts-back-requires-clause-verifying : goal.join_parts-back-requires-clause-verifying
 join_parts-back-requires-clause-verifying g c = c.start_verifiers-begun.ensures.numbered
 
-pub join_parts-back-requires-clause-placing : goal.join_parts-back-requires-clause-placing
-join_parts-back-requires-clause-placing g c = c.in_ok-placing.ensures.promised
+pub join_parts-back-requires-clause-placed : goal.join_parts-back-requires-clause-placed
+join_parts-back-requires-clause-placed g c = c.sequence_loop-placed.ensures
 
 pub start_receivers-started-requires-clause-none : goal.start_receivers-started-requires-clause-none
 start_receivers-started-requires-clause-none g c = λ κs within. c.new-receiving.ensures.items
@@ -57,6 +57,3 @@ start_receivers-started-requires-clause-inputs g c = λ κs within. sym c.requir
 
 pub start_verifiers-begun-requires-clause-none : goal.start_verifiers-begun-requires-clause-none
 start_verifiers-begun-requires-clause-none g c = λ κs within. c.new-verifying.ensures.items
-
-pub returns-in_err-placing : goal.returns-in_err-placing
-returns-in_err-placing g c = IfOk-from_err c.from_residual.result _ c.from_residual.ensures.0

@@ -46,5 +46,4 @@ returns-clause-ended g c = IfOk-weaker c.parts_of.result _ _ (λ parts is. IfOk-
     subst (λ s. HasEnded s v) here.0 told.2.1) c.join_each-verifiers.ensures.kept)) c.parts_of.ensures.verifiers
 
 pub returns-clause-sequencers : goal.returns-clause-sequencers
-returns-clause-sequencers g c = IfOk-weaker c.parts_of.result _ _ (λ (parts : Parts) (same : parts.sequencers ≡ c.join-placed.result.sequencers). subst (λ s. AreSequencersOf c.args.env.now.shared.now s.items) (sym same)
-    (subst (λ s. AreSequencersOf s c.join-placed.result.sequencers.items) c.requires.placing c.join-placed.ensures)) c.parts_of.ensures.sequencers
+returns-clause-sequencers g c = IfOk-weaker c.parts_of.result _ _ (λ (parts : Parts) (same : parts.sequencers ≡ c.args.placed.sequencers). subst (λ s. AreSequencersOf c.args.env.now.shared.now s.items) (sym same) c.requires.placed) c.parts_of.ensures.sequencers

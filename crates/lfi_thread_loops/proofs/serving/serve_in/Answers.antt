@@ -1,7 +1,8 @@
-use Rattle.std.proofs.Common.{◌≡◌, ◌∙◌, length, arith}
+use Rattle.std.proofs.Common.{◌≡◌, ◌∙◌, length, subst, arith}
 use Rattle.std.proofs.lemmas.Result.{IfOk-at_ok, IfOk-from_err}
 use Rattle.lfi_receive.specs.Inputs.{left_of}
 use Rattle.lfi_sync.specs.Clients.{sent_over_socket}
+use Rattle.lfi_thread_loops.specs.inner.Workers.{AreSequencersOf}
 use Rattle.lfi_thread_loops.proofs.Clients.{heard_after, no_other_after, endless_after}
 use Rattle.lfi_thread_loops.proofs.Through.{back_of, sequencers_of, receivers_of, heard_by, on_ok, of_three}
 use Rattle.lfi_thread_loops.proofs.serving.serve_in.Goals as goal
@@ -61,8 +62,8 @@ join_parts-back-requires-clause-receiving g c = c.accept_all-accepted.ensures.nu
 pub join_parts-back-requires-clause-verifying : goal.join_parts-back-requires-clause-verifying
 join_parts-back-requires-clause-verifying g c = c.start_verifiers-begun.ensures.numbered
 
-pub join_parts-back-requires-clause-placing : goal.join_parts-back-requires-clause-placing
-join_parts-back-requires-clause-placing g c = c.in_ok-placing.ensures.promised
+pub join_parts-back-requires-clause-placed : goal.join_parts-back-requires-clause-placed
+join_parts-back-requires-clause-placed g c = subst (λ s. AreSequencersOf s c.join-placed.result.sequencers.items) c.in_ok-placing.ensures.promised c.join-placed.ensures
 
 pub returns-in_err-placing : goal.returns-in_err-placing
 returns-in_err-placing g c = IfOk-from_err c.from_residual.result _ c.from_residual.ensures.0
