@@ -190,12 +190,12 @@ static int profile(void) {
 }
 
 /* The text of examples/checksums_unguarded.code's fault, as README.md has it, and one with the word before. */
-static const char FIRST[] = "word 16 rule 2\n  0x0000000100010040  b8237880  str w0, [x4, x3, lsl #2]\n  a load or store goes through x18, x21, "
-    "x23, x24 or sp at an immediate offset, through sp and changes it, or through x21 by a W register with uxtw and no shift; "
+static const char FIRST[] = "word 16 rule 2\n  0x0000000100010040  b8237880  str w0, [x4, x3, lsl #2]\n  a load or store may go only through x18, x21, "
+    "x23, x24 or sp at an immediate offset, through sp and change it, or through x21 by a W register with uxtw and no shift; "
     "this one goes through x4 by x3, lsl, shifted\n"
     "  mend: in its place\n    add w22, w4, w3, uxtw #2\n    str w0, [x21, w22, uxtw]";
 static const char SECOND[] = "word 1024 rule 10\n  0x0000000700010ffc  f94006be  ldr x30, [x21, #8]\n  0x0000000700011000  d503201f  nop\n"
-    "  a load of a table entry into x30 is followed by blr x30; this word isn't that\n"
+    "  a load of a table entry into x30 has to be followed by blr x30; this word isn't that\n"
     "  mend: put blr x30 right after the load, and before the load what stood between them";
 
 static int explanations(void) {

@@ -6,21 +6,21 @@ use core::fmt;
 /// A rule of docs/PROFILE.md, "Rules".
 #[derive(Clone, Copy, Debug, PartialEq, Eq, PartialOrd, Ord, Hash)]
 pub enum Rule {
-    /// 1: an instruction of the profile spells each word.
+    /// 1: each word has to be an instruction of the profile.
     Spelled = 1,
     /// 2: a load or store goes through registers that keep it in the slot.
     AccessConfined,
-    /// 3: x21 is never written.
+    /// 3: x21 may not be written.
     BaseKept,
     /// 4: x18, x23 and x24 are written by the guard alone.
     AddressGuarded,
     /// 5: x30 is written by the guard, calls and loads of 64 bits alone.
     LinkGuarded,
-    /// 6: x22 is written as w22 alone.
+    /// 6: x22 may be written only as w22.
     OffsetNarrow,
-    /// 7: sp is written by few instructions alone.
+    /// 7: sp may be written by few instructions only.
     StackBounded,
-    /// 8: a direct branch goes to a word of the module.
+    /// 8: a direct branch may go only to a word of the module.
     TargetInside,
     /// 9: an indirect branch goes through registers with an address in the slot.
     BranchBounded,

@@ -50,7 +50,7 @@ flaw_of _ = None
 -- in words
 abbrev pub flaw_text : Flaw → List ℕ
 flaw_text TooManyStreams = codes "at most 8 streams"
-flaw_text TooManyModules = codes "at most 16 modules"
+flaw_text TooManyModules = codes "more files than modules, of which the last is 15"
 flaw_text NoFolder = codes "--out names no folder"
 flaw_text NoSocket = codes "--socket names no path"
 flaw_text InputTwice = codes "- can be named once"

@@ -32,9 +32,6 @@ const LAST_PROFILE: u64 = 2;
 /// The last word of the longest code.
 const LAST_WORD: u64 = 4_194_303;
 
-/// The program's version, and the number of the C library's interface that goes with it.
-const VERSION: &str = "0.1.0, library interface 6";
-
 /// An argument in its place that has to be there.
 fn required_argument<'a>(alloc: Global, name: &'a str, text: &'a str) -> Arg<'a>
     ensures rule { rule_of result ≡ required_rule name.entry.now }
@@ -301,23 +298,23 @@ fn info_command<'a>(alloc: Global) -> Result<Command<'a>, AllocError>
     )
 }
 
-/// The program's command, without its subcommands.
-fn bare_command<'a>(alloc: Global) -> Command<'a>
+/// The program's command, of this version, without its subcommands.
+fn bare_command<'a>(alloc: Global, version: &'a str) -> Command<'a>
     ensures { Makes bare_app result }
 {
     Command::new(alloc, "lfiload")
         .about("Verifies and loads modules of sandboxed code")
-        .version(VERSION)
+        .version(version)
         .after_help(help::PROGRAM)
         .subcommand_required(true)
         .disable_help_subcommand(true)
 }
 
-/// The program's command, with its subcommands.
-pub(crate) fn command<'a>(alloc: Global) -> Result<Command<'a>, AllocError>
+/// The program's command, of this version, with its subcommands.
+pub(crate) fn command<'a>(alloc: Global, version: &'a str) -> Result<Command<'a>, AllocError>
     ensures { IfOk result (Makes lfiload_app) }
 {
-    let check = with_subcommand(Ok(bare_command(alloc)), check_command(alloc));
+    let check = with_subcommand(Ok(bare_command(alloc, version)), check_command(alloc));
     let load = with_subcommand(check, load_command(alloc));
     let serve = with_subcommand(load, serve_command(alloc));
     let run = with_subcommand(serve, run_command(alloc));

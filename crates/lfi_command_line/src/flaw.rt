@@ -33,7 +33,7 @@ impl fmt::Display for Flaw {
     fn fmt<W: fmt::Write>(&self, f: &mut fmt::Formatter<W>) -> fmt::Result {
         match self {
             Flaw::TooManyStreams => write!(f, "at most 8 streams"),
-            Flaw::TooManyModules => write!(f, "at most 16 modules"),
+            Flaw::TooManyModules => write!(f, "more files than modules, of which the last is 15"),
             Flaw::NoFolder => write!(f, "--out names no folder"),
             Flaw::NoSocket => write!(f, "--socket names no path"),
             Flaw::InputTwice => write!(f, "- can be named once"),

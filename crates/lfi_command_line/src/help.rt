@@ -161,6 +161,7 @@ and then for each connection C with a fault or with strays:
   file: TEXT                Where its first header has the fault: what begins so, an ELF file, an
                             image or no stream, and what to do with it.
   connection C: strays N    How many of the strays are its own.
+Of a page fault or a stray no byte is told: lfiload info STREAM lists each message with its byte.
 
 With --out DIR, the image of each complete module M is written to DIR/module-MM.img, M in two
 digits, in place of what stands there.
@@ -221,8 +222,10 @@ On the standard error:
   lfiload: cannot listen      It can't listen at the path; the second line names it (status 3).
   lfiload: connection C: cannot read
                               It was not taken, or a read of it failed (status 3).
-  lfiload: time is over: connection C
-                              It had not come (status 3), or had not ended (status 1 or 3).
+  lfiload: time is over: connection C had not come
+                              No client connected in time (status 3).
+  lfiload: time is over: connection C had not ended
+                              It was cut off (status 1 or 3).
   lfiload: cannot write PATH  An image can't be written (status 3).
   lfiload: --format is text or json
                               F is another word (status 2).
@@ -278,6 +281,8 @@ of the profile spells stands as `.inst`. Where the file is empty, no multiple of
 
 On the standard error:
   lfiload: bad length PATH   And a second line: which length it is, and which are asked for.
+  lfiload: PATH: KIND; TEXT  The file begins as an ELF file, an image or a stream. Its words are
+                             listed all the same; TEXT says what to do with such a file.
   lfiload: cannot read PATH  The file can't be read (status 3).
   lfiload: no memory         There was no memory for it (status 3).
 
@@ -287,19 +292,21 @@ Example: lfiload disassemble module.code";
 pub const PACK: &str =
     "Writes a stream to the standard output, as load and serve read it: of each file an Open, its pages
 and a Close. The first file is module M, the next M + 1, and so on, up to 15. The code isn't judged:
-its receiver does that (status 0). So an ELF file is packed too; lfiload info tells what a file is.
-Large pages are of profile 2 alone.
+its receiver does that (status 0). Large pages are of profile 2 alone.
 
 On the standard error:
   lfiload: bad length PATH       The file is empty, no multiple of 4 bytes, or above 16,777,216
                                  bytes (status 1). A second line says which length it is.
   lfiload: no word WORD in PATH  The file has no such word, at which it could be entered (status 1).
-  lfiload: at most 16 modules    The files are more than the modules from M on (status 2).
+  lfiload: more files than modules, of which the last is 15
+                                 The first file would be module M, and so on (status 2).
   lfiload: pages are small, or large with --profile 2
                                  SIZE is another word, or large and the profile is 1 (status 2).
   lfiload: cannot read PATH      The first file that can't be read (status 3).
   lfiload: no memory             There was no memory for the files (status 3).
-All files are read first: after each of these lines nothing was written.
+  lfiload: PATH: KIND; TEXT      The file begins as an ELF file, an image or a stream. It is packed
+                                 all the same; TEXT says what to do with such a file.
+All files are read first: after each of these lines but the last nothing was written.
 
 Example: lfiload pack --module 2 --entry 16 first.code second.code > both.stream";
 

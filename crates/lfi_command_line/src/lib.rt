@@ -11,7 +11,7 @@ mod options;
 
 pub use fault::LineFault;
 pub use flaw::Flaw;
-pub use line::{Line, read_line};
+pub use line::{Arguments, Line, read_line};
 pub use options::{
     CheckOptions, DisassembleOptions, Explain, Format, InfoOptions, LoadOptions, PackOptions,
     ReportOptions, RunOptions, ServeOptions, UnpackOptions,

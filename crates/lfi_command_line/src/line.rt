@@ -33,12 +33,21 @@ pub enum Line<'a> {
     Info(InfoOptions<'a>),
 }
 
+/// The arguments of a run, with the version of the program that they are given to.
+#[derive(Clone, Copy)]
+pub struct Arguments<'a> {
+    /// What `--version` prints after the program's name. Nothing else depends on it.
+    pub version: &'a str,
+    /// The arguments, of which the first is the program's name.
+    pub words: &'a [String],
+}
+
 /// What the parser makes of the words.
-fn parse<'a>(alloc: Global, words: &'a [String]) -> Result<ArgMatches<'a>, LineFault>
-    ensures taken { IfOk result (AreTakenBy (map string_bytes words.now)) }
-    ensures fault { IfErr result (IsLineFault (map string_bytes words.now)) }
+fn parse<'a>(alloc: Global, arguments: Arguments<'a>) -> Result<ArgMatches<'a>, LineFault>
+    ensures taken { IfOk result (AreTakenBy (map string_bytes arguments.entry.words.now)) }
+    ensures fault { IfErr result (IsLineFault (map string_bytes arguments.entry.words.now)) }
 {
-    Ok(command(alloc)?.try_get_matches_from(words)?)
+    Ok(command(alloc, arguments.version)?.try_get_matches_from(arguments.words)?)
 }
 
 /// What words ask for of which the parser has made this.
@@ -71,7 +80,7 @@ fn line_of<'a>(alloc: Global, matches: &ArgMatches<'a>) -> Result<Line<'a>, Line
     run_line(matches.subcommand_matches("run").unwrap())
 }
 
-/// Parses the arguments, of which the first is the program's name.
+/// Parses the arguments.
 ///
 /// Which words make which line, and which kind of fault, is what the parser's own definitions say
 /// of this program's command; its texts are in no contract.
@@ -80,12 +89,12 @@ fn line_of<'a>(alloc: Global, matches: &ArgMatches<'a>) -> Result<Line<'a>, Line
 ///
 /// Why there is no command to carry out: help was asked for, there is a usage error, what they ask for can't be carried out
 /// (`Flaw`), or there was no memory to read them.
-pub fn read_line<'a>(alloc: Global, words: &'a [String]) -> Result<Line<'a>, LineFault>
-    ensures line { IfOk result (IsLine (map string_bytes words.now)) }
+pub fn read_line<'a>(alloc: Global, arguments: Arguments<'a>) -> Result<Line<'a>, LineFault>
+    ensures line { IfOk result (IsLine (map string_bytes arguments.entry.words.now)) }
     ensures sound { IfOk result (λ line. flaw_of line ≡ None) }
-    ensures fault { IfErr result (IsLineFault (map string_bytes words.now)) }
+    ensures fault { IfErr result (IsLineFault (map string_bytes arguments.entry.words.now)) }
 {
-    let matches = parse(alloc, words)?;
+    let matches = parse(alloc, arguments)?;
     let line = line_of(alloc, &matches)?;
     match flaw_of(&line) {
         Some(flaw) => Err(LineFault::Flawed(flaw)),

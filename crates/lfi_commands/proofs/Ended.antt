@@ -27,9 +27,10 @@ use Rattle.lfi_file_commands.specs.Several.{AreDone, DoesEach}
 use Rattle.lfi_file_commands.specs.declared.kind.FileKind.{FileKind}
 use Rattle.lfi_file_commands.specs.declared.kind.FileKind.TheVariants as kinds
 use Rattle.lfi_frame.specs.declared.fault.FrameFault.{FrameFault}
-use Rattle.lfi_file_commands.specs.Listing.{EndsListing}
+use Rattle.lfi_file_commands.specs.declared.listed.Listed.{Listed}
+use Rattle.lfi_file_commands.specs.declared.listed.Listed.TheVariants as listed
+use Rattle.lfi_file_commands.specs.Listing.{ending_of_listed}
 use Rattle.lfi_file_commands.specs.Unpacking.{HasUnpacked}
-use Rattle.lfi_file_commands.specs.declared.no_code.NoCode.{NoCode}
 use Rattle.lfi_file_commands.specs.Endings.{ending_of_halt, ending_of_run, number_of, EndsUnlessLost}
 use Rattle.lfi_commands.specs.Clients.{are_all_in_time, are_all_taken, EndsServing}
 use Rattle.lfi_commands.specs.Endings.{EndsLoad}
@@ -159,10 +160,10 @@ by_told : (name path : List ℕ) (known : Option (List ℕ)) (old new : Left) (e
 by_told name path known old new ending (inl told) is = by_short (nat_lt infos.most_told (length told.info.bytes)) told.info.bytes told.text ending told.info.info is
 by_told name path known old new ending (inr unread) is = failed_ends (sym is ∙ unread.5)
 
-by_listing : (other : Option NoCode) (is_lost : Bool) → EndsListing other is_lost WrongWords → ⊥
-by_listing None is_lost ends = well_ends ends
-by_listing (Some n) true ends = failed_ends ends
-by_listing (Some n) false ends = cc
+by_listing : (found : Listed) (is_lost : Bool) → EndsUnlessLost is_lost (ending_of_listed found) WrongWords → ⊥
+by_listing found true ends = failed_ends ends
+by_listing (listed.Words kind) false ends = well_ends ends
+by_listing (listed.NoCode n) false ends = not_well_ends ends
 
 by_unpack : (bytes : Option (List ℕ)) (old new : Left) → HasUnpacked bytes old new WrongWords → ⊥
 by_unpack bytes old new (inl written) = well_ends written.6
@@ -176,7 +177,7 @@ by_line (Serve asked) file_at old new carried =
     by_serve (are_all_in_time carried.found.clients.fates) new.is_lost told.by_load
     (by_report asked.report.format carried.found.report (of_served asked.connections carried.found) asked.report old told.before told.by_load told.reported) told.ends
 by_line (Run asked) file_at old new carried = by_run new.is_lost carried.run carried.ends
-by_line (Disassemble asked) file_at old new carried = by_listing carried.other new.is_lost carried.ends
+by_line (Disassemble asked) file_at old new carried = by_listing carried.listed new.is_lost carried.ends
 by_line (Pack asked) file_at old new carried = carried.found
 by_line (Unpack asked) file_at old new carried = by_unpack (file_at asked.image.now) old new carried
 by_line (Info asked) file_at old new carried = by_each (TellsOne asked file_at) (infos.paths_of asked) (λ k path was now ending one is. by_told _ path (file_at path) was now ending one is) old new carried

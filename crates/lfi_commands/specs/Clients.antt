@@ -35,19 +35,23 @@ read_line c fault kind = []
 abbrev pub read_lines : List (Option FrameFault) → (kinds : List (Option ErrorKind)) → List ℕ
 read_lines faults kinds = lines_from (λ c fault. read_line c fault (get_or kinds c None)) 0 faults
 
--- the line of connection c, which hadn't come, or hadn't ended, when the time was over
-abbrev pub late_line : ℕ → List ℕ
-late_line c = codes "lfiload: time is over: connection " ++ decimal c ++ codes "\n"
+-- the line of connection c, which had not come when the time was over
+abbrev pub not_come_line : ℕ → List ℕ
+not_come_line c = codes "lfiload: time is over: connection " ++ decimal c ++ codes " had not come\n"
+
+-- the line of connection c, which had not ended when the time was over
+abbrev pub cut_off_line : ℕ → List ℕ
+cut_off_line c = codes "lfiload: time is over: connection " ++ decimal c ++ codes " had not ended\n"
 
 -- the line of connection c, which has no client, for this
 abbrev pub absent_line : ℕ → Absence → List ℕ
-absent_line c NotCome = late_line c
+absent_line c NotCome = not_come_line c
 absent_line c (NotTaken kind) = unread_line c (cause_of kind)
 
 -- the line of connection c, by what became of its client; of one that was heard there is none
 abbrev pub fate_line : ℕ → ClientFate → List ℕ
 fate_line c Heard = []
-fate_line c CutOff = late_line c
+fate_line c CutOff = cut_off_line c
 fate_line c (Absent why) = absent_line c why
 
 -- those of all connections, by their numbers

@@ -5,7 +5,7 @@ ghost use Rattle.std.specs.List.{count_by};
 ghost use Rattle.lfi_file_commands.specs.Errors.{is_lost_of, writer_of};
 ghost use Rattle.lfi_file_commands.specs.Failures.{Told};
 ghost use Rattle.lfi_sync.specs.Fates.{is_absent, is_cut_off};
-ghost use Rattle.lfi_commands.specs.Clients.{absent_line, are_all_in_time, are_all_taken, cause_told, fate_line, fate_lines, late_line, not_well, read_line, read_lines, unread_line, EndsServing};
+ghost use Rattle.lfi_commands.specs.Clients.{absent_line, are_all_in_time, are_all_taken, cause_told, cut_off_line, fate_line, fate_lines, not_come_line, not_well, read_line, read_lines, unread_line, EndsServing};
 
 use crate::ending::is_of_a_read;
 use lfi_file_commands::{DeviceCause, Ending, Errors};
@@ -22,12 +22,20 @@ fn tell_unread<E: Write>(number: usize, cause: DeviceCause, errors: &mut Errors<
     errors.write_line(format_args!("lfiload: connection {number}: cannot read{cause}"))
 }
 
-/// Tells by a line that a connection hadn't come, or hadn't ended, when the time was over.
-fn tell_late<E: Write>(number: usize, errors: &mut Errors<E>)
-    ensures told { Told (is_lost_of errors.new) (E.contents (writer_of errors.old)) (E.contents (writer_of errors.new)) (late_line number) }
+/// Tells by a line that a connection had not come when the time was over.
+fn tell_not_come<E: Write>(number: usize, errors: &mut Errors<E>)
+    ensures told { Told (is_lost_of errors.new) (E.contents (writer_of errors.old)) (E.contents (writer_of errors.new)) (not_come_line number) }
     ensures lost { is_lost_of errors.old ≡ true → is_lost_of errors.new ≡ true }
 {
-    errors.write_line(format_args!("lfiload: time is over: connection {number}"))
+    errors.write_text(format_args!("lfiload: time is over: connection {number} had not come\n"))
+}
+
+/// Tells by a line that a connection had not ended when the time was over.
+fn tell_cut_off<E: Write>(number: usize, errors: &mut Errors<E>)
+    ensures told { Told (is_lost_of errors.new) (E.contents (writer_of errors.old)) (E.contents (writer_of errors.new)) (cut_off_line number) }
+    ensures lost { is_lost_of errors.old ≡ true → is_lost_of errors.new ≡ true }
+{
+    errors.write_text(format_args!("lfiload: time is over: connection {number} had not ended\n"))
 }
 
 /// The cause by the kind of an error, where it was told.
@@ -76,7 +84,7 @@ fn tell_absent<E: Write>(number: usize, why: Absence, errors: &mut Errors<E>)
     ensures lost { is_lost_of errors.old ≡ true → is_lost_of errors.new ≡ true }
 {
     match why {
-        Absence::NotCome => tell_late(number, errors),
+        Absence::NotCome => tell_not_come(number, errors),
         Absence::NotTaken(kind) => tell_unread(number, DeviceCause::of_kind(kind), errors),
     }
 }
@@ -88,7 +96,7 @@ fn tell_fate<E: Write>(number: usize, fate: ClientFate, errors: &mut Errors<E>)
 {
     match fate {
         ClientFate::Heard => {}
-        ClientFate::CutOff => tell_late(number, errors),
+        ClientFate::CutOff => tell_cut_off(number, errors),
         ClientFate::Absent(why) => tell_absent(number, why, errors),
     }
 }

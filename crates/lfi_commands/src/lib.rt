@@ -46,6 +46,7 @@ mod reporting;
 mod sources;
 
 pub use ending::ending_of_load;
+pub use lfi_command_line::Arguments;
 pub use notices::WrittenNotices;
 pub use program::run_words;
 pub use reporting::write_report;

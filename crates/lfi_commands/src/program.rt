@@ -17,7 +17,7 @@ use crate::objects::write_report_object;
 use crate::reporting::write_told;
 use crate::sources::Sources;
 use lfi_command_line::{
-    Format, Line, LineFault, LoadOptions, ReportOptions, ServeOptions, read_line,
+    Arguments, Format, Line, LineFault, LoadOptions, ReportOptions, ServeOptions, read_line,
 };
 use lfi_file_commands::{
     DeviceCause, Disk, Ending, Failure, ImageItems, ImageStore, Outputs, ended, open_all,
@@ -295,19 +295,19 @@ fn tell_fault<P: ImageStore, O: Write, E: Write>(
 }
 
 /// What the arguments ask for. Its numbers are in their ranges.
-fn line_of<'a>(alloc: Global, words: &'a [String]) -> Result<Line<'a>, LineFault>
-    ensures line { IfOk result (IsLine (map string_bytes words.now)) }
+fn line_of<'a>(alloc: Global, arguments: Arguments<'a>) -> Result<Line<'a>, LineFault>
+    ensures line { IfOk result (IsLine (map string_bytes arguments.entry.words.now)) }
     ensures sound { IfOk result (λ line. flaw_of line ≡ None) }
     ensures range { IfOk result IsInRange }
-    ensures fault { IfErr result (IsLineFault (map string_bytes words.now)) }
+    ensures fault { IfErr result (IsLineFault (map string_bytes arguments.entry.words.now)) }
 {
-    match read_line(alloc, words) {
+    match read_line(alloc, arguments) {
         Ok(line) => Ok(line),
         Err(fault) => Err(fault),
     }
 }
 
-/// Carries out what the arguments ask for, of which the first is the program's name: reads files of the disk,
+/// Carries out what the arguments ask for: reads files of the disk,
 /// writes the answer and the images, and tells what went wrong. While modules are loaded, the notices are told of those that
 /// are refused.
 pub fn run_words<
@@ -322,12 +322,12 @@ pub fn run_words<
     alloc: Global,
     disk: &D,
     notices: &N,
-    words: &[String],
+    arguments: Arguments<'_>,
     outputs: &mut Outputs<P, O, E>,
 ) -> Ending
-    ensures { Runs (map string_bytes words.now) (D.file_at disk.now) outputs.old outputs.new result }
+    ensures { Runs (map string_bytes arguments.entry.words.now) (D.file_at disk.now) outputs.old outputs.new result }
 {
-    let line = match line_of(alloc, words) {
+    let line = match line_of(alloc, arguments) {
         Ok(line) => line,
         Err(fault) => return tell_fault(&fault, outputs),
     };

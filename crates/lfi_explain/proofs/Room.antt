@@ -150,16 +150,16 @@ within_short (Probe count) gone calm = either (nat_lt 1 count) (late_short count
 
 last_short : (opened : Need) → Short (sentences.last_text opened) 200
 last_short Nothing = within (exact _) (lit≤ tt)
-last_short Call = within (exact (codes "the last word asks nothing of a next one; this one asks for ") ⊕ meeting_short Call) (lit≤ tt)
-last_short Guard = within (exact (codes "the last word asks nothing of a next one; this one asks for ") ⊕ meeting_short Guard) (lit≤ tt)
-last_short (Probe count) = within (exact (codes "the last word asks nothing of a next one; this one asks for ") ⊕ meeting_short (Probe count)) (lit≤ tt)
+last_short Call = within (exact (codes "the last word may ask nothing of a next one; this one asks for ") ⊕ meeting_short Call) (lit≤ tt)
+last_short Guard = within (exact (codes "the last word may ask nothing of a next one; this one asks for ") ⊕ meeting_short Guard) (lit≤ tt)
+last_short (Probe count) = within (exact (codes "the last word may ask nothing of a next one; this one asks for ") ⊕ meeting_short (Probe count)) (lit≤ tt)
 
 unmet_short : (need opened : Need) (gone : ℕ) (calm : Bool) → Short (sentences.unmet_text need opened gone calm) 380
 unmet_short Nothing opened gone calm = within (last_short opened) (lit≤ tt)
-unmet_short Call opened gone calm = within (opening_short Call ⊕ exact (codes " is followed by ") ⊕ meeting_short Call ⊕ within_short Call gone calm) (lit≤ tt)
-unmet_short Guard opened gone calm = within (opening_short Guard ⊕ exact (codes " is followed by ") ⊕ meeting_short Guard ⊕ within_short Guard gone calm) (lit≤ tt)
+unmet_short Call opened gone calm = within (opening_short Call ⊕ exact (codes " has to be followed by ") ⊕ meeting_short Call ⊕ within_short Call gone calm) (lit≤ tt)
+unmet_short Guard opened gone calm = within (opening_short Guard ⊕ exact (codes " has to be followed by ") ⊕ meeting_short Guard ⊕ within_short Guard gone calm) (lit≤ tt)
 unmet_short (Probe count) opened gone calm =
-    within (opening_short (Probe count) ⊕ exact (codes " is followed by ") ⊕ meeting_short (Probe count) ⊕ within_short (Probe count) gone calm) (lit≤ tt)
+    within (opening_short (Probe count) ⊕ exact (codes " has to be followed by ") ⊕ meeting_short (Probe count) ⊕ within_short (Probe count) gone calm) (lit≤ tt)
 
 ordered_short : (load : Bool) (size : Size) → Short (sentences.ordered_name load size) 5
 ordered_short true sizes.Byte = exact _
@@ -189,7 +189,7 @@ group_short groups.Vector = within (exact _) (lit≤ tt)
 
 unspelled_short : (word : ℕ) (found : Option Instruction) → Short (sentences.unspelled_text word found) 120
 unspelled_short word (Some (Ordered i)) = within (exact (codes "; ") ⊕ ordered_short i.load i.size ⊕ exact (codes " is an instruction of profile 2")) (lit≤ tt)
-unspelled_short word found = within (exact (codes "; none spells this one, of the group: ") ⊕ group_short _) (lit≤ tt)
+unspelled_short word found = within (exact (codes "; this one is none, of the group: ") ⊕ group_short _) (lit≤ tt)
 
 sentence_short : (rule : Rule) (e : Explanation) → Short (sentences.asks_text rule ++ sentences.does_text rule e) 400
 sentence_short rules.Spelled e = within (exact (sentences.asks_text rules.Spelled) ⊕ unspelled_short e.at.word e.at.in_second) (lit≤ tt)

@@ -85,13 +85,13 @@ within_text need gone calm = codes "; this word isn't that"
 
 -- what the last word asks; where it asks nothing, one before it does, which isn't known here
 abbrev pub last_text : Need → List ℕ
-last_text Nothing = codes "a move of sp by an immediate is followed by a load or store at [sp] within 4 words, with only calm words before it; this word isn't that"
-last_text opened = codes "the last word asks nothing of a next one; this one asks for " ++ meeting_text opened
+last_text Nothing = codes "a move of sp by an immediate has to be followed by a load or store at [sp] within 4 words, with only calm words before it; this word isn't that"
+last_text opened = codes "the last word may ask nothing of a next one; this one asks for " ++ meeting_text opened
 
 -- a need that isn't met, of a word before, behind which `gone` calm words stand; or else that of the last word
 abbrev pub unmet_text : (need opened : Need) → (gone : ℕ) → (calm : Bool) → List ℕ
 unmet_text Nothing opened gone calm = last_text opened
-unmet_text need opened gone calm = opening_text need ++ codes " is followed by " ++ meeting_text need ++ within_text need gone calm
+unmet_text need opened gone calm = opening_text need ++ codes " has to be followed by " ++ meeting_text need ++ within_text need gone calm
 
 -- behind how many calm words the word is that has to meet what one before opens
 abbrev pub gone_before : Option Opener → ℕ
@@ -108,15 +108,15 @@ unmet_in e = unmet_of e.at e.opener
 
 -- what a rule asks of a word; of the last rule, nothing, since its need says it
 abbrev pub asks_text : Rule → List ℕ
-asks_text rules.Spelled = codes "an instruction of the profile spells each word"
-asks_text rules.AccessConfined = codes "a load or store goes through x18, x21, x23, x24 or sp at an immediate offset, through sp and changes it, or through x21 by a W register with uxtw and no shift"
-asks_text rules.BaseKept = codes "x21 holds where the slot begins and is never written"
-asks_text rules.AddressGuarded = codes "x18, x23 and x24 are written by add xD, x21, wM, uxtw alone"
-asks_text rules.LinkGuarded = codes "x30 is written by add x30, x21, wM, uxtw, by bl, by blr or by a load of 64 bits alone"
-asks_text rules.OffsetNarrow = codes "x22 is written as w22 alone, so that it stays below 2^32"
-asks_text rules.StackBounded = codes "sp is written by add sp, x21, wM, uxtw, by add sp, x21, x22, uxtx, by an unshifted add or sub of an immediate to sp, or by indexing on sp alone"
-asks_text rules.TargetInside = codes "a direct branch goes to a word of the module"
-asks_text rules.BranchBounded = codes "br and blr go through x18, x23, x24 or x30, and ret through x30"
+asks_text rules.Spelled = codes "each word has to be an instruction of the profile"
+asks_text rules.AccessConfined = codes "a load or store may go only through x18, x21, x23, x24 or sp at an immediate offset, through sp and change it, or through x21 by a W register with uxtw and no shift"
+asks_text rules.BaseKept = codes "x21 holds where the slot begins and may not be written"
+asks_text rules.AddressGuarded = codes "x18, x23 and x24 may be written only by add xD, x21, wM, uxtw"
+asks_text rules.LinkGuarded = codes "x30 may be written only by add x30, x21, wM, uxtw, by bl, by blr or by a load of 64 bits"
+asks_text rules.OffsetNarrow = codes "x22 may be written only as w22, so that it stays below 2^32"
+asks_text rules.StackBounded = codes "sp may be written only by add sp, x21, wM, uxtw, by add sp, x21, x22, uxtx, by an unshifted add or sub of an immediate to sp, or by indexing on sp"
+asks_text rules.TargetInside = codes "a direct branch may go only to a word of the module"
+asks_text rules.BranchBounded = codes "br and blr may go only through x18, x23, x24 or x30, and ret only through x30"
 asks_text rules.NeedMet = []
 
 -- the names of ordered loads and stores
@@ -131,7 +131,7 @@ ordered_name false size = codes "stlr"
 -- what is told of a word that no instruction of the profile spells, by what spells it in the second profile: that, or its group
 abbrev pub unspelled_text : (word : ℕ) → Option Instruction → List ℕ
 unspelled_text word (Some (Ordered i)) = codes "; " ++ ordered_name i.load i.size ++ codes " is an instruction of profile 2"
-unspelled_text word _ = codes "; none spells this one, of the group: " ++ group_text (group_of word)
+unspelled_text word _ = codes "; this one is none, of the group: " ++ group_text (group_of word)
 
 -- what the word does instead
 abbrev pub does_text : Rule → Explanation → List ℕ

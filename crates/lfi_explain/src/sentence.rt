@@ -265,11 +265,11 @@ impl fmt::Display for Last {
     fn fmt<W: fmt::Write>(&self, f: &mut fmt::Formatter<W>) -> fmt::Result {
         match self.0 {
             Need::Nothing => f.write_str(
-                "a move of sp by an immediate is followed by a load or store at [sp] within 4 words, with only calm words before it; this word isn't that",
+                "a move of sp by an immediate has to be followed by a load or store at [sp] within 4 words, with only calm words before it; this word isn't that",
             ),
             opened => write!(
                 f,
-                "the last word asks nothing of a next one; this one asks for {}",
+                "the last word may ask nothing of a next one; this one asks for {}",
                 Meeting(opened)
             ),
         }
@@ -299,7 +299,7 @@ impl fmt::Display for Unmet {
                 };
                 write!(
                     f,
-                    "{} is followed by {}{within}",
+                    "{} has to be followed by {}{within}",
                     Opening(need),
                     Meeting(need)
                 )
@@ -317,19 +317,19 @@ impl fmt::Display for Asks {
 
     fn fmt<W: fmt::Write>(&self, f: &mut fmt::Formatter<W>) -> fmt::Result {
         f.write_str(match self.0 {
-            Rule::Spelled => "an instruction of the profile spells each word",
+            Rule::Spelled => "each word has to be an instruction of the profile",
             Rule::AccessConfined =>
-                "a load or store goes through x18, x21, x23, x24 or sp at an immediate offset, through sp and changes it, or through x21 by a W register with uxtw and no shift",
-            Rule::BaseKept => "x21 holds where the slot begins and is never written",
-            Rule::AddressGuarded => "x18, x23 and x24 are written by add xD, x21, wM, uxtw alone",
+                "a load or store may go only through x18, x21, x23, x24 or sp at an immediate offset, through sp and change it, or through x21 by a W register with uxtw and no shift",
+            Rule::BaseKept => "x21 holds where the slot begins and may not be written",
+            Rule::AddressGuarded => "x18, x23 and x24 may be written only by add xD, x21, wM, uxtw",
             Rule::LinkGuarded =>
-                "x30 is written by add x30, x21, wM, uxtw, by bl, by blr or by a load of 64 bits alone",
-            Rule::OffsetNarrow => "x22 is written as w22 alone, so that it stays below 2^32",
+                "x30 may be written only by add x30, x21, wM, uxtw, by bl, by blr or by a load of 64 bits",
+            Rule::OffsetNarrow => "x22 may be written only as w22, so that it stays below 2^32",
             Rule::StackBounded =>
-                "sp is written by add sp, x21, wM, uxtw, by add sp, x21, x22, uxtx, by an unshifted add or sub of an immediate to sp, or by indexing on sp alone",
-            Rule::TargetInside => "a direct branch goes to a word of the module",
+                "sp may be written only by add sp, x21, wM, uxtw, by add sp, x21, x22, uxtx, by an unshifted add or sub of an immediate to sp, or by indexing on sp",
+            Rule::TargetInside => "a direct branch may go only to a word of the module",
             Rule::BranchBounded =>
-                "br and blr go through x18, x23, x24 or x30, and ret through x30",
+                "br and blr may go only through x18, x23, x24 or x30, and ret only through x30",
             Rule::NeedMet => "",
         })
     }
@@ -367,7 +367,7 @@ impl fmt::Display for Unspelled {
             }
             _ => {
                 let group = Group::of(self.word).text();
-                write!(f, "; none spells this one, of the group: {group}")
+                write!(f, "; this one is none, of the group: {group}")
             }
         }
     }

@@ -16,6 +16,8 @@ use Rattle.lfi_run_image.specs.Runs.{CameOf}
 use Rattle.lfi_file_commands.proofs.Joined.{all_taken}
 use Rattle.lfi_file_commands.specs.declared.finding.Finding.{Finding}
 use Rattle.lfi_file_commands.specs.declared.finding.Finding.TheVariants as findings
+use Rattle.lfi_file_commands.specs.declared.listed.Listed.{Listed}
+use Rattle.lfi_file_commands.specs.declared.listed.Listed.TheVariants as listed
 use Rattle.lfi_file_commands.specs.declared.no_code.NoCode.{NoCode}
 use Rattle.lfi_file_commands.specs.Checking.{IsFound, other_of, verdict_of}
 use Rattle.lfi_file_commands.specs.Explaining.{WritesFault, WritesFinding, WritesRefused}
@@ -63,10 +65,10 @@ finding_known name profile All more known (findings.Lawful n) old new same write
 finding_known name profile All more known (findings.Refused fault) old new same writes = refused_known name profile All more known fault old new same writes
 finding_known name profile All more known (findings.NoCode n) old new same writes = writes
 
-pub words_known : (marks : Marks) (profile : Profile) (more known : Option (List ℕ)) (other : Option NoCode) (old new : Option (List ℕ)) → Knows more known
-    → WritesWords marks profile more other old new → WritesWords marks profile known other old new
-words_known marks profile more known None old new same finds = (finds.0, carried (λ all. all ≡ finds.0) more known same finds.1, finds.2, finds.3)
-words_known marks profile more known (Some n) old new same finds = (carried (λ all. IsNoCode all n) more known same finds.0, finds.1)
+pub words_known : (marks : Marks) (profile : Profile) (more known : Option (List ℕ)) (found : Listed) (old new : Option (List ℕ)) → Knows more known
+    → WritesWords marks profile more found old new → WritesWords marks profile known found old new
+words_known marks profile more known (listed.Words kind) old new same finds = (finds.0, carried (λ all. all ≡ finds.0) more known same finds.1, finds.2, finds.3, finds.4)
+words_known marks profile more known (listed.NoCode n) old new same finds = (carried (λ all. IsNoCode all n) more known same finds.0, finds.1)
 
 -- what is written of a fault is what is written of the finding
 pub refused_now : (name : List ℕ) (profile : Profile) (how : Explain) (code : List ℕ) (fault : Fault) (old new : Option (List ℕ)) → Checks profile code (Refused fault)
@@ -139,10 +141,10 @@ finding_read name profile All left bytes (findings.Refused fault) old new to is 
 finding_read name profile All left bytes (findings.NoCode n) old new to is writes = writes
 
 -- and so is what is listed of it
-pub words_read : (marks : Marks) (profile : Profile) (left : Option (List ℕ)) (bytes : List ℕ) (other : Option NoCode) (old new : Option (List ℕ)) → IsReadTo left bytes
-    → Lists marks profile bytes other old new → WritesWords marks profile left other old new
-words_read marks profile left bytes None old new to lists = (bytes, to.code lists.0, lists.0, lists.1)
-words_read marks profile left bytes (Some n) old new to lists = (to.other n lists.0, lists.1)
+pub words_read : (marks : Marks) (profile : Profile) (left : Option (List ℕ)) (bytes : List ℕ) (found : Listed) (old new : Option (List ℕ)) → IsReadTo left bytes
+    → Lists marks profile bytes found old new → WritesWords marks profile left found old new
+words_read marks profile left bytes (listed.Words kind) old new to lists = (bytes, to.code lists.0, lists.0, lists.1, lists.2)
+words_read marks profile left bytes (listed.NoCode n) old new to lists = (to.other n lists.0, lists.1)
 
 found_all : (profile : Profile) (all : List ℕ) (finding : Finding) → IsFoundOf profile (take 16777217 all) finding → IsFound profile all finding
 found_all profile all (findings.Lawful n) is = checks_all profile all 16777217 (Lawful n) (omega arith) is

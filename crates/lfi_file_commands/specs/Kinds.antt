@@ -1,7 +1,8 @@
 -- What a file is, by its first bytes, and what is told of one that is to be code and isn't. Source: this project's profile, docs/PROFILE.md; of ELF its
 -- identification, the bytes 7f 45 4c 46.
-use Rattle.std.specs.Prelude.{◌≡◌, ℕ, ◌==◌, ◌&&◌, ◌||◌, Bool, nat_lt, List, [], ◌∷◌, ◌++◌, take, length, codes, decimal, if◌then◌else◌}
+use Rattle.std.specs.Prelude.{◌≡◌, ℕ, ◌==◌, ◌&&◌, ◌||◌, Bool, nat_lt, List, [], ◌∷◌, ◌++◌, take, length, codes, decimal, get_or, if◌then◌else◌}
 use Rattle.lfi_check.specs.Checking.{IsCode}
+use Rattle.lfi_model.specs.Texts.{lines_from}
 use Rattle.lfi_file_commands.specs.declared.kind.FileKind.{FileKind}
 use Rattle.lfi_file_commands.specs.declared.kind.FileKind.TheVariants.{Elf, Image, Stream, Plain}
 use Rattle.lfi_file_commands.specs.declared.no_code.NoCode.{NoCode}
@@ -28,7 +29,7 @@ file_kind bytes = kind_by_first (take 4 bytes)
 
 -- what it is, and what to do with it
 abbrev pub kind_text : FileKind → List ℕ
-kind_text Elf = codes "an ELF file; objcopy -O binary -j .text FILE CODE writes its code"
+kind_text Elf = codes "an ELF file; aarch64-linux-gnu-objcopy -O binary -j .text FILE CODE writes its code"
 kind_text Image = codes "an image; lfiload run runs it, lfiload unpack writes its code"
 kind_text Stream = codes "a stream; lfiload load loads its modules"
 kind_text Plain = []
@@ -36,6 +37,14 @@ kind_text Plain = []
 -- its line; of a plain file there is none
 abbrev pub kind_line : FileKind → List ℕ
 kind_line = elim [ Plain ↦ [] | kind ↦ codes "  file: " ++ kind_text kind ++ codes "\n" ]
+
+-- what is told of the file at a path that is taken for code; of a plain file nothing
+abbrev pub kind_note : (path : List ℕ) → FileKind → List ℕ
+kind_note path = elim [ Plain ↦ [] | kind ↦ codes "lfiload: " ++ path ++ codes ": " ++ kind_text kind ++ codes "\n" ]
+
+-- what is told of these files, by their paths
+abbrev pub kind_notes : (paths files : List (List ℕ)) → List ℕ
+kind_notes paths files = lines_from (λ c file. kind_note (get_or paths c []) (file_kind file)) 0 files
 
 -- how many bytes there are, counted up to one more than code can have
 abbrev pub counted : List ℕ → ℕ

@@ -1,5 +1,5 @@
 -- What `lfiload pack` finds of code files, and writes. Source: this project's profile, docs/COMMANDS.md.
-use Rattle.std.specs.Prelude.{◌≡◌, ℕ, ◌<◌, ◌≤◌, true, false, List, ◌++◌, length, map, Option, Some, IfSome, codes, decimal, slice_get}
+use Rattle.std.specs.Prelude.{◌≡◌, ◌⊎◌, ℕ, ◌<◌, ◌≤◌, true, false, List, ◌++◌, length, map, Option, Some, IfSome, codes, decimal, slice_get}
 use Rattle.std.specs.Io.KnownBytes.{Appends}
 use Rattle.a64_word.specs.Words.{words_of}
 use Rattle.lfi_command_line.specs.declared.options.PackOptions.{PackOptions}
@@ -10,7 +10,7 @@ use Rattle.lfi_file_commands.specs.declared.ending.Ending.{Ending}
 use Rattle.lfi_file_commands.specs.declared.ending.Ending.TheVariants.{Well, NotWell, WrongWords, Failed}
 use Rattle.lfi_check.specs.Checking.{IsCode}
 use Rattle.lfi_file_commands.specs.Failures.{Told}
-use Rattle.lfi_file_commands.specs.Kinds.{IsNoCode, bad_length_text}
+use Rattle.lfi_file_commands.specs.Kinds.{IsNoCode, bad_length_text, kind_notes}
 use Rattle.lfi_file_commands.specs.Left.{Left}
 
 -- why a file is no module, in words
@@ -52,13 +52,18 @@ TellsNoModule asked file_at old new =
     (c : ℕ) × (path : List ℕ) × (told : NoModule) × (slice_get (codes_of asked) c ≡ Some path) × IsNoModule asked.entry path file_at told
     × Told new.is_lost old.errors new.errors (no_module_line told) × (new.out ≡ old.out)
 
--- The files were packed, a module each; or one of them is no module. By the ending.
+-- The files were packed, a module each; it was told of those that begin as another kind of file, unless that is lost.
+abbrev pub PacksModules : PackOptions → (List ℕ → Option (List ℕ)) → (old new : Left) → Type 0
+PacksModules asked file_at old new =
+    (files : List (List ℕ)) × AreModulesOf asked.entry (map file_at (codes_of asked)) files × WritesStream asked files old.out new.out
+    × Told new.is_lost old.errors new.errors (kind_notes (codes_of asked) files)
+
+-- The files were packed; or one of them is no module. By the ending.
 abbrev pub FindsPacked : PackOptions → (List ℕ → Option (List ℕ)) → (old new : Left) → Ending → Type 0
-FindsPacked asked file_at old new Well =
-    (files : List (List ℕ)) × AreModulesOf asked.entry (map file_at (codes_of asked)) files × WritesStream asked files old.out new.out × (new.errors ≡ old.errors)
+FindsPacked asked file_at old new Well = PacksModules asked file_at old new × (new.is_lost ≡ false)
 FindsPacked asked file_at old new NotWell = TellsNoModule asked file_at old new × (new.is_lost ≡ false)
 FindsPacked asked file_at old new WrongWords = ⊥
-FindsPacked asked file_at old new Failed = TellsNoModule asked file_at old new × (new.is_lost ≡ true)
+FindsPacked asked file_at old new Failed = (PacksModules asked file_at old new ⊎ TellsNoModule asked file_at old new) × (new.is_lost ≡ true)
 
 -- What `lfiload pack` did, as it was asked for: it packed the files, or told that one of them is no module, and put no file.
 pub record HasPacked (asked : PackOptions) (file_at : List ℕ → Option (List ℕ)) (old new : Left) (ending : Ending) : Type 0 where

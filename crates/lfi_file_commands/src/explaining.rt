@@ -20,6 +20,7 @@ use crate::checking::{CommandFault, write_verdict};
 use crate::device_cause::DeviceCause;
 use crate::finding::Finding;
 use crate::kind::{FileKind, KindLine};
+use crate::listed::Listed;
 use crate::naming::Naming;
 use crate::no_code::NoCode;
 use crate::texts::{write_line, write_text};
@@ -260,16 +261,18 @@ pub(crate) fn check_explained<R: Read + Drop, W: Write>(
 fn write_words<W: Write>(
     alloc: Global,
     code: &Code<'_>,
+    kind: FileKind,
     marks: Marks,
     profile: Profile,
     writer: &mut W,
-) -> Result<Option<NoCode>, CommandFault>
-    requires { IsCode code.now }
-    ensures listed { IfOk result (λ other. Lists marks profile code.now other (W.contents writer.old) (W.contents writer.new)) }
+) -> Result<Listed, CommandFault>
+    requires code { IsCode code.now }
+    requires kind { kind ≡ file_kind code.now }
+    ensures listed { IfOk result (λ listed. Lists marks profile code.now listed (W.contents writer.old) (W.contents writer.new)) }
     ensures fault { IfErr result (λ fault. is_of_a_write fault ≡ true) }
 {
     match write_listing(alloc, code, slot(), marks, profile, writer) {
-        Ok(()) => Ok(None),
+        Ok(()) => Ok(Listed::Words(kind)),
         Err(error) => Err(CommandFault::NotWritten(DeviceCause::of(&error))),
     }
 }
@@ -279,12 +282,12 @@ fn write_bad_length<W: Write>(
     alloc: Global,
     no_code: NoCode,
     writer: &mut W,
-) -> Result<Option<NoCode>, CommandFault>
-    ensures listed { IfOk result (λ other. (other ≡ Some no_code) × Appends (W.contents writer.old) (W.contents writer.new) (codes "bad length\n")) }
+) -> Result<Listed, CommandFault>
+    ensures listed { IfOk result (λ listed. (listed ≡ Listed.NoCode no_code) × Appends (W.contents writer.old) (W.contents writer.new) (codes "bad length\n")) }
     ensures fault { IfErr result (λ fault. is_of_a_write fault ≡ true) }
 {
     match write_text(alloc, writer, "bad length\n") {
-        Ok(()) => Ok(Some(no_code)),
+        Ok(()) => Ok(Listed::NoCode(no_code)),
         Err(error) => Err(CommandFault::NotWritten(DeviceCause::of(&error))),
     }
 }
@@ -296,19 +299,18 @@ fn write_listed<W: Write>(
     marks: Marks,
     profile: Profile,
     writer: &mut W,
-) -> Result<Option<NoCode>, CommandFault>
-    ensures listed { IfOk result (λ other. Lists marks profile bytes.now other (W.contents writer.old) (W.contents writer.new)) }
+) -> Result<Listed, CommandFault>
+    ensures listed { IfOk result (λ listed. Lists marks profile bytes.now listed (W.contents writer.old) (W.contents writer.new)) }
     ensures fault { IfErr result (λ fault. is_of_a_write fault ≡ true) }
 {
     match Code::new(bytes) {
-        Some(code) => write_words(alloc, &code, marks, profile, writer),
+        Some(code) => write_words(alloc, &code, FileKind::of(bytes), marks, profile, writer),
         None => write_bad_length(alloc, NoCode::of(bytes), writer),
     }
 }
 
 /// Writes a line for each word of the code that a reader has left, up to its end: its place, address, text, where it branches
-/// to, what it opens, and the mark that is asked for; or one line, where that isn't code. It gives what is known of what isn't
-/// code.
+/// to, what it opens, and the mark that is asked for; or one line, where that isn't code. It gives which of the two.
 ///
 /// # Errors
 ///
@@ -319,8 +321,8 @@ pub fn disassemble<R: Read + Drop, W: Write>(
     marks: Marks,
     profile: Profile,
     writer: &mut W,
-) -> Result<Option<NoCode>, CommandFault>
-    ensures listed { IfOk result (λ other. WritesWords marks profile (R.remaining reader) other (W.contents writer.old) (W.contents writer.new)) }
+) -> Result<Listed, CommandFault>
+    ensures listed { IfOk result (λ listed. WritesWords marks profile (R.remaining reader) listed (W.contents writer.old) (W.contents writer.new)) }
     ensures unwritten { IfErr result (λ fault. is_of_a_write fault ≡ false → writer.new ≡ writer.old) }
 {
     match read_whole(alloc, reader) {

@@ -56,10 +56,29 @@ impl FileKind {
         ensures { result.now ≡ spec.kind_text self }
     {
         match self {
-            FileKind::Elf => "an ELF file; objcopy -O binary -j .text FILE CODE writes its code",
+            FileKind::Elf =>
+                "an ELF file; aarch64-linux-gnu-objcopy -O binary -j .text FILE CODE writes its code",
             FileKind::Image => "an image; lfiload run runs it, lfiload unpack writes its code",
             FileKind::Stream => "a stream; lfiload load loads its modules",
             FileKind::Plain => "",
+        }
+    }
+}
+
+/// That the file at a path, which is taken for code, begins as another kind of file; nothing, where it is plain.
+#[derive(Clone, Copy)]
+pub(crate) struct KindNote<'a> {
+    pub(crate) path: &'a str,
+    pub(crate) kind: FileKind,
+}
+
+impl fmt::Display for KindNote<'_> {
+    ghost output = { λ note. Some (spec.kind_note note.path.now note.kind) };
+
+    fn fmt<W: fmt::Write>(&self, f: &mut fmt::Formatter<W>) -> fmt::Result {
+        match self.kind {
+            FileKind::Plain => Ok(()),
+            kind => write!(f, "lfiload: {}: {}\n", self.path, kind.text()),
         }
     }
 }

@@ -4,12 +4,17 @@ ghost use Rattle.std.specs.Prelude.{◌≡◌, ◌<◌, ◌≤◌, ◌+◌, Some
 ghost use Rattle.lfi_module.specs.Pages.{HasPages};
 ghost use Rattle.a64_word.specs.Words.{words_of};
 ghost use Rattle.lfi_check.specs.Checking.{IsCode};
+ghost use Rattle.lfi_file_commands.specs.Errors.{is_lost_of, writer_of};
+ghost use Rattle.lfi_file_commands.specs.Failures.{Told};
+ghost use Rattle.lfi_file_commands.specs.Kinds.{kind_notes};
 ghost use Rattle.lfi_file_commands.specs.Packing as spec;
 ghost use Rattle.lfi_file_commands.specs.inner.Whole.{IsNoModuleOf, StopsAt, StopsAtOne, WritesModule};
 
 use crate::device_cause::DeviceCause;
 use crate::disk::Disk;
+use crate::errors::Errors;
 use crate::failure::Failure;
+use crate::kind::{FileKind, KindNote};
 use crate::no_code::{BadLength, NoCode};
 use crate::opening::{open, path_at};
 use crate::whole::read_whole;
@@ -122,6 +127,18 @@ fn code_at(files: &[Vec<u8>], place: usize) -> &[u8]
     ensures { slice_get (map (λ file. file.items) files.now) place ≡ Some result.now }
 {
     files[place].as_slice()
+}
+
+/// Tells of each of these files, at these paths, that begins as another kind of file than code.
+pub(crate) fn tell_kinds<E: Write>(paths: &[&str], files: &[Vec<u8>], errors: &mut Errors<E>)
+    requires { length files.now ≡ length paths.now }
+    ensures told { Told (is_lost_of errors.new) (E.contents (writer_of errors.old)) (E.contents (writer_of errors.new)) (kind_notes (map (λ path. path.now) paths.now) (map (λ file. file.items) files.now)) }
+{
+    for number in 0..files.len() {
+        let kind = FileKind::of(code_at(files, number));
+        let path = path_at(paths, number);
+        errors.write_text(KindNote { path, kind });
+    }
 }
 
 /// Writes this code as the module with this number, as it is asked for.

@@ -6,7 +6,7 @@ ghost use Rattle.lfi_file_commands.specs.Errors.{is_lost_of, writer_of};
 ghost use Rattle.lfi_file_commands.specs.Checking.{TellsOf};
 ghost use Rattle.lfi_file_commands.specs.Failures.{is_of_output, FailsOn, IsOfReading, Told};
 ghost use Rattle.lfi_file_commands.specs.Left.{OnlyOutput};
-ghost use Rattle.lfi_file_commands.specs.Listing.{EndsListing, HasListed, marks_by};
+ghost use Rattle.lfi_file_commands.specs.Listing.{HasListed, listed_text, marks_by};
 ghost use Rattle.lfi_file_commands.specs.Packing.{codes_of, AreModules, HasPacked, WritesStream};
 ghost use Rattle.lfi_file_commands.specs.Running.{told_of_run, HasRun};
 
@@ -15,10 +15,12 @@ use crate::ending::Ending;
 use crate::errors::Errors;
 use crate::explaining::disassemble;
 use crate::failure::Failure;
+use crate::kind::KindNote;
+use crate::listed::Listed;
 use crate::no_code::NoCode;
 use crate::opening::open;
 use crate::outputs::Outputs;
-use crate::packing::{NoModule, NotPacked, read_modules, write_stream};
+use crate::packing::{NoModule, NotPacked, read_modules, tell_kinds, write_stream};
 use crate::run_object::RunObject;
 use lfi_command_line::{DisassembleOptions, Format, PackOptions, RunOptions};
 use lfi_explain::Marks;
@@ -36,13 +38,13 @@ pub(crate) fn tell_other<E: Write>(path: &str, other: Option<NoCode>, errors: &m
     }
 }
 
-/// How a listing ends: well, where there is one.
-fn end_listing<E>(other: Option<NoCode>, errors: &Errors<E>) -> Ending
-    ensures { EndsListing other (is_lost_of errors.now) result }
+/// Tells what is to be told of the file at a path that was listed.
+fn tell_listed<E: Write>(path: &str, listed: Listed, errors: &mut Errors<E>)
+    ensures told { Told (is_lost_of errors.new) (E.contents (writer_of errors.old)) (E.contents (writer_of errors.new)) (listed_text path.now listed) }
 {
-    match other {
-        Some(_) => errors.unless_lost(Ending::NotWell),
-        None => Ending::Well,
+    match listed {
+        Listed::Words(kind) => errors.write_text(KindNote { path, kind }),
+        Listed::NoCode(no_code) => errors.tell_no_module(NoModule::BadLength { path, no_code }),
     }
 }
 
@@ -57,7 +59,8 @@ fn marks_by(marks: bool) -> Marks
     }
 }
 
-/// Lists the words of the code in a file, and marks those that break a rule where that is asked for.
+/// Lists the words of the code in a file, and marks those that break a rule where that is asked for. It tells where the file
+/// begins as another kind of file.
 ///
 /// # Errors
 ///
@@ -85,33 +88,16 @@ pub fn run_disassemble<'a, D: Disk, P: ImageStore, O: Write, E: Write>(
         asked.profile,
         &mut outputs.out,
     ) {
-        Ok(other) => {
-            tell_other(path, other, &mut outputs.errors);
-            Ok(end_listing(other, &outputs.errors))
+        Ok(listed) => {
+            tell_listed(path, listed, &mut outputs.errors);
+            Ok(outputs.errors.unless_lost(listed.ending()))
         }
         Err(fault) => Err(Failure::of(fault, path)),
     }
 }
 
-/// Writes a stream of this code, a module each, as it is asked for.
-fn write_packed<'a, O: Write>(
-    asked: &PackOptions<'a>,
-    files: &[Vec<u8>],
-    out: &mut O,
-) -> Result<Ending, Failure<'a>>
-    requires numbers { asked.now.first + length files.now ≤ 16 }
-    requires modules { AreModules asked.now.entry (map (λ file. file.items) files.now) }
-    requires pages { HasPages asked.now.profile asked.now.pages }
-    ensures written { IfOk result (λ ending. (ending ≡ Ending.Well) × WritesStream asked.now (map (λ file. file.items) files.now) (O.contents out.old) (O.contents out.new)) }
-    ensures failure { IfErr result (λ failure. is_of_output failure ≡ true) }
-{
-    match write_stream(asked, files, out) {
-        Ok(()) => Ok(Ending::Well),
-        Err(cause) => Err(Failure::of_output(cause)),
-    }
-}
-
-/// Writes a stream of the code in the files, a module each. All files are read before anything is written.
+/// Writes a stream of the code in the files, a module each. All files are read before anything is written. It tells of each that
+/// begins as another kind of file.
 ///
 /// # Errors
 ///
@@ -130,7 +116,13 @@ pub fn run_pack<'a, D: Disk, P: ImageStore, O: Write, E: Write>(
     ensures untold { OnErr result (OnlyOutput outputs.old outputs.new) }
 {
     match read_modules(alloc, disk, asked.codes.as_slice(), asked.entry) {
-        Ok(files) => write_packed(asked, &files, &mut outputs.out),
+        Ok(files) => match write_stream(asked, &files, &mut outputs.out) {
+            Ok(()) => {
+                tell_kinds(asked.codes.as_slice(), &files, &mut outputs.errors);
+                Ok(outputs.errors.unless_lost(Ending::Well))
+            }
+            Err(cause) => Err(Failure::of_output(cause)),
+        },
         Err(NotPacked::Failed(failure)) => Err(failure),
         Err(NotPacked::NoModule(no_module)) => {
             outputs.errors.tell_no_module(no_module);

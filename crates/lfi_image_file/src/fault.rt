@@ -18,7 +18,7 @@ pub enum ImageFault {
     Counts,
     /// The base is that of no slot.
     Base,
-    /// The file ends before its code does.
+    /// The file ends before its header or its code does.
     Truncated,
     /// Bytes follow the code.
     More,
@@ -59,7 +59,7 @@ impl fmt::Display for ImageFault {
             ImageFault::Profile => f.write_str("its profile is neither 1 nor 2"),
             ImageFault::Counts => f.write_str("its word count or its entry is out of range"),
             ImageFault::Base => f.write_str("its base is that of no slot"),
-            ImageFault::Truncated => f.write_str("it ends before its code does"),
+            ImageFault::Truncated => f.write_str("it ends before its header or its code does"),
             ImageFault::More => f.write_str("bytes follow its code"),
             ImageFault::Unlawful(fault) => write!(
                 f,

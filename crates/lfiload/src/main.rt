@@ -1,12 +1,16 @@
 //! `lfiload`: checks the code of modules, and loads modules from streams.
 #![tactic(auto)]
 
-use lfi_commands::{WrittenNotices, run_words};
+use lfi_commands::{Arguments, WrittenNotices, run_words};
 use lfi_file_commands::{Errors, Outputs, SystemDisk, SystemStore, tell_unread_arguments};
 use std::fs::File;
 use std::os::fd::{AsRawFd, IntoRawFd};
 use std::process::ExitCode;
 use std::{env, io};
+
+/// What `--version` tells: the program's version, the commit, where `checks/build` builds it from one, and the number of the C
+/// library's interface.
+const VERSION: &str = "0.1.0, library interface 6";
 
 /// What stands for a standard descriptor that is closed.
 const NOTHING: &str = "/dev/null";
@@ -56,7 +60,10 @@ fn main(rt: HostRuntime) -> ExitCode {
             rt.alloc(),
             &disk,
             &WrittenNotices::new(rt.stderr()),
-            &words,
+            Arguments {
+                version: VERSION,
+                words: &words,
+            },
             &mut outputs,
         ),
         Err(error) => tell_unread_arguments(&error, &mut outputs.errors),

@@ -261,7 +261,7 @@ struct Answer {
 
 /// What is explained of a word that no instruction spells.
 const UNSPELLED: &str =
-    "word 0 rule 1\n  0x0000000100010000  00000000  .inst 0x00000000\n  an instruction of the profile spells each word; none spells this one, of the group: reserved words\n  mend: none: no instructions of the profile are known that do the same; docs/PROFILE.md lists what stands in for others\n";
+    "word 0 rule 1\n  0x0000000100010000  00000000  .inst 0x00000000\n  each word has to be an instruction of the profile; this one is none, of the group: reserved words\n  mend: none: no instructions of the profile are known that do the same; docs/PROFILE.md lists what stands in for others\n";
 
 /// The report on a module with that word.
 const REFUSED: &str = "module 0: refused, word 0 rule 1\nstrays 0\n";

@@ -1,6 +1,6 @@
 //! Runs of the program over the system's files, and what they must answer.
 
-use lfi_commands::run_words;
+use lfi_commands::{Arguments, run_words};
 use lfi_file_commands::{Disk, Errors, ImageStore, Outputs, SystemDisk, SystemStore};
 use lfi_loader::{NoNotices, Notices};
 use std::alloc::{AllocError, Global};
@@ -71,7 +71,13 @@ pub fn run_noticed<
     E: Write,
 >(rt: &S, disk: &D, notices: &N, line: &str, outputs: &mut Outputs<P, O, E>) -> u8 {
     match words(rt.alloc(), line) {
-        Ok(words) => run_words(rt, rt.alloc(), disk, notices, &words, outputs).status(),
+        Ok(words) => {
+            let arguments = Arguments {
+                version: "0",
+                words: &words,
+            };
+            run_words(rt, rt.alloc(), disk, notices, arguments, outputs).status()
+        }
         Err(AllocError) => NO_WORDS,
     }
 }

@@ -1,5 +1,5 @@
 -- Code files that are read whole. Only private clauses and proofs use it.
-use Rattle.std.specs.Prelude.{◌≡◌, ◌≤◌, ℕ, List, length, Option, Some, None, IfSome, slice_get, codes}
+use Rattle.std.specs.Prelude.{◌≡◌, ◌≤◌, ℕ, List, length, Option, Some, IfSome, slice_get, codes}
 use Rattle.std.specs.Io.KnownBytes.{Appends}
 use Rattle.a64_word.specs.Words.{words_of}
 use Rattle.lfi_module.specs.declared.profile.Profile.{Profile}
@@ -11,6 +11,8 @@ use Rattle.lfi_file_commands.specs.declared.packing.NoModule as packing
 use Rattle.lfi_file_commands.specs.declared.packing.NoModule.TheVariants as no_module
 use Rattle.lfi_file_commands.specs.declared.packing.NotPacked.{NotPacked}
 use Rattle.lfi_file_commands.specs.declared.packing.NotPacked.TheVariants.{NoModule, Failed}
+use Rattle.lfi_file_commands.specs.declared.listed.Listed.{Listed}
+use Rattle.lfi_file_commands.specs.declared.listed.Listed.TheVariants as listed
 use Rattle.lfi_file_commands.specs.declared.no_code.NoCode.{NoCode}
 use Rattle.lfi_file_commands.specs.declared.finding.Finding.{Finding}
 use Rattle.lfi_file_commands.specs.declared.finding.Finding.TheVariants as findings
@@ -36,9 +38,9 @@ IsFoundOf profile bytes (findings.Refused fault) = Checks profile bytes (verdict
 IsFoundOf profile bytes (findings.NoCode n) = IsOther bytes n
 
 -- all words of bytes that are code were listed, or they are no code, and the line of that was written
-abbrev pub Lists : Marks → Profile → (bytes : List ℕ) → Option NoCode → (old new : Option (List ℕ)) → Type 0
-Lists marks profile bytes None old new = IsCode bytes × WritesListing marks profile (words_of bytes) 0 old new
-Lists marks profile bytes (Some n) old new = IsOther bytes n × Appends old new (codes "bad length\n")
+abbrev pub Lists : Marks → Profile → (bytes : List ℕ) → Listed → (old new : Option (List ℕ)) → Type 0
+Lists marks profile bytes (listed.Words kind) old new = IsCode bytes × (kind ≡ file_kind bytes) × WritesListing marks profile (words_of bytes) 0 old new
+Lists marks profile bytes (listed.NoCode n) old new = IsOther bytes n × Appends old new (codes "bad length\n")
 
 -- why these bytes of the file at this path, all of which were read, are no module that is entered at this word
 abbrev pub IsNoModuleOf : (entry : ℕ) → (path bytes : List ℕ) → packing.NoModule → Type 0

@@ -25,28 +25,28 @@ const ROWS: [Told; 5] = [
     Told {
         words: &[MOVE, NOP, 0xF90007E0, 0xF90003E0],
         place: 2,
-        told: "word 2 rule 10\n  0x0000000100010000  d10043ff  sub sp, sp, #16\n  0x0000000100010008  f90007e0  str x0, [sp, #8]\n  a move of sp by an immediate is followed by a load or store at [sp] within 4 words, with only calm words before it; this word, with 3 of the 4 left, isn't that\n  mend: put ldr xzr, [sp] right after the move, or let a pre- or post-indexed access move sp",
+        told: "word 2 rule 10\n  0x0000000100010000  d10043ff  sub sp, sp, #16\n  0x0000000100010008  f90007e0  str x0, [sp, #8]\n  a move of sp by an immediate has to be followed by a load or store at [sp] within 4 words, with only calm words before it; this word, with 3 of the 4 left, isn't that\n  mend: put ldr xzr, [sp] right after the move, or let a pre- or post-indexed access move sp",
     },
     Told {
         words: &[NOP, MOVE, NOP, NOP, NOP, NOP, 0xF90003E0],
         place: 5,
-        told: "word 5 rule 10\n  0x0000000100010004  d10043ff  sub sp, sp, #16\n  0x0000000100010014  d503201f  nop\n  a move of sp by an immediate is followed by a load or store at [sp] within 4 words, with only calm words before it; this word, with 1 of the 4 left, isn't that\n  mend: put ldr xzr, [sp] right after the move, or let a pre- or post-indexed access move sp",
+        told: "word 5 rule 10\n  0x0000000100010004  d10043ff  sub sp, sp, #16\n  0x0000000100010014  d503201f  nop\n  a move of sp by an immediate has to be followed by a load or store at [sp] within 4 words, with only calm words before it; this word, with 1 of the 4 left, isn't that\n  mend: put ldr xzr, [sp] right after the move, or let a pre- or post-indexed access move sp",
     },
     Told {
         words: &[MOVE, NOP, NOP],
         place: 2,
-        told: "word 2 rule 10\n  0x0000000100010000  d10043ff  sub sp, sp, #16\n  0x0000000100010008  d503201f  nop\n  a move of sp by an immediate is followed by a load or store at [sp] within 4 words, with only calm words before it; the module ends with 2 of the 4 left\n  mend: put ldr xzr, [sp] right after the move, or let a pre- or post-indexed access move sp",
+        told: "word 2 rule 10\n  0x0000000100010000  d10043ff  sub sp, sp, #16\n  0x0000000100010008  d503201f  nop\n  a move of sp by an immediate has to be followed by a load or store at [sp] within 4 words, with only calm words before it; the module ends with 2 of the 4 left\n  mend: put ldr xzr, [sp] right after the move, or let a pre- or post-indexed access move sp",
     },
     Told {
         words: &[NOP, MOVE],
         place: 1,
-        told: "word 1 rule 10\n  0x0000000100010004  d10043ff  sub sp, sp, #16\n  the last word asks nothing of a next one; this one asks for a load or store at [sp]\n  mend: put ldr xzr, [sp] right after the move, or let a pre- or post-indexed access move sp",
+        told: "word 1 rule 10\n  0x0000000100010004  d10043ff  sub sp, sp, #16\n  the last word may ask nothing of a next one; this one asks for a load or store at [sp]\n  mend: put ldr xzr, [sp] right after the move, or let a pre- or post-indexed access move sp",
     },
     // LDR X30, [SP]: it meets the first need, and opens one itself
     Told {
         words: &[MOVE, NOP, 0xF94003FE, NOP],
         place: 3,
-        told: "word 3 rule 10\n  0x0000000100010008  f94003fe  ldr x30, [sp]\n  0x000000010001000c  d503201f  nop\n  any other load of 64 bits into x30 is followed by add x30, x21, w30, uxtw; this word isn't that\n  mend: put add x30, x21, w30, uxtw right after the load",
+        told: "word 3 rule 10\n  0x0000000100010008  f94003fe  ldr x30, [sp]\n  0x000000010001000c  d503201f  nop\n  any other load of 64 bits into x30 has to be followed by add x30, x21, w30, uxtw; this word isn't that\n  mend: put add x30, x21, w30, uxtw right after the load",
     },
 ];
 
@@ -77,7 +77,7 @@ fn names_the_word_that_opens(rt: HostRuntime) -> Result<(), Fail> {
 
 /// Of the first row, where the word at the fault and the one before it are known alone.
 const ALONE: &str =
-    "word 2 rule 10\n  0x0000000100010008  f90007e0  str x0, [sp, #8]\n  a move of sp by an immediate is followed by a load or store at [sp] within 4 words, with only calm words before it; this word isn't that\n  mend: put ldr xzr, [sp] right after the move, or let a pre- or post-indexed access move sp";
+    "word 2 rule 10\n  0x0000000100010008  f90007e0  str x0, [sp, #8]\n  a move of sp by an immediate has to be followed by a load or store at [sp] within 4 words, with only calm words before it; this word isn't that\n  mend: put ldr xzr, [sp] right after the move, or let a pre- or post-indexed access move sp";
 
 #[test]
 fn of_a_late_word_alone(rt: HostRuntime) -> Result<(), Fail> {
@@ -103,7 +103,7 @@ const LISTED: &str =
 
 /// What is told of them.
 const REFUSED: &str =
-    "word 1 rule 10\n  0x0000000100010000  d10043ff  sub sp, sp, #16\n  0x0000000100010004  d503201f  nop\n  a move of sp by an immediate is followed by a load or store at [sp] within 4 words, with only calm words before it; the module ends with 3 of the 4 left\n  mend: put ldr xzr, [sp] right after the move, or let a pre- or post-indexed access move sp\nwords refused: 1\nwords with a mend: 1\n";
+    "word 1 rule 10\n  0x0000000100010000  d10043ff  sub sp, sp, #16\n  0x0000000100010004  d503201f  nop\n  a move of sp by an immediate has to be followed by a load or store at [sp] within 4 words, with only calm words before it; the module ends with 3 of the 4 left\n  mend: put ldr xzr, [sp] right after the move, or let a pre- or post-indexed access move sp\nwords refused: 1\nwords with a mend: 1\n";
 
 #[test]
 fn lists_and_refuses(rt: HostRuntime) -> Result<(), Fail> {

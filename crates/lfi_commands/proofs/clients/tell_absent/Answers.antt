@@ -8,8 +8,8 @@ use Rattle.lfi_commands.proofs.clients.tell_absent.Goals as goal
 
 pub returns-in-NotCome-clause-told : goal.returns-in-NotCome-clause-told
 returns-in-NotCome-clause-told g c =
-    let new = c.tell_late.new.errors in
-    subst (λ (why : Absence). Told (is_lost_of new) (g.E.Write.contents (writer_of c.args.errors.now)) (g.E.Write.contents (writer_of new)) (absent_line c.args.number why)) (sym c.in-NotCome.is) c.tell_late.ensures.told
+    let new = c.tell_not_come.new.errors in
+    subst (λ (why : Absence). Told (is_lost_of new) (g.E.Write.contents (writer_of c.args.errors.now)) (g.E.Write.contents (writer_of new)) (absent_line c.args.number why)) (sym c.in-NotCome.is) c.tell_not_come.ensures.told
 
 pub returns-in-NotTaken-clause-told : goal.returns-in-NotTaken-clause-told
 returns-in-NotTaken-clause-told g c =

@@ -7,8 +7,8 @@ use Rattle.lfi_commands.proofs.clients.tell_fate.Goals as goal
 
 pub returns-in-CutOff-clause-told : goal.returns-in-CutOff-clause-told
 returns-in-CutOff-clause-told g c =
-    let new = c.tell_late.new.errors in
-    subst (λ (fate : ClientFate). Told (is_lost_of new) (g.E.Write.contents (writer_of c.args.errors.now)) (g.E.Write.contents (writer_of new)) (fate_line c.args.number fate)) (sym c.in-CutOff.is) c.tell_late.ensures.told
+    let new = c.tell_cut_off.new.errors in
+    subst (λ (fate : ClientFate). Told (is_lost_of new) (g.E.Write.contents (writer_of c.args.errors.now)) (g.E.Write.contents (writer_of new)) (fate_line c.args.number fate)) (sym c.in-CutOff.is) c.tell_cut_off.ensures.told
 
 pub returns-in-Absent-clause-told : goal.returns-in-Absent-clause-told
 returns-in-Absent-clause-told g c =
