@@ -15,11 +15,16 @@ pub struct Stored {
     pub value: u64,
 }
 
+/// Where the slot begins.
+pub const SLOT: u64 = 7 << 32;
+
 /// Registers, and what was stored.
 #[derive(Clone, Copy)]
 pub struct Machine {
     pub registers: Registers,
     pub stores: [Option<Stored>; 2],
+    /// Whether all accesses so far were inside the slot.
+    pub is_inside: bool,
 }
 
 /// The lowest bytes of a value.
@@ -61,6 +66,12 @@ fn bytes(size: Size) -> u64 {
     }
 }
 
+/// Whether the bytes of an access lie in the slot.
+fn lies_inside(address: u64, size: Size) -> bool {
+    let last = address.wrapping_add(bytes(size)).wrapping_sub(1);
+    address >> 32 == SLOT >> 32 && last >> 32 == SLOT >> 32
+}
+
 /// An offset of 32 bits as one of 64.
 fn wide(offset: i32) -> u64 {
     let distance = u64::from(offset.unsigned_abs());
@@ -81,7 +92,7 @@ fn transfer_of(load: bool) -> Transfer {
 }
 
 /// A register that no row names. It stands for sp in the reference program, to which number 31 is always zr.
-const STAND_IN: u8 = 15;
+pub const STAND_IN: u8 = 15;
 
 /// What the reference program computes, where a sum may be one of sp.
 fn result(instruction: &Instruction, registers: &Registers) -> Option<(u64, u8)> {
@@ -108,6 +119,7 @@ impl Machine {
         Machine {
             registers,
             stores: [None; 2],
+            is_inside: true,
         }
     }
 
@@ -121,6 +133,7 @@ impl Machine {
 
     /// One access.
     fn access(&mut self, size: Size, transfer: Transfer, moved: Register, address: u64) {
+        self.is_inside &= lies_inside(address, size);
         let value = found(address, size);
         match transfer {
             Transfer::Store => {

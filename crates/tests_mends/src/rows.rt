@@ -3,6 +3,7 @@ use lfi_module::Profile;
 use lfi_rules::{Need, Rule};
 
 /// A word, what it breaks, and what stands in its place.
+#[derive(Drop)]
 pub struct Row {
     pub profile: Profile,
     pub rule: Rule,

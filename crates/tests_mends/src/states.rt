@@ -2,7 +2,7 @@
 
 ghost use Rattle.std.specs.Prelude.{◌<◌};
 
-use crate::machine::{Machine, Stored, sign_extended};
+use crate::machine::{Machine, SLOT, Stored, sign_extended};
 use crate::rows::{OUTSIDE, PAIRS, Row, SINGLES};
 use crate::tables::answer;
 use crate::writes::WRITES;
@@ -13,9 +13,6 @@ use std::test::Fail;
 /// How many states each row is tried on.
 const STATES: u32 = 200;
 
-/// Where the slot begins.
-const SLOT: u64 = 7 << 32;
-
 /// Random numbers, always the same.
 #[derive(Clone, Copy)]
 pub struct Draws {
@@ -23,7 +20,7 @@ pub struct Draws {
 }
 
 impl Draws {
-    fn next(&mut self) -> u64 {
+    pub fn next(&mut self) -> u64 {
         self.state = self
             .state
             .wrapping_mul(6_364_136_223_846_793_005)
@@ -123,7 +120,7 @@ pub fn mended(row: &Row, registers: Registers) -> Option<Machine> {
 }
 
 /// The machine after a row's word.
-fn refused(row: &Row, registers: Registers) -> Option<Machine> {
+pub fn refused(row: &Row, registers: Registers) -> Option<Machine> {
     let instruction = decode(row.word, row.profile)?;
     let mut machine = Machine::new(registers);
     machine.perform(&instruction);
@@ -131,7 +128,7 @@ fn refused(row: &Row, registers: Registers) -> Option<Machine> {
 }
 
 /// Whether a row's mend does what its word does, from these registers.
-fn does_the_same(row: &Row, registers: Registers) -> bool {
+pub fn does_the_same(row: &Row, registers: Registers) -> bool {
     match (refused(row, registers), mended(row, registers)) {
         (Some(meant), Some(found)) => agree(&registers, &meant, &found),
         _ => false,
@@ -140,9 +137,19 @@ fn does_the_same(row: &Row, registers: Registers) -> bool {
 
 /// What registers hold.
 #[derive(Clone, Copy, PartialEq, Eq)]
-enum State {
+pub enum State {
     Addresses,
     Numbers,
+}
+
+impl State {
+    /// Registers that hold it.
+    pub fn registers(self, draws: &mut Draws) -> Registers {
+        match self {
+            State::Addresses => addresses(draws),
+            State::Numbers => numbers(draws),
+        }
+    }
 }
 
 /// The first word of some rows whose mend does something else on a state.
@@ -150,11 +157,7 @@ fn first_other(rows: &[Row], state: State) -> Option<u32> {
     let mut draws = Draws { state: 1 };
     for row in rows {
         for _ in 0..STATES {
-            let registers = match state {
-                State::Addresses => addresses(&mut draws),
-                State::Numbers => numbers(&mut draws),
-            };
-            if !does_the_same(row, registers) {
+            if !does_the_same(row, state.registers(&mut draws)) {
                 return Some(row.word);
             }
         }
@@ -250,7 +253,7 @@ fn with_carry(word: u32, r: &Registers) -> u64 {
 }
 
 /// What a word of these groups makes of its register: one source, three sources, extracts, sums with a carry.
-fn meant(word: u32, r: &Registers) -> Option<u64> {
+pub fn meant(word: u32, r: &Registers) -> Option<u64> {
     if word & 0x7FFF_F000 == 0x5AC0_0000 {
         let (opcode, x) = (word >> 10 & 3, r.x(field(word, 5)));
         return Some(if word & 0x8000_0000 != 0 {
@@ -268,7 +271,7 @@ fn meant(word: u32, r: &Registers) -> Option<u64> {
 }
 
 /// Whether the mend of a row makes the number of the row's register that is meant, and keeps the flags.
-fn computes_the_same(row: &Row, registers: &Registers, value: u64) -> bool {
+pub fn computes_the_same(row: &Row, registers: &Registers, value: u64) -> bool {
     let Some(mut machine) = mended(row, *registers) else {
         return false;
     };
@@ -303,7 +306,7 @@ fn what_is_left_out_computes_the_same(rt: HostRuntime) -> Result<(), Fail> {
 }
 
 /// The word of LDP, LDUR or STP with the same operands as one of LDPSW, LDTR or STNP.
-fn plain_word(word: u32) -> Option<u32> {
+pub fn plain_word(word: u32) -> Option<u32> {
     if word & 0xFE40_0000 == 0x6840_0000 {
         Some(word & 0x3FFF_FFFF)
     } else if word & 0x3F20_0C00 == 0x3800_0800 {
@@ -316,7 +319,7 @@ fn plain_word(word: u32) -> Option<u32> {
 }
 
 /// Whether the mend of a row does what this word does, with the signs of both loads extended where it is LDPSW.
-fn accesses_the_same(row: &Row, registers: &Registers, plain: u32) -> bool {
+pub fn accesses_the_same(row: &Row, registers: &Registers, plain: u32) -> bool {
     let (Some(instruction), Some(found)) = (decode(plain, row.profile), mended(row, *registers))
     else {
         return false;

@@ -11,7 +11,7 @@ use std::test::Fail;
 
 /// Words that are lent.
 #[derive(Clone, Copy)]
-struct Lent<'a>(&'a [u32]);
+pub struct Lent<'a>(pub &'a [u32]);
 
 impl Words for Lent<'_> {
     ghost words = { λ row. row.0.now };

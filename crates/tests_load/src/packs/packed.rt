@@ -7,6 +7,7 @@ use lfi_module::{PageSize, Profile};
 use lfi_pack::PackFault;
 use std::alloc::Global;
 use std::io::ErrorKind;
+use std::test::Fail;
 
 /// A module, how many bytes of its code a read gives and how many a write takes at most; how long its
 /// stream is, and bytes that stand at places of it.
@@ -215,4 +216,18 @@ fn all_are_so(alloc: Global) -> bool {
 #[test]
 fn code_that_is_not_as_told(rt: HostRuntime) {
     assert!(rt; all_are_so(rt.alloc()));
+}
+
+#[test]
+fn tells_why_a_module_is_not_packed(rt: HostRuntime) -> Result<(), Fail> {
+    let told = [
+        (PackFault::Shorter, "code shorter than told"),
+        (PackFault::Longer, "code longer than told"),
+        (PackFault::ReadFailed(ErrorKind::Other), "read failed"),
+        (PackFault::WriteFailed(ErrorKind::Other), "write failed"),
+    ];
+    for (fault, text) in &told {
+        assert!(rt; fault.to_string(rt.alloc())?.as_str() == *text, "{text}");
+    }
+    Ok(())
 }

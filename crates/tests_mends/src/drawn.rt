@@ -1,0 +1,204 @@
+//! Mends of drawn words: words of the tables with other registers and turned bits, each on states beside what the word does.
+
+ghost use Rattle.std.specs.Prelude.{◌<◌};
+
+use crate::rows::{OUTSIDE, PAIRS, Row, SINGLES};
+use crate::machine::STAND_IN;
+use crate::states::{Draws, State, accesses_the_same, computes_the_same, does_the_same, field, meant, plain_word, refused};
+use crate::tables::{Lent, answer};
+use crate::writes::WRITES;
+use a64_semantics::Registers;
+use a64_word::Register;
+use lfi_module::Profile;
+use lfi_rules::{Need, Rule, check_all};
+use std::test::Fail;
+
+/// NOP.
+const NOP: u32 = 0xD503201F;
+
+/// How many words are drawn of each row.
+const WORDS: u32 = 60;
+
+/// On how many states each is tried.
+const STATES: u32 = 4;
+
+/// Registers of which one is drawn: plain ones, those that mends use, the reserved ones, and number 31.
+const REGISTERS: [u8; 16] = [0, 1, 3, 3, 16, 17, 18, 21, 22, 22, 23, 24, 29, 30, 31, 31];
+
+/// How many words were looked at, and how many had a mend.
+#[derive(Clone, Copy)]
+struct Tally {
+    drawn: u32,
+    mended: u32,
+}
+
+/// The word with another register in the field from the bit `low` on, one time of four.
+fn renamed(draws: &mut Draws, word: u32, low: u32) -> u32
+    requires { low < 27 }
+{
+    let draw = draws.next();
+    if draw & 3 != 0 {
+        return word;
+    }
+    let register = u32::from(REGISTERS[(draw >> 8 & 15) as usize]);
+    word & !(31 << low) | register << low
+}
+
+/// A word with other registers in some fields, and half of the time with one bit turned.
+fn drawn(draws: &mut Draws, word: u32) -> u32 {
+    let word = renamed(draws, word, 0);
+    let word = renamed(draws, word, 5);
+    let word = renamed(draws, word, 10);
+    let word = renamed(draws, word, 16);
+    let draw = draws.next();
+    if draw & 1 == 0 {
+        word ^ 1 << (draw >> 8 & 31)
+    } else {
+        word
+    }
+}
+
+/// Whether a field of a word has the number of the register that stands for sp in the machine of these tests.
+fn names_stand_in(word: u32) -> bool {
+    let stand_in = Register::new(STAND_IN);
+    field(word, 0) == stand_in
+        || field(word, 5) == stand_in
+        || field(word, 10) == stand_in
+        || field(word, 16) == stand_in
+}
+
+/// A row without a mend, with NOP behind its word.
+fn row(profile: Profile, rule: Rule, word: u32) -> Row {
+    Row {
+        profile,
+        rule,
+        unmet: Need::Nothing,
+        word,
+        next: NOP,
+        mend: &[],
+    }
+}
+
+/// The row of a word that stands first in a module. `None` where it breaks no rule.
+fn row_of(profile: Profile, word: u32) -> Option<Row> {
+    if names_stand_in(word) {
+        return None;
+    }
+    let fault = check_all(&Lent(&[word, NOP, NOP]), profile)?;
+    Some(row(profile, fault.rule, word))
+}
+
+/// Whether the mend of a row does what its word does, on one state; also where the word goes outside of the slot, of which nothing is
+/// said.
+fn does_the_same_inside(row: &Row, registers: Registers) -> bool {
+    match refused(row, registers) {
+        Some(meant) => !meant.is_inside || does_the_same(row, registers),
+        None => true,
+    }
+}
+
+/// Whether the mend of LDPSW, LDTR, STNP and the like does what their word does; also where it goes outside of the slot.
+fn accesses_the_same_inside(base: &Row, registers: Registers) -> bool {
+    let Some(plain) = plain_word(base.word) else {
+        return true;
+    };
+    match refused(&row(base.profile, base.rule, plain), registers) {
+        Some(meant) => !meant.is_inside || accesses_the_same(base, &registers, plain),
+        None => true,
+    }
+}
+
+/// Whether the mend of a word that isn't decoded does what it means, as far as the tests know that.
+fn computes_or_accesses(row: &Row, registers: Registers) -> bool {
+    match meant(row.word, &registers) {
+        Some(value) => computes_the_same(row, &registers, value),
+        None => accesses_the_same_inside(row, registers),
+    }
+}
+
+/// Whether the mend of a row does what its word does, on one state.
+fn agrees(row: &Row, registers: Registers) -> bool {
+    if row.rule == Rule::Spelled {
+        computes_or_accesses(row, registers)
+    } else {
+        does_the_same_inside(row, registers)
+    }
+}
+
+/// Whether the mend of a drawn word does what the word does, on some states; counts it.
+fn is_right(row: &Row, draws: &mut Draws, tally: &mut Tally) -> bool {
+    tally.drawn = tally.drawn.wrapping_add(1);
+    if answer(row).is_err() {
+        return true;
+    }
+    tally.mended = tally.mended.wrapping_add(1);
+    for _ in 0..STATES {
+        let addresses = State::Addresses.registers(draws);
+        let numbers = State::Numbers.registers(draws);
+        if !agrees(row, addresses) || !agrees(row, numbers) {
+            return false;
+        }
+    }
+    true
+}
+
+/// The first word drawn of a row whose mend does something else.
+fn first_other_near(base: &Row, draws: &mut Draws, tally: &mut Tally) -> Option<u32> {
+    for _ in 0..WORDS {
+        let word = drawn(draws, base.word);
+        if let Some(row) = row_of(base.profile, word) {
+            if !is_right(&row, draws, tally) {
+                return Some(word);
+            }
+        }
+    }
+    None
+}
+
+/// The first word drawn of some rows whose mend does something else.
+fn first_other_of(rows: &[Row], seed: u64, tally: &mut Tally) -> Option<u32> {
+    let mut draws = Draws { state: seed };
+    for base in rows {
+        let other = first_other_near(base, &mut draws, tally);
+        if other.is_some() {
+            return other;
+        }
+    }
+    None
+}
+
+#[test]
+fn drawn_singles_do_the_same(rt: HostRuntime) -> Result<(), Fail> {
+    let mut tally = Tally { drawn: 0, mended: 0 };
+    let other = first_other_of(&SINGLES, 11, &mut tally);
+    assert!(rt; other == None, "{:x}", other.unwrap_or(0));
+    assert!(rt; tally.mended > tally.drawn / 2, "{} of {}", tally.mended, tally.drawn);
+    Ok(())
+}
+
+#[test]
+fn drawn_pairs_do_the_same(rt: HostRuntime) -> Result<(), Fail> {
+    let mut tally = Tally { drawn: 0, mended: 0 };
+    let other = first_other_of(&PAIRS, 13, &mut tally);
+    assert!(rt; other == None, "{:x}", other.unwrap_or(0));
+    assert!(rt; tally.mended > tally.drawn / 2, "{} of {}", tally.mended, tally.drawn);
+    Ok(())
+}
+
+#[test]
+fn drawn_writes_do_the_same(rt: HostRuntime) -> Result<(), Fail> {
+    let mut tally = Tally { drawn: 0, mended: 0 };
+    let other = first_other_of(&WRITES, 17, &mut tally);
+    assert!(rt; other == None, "{:x}", other.unwrap_or(0));
+    assert!(rt; tally.mended > tally.drawn / 2, "{} of {}", tally.mended, tally.drawn);
+    Ok(())
+}
+
+#[test]
+fn drawn_words_of_other_sets_do_the_same(rt: HostRuntime) -> Result<(), Fail> {
+    let mut tally = Tally { drawn: 0, mended: 0 };
+    let other = first_other_of(&OUTSIDE, 23, &mut tally);
+    assert!(rt; other == None, "{:x}", other.unwrap_or(0));
+    assert!(rt; tally.mended > tally.drawn / 2, "{} of {}", tally.mended, tally.drawn);
+    Ok(())
+}
