@@ -2,9 +2,12 @@
 
 ghost use Rattle.std.specs.Prelude.{◌<◌};
 
-use crate::rows::{OUTSIDE, PAIRS, Row, SINGLES};
 use crate::machine::STAND_IN;
-use crate::states::{Draws, State, accesses_the_same, computes_the_same, does_the_same, field, meant, plain_word, refused};
+use crate::rows::{OUTSIDE, PAIRS, Row, SINGLES};
+use crate::states::{
+    Draws, State, accesses_the_same, computes_the_same, does_the_same, field, meant, plain_word,
+    refused,
+};
 use crate::tables::{Lent, answer};
 use crate::writes::WRITES;
 use a64_semantics::Registers;
@@ -24,6 +27,58 @@ const STATES: u32 = 4;
 
 /// Registers of which one is drawn: plain ones, those that mends use, the reserved ones, and number 31.
 const REGISTERS: [u8; 16] = [0, 1, 3, 3, 16, 17, 18, 21, 22, 22, 23, 24, 29, 30, 31, 31];
+
+/// Words that write a reserved register, one of each instruction that computes: as GNU's assembler makes them of the text beside them.
+const RESULTS: [u32; 48] = [
+    0x91004036, // add x22, x1, #16
+    0xF1004036, // subs x22, x1, #16
+    0x8B420C36, // add x22, x1, x2, lsr #3
+    0xCB82A036, // sub x22, x1, x2, asr #40
+    0xAB22A836, // adds x22, x1, w2, sxth #2
+    0xCB2203F2, // sub x18, sp, w2, uxtb
+    0x8AC21C36, // and x22, x1, x2, ror #7
+    0x8A222436, // bic x22, x1, x2, lsl #9
+    0xAA020036, // orr x22, x1, x2
+    0xAA621436, // orn x22, x1, x2, lsr #5
+    0xAA2103F6, // mvn x22, x1
+    0xCA820C36, // eor x22, x1, x2, asr #3
+    0xCA220036, // eon x22, x1, x2
+    0xEAC2A036, // ands x22, x1, x2, ror #40
+    0xEA220036, // bics x22, x1, x2
+    0xB2781C36, // orr x22, x1, #0xff00
+    0x52002832, // eor w18, w1, #0x7ff
+    0xD2C00036, // movz x22, #1, lsl #32
+    0x92A000B6, // movn x22, #5, lsl #16
+    0x92E000B6, // movn x22, #5, lsl #48
+    0xF2E000F6, // movk x22, #7, lsl #48
+    0xF2A000F6, // movk x22, #7, lsl #16
+    0x93435836, // sbfx x22, x1, #3, #20
+    0xD368EC36, // ubfx x22, x1, #40, #20
+    0xB36C4C36, // bfi x22, x1, #20, #20
+    0xB3549C36, // bfxil x22, x1, #20, #20
+    0x9343FC36, // asr x22, x1, #3
+    0xD3585C36, // lsl x22, x1, #40
+    0x9A82B036, // csel x22, x1, x2, lt
+    0x9A828436, // csinc x22, x1, x2, hi
+    0xDA826036, // csinv x22, x1, x2, vs
+    0xDA820436, // csneg x22, x1, x2, eq
+    0x9AC22036, // lslv x22, x1, x2
+    0x9AC22436, // lsrv x22, x1, x2
+    0x9AC22836, // asrv x22, x1, x2
+    0x9AC22C36, // rorv x22, x1, x2
+    0x9AC20836, // udiv x22, x1, x2
+    0x1AC20C36, // sdiv w22, w1, w2
+    0x9B020C36, // madd x22, x1, x2, x3
+    0x9B028C36, // msub x22, x1, x2, x3
+    0x9B427C36, // smulh x22, x1, x2
+    0x9BC27C36, // umulh x22, x1, x2
+    0xDAC01036, // clz x22, x1
+    0xAA0103F2, // mov x18, x1
+    0xAA0103F7, // mov x23, x1
+    0xAA2103F8, // mvn x24, x1
+    0x9100043E, // add x30, x1, #1
+    0x8B020035, // add x21, x1, x2
+];
 
 /// How many words were looked at, and how many had a mend.
 #[derive(Clone, Copy)]
@@ -142,14 +197,31 @@ fn is_right(row: &Row, draws: &mut Draws, tally: &mut Tally) -> bool {
     true
 }
 
-/// The first word drawn of a row whose mend does something else.
-fn first_other_near(base: &Row, draws: &mut Draws, tally: &mut Tally) -> Option<u32> {
+/// The first word drawn near another one whose mend does something else.
+fn first_other_near(
+    profile: Profile,
+    base: u32,
+    draws: &mut Draws,
+    tally: &mut Tally,
+) -> Option<u32> {
     for _ in 0..WORDS {
-        let word = drawn(draws, base.word);
-        if let Some(row) = row_of(base.profile, word) {
+        let word = drawn(draws, base);
+        if let Some(row) = row_of(profile, word) {
             if !is_right(&row, draws, tally) {
                 return Some(word);
             }
+        }
+    }
+    None
+}
+
+/// The first word drawn of those that compute whose mend does something else.
+fn first_other_result(seed: u64, tally: &mut Tally) -> Option<u32> {
+    let mut draws = Draws { state: seed };
+    for word in RESULTS {
+        let other = first_other_near(Profile::One, word, &mut draws, tally);
+        if other.is_some() {
+            return other;
         }
     }
     None
@@ -159,7 +231,7 @@ fn first_other_near(base: &Row, draws: &mut Draws, tally: &mut Tally) -> Option<
 fn first_other_of(rows: &[Row], seed: u64, tally: &mut Tally) -> Option<u32> {
     let mut draws = Draws { state: seed };
     for base in rows {
-        let other = first_other_near(base, &mut draws, tally);
+        let other = first_other_near(base.profile, base.word, &mut draws, tally);
         if other.is_some() {
             return other;
         }
@@ -169,36 +241,85 @@ fn first_other_of(rows: &[Row], seed: u64, tally: &mut Tally) -> Option<u32> {
 
 #[test]
 fn drawn_singles_do_the_same(rt: HostRuntime) -> Result<(), Fail> {
-    let mut tally = Tally { drawn: 0, mended: 0 };
+    let mut tally = Tally {
+        drawn: 0,
+        mended: 0,
+    };
     let other = first_other_of(&SINGLES, 11, &mut tally);
     assert!(rt; other == None, "{:x}", other.unwrap_or(0));
-    assert!(rt; tally.mended > tally.drawn / 2, "{} of {}", tally.mended, tally.drawn);
+    assert!(rt;
+        tally.mended > tally.drawn / 2,
+        "{} of {}",
+        tally.mended,
+        tally.drawn
+    );
     Ok(())
 }
 
 #[test]
 fn drawn_pairs_do_the_same(rt: HostRuntime) -> Result<(), Fail> {
-    let mut tally = Tally { drawn: 0, mended: 0 };
+    let mut tally = Tally {
+        drawn: 0,
+        mended: 0,
+    };
     let other = first_other_of(&PAIRS, 13, &mut tally);
     assert!(rt; other == None, "{:x}", other.unwrap_or(0));
-    assert!(rt; tally.mended > tally.drawn / 2, "{} of {}", tally.mended, tally.drawn);
+    assert!(rt;
+        tally.mended > tally.drawn / 2,
+        "{} of {}",
+        tally.mended,
+        tally.drawn
+    );
     Ok(())
 }
 
 #[test]
 fn drawn_writes_do_the_same(rt: HostRuntime) -> Result<(), Fail> {
-    let mut tally = Tally { drawn: 0, mended: 0 };
+    let mut tally = Tally {
+        drawn: 0,
+        mended: 0,
+    };
     let other = first_other_of(&WRITES, 17, &mut tally);
     assert!(rt; other == None, "{:x}", other.unwrap_or(0));
-    assert!(rt; tally.mended > tally.drawn / 2, "{} of {}", tally.mended, tally.drawn);
+    assert!(rt;
+        tally.mended > tally.drawn / 2,
+        "{} of {}",
+        tally.mended,
+        tally.drawn
+    );
     Ok(())
 }
 
 #[test]
 fn drawn_words_of_other_sets_do_the_same(rt: HostRuntime) -> Result<(), Fail> {
-    let mut tally = Tally { drawn: 0, mended: 0 };
+    let mut tally = Tally {
+        drawn: 0,
+        mended: 0,
+    };
     let other = first_other_of(&OUTSIDE, 23, &mut tally);
     assert!(rt; other == None, "{:x}", other.unwrap_or(0));
-    assert!(rt; tally.mended > tally.drawn / 2, "{} of {}", tally.mended, tally.drawn);
+    assert!(rt;
+        tally.mended > tally.drawn / 2,
+        "{} of {}",
+        tally.mended,
+        tally.drawn
+    );
+    Ok(())
+}
+
+#[test]
+fn drawn_results_do_the_same(rt: HostRuntime) -> Result<(), Fail> {
+    let mut tally = Tally {
+        drawn: 0,
+        mended: 0,
+    };
+    let other = first_other_result(29, &mut tally);
+    assert!(rt; other == None, "{:x}", other.unwrap_or(0));
+    assert!(rt;
+        tally.mended > tally.drawn / 2,
+        "{} of {}",
+        tally.mended,
+        tally.drawn
+    );
     Ok(())
 }

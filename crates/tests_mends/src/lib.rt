@@ -9,6 +9,8 @@ mod drawn;
 #[cfg(test)]
 mod machine;
 #[cfg(test)]
+mod neighbors;
+#[cfg(test)]
 mod reasons;
 #[cfg(test)]
 mod rows;
