@@ -43,3 +43,11 @@ pub record TellsMend (profile : Profile) (words : ℕ) (found : Fault) (word bef
 pub record HasNoMend (profile : Profile) (words : ℕ) (found : Fault) (word before after : ℕ) : Type 0 where
   pub reason : Reason
   pub mends : MendsWord profile found.rule word (earlier found.word before) (later words found.word after) (Err reason)
+
+-- There is no room for the words of its mend.
+pub record LacksRoom (profile : Profile) (words : ℕ) (found : Fault) (word before after : ℕ) (room : ℕ) : Type 0 where
+  pub mend : Mend
+  pub mends : MendsWord profile found.rule word (earlier found.word before) (later words found.word after) (Ok mend)
+  pub spelling : List ℕ
+  pub spells : Spell profile (mended mend) spelling
+  pub longer : room < length spelling

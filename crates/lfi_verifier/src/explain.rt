@@ -63,6 +63,7 @@ pub extern "C" fn lfi_explain(
 ) -> u32
     ensures told { (by : Profile) (found : Fault) → profile_number by ≡ profile → IsTold «module» words fault.now found → result ≡ status_number Status.Lawful →
         TellsFault by «module» words found word before text.old text.new size.new }
+    ensures room { (by : Profile) (found : Fault) → profile_number by ≡ profile → IsTold «module» words fault.now found → result ≢ status_number Status.Lawful → result ≡ status_number Status.NoRoom }
     ensures kept { result ≢ status_number Status.Lawful → (text.new ≡ text.old) × (size.new ≡ size.old) }
     ensures unknown { IsUnknown profile → result ≡ status_number Status.UnknownProfile }
     ensures most { result ≤ 7 }

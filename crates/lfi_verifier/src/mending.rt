@@ -4,7 +4,7 @@ ghost use Rattle.std.specs.Prelude.{◌≡◌, ◌≤◌, ◌≢◌, ◌<◌, �
 ghost use Rattle.lfi_rules.specs.declared.fault.Fault.{Fault};
 ghost use Rattle.lfi_verifier.specs.Explained.{later};
 ghost use Rattle.lfi_verifier.specs.Faults.{fault_at};
-ghost use Rattle.lfi_verifier.specs.Mended.{AreSpelled, HasNoMend, IsFaultOf, Spell, TellsMend};
+ghost use Rattle.lfi_verifier.specs.Mended.{AreSpelled, HasNoMend, IsFaultOf, LacksRoom, Spell, TellsMend};
 ghost use Rattle.lfi_module.specs.declared.profile.Profile.{Profile};
 ghost use Rattle.lfi_module.specs.Profiles.{profile_number};
 ghost use Rattle.lfi_verifier.specs.Profiles.{IsUnknown};
@@ -52,6 +52,7 @@ fn put(words: &[u32], room: &mut [u32], count: &mut usize) -> u32
     ensures kept { result ≢ status_number Status.Lawful → (room.new ≡ room.old) × (count.new ≡ count.old) }
     ensures fits { length words.now ≤ length room.old → result ≡ status_number Status.Lawful }
     ensures other { result ≢ status_number Status.Lawful → result ≡ status_number Status.NoRoom }
+    ensures short { result ≡ status_number Status.NoRoom → length room.old < length words.now }
     ensures most { result ≤ 7 }
 {
     if room.len() < words.len() {
@@ -85,6 +86,8 @@ pub extern "C" fn lfi_mend(
     ensures fault { (by : Profile) → profile_number by ≡ profile → IsWordCount words × (fault.now.word < words) → ((found : Fault) → fault_at fault.now ≢ Some (Some found)) →
         result ≡ status_number Status.BadState }
     ensures room { (by : Profile) (found : Fault) → profile_number by ≡ profile → IsFaultOf words fault.now found → 8 ≤ length mend.old → result ≤ status_number Status.Refused }
+    ensures short { (by : Profile) (found : Fault) → profile_number by ≡ profile → IsFaultOf words fault.now found → result ≢ status_number Status.Lawful → result ≢ status_number Status.Refused →
+        (result ≡ status_number Status.NoRoom) × LacksRoom by words found word before after (length mend.old) }
 {
     let Some(by) = profile_of(profile) else {
         return Status::UnknownProfile.number();
