@@ -25,7 +25,7 @@ impl StreamWriter {
 impl Write for StreamWriter {
     fn write(&mut self, buf: &[u8]) -> io::Result<usize> {
         if self.left == 0 && !buf.is_empty() {
-            return Err(ErrorKind::Other.into());
+            return Err(ErrorKind::StorageFull.into());
         }
         let count = buf.len().min(self.step).min(self.left);
         self.taken.extend_from_slice(&buf[..count])?;

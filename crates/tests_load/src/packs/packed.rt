@@ -140,7 +140,7 @@ fn modules_by_hand(rt: HostRuntime) {
 fn fails_after(alloc: Global, left: usize) -> bool {
     let mut stream = StreamWriter::new(alloc, left, 5);
     let packed = pack(&ONE_WORD, Pieces::of(&RET, 5), &mut stream);
-    packed == Some(Err(PackFault::WriteFailed(ErrorKind::Other)))
+    packed == Some(Err(PackFault::WriteFailed(ErrorKind::StorageFull)))
         && stream.taken.as_slice() == piece(&MODULE_0, 0, left)
 }
 
@@ -165,8 +165,8 @@ const NOT_AS_TOLD: [(usize, Option<ErrorKind>, PackFault); 8] = [
     ),
     (
         4098,
-        Some(ErrorKind::Other),
-        PackFault::ReadFailed(ErrorKind::Other),
+        Some(ErrorKind::ConnectionReset),
+        PackFault::ReadFailed(ErrorKind::ConnectionReset),
     ),
     (
         4100,
