@@ -237,14 +237,14 @@ module _ (n slots id m : ℕ) (me : M) (one : me.0 ≡ knowledge_of me.0 ∷ [])
         keeps,
         tt,
         subst (λ b. Kept n (stepped s m (either b 1 x) id me.1 (claims m mine ∷ []) keeps)) (sym (eq-eqb x 0 hit)) (claim_step s r lt at rc hit),
-        (r.phases m lt, (f, subst (λ b. claims m mine ∷ [] ≡ (if b then claims m mine else sees m x mine) ∷ []) (sym (eq-eqb x 0 hit)) refl, refl)),
+        (refl, r.phases m lt, (f, subst (λ b. claims m mine ∷ [] ≡ (if b then claims m mine else sees m x mine) ∷ []) (sym (eq-eqb x 0 hit)) refl, refl)),
       ))
       (λ miss. (
         sees m x mine ∷ [],
         keeps,
         tt,
         subst (λ b. Kept n (stepped s m (either b 1 x) id me.1 (sees m x mine ∷ []) keeps)) (sym (ne_eqb x 0 miss)) (stays s r lt' at),
-        (r.phases m lt, (f, subst (λ b. sees m x mine ∷ [] ≡ (if b then claims m mine else sees m x mine) ∷ []) (sym (ne_eqb x 0 miss)) refl, refl)),
+        (refl, r.phases m lt, (f, subst (λ b. sees m x mine ∷ [] ≡ (if b then claims m mine else sees m x mine) ∷ []) (sym (ne_eqb x 0 miss)) refl, refl)),
       ))
 
   end_step : (s : St) (r : Kept n s) → get_elem? s.views id ≡ some me.0 → mine.is_receiver ≡ true → mine.ended ≡ false

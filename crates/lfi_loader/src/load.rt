@@ -3,6 +3,7 @@
 ghost use Rattle.std.specs.Prelude.{◌≡◌, ◌≤◌, ℕ, List, Some, IfOk, length, slice_get};
 ghost use Rattle.lfi_receive.specs.Inputs.{left_of};
 ghost use Rattle.lfi_receive.specs.declared.input.Input.{Input};
+ghost use Rattle.lfi_sync.specs.Lifecycles.{judging_of};
 ghost use Rattle.lfi_thread_loops.specs.Running.{AreBack, AreReady, had_by};
 ghost use Rattle.lfi_loader.specs.Loaded.{IsLoaded};
 
@@ -70,7 +71,7 @@ pub fn load_all<
             thread::scope_env(),
             rt,
             move |scope| -> Result<Parts, LoadError>
-                requires { AreReady env.now.shared.now (length inputs.items) parts }
+                requires { AreReady env.now.shared.now (length inputs.items) parts × (judging_of env.now.lifecycle.now ≡ length parts.verifiers.items) }
                 ensures { IfOk result (AreBack env.entry.now.shared.now (length inputs.items) (length parts.verifiers.items) (had_by R.remaining inputs.items)) }
             { load_in(scope, env, parts, inputs) },
         )

@@ -1,8 +1,9 @@
 //! Streams that clients send over a socket, loaded by a stage, each part of which has its thread.
 
-ghost use Rattle.std.specs.Prelude.{◌≤◌, ℕ, Option, IfOk, length};
+ghost use Rattle.std.specs.Prelude.{◌≡◌, ◌≤◌, ℕ, Option, IfOk, length};
 ghost use Rattle.std.specs.declared.time.Duration.{Duration};
 ghost use Rattle.lfi_sync.specs.Deadlines.{limit_of_acceptor};
+ghost use Rattle.lfi_sync.specs.Lifecycles.{judging_of};
 ghost use Rattle.lfi_thread_loops.specs.Running.{AreReady, HaveServed};
 ghost use Rattle.lfi_loader.specs.Served.{HasServed};
 
@@ -105,7 +106,7 @@ pub fn serve_on<'x, S: Threads + Wait + Files + Clock + Sync, G: Gate + Sync, N:
             thread::scope_env(),
             rt,
             move |scope| -> Result<Back, LoadError>
-                requires { (count : ℕ) × AreReady env.now.shared.now count parts }
+                requires { ((count : ℕ) × AreReady env.now.shared.now count parts) × (judging_of env.now.lifecycle.now ≡ length parts.verifiers.items) }
                 ensures { IfOk result (HaveServed env.entry.now.shared.now (length parts.receivers.items) (length parts.verifiers.items) (limit_of_acceptor acceptor.entry)) }
             { serve_in(scope, env, parts, acceptor, &lent.streams) },
         )

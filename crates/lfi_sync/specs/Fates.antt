@@ -1,5 +1,5 @@
 -- What becomes of the clients of connections.
-use Rattle.std.specs.Prelude.{ℕ, Bool, true, false, List, get_or}
+use Rattle.std.specs.Prelude.{ℕ, ◌^◌, ◌/◌, ◌%◌, ◌==◌, Bool, true, false, List, get_or}
 use Rattle.lfi_sync.specs.declared.client.Client.{Client}
 use Rattle.lfi_sync.specs.declared.client.Client.TheVariants as client
 use Rattle.lfi_sync.specs.declared.fate.Absence.{Absence}
@@ -39,6 +39,10 @@ fate_of (client.Absent why) = Absent why
 -- connection c had not ended when the time was over
 abbrev pub is_unheard : Unheard → ℕ → Bool
 is_unheard unheard c = get_or unheard.are c false
+
+-- the flag of connection c is set
+abbrev pub is_flagged : (flags c : ℕ) → Bool
+is_flagged flags c = flags / 2 ^ c % 2 == 1
 
 -- what becomes of a client once the time is over
 abbrev pub fate_after : (is_unheard : Bool) → ClientFate → ClientFate

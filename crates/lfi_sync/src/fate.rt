@@ -1,7 +1,7 @@
 //! What becomes of the clients of connections.
 
-ghost use Rattle.std.specs.Prelude.{◌≡◌, ◌<◌, ◌≤◌, ℕ, false};
-ghost use Rattle.lfi_sync.specs.Fates.{fate_after, fate_at, is_absent, is_cut_off, is_unheard};
+ghost use Rattle.std.specs.Prelude.{◌≡◌, ◌<◌, ◌≤◌, ◌^◌, ◌%◌, ◌&&◌, nat_lt, not, ℕ, true, false};
+ghost use Rattle.lfi_sync.specs.Fates.{fate_after, fate_at, is_absent, is_cut_off, is_flagged, is_unheard};
 ghost use Rattle.lfi_sync.specs.declared.fate.ClientFate.TheVariants.{Heard};
 
 use lfi_module::CONNECTIONS;
@@ -77,18 +77,27 @@ impl Unheard {
 
     /// Those of the first `count` that aren't among these flags, one bit a connection.
     pub(crate) fn of(heard: u32, count: usize) -> Unheard
-        ensures { (c : ℕ) → count ≤ c → is_unheard result c ≡ false }
+        ensures each { (c : ℕ) → c < 8 → is_unheard result c ≡ (nat_lt c count && not (is_flagged heard c)) }
+        ensures no_other { (c : ℕ) → count ≤ c → is_unheard result c ≡ false }
     {
         let mut are = [false; CONNECTIONS];
         for number in 0..CONNECTIONS {
-            are[number] = number < count && heard & flag_of(number) == 0;
+            are[number] = number < count && !is_flagged(heard, number);
         }
         Unheard { are }
     }
 
     /// Whether they are none.
-    pub(crate) fn is_none(&self) -> bool {
-        self.are == [false; CONNECTIONS]
+    pub(crate) fn is_none(&self) -> bool
+        ensures none { result ≡ true → (c : ℕ) → is_unheard self.now c ≡ false }
+        ensures some { result ≡ false → (c : ℕ) × (is_unheard self.now c ≡ true) }
+    {
+        for number in 0..CONNECTIONS {
+            if self.are[number] {
+                return false;
+            }
+        }
+        true
     }
 
     /// What becomes of clients, of which this was told before the time was over.
@@ -105,6 +114,16 @@ impl Unheard {
 }
 
 /// The flag of the connection with this number, which is less than 8.
-pub(crate) fn flag_of(number: usize) -> u32 {
+pub(crate) fn flag_of(number: usize) -> u32
+    ensures { result ≡ 2 ^ (number % 8) }
+{
     1 << (number % CONNECTIONS)
+}
+
+/// Whether the flag of the connection with this number is set.
+fn is_flagged(flags: u32, number: usize) -> bool
+    requires { number < 8 }
+    ensures { result ≡ is_flagged flags number }
+{
+    (flags >> number) % 2 == 1
 }

@@ -2,6 +2,7 @@
 
 ghost use Rattle.std.specs.Prelude.{◌≡◌, ◌≤◌, ◌<◌, ℕ, None, Some, false, option_map};
 ghost use Rattle.lfi_sync.specs.Fates.{is_unheard};
+ghost use Rattle.lfi_sync.specs.Lifecycles.{judging_of};
 ghost use Rattle.lfi_sync.specs.Stops.{state_number, stops_for, why_of};
 
 use crate::deadline::Span;
@@ -152,7 +153,9 @@ pub struct Lifecycle {
 
 impl Lifecycle {
     /// The threads are being started, those of `verifiers` verifiers among them.
-    pub fn new(verifiers: usize) -> Lifecycle {
+    pub fn new(verifiers: usize) -> Lifecycle
+        ensures { judging_of result ≡ verifiers }
+    {
         Lifecycle {
             word: AtomicU64::new(State::Starting.number()),
             verifiers: verifiers as u64,
@@ -164,7 +167,9 @@ impl Lifecycle {
     }
 
     /// How many verifiers there are.
-    pub fn verifiers(&self) -> u64 {
+    pub fn verifiers(&self) -> u64
+        ensures { result ≡ judging_of self.now }
+    {
         self.verifiers
     }
 

@@ -14,7 +14,7 @@ const MANY_UNTAKEN: usize = 64;
 /// With how many it takes no turn, since pages that wait in the intake are memory.
 const MOST_UNTAKEN: usize = 128;
 
-/// With fewer than how many it goes on then.
+/// With fewer than how many one that took no turn goes on.
 const FEW_UNTAKEN: usize = 32;
 
 /// After how many puts a receiver's thread that is far ahead looks again.
@@ -31,6 +31,23 @@ pub(crate) enum Distance {
     TooFar,
 }
 
+/// Whether a receiver's thread takes turns.
+#[derive(Clone, Copy)]
+enum Flow {
+    Open,
+    Held,
+}
+
+impl Flow {
+    /// With how many untaken items it takes no turn then.
+    fn limit(self) -> usize {
+        match self {
+            Flow::Open => MOST_UNTAKEN,
+            Flow::Held => FEW_UNTAKEN,
+        }
+    }
+}
+
 /// Keeps a receiver's thread from turning while too many of its items are untaken.
 #[derive(Drop)]
 pub(crate) struct BackPressure<'a> {
@@ -40,8 +57,7 @@ pub(crate) struct BackPressure<'a> {
     untaken: usize,
     /// With how many it looks again.
     look_at: usize,
-    /// With how many it takes no turn.
-    limit: usize,
+    flow: Flow,
 }
 
 impl<'a> BackPressure<'a> {
@@ -51,7 +67,7 @@ impl<'a> BackPressure<'a> {
             room: Waiter::new(intake_room, number),
             untaken: 0,
             look_at: MANY_UNTAKEN,
-            limit: MOST_UNTAKEN,
+            flow: Flow::Open,
         }
     }
 
@@ -76,12 +92,12 @@ impl<'a> BackPressure<'a> {
 
     /// How far it is ahead, where it has just looked.
     fn distance_seen(&mut self) -> Distance {
-        if self.untaken >= self.limit {
-            self.limit = FEW_UNTAKEN;
+        if self.untaken >= self.flow.limit() {
+            self.flow = Flow::Held;
             self.look_at = FEW_UNTAKEN;
             return Distance::TooFar;
         }
-        self.limit = MOST_UNTAKEN;
+        self.flow = Flow::Open;
         self.look_at = self
             .untaken
             .saturating_add(LOOK_PUTS)

@@ -1,6 +1,7 @@
 //! All parts of a stage go through their threads, each receiver with an input.
 
-ghost use Rattle.std.specs.Prelude.{IfOk, length};
+ghost use Rattle.std.specs.Prelude.{◌≡◌, IfOk, length};
+ghost use Rattle.lfi_sync.specs.Lifecycles.{judging_of};
 ghost use Rattle.lfi_thread_loops.specs.Running.{AreBack, AreReady, had_by};
 
 use crate::env::Env;
@@ -38,6 +39,7 @@ pub fn load_in<
     inputs: Vec<Input<R>>,
 ) -> Result<Parts, LoadError>
     requires ready { AreReady env.now.shared.now (length inputs.items) ready }
+    requires counted { judging_of env.now.lifecycle.now ≡ length ready.verifiers.items }
     ensures { IfOk result (AreBack env.entry.now.shared.now (length inputs.items) (length ready.verifiers.items) (had_by R.remaining inputs.items)) }
 {
     let Parts {

@@ -8,6 +8,7 @@ ghost use Rattle.lfi_stage_model.specs.Fresh.{IsFresh};
 ghost use Rattle.lfi_sync.specs.Clients.{sent_over_socket};
 ghost use Rattle.lfi_sync.specs.Deadlines.{limit_of_acceptor};
 ghost use Rattle.lfi_sync.specs.Fates.{fate_at, is_out_of_time};
+ghost use Rattle.lfi_sync.specs.Lifecycles.{judging_of};
 ghost use Rattle.lfi_thread_loops.specs.Running.{AreReady, HaveServed};
 ghost use Rattle.lfi_thread_loops.specs.inner.Clients.{AreTaken, HaveComeTo};
 ghost use Rattle.lfi_thread_loops.specs.inner.PartIds.{AreAt};
@@ -151,6 +152,7 @@ pub fn serve_in<
     streams: &'c Streams,
 ) -> Result<Back, LoadError>
     requires ready { (count : ℕ) × AreReady env.now.shared.now count ready }
+    requires counted { judging_of env.now.lifecycle.now ≡ length ready.verifiers.items }
     ensures { IfOk result (HaveServed env.entry.now.shared.now (length ready.receivers.items) (length ready.verifiers.items) (limit_of_acceptor acceptor.entry)) }
 {
     let Parts {

@@ -18,8 +18,9 @@ Tells m word found m' h' = Follows (knowledge_of m.0).seen word found × (m'.0 �
 abbrev pub sat : At → Mine → ℕ → Mine → Type 0
 sat st m found m' = m'.0 ≡ onlooker (knowledge_of m.0).receivers ∷ []
 
+-- a free module becomes open, and nothing else
 abbrev pub claimed : At → Mine → ℕ → Mine → Type 0
-claimed st m found m' = (found < 4) × Tells m st.word found m' (if found == 0 then claims st.word (knowledge_of m.0) else sees st.word found (knowledge_of m.0))
+claimed st m found m' = (st.second ≡ 1) × (found < 4) × Tells m st.word found m' (if found == 0 then claims st.word (knowledge_of m.0) else sees st.word found (knowledge_of m.0))
 
 abbrev pub changed : At → Mine → ℕ → Mine → Type 0
 changed st m found m' = (found < 4) × Tells m st.word found m' (sees st.word (if found == 1 then st.second else found) (knowledge_of m.0))

@@ -43,5 +43,11 @@ returns-in_err-parts g c = IfOk-from_err c.from_residual.result _ c.from_residua
 
 pub scoped-back-requires : goal.scoped-back-requires
 scoped-back-requires g c = record {
-  at = λ a. (ready_for c.len.result c.args.verifiers (length c.args.inputs.items) c.in_ok-parts.field-0 c.in_ok-parts.ensures (c.len.ensures ∙ c.args.inputs.ok.0), search rules);
+  at = λ a. (
+    (
+      ready_for c.len.result c.args.verifiers (length c.args.inputs.items) c.in_ok-parts.field-0 c.in_ok-parts.ensures (c.len.ensures ∙ c.args.inputs.ok.0),
+      c.new-lifecycle.ensures ∙ sym c.in_ok-parts.ensures.verifier_count,
+    ),
+    search rules,
+  );
 }

@@ -1,4 +1,4 @@
-use Rattle.std.proofs.Common.{rules, length, subst}
+use Rattle.std.proofs.Common.{rules, ◌∙◌, length, subst, sym}
 use Rattle.std.proofs.lemmas.Result.{IfOk-from_err}
 use Rattle.lfi_sync.specs.Deadlines.{limit_of_acceptor}
 use Rattle.lfi_loader.specs.Served.{HasServed}
@@ -25,5 +25,11 @@ new-requires-clause-verifiers g c = c.requires.verifiers
 
 pub scoped-back-requires : goal.scoped-back-requires
 scoped-back-requires g c = record {
-  at = λ a. ((c.args.size.connections, ready_of c.args.size.connections c.args.size.verifiers c.in_ok-parts.field-0 c.in_ok-parts.ensures), search rules);
+  at = λ a. (
+    (
+      (c.args.size.connections, ready_of c.args.size.connections c.args.size.verifiers c.in_ok-parts.field-0 c.in_ok-parts.ensures),
+      c.new-2.ensures ∙ sym c.in_ok-parts.ensures.verifier_count,
+    ),
+    search rules,
+  );
 }
