@@ -34,7 +34,8 @@
 //!   every 5 ms, since no call of the toolchain waits for a client for some time only. When the time is over this thread
 //!   shuts all sockets down; what lies in them is still read. A clock that can't be read is as a time that is over.
 //! - **What a call here answers is in no clause, but where something rests on it** (`stop`, `why` and `of` of `Stopped`,
-//!   the limits, `keep`, `join_all`): what other threads did meanwhile is nothing that a contract knows.
+//!   the limits, the flags of clients, the number of verifiers, `keep`, `join_all`): what other threads did meanwhile is
+//!   nothing that a contract knows.
 #![tactic(auto)]
 
 mod acceptor;
