@@ -208,8 +208,9 @@ lfi_status lfi_mend(uint32_t profile, uint32_t words, const lfi_fault *LFI_RESTR
 lfi_status lfi_stream_init(lfi_stream *stream, uint32_t profile);
 
 /* Goes on in the next bytes of a stream, up to the end of a header or of a payload, judges them where they are code, and
- * answers how many it used: 0 to `size`, and at least 1 where there are any, unless *event is LFI_FAULT or LFI_NO_STREAM. What
- * it didn't use comes first in the next call. Ensures, where *stream stood for a stream of which certain bytes came, in
+ * answers how many it used: as many as there are up to that end, so at least 1 where `size` isn't 0, and `size` where the end
+ * lies behind them; none, where *event is LFI_NO_STREAM or a fault that was told before. What it didn't use comes first in the
+ * next call. Ensures, where *stream stood for a stream of which certain bytes came, in
  * whatever pieces:
  *  - unless *event is LFI_FAULT, *stream stands for the stream of which these bytes and then those used came, and *event tells
  *    what they brought, and all of it: LFI_OPEN, a module that wasn't opened before opens; LFI_CODE, all bytes used are payload of the page that is

@@ -199,7 +199,7 @@ module _ (words : List (List ℕ)) (file_at : List ℕ → Option (List ℕ)) (o
 
   pub ends_wrong : (lost : Bool) (ending : Ending) → EndsUnlessLost lost WrongWords ending → AreWrongOf lost → Runs words file_at (left out put was errors) (left out put lost told) ending
   ends_wrong true ending ends wrong = subst (Runs words file_at (left out put was errors) (left out put true told)) (sym ends) (inl (NoMemory, tt, tt, refl, λ other. refl))
-  ends_wrong false ending ends wrong = subst (Runs words file_at (left out put was errors) (left out put false told)) (sym ends) (wrong, refl, refl)
+  ends_wrong false ending ends wrong = subst (Runs words file_at (left out put was errors) (left out put false told)) (sym ends) (wrong, refl, refl, refl)
 
 pub runs_failed : (words : List (List ℕ)) (file_at : List ℕ → Option (List ℕ)) (old new : Left) (ending : Ending) → ending ≡ Failed → TellsFailure words old new → Runs words file_at old new ending
 runs_failed words file_at old new ending is tells = subst (Runs words file_at old new) (sym is) (inl tells)

@@ -84,5 +84,5 @@ TellsFlaw words old new =
 abbrev pub Runs : List (List ℕ) → (List ℕ → Option (List ℕ)) → (old new : Left) → Ending → Type 0
 Runs words file_at old new Well = (AsksHelp words × (new.put ≡ old.put) × (new.errors ≡ old.errors)) ⊎ CarriesOutWords words file_at old new Well
 Runs words file_at old new NotWell = CarriesOutWords words file_at old new NotWell
-Runs words file_at old new WrongWords = (AreWrong words ⊎ (TellsNoPages words old new ⊎ (TellsNoFormat words old new ⊎ TellsFlaw words old new))) × (new.out ≡ old.out) × (new.put ≡ old.put)
+Runs words file_at old new WrongWords = (AreWrong words ⊎ (TellsNoPages words old new ⊎ (TellsNoFormat words old new ⊎ TellsFlaw words old new))) × (new.is_lost ≡ false) × (new.out ≡ old.out) × (new.put ≡ old.put)
 Runs words file_at old new Failed = TellsFailure words old new ⊎ CarriesOutWords words file_at old new Failed

@@ -1,5 +1,5 @@
 -- What a feed stands for, and what its answers tell. Source: this project's format, docs/PROFILE.md.
-use Rattle.std.specs.Prelude.{◌*◌, ◌≡◌, ◌≢◌, ℕ, ◌%◌, ◌≤◌, ◌<◌, ◌+◌, ◌^◌, Bool, true, false, nat_lt, List, [], ◌∷◌, ◌++◌, length, take, drop, ◌⊎◌, Option, Some, None, Result, Ok, Err, All, if◌then◌else◌}
+use Rattle.std.specs.Prelude.{◌*◌, ◌≡◌, ◌≢◌, ℕ, ◌%◌, ◌≤◌, ◌<◌, ◌+◌, ◌-◌, ◌^◌, Bool, true, false, nat_lt, List, [], ◌∷◌, ◌++◌, length, take, drop, ◌⊎◌, Option, Some, None, Result, Ok, Err, All, if◌then◌else◌}
 use Rattle.lfi_module.specs.Extents.{ExtentView}
 use Rattle.lfi_module.specs.Pages.{IsPageSize}
 use Rattle.lfi_frame.specs.declared.header.Header.{Header}
@@ -118,6 +118,16 @@ abbrev pub can_be_at : Position → Bool
 can_be_at (position.Header filled) = nat_lt filled 12
 can_be_at (position.Payload left) = nat_lt 0 left
 can_be_at (position.Faulty fault) = true
+
+-- how many bytes end the header or the payload in which a stream is; none after a fault
+abbrev pub awaited_at : Position → ℕ
+awaited_at (position.Header filled) = 12 - filled
+awaited_at (position.Payload left) = left
+awaited_at (position.Faulty fault) = 0
+
+-- the same, of a feed's stream
+abbrev pub awaited : Feed → ℕ
+awaited feed = awaited_at feed.position
 
 -- the fault of a stream at a position
 abbrev pub fault_at : Position → Option FrameFault

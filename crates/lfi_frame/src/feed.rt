@@ -2,7 +2,7 @@
 //!
 //! Source of the format: docs/PROFILE.md, "Streams".
 
-ghost use Rattle.std.specs.Prelude.{◌≡◌, ◌≢◌, ℕ, ◌+◌, ◌<◌, ◌≤◌, ◌⊎◌, List, [], ◌++◌, take, drop, length, Result, Ok, Err, Option, Some, None, IfSome, IfNone, IfOk, All, is_some};
+ghost use Rattle.std.specs.Prelude.{◌≡◌, ◌≢◌, ℕ, ◌+◌, ◌-◌, ◌<◌, ◌≤◌, ◌⊎◌, List, [], ◌++◌, take, drop, length, min, Result, Ok, Err, Option, Some, None, IfSome, IfNone, IfOk, All, is_some};
 ghost use Rattle.lfi_frame.specs.inner.Positions.{filled_at, left_at, is_between};
 
 use crate::answer::{Got, Step};
@@ -46,7 +46,7 @@ fn fill(held: &mut [u8; HEADER_BYTES], filled: usize, bytes: &[u8])
 impl Feed {
     ghost use Rattle.lfi_frame.specs.declared.fault.FrameFault.TheVariants.{NoMemory, Ended, ReadFailed};
     ghost use Rattle.lfi_frame.specs.Streams.{Message, IsMessage, header_at};
-    ghost use Rattle.lfi_frame.specs.Feeds.{FeedStands, HoldsHeader, header_held, IsAt, IsFed, IsInRange, feed_fault, UsesAll, UsesPayload, IsHeaderUsed, can_be_at, fault_at, fault_told, used_in, IsAtEnd, fault_ended, answer_to, position_after};
+    ghost use Rattle.lfi_frame.specs.Feeds.{awaited, awaited_at, FeedStands, HoldsHeader, header_held, IsAt, IsFed, IsInRange, feed_fault, UsesAll, UsesPayload, IsHeaderUsed, can_be_at, fault_at, fault_told, used_in, IsAtEnd, fault_ended, answer_to, position_after};
 
     /// A feed of which no byte has come.
     pub fn new() -> Feed
@@ -65,6 +65,7 @@ impl Feed {
         ensures stands { IfSome result (λ feed. (messages : List Message) (rest : List ℕ) → All IsMessage messages → IsAt held position rest →
             FeedStands feed messages rest) }
         ensures fault { IfSome result (λ feed. feed_fault feed ≡ fault_at position) }
+        ensures awaits { IfSome result (λ feed. awaited feed ≡ awaited_at position) }
         ensures none { IfNone result ((rest : List ℕ) → ¬ (IsAt held position rest)) }
         ensures possible { is_some result ≡ can_be_at position }
     {
@@ -111,6 +112,7 @@ impl Feed {
         ensures holds { (messages : List Message) (rest : List ℕ) → FeedStands self.old messages rest → HoldsHeader self.old rest →
             HoldsHeader self.new (rest ++ take (used_in result) piece.now) }
         ensures range { IfOk result (λ step. IsInRange step.got) }
+        ensures used { used_in result ≡ min (awaited self.old) (length piece.now) }
         ensures within { used_in result ≤ length piece.now }
         ensures whole { UsesAll result (length piece.now) }
         ensures payload { UsesPayload result (length piece.now) }
@@ -136,6 +138,7 @@ impl Feed {
         ensures holds { (messages : List Message) (rest : List ℕ) → FeedStands self.old messages rest → HoldsHeader self.old rest →
             HoldsHeader self.new (rest ++ take (used_in result) piece.now) }
         ensures range { IfOk result (λ step. IsInRange step.got) }
+        ensures used { used_in result ≡ min (12 - filled) (length piece.now) }
         ensures within { used_in result ≤ length piece.now }
         ensures whole { UsesAll result (length piece.now) }
         ensures payload { UsesPayload result (length piece.now) }
@@ -183,6 +186,7 @@ impl Feed {
         ensures holds { (messages : List Message) (rest : List ℕ) → FeedStands self.old messages rest → HoldsHeader self.old rest →
             HoldsHeader self.new (rest ++ take (result.used) piece.now) }
         ensures range { IsInRange result.got }
+        ensures used { result.used ≡ min left (length piece.now) }
         ensures within { result.used ≤ length piece.now }
         ensures whole { UsesAll (Ok result) (length piece.now) }
         ensures payload { UsesPayload (Ok result) (length piece.now) }

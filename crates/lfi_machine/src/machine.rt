@@ -2,7 +2,7 @@
 
 ghost use Rattle.std.specs.Prelude.{◌≡◌, ◌<◌, ◌≤◌, ◌↔◌, ◌⊎◌, ℕ, IfOk, IfErr, OnOk, OnErr, None, Some};
 ghost use Rattle.lfi_image.specs.Image.{IsImage};
-ghost use Rattle.sparse_memory.specs.Kept.{byte_at};
+ghost use Rattle.sparse_memory.specs.Kept.{byte_at, KeepsNone};
 ghost use Rattle.lfi_confinement.specs.Slots.{base};
 ghost use Rattle.lfi_confinement.specs.Lawful.{Held};
 ghost use Rattle.lfi_machine.specs.Starts.{refusal_of};
@@ -60,6 +60,7 @@ impl Machine {
         ensures registers { IfOk result (λ m. m.registers ≡ registers) }
         ensures image { IfOk result (λ m. m.owned.image ≡ image) }
         ensures zero { IfOk result (λ m. (offset : ℕ) → byte_at m.owned.kept offset ≡ 0) }
+        ensures unkept { IfOk result (λ m. KeepsNone m.owned.kept) }
         ensures held { IfOk result (λ m. Held (base image) registers) }
         ensures confined { IfOk result IsConfined }
         ensures refused { IfErr result (λ fault. (refusal_of (base image) registers ≡ Some fault)

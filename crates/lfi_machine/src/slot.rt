@@ -1,7 +1,7 @@
 ghost use Rattle.std.specs.Prelude.{◌≡◌, ℕ, ◌+◌, ◌-◌, ◌*◌, ◌^◌, ◌<◌, ◌≤◌, true, false, not, Bool, length, SomeIff, IfOk, IfErr, OnOk, OnErr, IsErrOf, IsTrue, Some, None};
 ghost use Rattle.a64_word.specs.Operands.{size_code};
 ghost use Rattle.a64_word.specs.Bytes.{number_at};
-ghost use Rattle.sparse_memory.specs.Kept.{byte_at, IsKept, AreKept, KeepsOnly, SameBytes, SamePages, WritesByte, WritesNumber};
+ghost use Rattle.sparse_memory.specs.Kept.{byte_at, IsKept, AreKept, KeepsNone, KeepsOnly, SameBytes, SamePages, WritesByte, WritesNumber};
 ghost use Rattle.lfi_image.specs.Image.{IsImage};
 ghost use Rattle.lfi_confinement.specs.Slots.{base, permission_at, is_permitted, byte_in};
 ghost use Rattle.lfi_confinement.specs.Moves.{first_denied};
@@ -120,6 +120,7 @@ impl SlotMemory {
     pub fn new(alloc: Global, image: CompleteImage) -> Result<SlotMemory, MemoryRefused>
         ensures image { IfOk result (λ d. d.image ≡ image) }
         ensures zero { IfOk result (λ d. (offset : ℕ) → byte_at d.kept offset ≡ 0) }
+        ensures unkept { IfOk result (λ d. KeepsNone d.kept) }
     {
         let memory = SparseMemory::new(alloc)?;
         let words = u64::from(image.words().number());

@@ -102,11 +102,14 @@ module _ (connections : ℕ) (texts : ℕ → List ℕ) (causes : ℕ → EndCau
       byte_of : MessageStart → ℕ
       byte_of s = s.byte
 
-  pub one_of_each : (c : ℕ) → c < connections → slice_index one.connection_strays c ≡ slice_index other.connection_strays c
-  one_of_each c within =
-      a.each c within
-      ∙ ap (λ n. min n (2 ^ 64 - 1)) (same_strays (texts c) (causes c) (claims c) (a.items c) (b.items c) (get_or one.faults c None) (get_or other.faults c None) (slice_index a.strays c) (slice_index b.strays c) (a.made c within) (b.made c within))
-      ∙ sym (b.each c within)
+  pub one_of_each : (c : ℕ) → slice_index one.connection_strays c ≡ slice_index other.connection_strays c
+  one_of_each c = elim (within_or_past c connections) [
+    | inl within ↦
+        a.each c within
+        ∙ ap (λ n. min n (2 ^ 64 - 1)) (same_strays (texts c) (causes c) (claims c) (a.items c) (b.items c) (get_or one.faults c None) (get_or other.faults c None) (slice_index a.strays c) (slice_index b.strays c) (a.made c within) (b.made c within))
+        ∙ sym (b.each c within)
+    | inr past ↦ a.no_strays c past ∙ sym (b.no_strays c past)
+  ]
 
   pub one_of_strays : one.strays ≡ other.strays
   one_of_strays = a.total ∙ ap (λ l. min (sum l) (2 ^ 64 - 1)) (same_numbers a.strays b.strays (a.counted ∙ sym b.counted) each) ∙ sym b.total

@@ -1,12 +1,12 @@
 //! A stream goes on.
 
-ghost use Rattle.std.specs.Prelude.{◌≡◌, ◌≢◌, ◌<◌, ◌≤◌, ℕ, List, [], length, take, Some, None, Ok, Err, IfSome, IfNone};
+ghost use Rattle.std.specs.Prelude.{◌≡◌, ◌≢◌, ◌<◌, ◌≤◌, ℕ, List, [], length, min, take, Some, None, Ok, Err, IfSome, IfNone};
 ghost use Rattle.lfi_frame.specs.declared.feed.Feed.{Feed};
 ghost use Rattle.lfi_frame.specs.declared.feed.Position.TheVariants.{Faulty};
 ghost use Rattle.lfi_frame.specs.declared.fault.FrameFault.{FrameFault};
 ghost use Rattle.lfi_frame.specs.declared.answer.Got.TheVariants.{More};
 ghost use Rattle.lfi_frame.specs.Streams.{Message};
-ghost use Rattle.lfi_frame.specs.Feeds.{FeedStands, IsTold, feed_fault, fault_at};
+ghost use Rattle.lfi_frame.specs.Feeds.{awaited, awaited_at, FeedStands, IsTold, feed_fault, fault_at};
 ghost use Rattle.lfi_connection.specs.Connections.{Holds};
 ghost use Rattle.lfi_connection.specs.Events.{coming_after, Moves};
 ghost use Rattle.lfi_frame.specs.declared.feed.Position.{Position};
@@ -49,6 +49,7 @@ fn go_on(
     requires { feed_fault start ≡ None }
     ensures told { (messages : List Message) (rest : List ℕ) → FeedStands start messages rest → Holds (progress_at stream.old.modules) (page_at stream.old) all messages rest →
         Tells result.1 stream.new messages rest (take result.0 piece.now) }
+    ensures used { result.0 ≡ min (awaited start) (length piece.now) }
     ensures within { result.0 ≤ length piece.now }
     ensures moves { piece.now ≢ [] → 0 < result.0 }
     ensures code { IsWithin result.1 result.0 stream.old }
@@ -74,6 +75,8 @@ fn go_on(
 pub fn next(stream: &mut LfiStreamText, piece: &[u8]) -> Option<(usize, Result<Event, FrameFault>)>
     ensures told { IfSome result (λ answer. (messages : List Message) (rest : List ℕ) → StandsFor stream.old messages rest →
         Tells answer.1 stream.new messages rest (take answer.0 piece.now)) }
+    ensures used { IfSome result (λ answer. (position : Position) → position_at stream.old.feed.place stream.old.feed.number ≡ Some position →
+        answer.0 ≡ min (awaited_at position) (length piece.now)) }
     ensures within { IfSome result (λ answer. answer.0 ≤ length piece.now) }
     ensures moves { IfSome result (λ answer. (rest : List ℕ) → IsIn stream.old.feed rest → piece.now ≢ [] → 0 < answer.0) }
     ensures code { IfSome result (λ answer. IsWithin answer.1 answer.0 stream.old) }

@@ -9,3 +9,4 @@ pub mod Following
 pub mod Followed
 pub mod Losing
 pub mod Spelled
+pub mod SpelledMends

@@ -30,14 +30,16 @@ Spell profile [] [] = Unit {0}
 Spell profile (i ∷ is) (word ∷ words) = SpellsIn profile i word × Spell profile is words
 Spell profile is words = ⊥
 
--- The mend of a word with a fault, by the words before it and after it: the numbers begin with its words, and are otherwise as they were.
-pub record TellsMend (profile : Profile) (words : ℕ) (found : Fault) (word before after : ℕ) (old new : List ℕ) (count : ℕ) : Type 0 where
+-- These words spell the mend of a word with a fault, by the words before it and after it.
+pub record SpellMend (profile : Profile) (words : ℕ) (found : Fault) (word before after : ℕ) (spelling : List ℕ) : Type 0 where
   pub mend : Mend
   pub mends : MendsWord profile found.rule word (earlier found.word before) (later words found.word after) (Ok mend)
-  pub spelling : List ℕ
   pub spells : Spell profile (mended mend) spelling
-  pub written : new ≡ spelling ++ drop (length spelling) old
-  pub counted : count ≡ length spelling
+
+-- The numbers begin with the words of its mend, and are otherwise as they were; the count is that of these words.
+abbrev pub TellsMend : Profile → (words : ℕ) → Fault → (word before after : ℕ) → (old new : List ℕ) → (count : ℕ) → Type 0
+TellsMend profile words found word before after old new count =
+    (spelling : List ℕ) × SpellMend profile words found word before after spelling × (new ≡ spelling ++ drop (length spelling) old) × (count ≡ length spelling)
 
 -- There is no mend of it, for a reason.
 pub record HasNoMend (profile : Profile) (words : ℕ) (found : Fault) (word before after : ℕ) : Type 0 where
@@ -45,9 +47,5 @@ pub record HasNoMend (profile : Profile) (words : ℕ) (found : Fault) (word bef
   pub mends : MendsWord profile found.rule word (earlier found.word before) (later words found.word after) (Err reason)
 
 -- There is no room for the words of its mend.
-pub record LacksRoom (profile : Profile) (words : ℕ) (found : Fault) (word before after : ℕ) (room : ℕ) : Type 0 where
-  pub mend : Mend
-  pub mends : MendsWord profile found.rule word (earlier found.word before) (later words found.word after) (Ok mend)
-  pub spelling : List ℕ
-  pub spells : Spell profile (mended mend) spelling
-  pub longer : room < length spelling
+abbrev pub LacksRoom : Profile → (words : ℕ) → Fault → (word before after room : ℕ) → Type 0
+LacksRoom profile words found word before after room = (spelling : List ℕ) × SpellMend profile words found word before after spelling × (room < length spelling)

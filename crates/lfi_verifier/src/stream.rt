@@ -1,12 +1,12 @@
 //! A connection's stream, in a state that the caller keeps.
 
-ghost use Rattle.std.specs.Prelude.{◌≡◌, ◌≢◌, ◌<◌, ◌≤◌, ℕ, List, [], length, take, Some, None, Err};
+ghost use Rattle.std.specs.Prelude.{◌≡◌, ◌≢◌, ◌<◌, ◌≤◌, ℕ, List, [], length, min, take, Some, None, Err};
 ghost use Rattle.lfi_frame.specs.declared.fault.FrameFault.{FrameFault};
 ghost use Rattle.lfi_frame.specs.declared.feed.Position.TheVariants.{Faulty};
 ghost use Rattle.lfi_frame.specs.Streams.{Message, rest_of};
 ghost use Rattle.lfi_stream.specs.Streams.{IsIn, StandsFor, made_of};
 ghost use Rattle.lfi_frame.specs.declared.feed.Position.{Position};
-ghost use Rattle.lfi_frame.specs.Feeds.{fault_at};
+ghost use Rattle.lfi_frame.specs.Feeds.{awaited_at, fault_at};
 ghost use Rattle.lfi_module.specs.declared.profile.Profile.{Profile};
 ghost use Rattle.lfi_module.specs.Profiles.{profile_number};
 ghost use Rattle.lfi_verifier.specs.Profiles.{IsUnknown};
@@ -200,6 +200,8 @@ pub extern "C" fn lfi_stream_next(
         JudgesNext event.new stream.new messages rest (take result bytes.now) }
     ensures told { (messages : List Message) (rest : List ℕ) → StandsFor stream.old.text messages rest →
         TellsNext event.new stream.new.text messages rest (take result bytes.now) }
+    ensures used { (position : Position) → position_at stream.old.text.feed.place stream.old.text.feed.number ≡ Some position → event.new ≢ no_stream →
+        result ≡ min (awaited_at position) (length bytes.now) }
     ensures within { result ≤ length bytes.now }
     ensures moves { (rest : List ℕ) → IsIn stream.old.text.feed rest → event.new ≢ no_stream → bytes.now ≢ [] → 0 < result }
     ensures over { (fault : FrameFault) → position_at stream.old.text.feed.place stream.old.text.feed.number ≡ Some (Faulty fault) →

@@ -23,6 +23,10 @@ byte_at kept offset = if slice_index kept.table (offset / page_size) == 0 then 0
 abbrev pub IsKept : Kept → ℕ → Type 0
 IsKept kept offset = 0 < slice_index kept.table (offset / page_size)
 
+-- no page is kept
+abbrev pub KeepsNone : Kept → Type 0
+KeepsNone kept = (offset : ℕ) → ¬ (IsKept kept offset)
+
 -- each page of `bytes` bytes from an offset on is kept
 abbrev pub AreKept : Kept → (offset bytes : ℕ) → Type 0
 AreKept kept offset bytes = (k : ℕ) → k < bytes → IsKept kept (offset + k)

@@ -1,6 +1,6 @@
 ghost use Rattle.std.specs.Prelude.{◌≡◌, ℕ, ◌+◌, ◌-◌, ◌/◌, ◌^◌, ◌<◌, ◌≤◌, ◌↔◌, ◌⊎◌, OnOk, OnErr, IfOk, IsTrue};
 ghost use Rattle.a64_word.specs.Bytes.{number_at};
-ghost use Rattle.sparse_memory.specs.Kept.{byte_at, IsKept, AreKept, SameBytes, KeepsAll, KeepsOnly, SamePages, WritesByte, WritesNumber};
+ghost use Rattle.sparse_memory.specs.Kept.{byte_at, IsKept, AreKept, SameBytes, KeepsAll, KeepsNone, KeepsOnly, SamePages, WritesByte, WritesNumber};
 
 use crate::number::{read_2, read_4, read_8, write_2, write_4, write_8};
 use crate::pages::{PAGE, PAGES};
@@ -27,13 +27,14 @@ impl Model for SparseMemory {
 }
 
 impl SparseMemory {
-    /// Bytes of 0.
+    /// Bytes of 0. No page is kept yet.
     ///
     /// # Errors
     ///
     /// Where memory was refused.
     pub fn new(alloc: Global) -> Result<SparseMemory, MemoryRefused>
         ensures zero { IfOk result (λ m. (offset : ℕ) → byte_at m offset ≡ 0) }
+        ensures unkept { IfOk result KeepsNone }
     {
         let table = zero_table(alloc, PAGES)?;
         Ok(SparseMemory {

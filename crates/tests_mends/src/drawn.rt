@@ -81,11 +81,31 @@ const RESULTS: [u32; 48] = [
 ];
 
 /// How many words were looked at, and how many had a mend.
-#[derive(Clone, Copy)]
+#[derive(Clone, Copy, Debug)]
 struct Tally {
     drawn: u32,
     mended: u32,
 }
+
+/// What came of drawn words: the first whose mend does something else, and how many there were.
+#[derive(Clone, Copy, Debug)]
+struct Outcome {
+    other: Option<u32>,
+    tally: Tally,
+}
+
+impl Outcome {
+    /// Whether each mend does what its word does, and more than half of the words had one.
+    fn is_right(&self) -> bool {
+        self.other == None && self.tally.mended > self.tally.drawn / 2
+    }
+}
+
+/// No word yet.
+const NONE_YET: Tally = Tally {
+    drawn: 0,
+    mended: 0,
+};
 
 /// The word with another register in the field from the bit `low` on, one time of four.
 fn renamed(draws: &mut Draws, word: u32, low: u32) -> u32
@@ -215,111 +235,63 @@ fn first_other_near(
     None
 }
 
-/// The first word drawn of those that compute whose mend does something else.
-fn first_other_result(seed: u64, tally: &mut Tally) -> Option<u32> {
+/// What comes of words drawn near those that compute.
+fn outcome_of_results(seed: u64) -> Outcome {
     let mut draws = Draws { state: seed };
+    let mut tally = NONE_YET;
     for word in RESULTS {
-        let other = first_other_near(Profile::One, word, &mut draws, tally);
+        let other = first_other_near(Profile::One, word, &mut draws, &mut tally);
         if other.is_some() {
-            return other;
+            return Outcome { other, tally };
         }
     }
-    None
+    Outcome { other: None, tally }
 }
 
-/// The first word drawn of some rows whose mend does something else.
-fn first_other_of(rows: &[Row], seed: u64, tally: &mut Tally) -> Option<u32> {
+/// What comes of words drawn near those of some rows.
+fn outcome_of(rows: &[Row], seed: u64) -> Outcome {
     let mut draws = Draws { state: seed };
+    let mut tally = NONE_YET;
     for base in rows {
-        let other = first_other_near(base.profile, base.word, &mut draws, tally);
+        let other = first_other_near(base.profile, base.word, &mut draws, &mut tally);
         if other.is_some() {
-            return other;
+            return Outcome { other, tally };
         }
     }
-    None
+    Outcome { other: None, tally }
 }
 
 #[test]
 fn drawn_singles_do_the_same(rt: HostRuntime) -> Result<(), Fail> {
-    let mut tally = Tally {
-        drawn: 0,
-        mended: 0,
-    };
-    let other = first_other_of(&SINGLES, 11, &mut tally);
-    assert!(rt; other == None, "{:x}", other.unwrap_or(0));
-    assert!(rt;
-        tally.mended > tally.drawn / 2,
-        "{} of {}",
-        tally.mended,
-        tally.drawn
-    );
+    let came = outcome_of(&SINGLES, 11);
+    assert!(rt; came.is_right(), "{came:?}");
     Ok(())
 }
 
 #[test]
 fn drawn_pairs_do_the_same(rt: HostRuntime) -> Result<(), Fail> {
-    let mut tally = Tally {
-        drawn: 0,
-        mended: 0,
-    };
-    let other = first_other_of(&PAIRS, 13, &mut tally);
-    assert!(rt; other == None, "{:x}", other.unwrap_or(0));
-    assert!(rt;
-        tally.mended > tally.drawn / 2,
-        "{} of {}",
-        tally.mended,
-        tally.drawn
-    );
+    let came = outcome_of(&PAIRS, 13);
+    assert!(rt; came.is_right(), "{came:?}");
     Ok(())
 }
 
 #[test]
 fn drawn_writes_do_the_same(rt: HostRuntime) -> Result<(), Fail> {
-    let mut tally = Tally {
-        drawn: 0,
-        mended: 0,
-    };
-    let other = first_other_of(&WRITES, 17, &mut tally);
-    assert!(rt; other == None, "{:x}", other.unwrap_or(0));
-    assert!(rt;
-        tally.mended > tally.drawn / 2,
-        "{} of {}",
-        tally.mended,
-        tally.drawn
-    );
+    let came = outcome_of(&WRITES, 17);
+    assert!(rt; came.is_right(), "{came:?}");
     Ok(())
 }
 
 #[test]
 fn drawn_words_of_other_sets_do_the_same(rt: HostRuntime) -> Result<(), Fail> {
-    let mut tally = Tally {
-        drawn: 0,
-        mended: 0,
-    };
-    let other = first_other_of(&OUTSIDE, 23, &mut tally);
-    assert!(rt; other == None, "{:x}", other.unwrap_or(0));
-    assert!(rt;
-        tally.mended > tally.drawn / 2,
-        "{} of {}",
-        tally.mended,
-        tally.drawn
-    );
+    let came = outcome_of(&OUTSIDE, 23);
+    assert!(rt; came.is_right(), "{came:?}");
     Ok(())
 }
 
 #[test]
 fn drawn_results_do_the_same(rt: HostRuntime) -> Result<(), Fail> {
-    let mut tally = Tally {
-        drawn: 0,
-        mended: 0,
-    };
-    let other = first_other_result(29, &mut tally);
-    assert!(rt; other == None, "{:x}", other.unwrap_or(0));
-    assert!(rt;
-        tally.mended > tally.drawn / 2,
-        "{} of {}",
-        tally.mended,
-        tally.drawn
-    );
+    let came = outcome_of_results(29);
+    assert!(rt; came.is_right(), "{came:?}");
     Ok(())
 }

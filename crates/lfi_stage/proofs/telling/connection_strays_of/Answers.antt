@@ -1,11 +1,12 @@
 use Rattle.std.proofs.Common.{◌≡◌, ◌∙◌, ◌<◌, ℕ, Some, length, slice_get, refl, sym, ap, subst, inl, inr, arith}
 use Rattle.std.specs.Prelude.{slice_index}
+use Rattle.std.specs.Option.{option_map_or}
 use Rattle.std.proofs.Math.ListN.{set}
+use Rattle.std.proofs.lemmas.Bool.{cases_lt}
 use Rattle.std.proofs.lemmas.Bool.Decides.{eqb_tells}
 use Rattle.std.proofs.lemmas.List.{length-set, get_or-set_same, get_or-set_other}
-use Rattle.std.proofs.lemmas.Option.{slice_get_read, slice_get_within}
+use Rattle.std.proofs.lemmas.Option.{slice_get_past, slice_get_read}
 use Rattle.lfi_receive.specs.Receivers.{strays_at}
-use Rattle.lfi_stage_model.proofs.Each.{some_same}
 use Rattle.lfi_stage.proofs.telling.connection_strays_of.Goals as goal
 
 pub loop-number-preserved : goal.loop-number-preserved
@@ -20,13 +21,17 @@ loop-number-preserved c =
     let here : slice_get rs k ≡ Some c.index-receivers-number.result = slice_get_read rs (length rs) k c.index-receivers-number.result refl within c.index-receivers-number.is in
     record {
       long = length-set strays k count ∙ i.long;
-      told = λ n r less at. elim (eqb_tells n k) as (λ _. slice_index (set strays k count) n ≡ strays_at r) [
+      told = λ n less. elim (eqb_tells n k) as (λ _. slice_index (set strays k count) n ≡ option_map_or strays_at (slice_get rs n) 0) [
         | inl e ↦
-            let same : c.index-receivers-number.result ≡ r = some_same c.index-receivers-number.result r (sym here ∙ subst (λ z. slice_get rs z ≡ Some r) e.1 at) in
-            subst (λ z. slice_index (set strays k count) z ≡ strays_at r) (sym e.1) (get_or-set_same strays k count 0 room ∙ c.strays.ensures ∙ ap (λ q. strays_at q) same)
-        | inr other ↦ get_or-set_other strays k n count 0 other.1 ∙ i.told n r (let apart = other.1 in omega arith) at
+            subst (λ z. slice_index (set strays k count) z ≡ option_map_or strays_at (slice_get rs z) 0) (sym e.1)
+            (get_or-set_same strays k count 0 room ∙ c.strays.ensures ∙ sym (ap (λ o. option_map_or strays_at o 0) here))
+        | inr other ↦ get_or-set_other strays k n count 0 other.1 ∙ i.told n (let apart = other.1 in omega arith)
       ];
+      none = λ n past. get_or-set_other strays k n count 0 (λ e. omega arith) ∙ i.none n (omega arith);
     }
 
 pub returns : goal.returns
-returns c = λ n r at. c.loop-number.invariant.told n r (let within = slice_get_within c.args.receivers.now n r at in omega arith) at
+returns c = λ n. elim (cases_lt n c.loop-number.number) [
+  | inl less ↦ c.loop-number.invariant.told n less
+  | inr past ↦ c.loop-number.invariant.none n past ∙ sym (ap (λ o. option_map_or strays_at o 0) (slice_get_past c.args.receivers.now n (omega arith)))
+]

@@ -1,4 +1,5 @@
-use Rattle.std.proofs.Common.{◌≡◌, ◌∙◌, sym, subst, refl, Some, None}
+use Rattle.std.proofs.Common.{◌≡◌, ◌∙◌, ap, length, min, sym, subst, refl, Some, None}
+use Rattle.lfi_frame.specs.Feeds.{awaited_at}
 use Rattle.lfi_stream.specs.Numbers.{position_at, FitsPage}
 use Rattle.lfi_stream.proofs.Told.{same_some, stands_at, no_page}
 use Rattle.lfi_stream.proofs.stream.next.Goals as goal
@@ -10,6 +11,7 @@ returns-then-not-fits_page c =
     let at : position_at r.feed.place r.feed.number ≡ Some position = sym c.position_of.ensures ∙ c.in_ok-position.was in
     record {
       told = tt;
+      used = tt;
       within = tt;
       moves = tt;
       code = tt;
@@ -26,6 +28,8 @@ returns c =
     let at : position_at r.feed.place r.feed.number ≡ Some position = sym c.position_of.ensures ∙ c.in_ok-position.was in
     record {
       told = λ ms rest stands. c.go_on.ensures.told ms rest (stands_at r.feed position c.in_ok-feed.feed ms rest at c.in_ok-feed.ensures.stands stands.each stands.feed) stands.holds;
+      used = λ other is.
+          c.go_on.ensures.used ∙ ap (λ n. min n (length c.args.piece.now)) (c.in_ok-feed.ensures.awaits ∙ ap awaited_at (same_some position other (sym at ∙ is)));
       within = c.go_on.ensures.within;
       moves = λ rest inside some. c.go_on.ensures.moves some;
       code = c.go_on.ensures.code;
