@@ -1,5 +1,5 @@
 -- How a run of an image ends, and one that packs code files.
-use Rattle.std.proofs.Common.{◌≡◌, ◌⊎◌, inl, inr, ℕ, List, Bool, true, false, Option, refl, subst, sym}
+use Rattle.std.proofs.Common.{◌≡◌, inl, inr, ℕ, List, Bool, true, false, Option, refl, subst, sym}
 use Rattle.lfi_command_line.specs.declared.options.PackOptions.{PackOptions}
 use Rattle.lfi_run_image.specs.declared.image_run.ImageRun.{ImageRun}
 use Rattle.lfi_file_commands.specs.declared.ending.Ending.{Ending}

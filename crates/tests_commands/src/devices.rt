@@ -19,6 +19,7 @@ use std::io::{self, Read, Write};
 use std::net::Net;
 use std::rt::Clock;
 use std::sync::Wait;
+use std::test::Fail;
 use std::thread::Threads;
 
 /// Gives a byte a read, and fails once it has given `left` bytes.
@@ -378,6 +379,24 @@ fn told(alloc: Global) -> Result<[bool; 6], AllocError> {
 #[test]
 fn failures_are_told(rt: HostRuntime) {
     assert!(rt; told(rt.alloc()) == Ok([true; 6]));
+}
+
+/// Each reason for which code isn't judged, and its text.
+const FAULTS: [(CommandFault, &str); 3] = [
+    (CommandFault::NoMemory, "no memory"),
+    (
+        CommandFault::NotRead(DeviceCause::IsADirectory),
+        "cannot read\n  Is a directory",
+    ),
+    (CommandFault::NotWritten(DeviceCause::Other), "cannot write"),
+];
+
+#[test]
+fn tells_why_code_is_not_judged(rt: HostRuntime) -> Result<(), Fail> {
+    for (fault, text) in &FAULTS {
+        assert!(rt; fault.to_string(rt.alloc())?.as_str() == *text, "{text}");
+    }
+    Ok(())
 }
 
 const UNTOLD: [&str; 7] = [

@@ -294,3 +294,14 @@ fn the_first_client_is_served_before_the_second_comes(rt: HostRuntime) -> Result
     assert!(rt; judged && are_told(rt.alloc(), told, true, BOTH));
     Ok(())
 }
+
+#[test]
+fn tells_why_a_load_is_refused(rt: HostRuntime) -> Result<(), Fail> {
+    for (error, text) in &[
+        (LoadError::NoMemory, "no memory"),
+        (LoadError::NoThread, "no thread"),
+    ] {
+        assert!(rt; error.to_string(rt.alloc())?.as_str() == *text, "{text}");
+    }
+    Ok(())
+}

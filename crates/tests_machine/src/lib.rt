@@ -18,4 +18,6 @@ mod runs;
 #[cfg(test)]
 mod semantics;
 #[cfg(test)]
+mod texts;
+#[cfg(test)]
 mod whole_slot;

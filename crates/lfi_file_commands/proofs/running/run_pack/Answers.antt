@@ -1,11 +1,10 @@
-use Rattle.std.proofs.Common.{◌≡◌, Bor, List, ℕ, map, refl, subst, sym, true}
+use Rattle.std.proofs.Common.{Bor, List, ℕ, map, refl, subst, sym}
 use Rattle.lfi_file_commands.specs.Packing.{AreModules, AreModulesOf, HasPacked, WritesStream}
 use Rattle.lfi_file_commands.specs.Errors.{is_lost_of, writer_of}
 use Rattle.lfi_file_commands.specs.Failures.{Told}
 use Rattle.lfi_file_commands.specs.Kinds.{kind_notes}
 use Rattle.lfi_file_commands.specs.Left.{left}
-use Rattle.lfi_file_commands.specs.inner.Whole.{StopsAt, StopsAtOne}
-use Rattle.lfi_file_commands.proofs.RunEndings.{packs_all, packs_none}
+use Rattle.lfi_file_commands.proofs.RunEndings.{packs_all}
 use Rattle.lfi_file_commands.proofs.Streams.{map_twice}
 use Rattle.lfi_file_commands.proofs.running.run_pack.Goals as goal
 

@@ -1,4 +1,4 @@
-use Rattle.std.proofs.Common.{◌≤◌, ◌<◌, inl, inr, arith, refl}
+use Rattle.std.proofs.Common.{inl, inr}
 use Rattle.std.proofs.lemmas.Bool.Decides.{leb_tells}
 use Rattle.lfi_receive.proofs.Pulled.{none_left, some_left}
 use Rattle.lfi_receive.proofs.input.Input.is_used_up.Goals as goal

@@ -1,0 +1,40 @@
+//! What refusals of a machine say.
+
+use lfi_machine::{DataFault, StartFault};
+use std::test::Fail;
+
+/// Each refusal of registers, or of memory, and its text.
+const STARTS: [(StartFault, &str); 7] = [
+    (StartFault::Base, "x21 is not the slot's base"),
+    (
+        StartFault::Address,
+        "x18, x23, x24 or x30 is not in the slot",
+    ),
+    (StartFault::Offset, "x22 is not below 2^32"),
+    (StartFault::Stack, "sp is too far from the slot"),
+    (StartFault::Pc, "pc is not in the slot"),
+    (StartFault::Flags, "the flags are not below 16"),
+    (StartFault::NoMemory, "no memory"),
+];
+
+/// Each refusal of a byte that the runtime writes, and its text.
+const WRITES: [(DataFault, &str); 2] = [
+    (DataFault::NotWritable, "the byte may not be written"),
+    (DataFault::NoMemory, "no memory"),
+];
+
+#[test]
+fn tells_why_a_machine_is_refused(rt: HostRuntime) -> Result<(), Fail> {
+    for (fault, text) in &STARTS {
+        assert!(rt; fault.to_string(rt.alloc())?.as_str() == *text, "{text}");
+    }
+    Ok(())
+}
+
+#[test]
+fn tells_why_a_byte_is_not_written(rt: HostRuntime) -> Result<(), Fail> {
+    for (fault, text) in &WRITES {
+        assert!(rt; fault.to_string(rt.alloc())?.as_str() == *text, "{text}");
+    }
+    Ok(())
+}
