@@ -22,6 +22,16 @@ pub(crate) struct Taker {
     numbers: Vec<u64>,
 }
 
+/// A queue that threads put in and take from: how many of them put, and how many of these have ended.
+#[derive(Clone, Copy)]
+struct Run<'e, R> {
+    rt: &'e R,
+    alloc: Global,
+    queue: &'e Queue,
+    ended: &'e AtomicU64,
+    putters: u64,
+}
+
 /// What a thread gives back: this pass of the queue.
 #[derive(Clone, Copy)]
 struct PassOf<'a> {
@@ -93,17 +103,20 @@ fn take_all<R: Wait + Abort>(
 /// took.
 fn run_takers<'s, 'e, R: Threads + Wait + Abort + Sync>(
     scope: &Scope<'s, &'e ()>,
-    rt: &'e R,
-    alloc: Global,
-    queue: &'e Queue,
-    ended: &'e AtomicU64,
+    run: Run<'e, R>,
     mut takes: Vec<LaneTake<u64>>,
-    putters: u64,
     lists: &mut Vec<Vec<u64>>,
 ) -> TakeRow
-    requires { (takes.items ≡ new_passes queue.now (vec_len takes)) × (vec_len takes ≤ 8) }
-    ensures { AreAllPasses queue.now (vec_len takes) result }
+    requires { (takes.items ≡ new_passes run.queue.now (vec_len takes)) × (vec_len takes ≤ 8) }
+    ensures { AreAllPasses run.entry.queue.now (vec_len takes) result }
 {
+    let Run {
+        rt,
+        alloc,
+        queue,
+        ended,
+        putters,
+    } = run;
     let Some(pass) = takes.pop() else {
         return [None, None, None, None, None, None, None, None];
     };
@@ -118,7 +131,7 @@ fn run_takers<'s, 'e, R: Threads + Wait + Abort + Sync>(
     ) else {
         panic!(rt; "no thread")
     };
-    let mut row = run_takers(scope, rt, alloc, queue, ended, takes, putters, lists);
+    let mut row = run_takers(scope, run, takes, lists);
     let Taker { pass, numbers } = thread.join(rt);
     row[number] = Some(pass);
     lists.push(numbers).expect(rt, "no memory");
@@ -128,22 +141,24 @@ fn run_takers<'s, 'e, R: Threads + Wait + Abort + Sync>(
 /// A thread for each of the first putters, and for each taker: their passes, once all are joined.
 fn run_putters<'s, 'e, R: Threads + Wait + Abort + Sync>(
     scope: &Scope<'s, &'e ()>,
-    rt: &'e R,
-    alloc: Global,
-    queue: &'e Queue,
-    ended: &'e AtomicU64,
+    run: Run<'e, R>,
     mut puts: Vec<LanePut<u64>>,
     takes: Vec<LaneTake<u64>>,
-    putters: u64,
     lists: &mut Vec<Vec<u64>>,
 ) -> (PutRow, TakeRow)
-    requires puts { (puts.items ≡ new_passes queue.now (vec_len puts)) × (vec_len puts ≤ 8) }
-    requires takes { (takes.items ≡ new_passes queue.now (vec_len takes)) × (vec_len takes ≤ 8) }
-    ensures puts { AreAllPasses queue.now (vec_len puts) result.0 }
-    ensures takes { AreAllPasses queue.now (vec_len takes) result.1 }
+    requires puts { (puts.items ≡ new_passes run.queue.now (vec_len puts)) × (vec_len puts ≤ 8) }
+    requires takes { (takes.items ≡ new_passes run.queue.now (vec_len takes)) × (vec_len takes ≤ 8) }
+    ensures puts { AreAllPasses run.entry.queue.now (vec_len puts) result.0 }
+    ensures takes { AreAllPasses run.entry.queue.now (vec_len takes) result.1 }
 {
+    let Run {
+        rt,
+        queue,
+        ended,
+        ..
+    } = run;
     let Some(pass) = puts.pop() else {
-        let row = run_takers(scope, rt, alloc, queue, ended, takes, putters, lists);
+        let row = run_takers(scope, run, takes, lists);
         return ([None, None, None, None, None, None, None, None], row);
     };
     let number = puts.len();
@@ -153,7 +168,7 @@ fn run_putters<'s, 'e, R: Threads + Wait + Abort + Sync>(
     ) else {
         panic!(rt; "no thread")
     };
-    let (mut row, takes) = run_putters(scope, rt, alloc, queue, ended, puts, takes, putters, lists);
+    let (mut row, takes) = run_putters(scope, run, puts, takes, lists);
     row[number] = Some(thread.join(rt));
     (row, takes)
 }
@@ -184,22 +199,22 @@ fn drain<R: Wait + Abort>(
 /// took, and last those that were left.
 fn relay_in<'s, 'e, R: Threads + Wait + Abort + Sync>(
     scope: &Scope<'s, &'e ()>,
-    rt: &'e R,
-    alloc: Global,
-    queue: &'e Queue,
-    ended: &'e AtomicU64,
+    run: Run<'e, R>,
     puts: Vec<LanePut<u64>>,
     takes: Vec<LaneTake<u64>>,
 ) -> Vec<Vec<u64>>
-    requires some { 0 < queue.now.takers }
-    requires puts { (puts.items ≡ new_passes queue.now queue.now.putters) × (vec_len puts ≡ queue.now.putters) × (queue.now.putters ≤ 8) }
-    requires takes { (takes.items ≡ new_passes queue.now queue.now.takers) × (vec_len takes ≡ queue.now.takers) × (queue.now.takers ≤ 8) }
+    requires some { 0 < run.queue.now.takers }
+    requires puts { (puts.items ≡ new_passes run.queue.now run.queue.now.putters) × (vec_len puts ≡ run.queue.now.putters) × (run.queue.now.putters ≤ 8) }
+    requires takes { (takes.items ≡ new_passes run.queue.now run.queue.now.takers) × (vec_len takes ≡ run.queue.now.takers) × (run.queue.now.takers ≤ 8) }
 {
+    let Run {
+        rt,
+        alloc,
+        queue,
+        ..
+    } = run;
     let mut lists = Vec::new(alloc);
-    let putters = puts.len() as u64;
-    let (mut puts, mut takes) = run_putters(
-        scope, rt, alloc, queue, ended, puts, takes, putters, &mut lists,
-    );
+    let (mut puts, mut takes) = run_putters(scope, run, puts, takes, &mut lists);
     let left = drain(rt, alloc, queue, &mut puts, &mut takes);
     lists.push(left).expect(rt, "no memory");
     lists
@@ -223,6 +238,19 @@ pub(crate) fn relay<R: Threads + Wait + Abort + Sync>(
         rt,
         move |scope| -> Vec<Vec<u64>>
             requires { (0 < queue.now.takers) × ((puts.items ≡ new_passes queue.now queue.now.putters) × (vec_len puts ≡ queue.now.putters) × (queue.now.putters ≤ 8)) × ((takes.items ≡ new_passes queue.now queue.now.takers) × (vec_len takes ≡ queue.now.takers) × (queue.now.takers ≤ 8)) }
-        { relay_in(scope, rt, alloc, queue, ended, puts, takes) },
+        {
+            relay_in(
+                scope,
+                Run {
+                    rt,
+                    alloc,
+                    queue,
+                    ended,
+                    putters: puts.len() as u64,
+                },
+                puts,
+                takes,
+            )
+        },
     )
 }

@@ -7,11 +7,17 @@ use Rattle.tests_shared.proofs.workers.+run_putters.Goals as goal
 -- The thread has the last of the passes, which are those of a new queue.
 pub spawn_with-requires-clause-keeps : goal.spawn_with-requires-clause-keeps
 spawn_with-requires-clause-keeps g t c κs within =
-    let h = last_new c.args.queue.now (vec_len c.args.puts) c.pop.new.self.items c.in-Some.pass (sym c.in-Some.ensures.items ∙ c.requires.puts.0) (search rules) in
+    let h = last_new c.args.run.queue.now (vec_len c.args.puts) c.pop.new.self.items c.in-Some.pass (sym c.in-Some.ensures.items ∙ c.requires.puts.0) (search rules) in
     let number = c.len-number.ensures in
     grind serving
 
 pub run_putters-row-requires-clause-puts : goal.run_putters-row-requires-clause-puts
 run_putters-row-requires-clause-puts g t c κs within =
-    let h = last_new c.args.queue.now (vec_len c.args.puts) c.pop.new.self.items c.in-Some.pass (sym c.in-Some.ensures.items ∙ c.requires.puts.0) (search rules) in
+    let h = last_new c.args.run.queue.now (vec_len c.args.puts) c.pop.new.self.items c.in-Some.pass (sym c.in-Some.ensures.items ∙ c.requires.puts.0) (search rules) in
     search rules
+
+pub spawn_with-requires-clause-runs : goal.spawn_with-requires-clause-runs
+spawn_with-requires-clause-runs g t c κs within =
+    let h = last_new c.args.run.queue.now (vec_len c.args.puts) c.pop.new.self.items c.in-Some.pass (sym c.in-Some.ensures.items ∙ c.requires.puts.0) (search rules) in
+    let number = c.len-number.ensures in
+    grind serving
