@@ -1,0 +1,17 @@
+"""What the parts of checks/hostile share: words, kinds of modules, and how they tell what is otherwise."""
+
+import sys
+
+# The last is a branch to itself.
+NOP, RET, LOOP = bytes.fromhex("1f2003d5"), bytes.fromhex("c0035fd6"), bytes.fromhex("00000014")
+OPENS = ((1, False), (2, False), (2, True))  # the profile of each kind of Open, and whether its pages are large
+
+
+def progress(part, tried):
+    """Tells somebody who looks on how far a part is."""
+    if sys.stderr.isatty():
+        print(f"\r{part}: {tried} ", end="", file=sys.stderr, flush=True)
+
+
+def wrong(part, what, came, wanted):
+    sys.exit(f"hostile: {part}: {what}: {came!r}, and not {wanted!r}")

@@ -1,0 +1,279 @@
+"""The parts of checks/hostile that are clients of `serve`: too few descriptors, a thread refused, a limit of time, silence, noise."""
+
+import collections
+import json
+import os
+import pathlib
+import random
+import re
+import resource
+import select
+import socket
+import struct
+import subprocess
+import tempfile
+import threading
+import time
+
+from lib import formats
+from lib.cases import NOP, OPENS, RET, wrong
+from lib.plain import connection, outcome
+
+
+# ---- clients
+
+
+def connected(path):
+    """A client of the socket at a path, once somebody listens there."""
+    client = socket.socket(socket.AF_UNIX)
+    for _ in range(1000):
+        try:
+            client.connect(path)
+            return client
+        except OSError:
+            time.sleep(0.01)
+    return client
+
+
+def send(path, text, source, how, delay):
+    """One client: its text in pieces of 1 to 4,096 bytes, and pauses between some."""
+    client = connected(path)
+    time.sleep(delay)
+    with client:
+        if how == "reads nothing":
+            client.shutdown(socket.SHUT_RD)
+        while text:
+            size = source.choice((1, 12, 100, 4096, source.randrange(1, 4097)))
+            try:
+                client.sendall(text[:size])
+            except OSError:
+                return
+            text = text[size:]
+            if source.random() < 0.02:
+                time.sleep(0.001)
+        if how == "resets":
+            client.setsockopt(socket.SOL_SOCKET, socket.SO_LINGER, struct.pack("ii", 1, 0))
+
+
+# ---- taken
+
+
+def serve_few(program, taken, words):
+    """What comes of `serve` of three clients, which has descriptors for so many of them."""
+    with tempfile.TemporaryDirectory() as folder:
+        path = os.path.join(folder, "s")
+        # The listener has 3.
+        few = (4 + taken, 4 + taken)
+        words = [program, "serve", "--socket", path, "--connections", "3", *words]
+        serve = subprocess.Popen(
+            words, stdout=subprocess.PIPE, stderr=subprocess.PIPE, text=True, cwd=folder,
+            preexec_fn=lambda: resource.setrlimit(resource.RLIMIT_NOFILE, few),
+        )
+        for _ in range(taken):
+            send(path, formats.stream(0, RET), random.Random(0), "", 0)
+        return *serve.communicate(timeout=60), serve.returncode
+
+
+def status_of(process, key):
+    """A number that the system tells of a process."""
+    return int(re.search(rf"^{key}:\s+(\d+)", pathlib.Path(f"/proc/{process.pid}/status").read_text(), re.M)[1])
+
+
+def try_refused_thread(program):
+    """`serve` of two clients, of which the second is refused a thread: there are no addresses left for its stack."""
+    with tempfile.TemporaryDirectory() as folder:
+        path = os.path.join(folder, "s")
+        words = [program, "serve", "--socket", path, "--connections", "2", "--verifiers", "1"]
+        serve = subprocess.Popen(words, stdout=subprocess.PIPE, stderr=subprocess.PIPE, text=True)
+        with connected(path) as first:
+            # The first one's thread is the fourth.
+            while serve.poll() is None and status_of(serve, "Threads") < 4:
+                time.sleep(0.01)
+            most = 1024 * status_of(serve, "VmSize")
+            resource.prlimit(serve.pid, resource.RLIMIT_AS, (most, most))
+            with connected(path):
+                came = *serve.communicate(timeout=60), serve.returncode, first.recv(1)
+        wanted = "", "lfiload: no memory\n", 3, b""
+        if came != wanted:
+            wrong("taken", "a thread refused", came, wanted)
+
+
+def try_taken(program):
+    """`serve` that has no descriptor left for the second client, or for any."""
+    for taken in (0, 1):
+        told = "".join(f"lfiload: connection {number}: cannot read\n" for number in range(taken, 3))
+        came = serve_few(program, taken, [])
+        wanted = "module 0: complete, 1 words\n" * taken + "strays 0\n", told, 3
+        if came != wanted:
+            wrong("taken", f"{taken} of three clients", came, wanted)
+        out, err, status = serve_few(program, taken, ["--format", "json"])
+        came = [it.get("client") for it in json.loads(out)["connections"]], err, status
+        wanted = ["heard"] * taken + ["not taken"] * (3 - taken), told, 3
+        if came != wanted:
+            wrong("taken", f"{taken} of three clients, as an object", came, wanted)
+    try_refused_thread(program)
+    print("taken: `serve` with descriptors for none and for one of three clients: each connection without one is told, in both formats; a thread refused for the second of two: it ends, though the first stays")
+
+
+# ---- limit
+
+
+def seconds_of_serve(program):
+    """How long `serve --seconds 4` without a client takes, and its status."""
+    with tempfile.TemporaryDirectory() as folder:
+        begin = time.monotonic()
+        words = [program, "serve", "--socket", os.path.join(folder, "s"), "--connections", "1", "--seconds", "4"]
+        came = subprocess.run(words, stdout=subprocess.PIPE, stderr=subprocess.PIPE, text=True, timeout=60)
+        return time.monotonic() - begin, came.returncode
+
+
+def try_limit(program):
+    # Busy cores may make one late. A longer limit would make each of them so.
+    for _ in range(5):
+        seconds, status = seconds_of_serve(program)
+        if seconds < 4 or status != 3:
+            wrong("limit", "`serve --seconds 4`", (seconds, status), "at least four seconds, and status 3")
+        if seconds < 4.8:
+            print("limit: `serve --seconds 4` without a client ends after four seconds, and before 4.8")
+            return
+    wrong("limit", "`serve --seconds 4`", seconds, "less than 4.8 seconds, once in five times")
+
+
+# ---- slow
+
+
+def told_while(client, serve):
+    """The notice that comes while a client sends messages that no module takes: its thread tells what became of all modules."""
+    for _ in range(6000):
+        client.sendall(formats.header(formats.CLOSE, 0, 15, 0, 0))
+        if select.select([serve.stderr], [], [], 0.01)[0]:
+            return serve.stderr.readline()
+    return ""
+
+
+def try_slow(program):
+    with tempfile.TemporaryDirectory() as folder:
+        path = os.path.join(folder, "s")
+        words = [program, "serve", "--socket", path, "--connections", "2"]
+        serve = subprocess.Popen(words, stdout=subprocess.PIPE, stderr=subprocess.PIPE, text=True)
+        with connected(path) as first, connected(path) as second:
+            first.sendall(formats.header(1, 0, 7, 3072, 0) + formats.header(2, 0, 7, 0, 4096) + NOP * 1024)
+            # What came before has been judged by then.
+            time.sleep(0.5)
+            first.sendall(formats.header(2, 0, 7, 1, 4096) + bytes(4096))
+            told = told_while(second, serve)
+        out, err = serve.communicate(timeout=60)
+        came = told, out.splitlines()[:2], err, serve.returncode
+    wanted = "module 7 refused\n", ["module 7: refused, word 1024 rule 1", "connection 0: fault 9"], "", 1
+    if came != wanted:
+        wrong("slow", "a page, and then nothing", came, wanted)
+    print("slow: one page that is refused is judged and told while its client sends nothing more")
+
+
+# ---- path
+
+
+def try_path(program):
+    with tempfile.TemporaryDirectory() as folder:
+        path, moved = (pathlib.Path(folder, name) for name in ("s", "moved"))
+        serve = subprocess.Popen([program, "serve", "--socket", path, "--connections", "1"], stdout=subprocess.PIPE, text=True)
+        first = connected(str(path))
+        path.rename(moved)
+        path.write_text("another one's")
+        with first:
+            first.sendall(formats.stream(0, RET))
+        came = serve.communicate(timeout=60)[0], serve.returncode, path.exists() and path.read_text()
+    wanted = "module 0: complete, 1 words\nstrays 0\n", 0, "another one's"
+    if came != wanted:
+        wrong("path", "a file that came to stand there", came, wanted)
+    print("path: a file that came to stand at the path of `serve` is still there")
+
+
+# ---- squatter
+
+
+def squat(client, serve):
+    """Opens all modules, sends a word that is refused, and then messages that no module takes, until it is told of the refusal: so all before it
+    was read. Answers how many bytes these are, and how many messages were passed over."""
+    text = b"".join(formats.header(1, 0, module, 1, 0) for module in range(16))
+    text += b"".join(formats.pages(2, 15, bytes(4))) + formats.header(formats.CLOSE, 0, 15, 0, 0)
+    client.sendall(text)
+    for strays in range(1, 3000):
+        client.sendall(formats.header(formats.CLOSE, 0, 15, 0, 0))
+        if select.select([serve.stderr], [], [], 0.01)[0]:
+            line = serve.stderr.readline()
+            if line != "module 15 refused\n":
+                wrong("squatter", "the errors", line, "module 15 refused")
+            return len(text) + 12 * strays, strays
+    wrong("squatter", "the errors", "", "module 15 refused")
+
+
+def try_squatter(program):
+    with tempfile.TemporaryDirectory() as folder:
+        path = os.path.join(folder, "s")
+        words = [program, "serve", "--socket", path, "--connections", "2", "--explain"]
+        serve = subprocess.Popen(words, stdout=subprocess.PIPE, stderr=subprocess.PIPE, text=True, cwd=folder)
+        with connected(path) as first:
+            sent, strays = squat(first, serve)
+            with connected(path) as second:
+                second.settimeout(60)
+                second.sendall(formats.stream(3, RET))
+                second.shutdown(socket.SHUT_WR)
+                # It is shut down once all of it was read.
+                second.recv(1)
+        out, err = serve.communicate(timeout=60)
+    whose = "".join(f"module {module}: from connection 0\n" for module in range(16))
+    wanted = f"{whose}connection 0: input ended too early\n  message at byte {sent}\nconnection 0: strays {strays}\nconnection 1: strays 3\n"
+    if not out.endswith(wanted) or f"\nstrays {strays + 3}\n" not in out or err or serve.returncode != 1:
+        wrong("squatter", f"status {serve.returncode}, {err!r}", out, wanted)
+    print("squatter: a client that opens all modules before another one: whose is what, and where each ended")
+
+
+# ---- storm
+
+
+def one_storm(program, number):
+    """One storm; answers the most memory of the program, in KiB."""
+    source = random.Random(f"storm {number}")
+    texts = [formats.stream(module, NOP * source.randrange(5000) + RET, *source.choice(OPENS)) for module in range(8)]
+    texts[1] = texts[1][: source.randrange(len(texts[1]))]
+    texts[2] = b""
+    texts[3] = source.randbytes(source.randrange(200))
+    how = {1: "resets", 4: "reads nothing"}
+    with tempfile.TemporaryDirectory() as folder:
+        path = os.path.join(folder, "s")
+        serve = subprocess.Popen(
+            [program, "serve", "--socket", path, "--connections", "8", "--verifiers", str(1 + number % 4)],
+            stdout=subprocess.PIPE, stderr=subprocess.PIPE, text=True, cwd=folder,
+        )
+        clients = [
+            threading.Thread(target=send, args=(path, text, random.Random(f"{number} {c}"), how.get(c, ""), source.random() / 100))
+            for c, text in enumerate(texts)
+        ]
+        for client in clients:
+            client.start()
+        out, err = serve.stdout.read(), serve.stderr.read()
+        _, status, used = os.wait4(serve.pid, 0)
+        serve.returncode = os.waitstatus_to_exitcode(status)
+        for client in clients:
+            client.join()
+        if os.path.exists(path):
+            wrong("storm", f"number {number}", "the path is there", "gone")
+    report = collections.Counter(out.splitlines())
+    shares = [connection(text, set(range(16))) for text in texts]
+    wanted = collections.Counter()
+    for told, fault, _ in shares:
+        for module, share in told.items():
+            wanted[f"module {module}: {outcome(share)[0]}"] += 1
+    faults = sorted(str(fault) for _, fault, _ in shares if fault)
+    wanted[f"strays {sum(strays for *_, strays in shares)}"] += 1
+    told_faults = sorted(line.rpartition(" ")[2] for line in report if line.startswith("connection "))
+    told_rest = collections.Counter({line: count for line, count in report.items() if not line.startswith("connection ")})
+    if told_rest != wanted or told_faults != faults or serve.returncode != 1:
+        wrong("storm", f"number {number}, status {serve.returncode}, {err!r}", out, (sorted(wanted), faults))
+    return used.ru_maxrss
+
+
+def try_storm(program, times):
+    most = [one_storm(program, number) for number in range(times)]
+    print(f"storm: {times} of eight clients: as the reference implementation; most memory {min(most)} to {max(most)} KiB")
