@@ -118,25 +118,44 @@ def try_taken(program):
 # ---- limit
 
 
-def seconds_of_serve(program):
-    """How long `serve --seconds 4` without a client takes, and its status."""
+def seconds_of_serve(program, comes):
+    """How long `serve --seconds 4` takes of two connections, of which one has a client after so many seconds, which stays; or none has.
+    And what it writes to the errors, each write by itself, and its status."""
     with tempfile.TemporaryDirectory() as folder:
-        begin = time.monotonic()
-        words = [program, "serve", "--socket", os.path.join(folder, "s"), "--connections", "1", "--seconds", "4"]
-        came = subprocess.run(words, stdout=subprocess.PIPE, stderr=subprocess.PIPE, text=True, timeout=60)
-        return time.monotonic() - begin, came.returncode
+        path, begin = os.path.join(folder, "s"), time.monotonic()
+        ours, theirs = socket.socketpair(socket.AF_UNIX, socket.SOCK_SEQPACKET)
+        words = [program, "serve", "--socket", path, "--connections", "2", "--seconds", "4"]
+        with ours:
+            with theirs:
+                serve = subprocess.Popen(words, stdout=subprocess.DEVNULL, stderr=theirs)
+            if comes is not None:
+                time.sleep(comes)
+                client = connected(path)
+            serve.wait(timeout=60)
+            seconds = time.monotonic() - begin
+            if comes is not None:
+                client.close()
+            ours.settimeout(60)
+            return seconds, list(iter(lambda: ours.recv(4096), b"")), serve.returncode
+
+
+def try_one_limit(program, comes):
+    state = "come" if comes is None else "ended"
+    told = [f"lfiload: time is over: connection {c} had not {state if c == 0 else 'come'}\n".encode() for c in range(2)]
+    # Busy cores may make one late. A longer limit would make each of them so.
+    for _ in range(5):
+        seconds, parts, status = seconds_of_serve(program, comes)
+        if seconds < 4 or (parts, status) != (told, 3):
+            wrong("limit", "`serve --seconds 4`", (seconds, parts, status), ("at least four seconds", told, 3))
+        if seconds < 4.8:
+            return
+    wrong("limit", "`serve --seconds 4`", seconds, "less than 4.8 seconds, once in five times")
 
 
 def try_limit(program):
-    # Busy cores may make one late. A longer limit would make each of them so.
-    for _ in range(5):
-        seconds, status = seconds_of_serve(program)
-        if seconds < 4 or status != 3:
-            wrong("limit", "`serve --seconds 4`", (seconds, status), "at least four seconds, and status 3")
-        if seconds < 4.8:
-            print("limit: `serve --seconds 4` without a client ends after four seconds, and before 4.8")
-            return
-    wrong("limit", "`serve --seconds 4`", seconds, "less than 4.8 seconds, once in five times")
+    try_one_limit(program, None)
+    try_one_limit(program, 2)
+    print("limit: `serve --seconds 4` without a client, and with one that comes after two: it ends after four seconds and before 4.8, and tells of each connection in one write")
 
 
 # ---- slow
@@ -173,6 +192,22 @@ def try_slow(program):
 # ---- path
 
 
+def try_taken_path(program):
+    """A path at which somebody listens already: it stays theirs."""
+    with tempfile.TemporaryDirectory() as folder, socket.socket(socket.AF_UNIX) as other:
+        path = os.path.join(folder, "s")
+        other.bind(path)
+        other.listen()
+        words = [program, "serve", "--socket", path, "--connections", "1", "--seconds", "1"]
+        came = subprocess.run(words, capture_output=True, text=True, timeout=60)
+        wanted = 3, "", f"lfiload: cannot listen\n  {path}: Address already in use\n"
+        if (came.returncode, came.stdout, came.stderr) != wanted:
+            wrong("path", "where somebody listens", came, wanted)
+        with connected(path):
+            other.settimeout(60)
+            other.accept()[0].close()
+
+
 def try_path(program):
     with tempfile.TemporaryDirectory() as folder:
         path, moved = (pathlib.Path(folder, name) for name in ("s", "moved"))
@@ -186,7 +221,40 @@ def try_path(program):
     wanted = "module 0: complete, 1 words\nstrays 0\n", 0, "another one's"
     if came != wanted:
         wrong("path", "a file that came to stand there", came, wanted)
-    print("path: a file that came to stand at the path of `serve` is still there")
+    try_taken_path(program)
+    print("path: a file that came to stand at the path of `serve` is still there, and so is the socket of somebody who listens there")
+
+
+# ---- faulty
+
+
+def sends_until_refused(client):
+    """Whether a client's sending comes to an error, and not to a wait without end."""
+    client.settimeout(20)
+    try:
+        while True:
+            client.sendall(bytes(1 << 16))
+    except (BrokenPipeError, ConnectionResetError):
+        return True
+    except TimeoutError:
+        return False
+
+
+def try_faulty(program):
+    """A client whose stream has a fault, and that sends on while another one stays: its connection is closed, so it needn't wait."""
+    with tempfile.TemporaryDirectory() as folder:
+        path = os.path.join(folder, "s")
+        words = [program, "serve", "--socket", path, "--connections", "2"]
+        serve = subprocess.Popen(words, stdout=subprocess.PIPE, stderr=subprocess.PIPE, text=True)
+        with connected(path) as first:
+            is_refused = sends_until_refused(first)
+        with connected(path) as second:
+            second.sendall(formats.stream(1, RET))
+        came = is_refused, *serve.communicate(timeout=60), serve.returncode
+    wanted = True, "module 1: complete, 1 words\nconnection 0: fault 1\nstrays 0\n", "", 1
+    if came != wanted:
+        wrong("faulty", "a client that sends on", came, wanted)
+    print("faulty: a client that sends on after its stream's fault comes to an error at once")
 
 
 # ---- squatter

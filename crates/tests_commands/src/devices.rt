@@ -434,7 +434,7 @@ fn errors_that_fail(rt: HostRuntime) {
 }
 
 /// What is told of a file that can't be written, by the kind of the system's error.
-const CAUSES: [(io::ErrorKind, &str); 16] = [
+const CAUSES: [(io::ErrorKind, &str); 17] = [
     (
         io::ErrorKind::NotFound,
         "lfiload: cannot write a.img\n  No such file or directory\n",
@@ -478,6 +478,10 @@ const CAUSES: [(io::ErrorKind, &str); 16] = [
     (
         io::ErrorKind::BrokenPipe,
         "lfiload: cannot write a.img\n  Broken pipe\n",
+    ),
+    (
+        io::ErrorKind::ConnectionReset,
+        "lfiload: cannot write a.img\n  Connection reset by peer\n",
     ),
     (
         io::ErrorKind::AddrInUse,

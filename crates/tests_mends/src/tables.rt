@@ -101,6 +101,60 @@ fn mends_what_the_profile_leaves_out(rt: HostRuntime) -> Result<(), Fail> {
     Ok(())
 }
 
+/// br, blr and ret through x0; the guard of x18 or x30 by w0; and the branch through that register.
+const BRANCHES: [(u32, u32, u32); 3] = [
+    (0xD61F0000, 0x8B2042B2, 0xD61F0240), // add x18, x21, w0, uxtw; br x18
+    (0xD63F0000, 0x8B2042B2, 0xD63F0240), // add x18, x21, w0, uxtw; blr x18
+    (0xD65F0000, 0x8B2042BE, 0xD65F03C0), // add x30, x21, w0, uxtw; ret
+];
+
+/// Whether a branch through a register gets these two words.
+fn is_branch_mended(word: u32, guard: u32, branch: u32) -> bool {
+    let rule = Rule::BranchBounded;
+    match mend_of(Profile::One, rule, word, Need::Nothing, &None) {
+        Ok(mend) => spells(mend.instructions(), &[guard, branch], Profile::One),
+        Err(_) => false,
+    }
+}
+
+#[test]
+fn mends_branches_through_each_register(rt: HostRuntime) -> Result<(), Fail> {
+    for register in 0..32u32 {
+        for (word, guard, branch) in BRANCHES {
+            let through = word | register << 5;
+            let by = guard | register << 16;
+            assert!(rt; is_branch_mended(through, by, branch), "{through:x}");
+        }
+    }
+    Ok(())
+}
+
+/// What reverses bits, and what follows it, which doesn't count the zeros of that result in its register.
+const NO_COUNTS: [(u32, u32); 5] = [
+    (0xDAC00000, 0x5AC01000), // rbit x0, x0; clz w0, w0
+    (0x5AC00000, 0xDAC01000), // rbit w0, w0; clz x0, x0
+    (0xDAC00001, 0xDAC01000), // rbit x1, x0; clz x0, x0
+    (0xDAC00000, 0xDAC01001), // rbit x0, x0; clz x1, x0
+    (0xDAC00000, 0xDAC01400), // rbit x0, x0; cls x0, x0
+];
+
+/// Whether there is no mend of a word that this one follows, since it reverses bits.
+fn is_only_bits(word: u32, next: u32) -> bool {
+    let following = decode(next, Profile::One);
+    match mend_of(Profile::One, Rule::Spelled, word, Need::Nothing, &following) {
+        Ok(_) => false,
+        Err(told) => told == Reason::Bits,
+    }
+}
+
+#[test]
+fn mends_reversed_bits_only_where_they_are_counted(rt: HostRuntime) -> Result<(), Fail> {
+    for (word, next) in NO_COUNTS {
+        assert!(rt; is_only_bits(word, next), "{word:x} {next:x}");
+    }
+    Ok(())
+}
+
 /// Whether a word has this reason.
 fn has_reason(rule: Rule, word: u32, reason: Reason) -> bool {
     match mend_of(Profile::One, rule, word, Need::Nothing, &None) {
