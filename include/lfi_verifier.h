@@ -76,7 +76,7 @@ typedef struct lfi_stream_feed {
 } lfi_stream_feed;
 
 typedef struct lfi_stream_page {
-    uint32_t module; /* whose page is coming; 16: none is, or it is passed over */
+    uint32_t module; /* whose page is coming, before the stream's fault; 16: none is, or it is passed over */
     size_t come;     /* how many of its bytes came */
 } lfi_stream_page;
 
@@ -224,7 +224,7 @@ lfi_status lfi_stream_init(lfi_stream *stream, uint32_t profile);
  *    Close ended it: lfi_verify tells the same of its code; LFI_INCOMPLETE, else.
  * At the stream's fault every call answers 0 and tells it. LFI_NO_STREAM: *stream can't stand for any stream, and is as it
  * was: no feed is at its place, or what came of the page and what is to come aren't the bytes of an open module's next page.
- * Where only the verifier's numbers of a module are none that it can have, `verdict` is LFI_BAD_STATE.
+ * Where only the verifier's numbers of a module can't be a state's, or have no room for its code, `verdict` is LFI_BAD_STATE.
  * Whatever the numbers in *stream are, LFI_CODE is told of a module that is open by them, and `offset` and the bytes used are
  * at most four times its `words` together; `verdict` is one of the eight statuses.
  * The bytes are judged here, in this piece: from this call on until the host has made its own copy of them nobody may write

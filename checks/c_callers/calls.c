@@ -272,7 +272,12 @@ static int mends(void) {
     return 0;
 }
 
-/* Any word has a mend that is lawful by itself, or none. */
+/* Whether a word is a branch to a place: B, BL, B.cond, CBZ, CBNZ, TBZ or TBNZ. */
+static int is_direct(uint32_t word) {
+    return (word & 0x7C000000u) == 0x14000000u || (word & 0xFE000000u) == 0x54000000u || (word & 0x7C000000u) == 0x34000000u;
+}
+
+/* Any word has a mend that is lawful by itself and has no direct branch, or none. */
 static int all_mended(void) {
     uint32_t mend[LFI_MOST_MENDED];
     size_t count = 0, found = 0;
@@ -284,6 +289,7 @@ static int all_mended(void) {
         if (status == LFI_REFUSED) continue;
         found++;
         CHECK(131, count <= LFI_MOST_MENDED);
+        for (size_t k = 0; k < count; k++) CHECK(134, !is_direct(mend[k]));
         CHECK(132, count == 0 || lfi_verify((const uint8_t *)mend, 4 * count, profile, &told) == LFI_LAWFUL);
     }
     CHECK(133, found > 1000);

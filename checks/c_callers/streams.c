@@ -206,21 +206,38 @@ static int same(const lfi_event *a, const lfi_event *b) {
            a->verdict == b->verdict && a->fault.word == b->fault.word && a->fault.rule == b->fault.rule;
 }
 
+/* Whether a stream's numbers are as the header says, by how far the modules are: and whose page is coming behind this event. */
+static int numbers_told(const lfi_stream_text *stream, const lfi_event *event, const uint32_t *phase) {
+    for (uint32_t m = 0; m < LFI_MODULES; m++)
+        if (stream->modules[m].phase != phase[m]) return 0;
+    if (event->kind == LFI_CODE) return stream->page.module == (event->ended ? LFI_MODULES : event->module);
+    return stream->feed.place == 0 ? stream->page.module == LFI_MODULES : stream->feed.place <= 2 && stream->page.module <= LFI_MODULES;
+}
+
+/* Whether a feed holds the bytes of the header that came: the last ones before this place, where it was in a header before. */
+static int holds_header(const lfi_stream_feed *feed, uint32_t before, size_t end) {
+    size_t count = feed->place == 0 ? feed->number : feed->place == 1 && before == 0 ? 12 : 0;
+    return count <= 12 && count <= end && memcmp(feed->held, text + end - count, count) == 0;
+}
+
 static int in_pieces(told *to, uint32_t longest) {
     lfi_stream stream, copy;
     lfi_event event, again;
     size_t place = 0;
-    uint32_t words[LFI_MODULES] = {0}, by[LFI_MODULES] = {0};
+    uint32_t words[LFI_MODULES] = {0}, by[LFI_MODULES] = {0}, phase[LFI_MODULES] = {0};
     if (lfi_stream_init(&stream, LFI_PROFILE_1)) return 1;
     event.kind = LFI_NOTHING;
     while (place < length && event.kind != LFI_FAULT) {
         size_t size = 1 + number(longest);
         if (size > length - place) size = length - place;
         copy = stream;
+        uint32_t before = stream.text.feed.place;
         size_t used = lfi_stream_next(&stream, text + place, size, &event);
         if (used != lfi_stream_next(&copy, text + place, size, &again) || used > size || !same(&event, &again)) return 2;
         if (event.kind == LFI_NO_STREAM || (used == 0 && event.kind != LFI_FAULT)) return 3;
-        if (event.kind == LFI_OPEN) words[event.module] = event.words, by[event.module] = event.profile;
+        if (event.kind == LFI_OPEN) words[event.module] = event.words, by[event.module] = event.profile, phase[event.module] = 1;
+        if (event.kind == LFI_END) phase[event.module] = 2;
+        if (!numbers_told(&stream.text, &event, phase) || !holds_header(&stream.text.feed, before, place + used)) return 7;
         tell(to, &event, text + place, used);
         if (!judged(to, &event, used, words, by)) return 6;
         place += used;
@@ -228,6 +245,8 @@ static int in_pieces(told *to, uint32_t longest) {
     if (event.kind == LFI_FAULT && (lfi_stream_next(&stream, text, 12, &again) != 0 || again.kind != LFI_FAULT || again.number != event.number)) return 4;
     do {
         if (lfi_stream_end(&stream, &event)) return 5;
+        if (event.kind == LFI_END) phase[event.module] = 2;
+        if (!numbers_told(&stream.text, &event, phase)) return 8;
         tell(to, &event, text, 0);
     } while (event.kind != LFI_NOTHING);
     return 0;
@@ -249,7 +268,7 @@ static int bad_states(void) {
 
 /* A stream of whose verifier's numbers some are none of a module: its events are told, and its code isn't judged. */
 static int bad_verdicts(void) {
-    static const uint8_t open[12] = {1, 0, 5, 0, 2, 0, 0, 0, 0, 0, 0, 0}, page[16] = {2, 0, 5, 0, 0, 0, 0, 0, 8, 0, 0, 0, 0xC0, 0x03, 0x5F, 0xD6};
+    static const uint8_t open[12] = {1, 0, 5, 0, 2, 0, 0, 0, 0, 0, 0, 0}, page[20] = {2, 0, 5, 0, 0, 0, 0, 0, 8, 0, 0, 0, 0xC0, 0x03, 0x5F, 0xD6, 0xC0, 0x03, 0x5F, 0xD6};
     lfi_stream stream, copy;
     lfi_event event;
     if (lfi_stream_init(&stream, LFI_PROFILE_1) || lfi_stream_next(&stream, open, 12, &event) != 12 || event.kind != LFI_OPEN) return 1;
@@ -257,6 +276,8 @@ static int bad_verdicts(void) {
     copy = stream, copy.verdicts.modules[5].profile = 3;
     if (lfi_stream_next(&copy, page + 12, 4, &event) != 4 || event.kind != LFI_CODE || event.verdict != LFI_BAD_STATE) return 3;
     if (lfi_stream_end(&copy, &event) || event.kind != LFI_FAULT || lfi_stream_end(&copy, &event) || event.kind != LFI_END || event.verdict != LFI_BAD_STATE) return 4;
+    copy = stream, copy.verdicts.modules[5].words = 1;
+    if (lfi_stream_next(&copy, page + 12, 8, &event) != 8 || event.kind != LFI_CODE || event.verdict != LFI_BAD_STATE) return 8;
     if (lfi_stream_next(&stream, page + 12, 2, &event) != 2 || event.kind != LFI_CODE || event.verdict != LFI_LAWFUL) return 5;
     copy = stream, copy.verdicts.coming.count = 4;
     if (lfi_stream_next(&copy, page + 14, 2, &event) != 2 || event.kind != LFI_CODE || event.verdict != LFI_BAD_STATE) return 6;

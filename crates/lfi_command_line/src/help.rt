@@ -96,7 +96,8 @@ With --explain, these lines follow `word K rule R`:
                          a word, the line of the word before stands above it.
   A sentence             What the rule asks, and what the word does.
   mend: TEXT             What to write instead: `in its place`, and the instructions in lines below,
-                         which may overwrite w22 and x18; or a sentence, or why there is none.
+                         which may overwrite w22 and x18, and of a ret x30; or a sentence, or why
+                         there is none.
 With --all, all of these lines for each word that breaks a rule, in order, and then:
   words refused: N       How many they are.
   words with a mend: M   Of how many of them there are instructions to write instead.
@@ -149,8 +150,8 @@ With --explain, these lines follow for each module M that was refused:
                             the line of the word before stands above it.
   A sentence                What the rule asks, and what the word does.
   mend: TEXT                What to write instead: `in its place`, and the instructions in lines
-                            below, which may overwrite w22 and x18; or a sentence, or why there is
-                            none.
+                            below, which may overwrite w22 and x18, and of a ret x30; or a sentence,
+                            or why there is none.
 then one for each module M that was opened:
   module M: from connection C
                             The connection that opened it first, from which it is loaded.
