@@ -1,4 +1,4 @@
-//! What threads share, tried: the queues and the board, on one thread and on several.
+//! What threads share, tried: the queues, the board and where threads wait, on one thread and on several.
 #![tactic(auto)]
 
 #[cfg(test)]
@@ -13,5 +13,7 @@ mod passes;
 mod queue_rows;
 #[cfg(test)]
 mod thread_rows;
+#[cfg(test)]
+mod waits;
 #[cfg(test)]
 mod workers;

@@ -1,0 +1,166 @@
+//! How threads wait for one another and tell of filled lanes, on several threads. What is compared is the same in every schedule.
+
+use lfi_module::ModuleNumber;
+use lfi_sync::{Lifecycle, LoadError, WaitSet, Waiter};
+use std::process::Abort;
+use std::sync::Wait;
+use std::sync::atomic::{AtomicU64, Ordering};
+use std::thread::{Scope, Threads, scope, scope_env, yield_now};
+use std::time::Duration;
+
+/// How many threads tell of filled lanes, each of one.
+const TELLERS: usize = 3;
+
+/// How often each of them does.
+const ROUNDS: u64 = 20_000;
+
+/// How often a thread looks for what another one has to see, at most.
+const LOOKS: u64 = 100_000_000;
+
+/// How often each lane was seen as filled, and how many threads still tell.
+#[derive(Drop)]
+struct Seen {
+    lanes: [AtomicU64; TELLERS],
+    telling: AtomicU64,
+}
+
+/// Whether a lane is seen as filled so often, in the end.
+fn comes_to(lane: &AtomicU64, count: u64) -> bool {
+    for _ in 0..LOOKS {
+        if lane.load(Ordering::SeqCst) == count {
+            return true;
+        }
+        yield_now();
+    }
+    false
+}
+
+/// Tells of a lane again and again, each time once it was seen before. Whether it was seen each time.
+fn tell_each(lifecycle: &Lifecycle, seen: &Seen, number: usize) -> bool
+    requires { number < 3 }
+{
+    let mut all = true;
+    for round in 1..=ROUNDS {
+        lifecycle.tell_filled(ModuleNumber::at(number));
+        if !comes_to(&seen.lanes[number], round) {
+            all = false;
+            break;
+        }
+    }
+    seen.telling.fetch_sub(1, Ordering::SeqCst);
+    all
+}
+
+/// Counts the lanes that are told of, until no thread tells any more.
+fn take_each<R: Wait>(rt: &R, lifecycle: &Lifecycle, seen: &Seen) {
+    for _ in rt.forever() {
+        let filled = lifecycle.take_filled();
+        for number in 0..TELLERS {
+            if filled.has(ModuleNumber::at(number)) {
+                seen.lanes[number].fetch_add(1, Ordering::SeqCst);
+            }
+        }
+        if seen.telling.load(Ordering::SeqCst) == 0 {
+            break;
+        }
+    }
+}
+
+/// A thread for each lane from a number on, and this one beside them: whether each lane was seen each time.
+fn tell_and_take<'s, 'e, R: Threads + Wait + Abort>(
+    scope: &Scope<'s, &'e ()>,
+    rt: &R,
+    lifecycle: &'e Lifecycle,
+    seen: &'e Seen,
+    number: usize,
+) -> bool {
+    if number >= TELLERS {
+        take_each(rt, lifecycle, seen);
+        return true;
+    }
+    let Ok(thread) = scope.spawn(
+        move || -> bool
+            requires { number < 3 }
+        { tell_each(lifecycle, seen, number) },
+    ) else {
+        panic!(rt; "no thread")
+    };
+    let others = tell_and_take(scope, rt, lifecycle, seen, number + 1);
+    thread.join(rt) && others
+}
+
+/// Whether each lane that is told of is seen, while others are told of and taken.
+fn each_lane_is_seen<R: Threads + Wait + Abort>(rt: &R) -> bool {
+    let lifecycle = &Lifecycle::new(1);
+    let seen = &Seen {
+        lanes: [AtomicU64::new(0), AtomicU64::new(0), AtomicU64::new(0)],
+        telling: AtomicU64::new(TELLERS as u64),
+    };
+    scope(scope_env(), rt, move |scope| -> bool {
+        tell_and_take(scope, rt, lifecycle, seen, 0)
+    })
+}
+
+#[test]
+fn a_lane_that_is_told_of_is_seen(rt: HostRuntime) {
+    assert!(rt; each_lane_is_seen(&rt));
+}
+
+/// Waits at a wait set until all threads are to stop.
+fn wait_at<R: Wait>(rt: &R, lifecycle: &Lifecycle, wait_set: &WaitSet) -> bool {
+    let mut waiter = Waiter::new(wait_set, 0);
+    for _ in rt.forever() {
+        if lifecycle.stopped().is_some() {
+            break;
+        }
+        waiter.pause(rt);
+    }
+    true
+}
+
+/// The wait set with this number.
+fn wait_set_of(lifecycle: &Lifecycle, number: usize) -> &WaitSet {
+    let all = lifecycle.wait_sets();
+    match number {
+        0 => &all.items,
+        1 => &all.intake_room,
+        2 => &all.judged,
+        _ => &all.lane_room,
+    }
+}
+
+/// How many milliseconds the threads have to come to their wait sets.
+const TO_COME: u64 = 100;
+
+/// A thread at each wait set from a number on; once all sleep there, all are told to stop. Whether all come back.
+fn wait_and_stop<'s, 'e, R: Threads + Wait + Abort + Sync>(
+    scope: &Scope<'s, &'e ()>,
+    rt: &'e R,
+    lifecycle: &'e Lifecycle,
+    number: usize,
+) -> bool {
+    if number >= 4 {
+        lifecycle.sleep(rt, Duration::from_millis(TO_COME));
+        lifecycle.stop(LoadError::NoMemory);
+        return true;
+    }
+    let wait_set = wait_set_of(lifecycle, number);
+    let Ok(thread) = scope.spawn(move || -> bool { wait_at(rt, lifecycle, wait_set) }) else {
+        panic!(rt; "no thread")
+    };
+    let others = wait_and_stop(scope, rt, lifecycle, number + 1);
+    thread.join(rt) && others
+}
+
+/// Whether threads that wait for anything come back where all are to stop.
+fn all_stop<R: Threads + Wait + Abort + Sync>(rt: &R) -> bool {
+    let lifecycle = &Lifecycle::new(1);
+    scope(scope_env(), rt, move |scope| -> bool {
+        wait_and_stop(scope, rt, lifecycle, 0)
+    })
+}
+
+#[test]
+fn threads_that_wait_for_anything_are_told_to_stop(rt: HostRuntime) {
+    assert!(rt; all_stop(&rt));
+}
