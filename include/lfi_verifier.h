@@ -39,7 +39,7 @@ typedef uint32_t lfi_status;
 #define LFI_REFUSED 1u         /* a word breaks a rule */
 #define LFI_BAD_LENGTH 2u      /* not 1 to 4,194,304 whole words; a piece: not whole words, or more than are to come */
 #define LFI_INCOMPLETE 3u      /* words are still to come, and those that came break no rule */
-#define LFI_BAD_STATE 4u       /* the numbers of a state, or of a fault, are none that these calls make */
+#define LFI_BAD_STATE 4u       /* the numbers can't be a state's, or a fault's */
 #define LFI_UNKNOWN_PROFILE 5u /* there is no such profile */
 #define LFI_UNKNOWN_MODULE 6u  /* there is no such module: the numbers are 0 to 15 */
 #define LFI_NO_ROOM 7u         /* a text is longer than 2,048 bytes, for which the library has room; it is proved that none is */

@@ -4,12 +4,15 @@ use crate::disks::MemoryStore;
 use crate::runs::{NOT_WELL, begin, connect, has_file, is_told, kept, run_noticed};
 use lfi_commands::WrittenNotices;
 use lfi_file_commands::Disk;
+use lfi_loader::Notices;
+use lfi_module::ModuleNumber;
 use std::fs::{self, File, Files};
 use std::io::{self, Read, Write};
 use std::net::Net;
 use std::rt::Clock;
 use std::sync::Wait;
-use std::thread::{Threads, join};
+use std::sync::atomic::{AtomicU64, Ordering};
+use std::thread::{Threads, join, yield_now};
 
 /// A stream of modules 1 and 2. The first word of module 1 asks for another one than follows it, and module 2 is lawful.
 const TWO: [u8; 84] = [
@@ -139,4 +142,53 @@ fn one_notice_of_a_client(rt: HostRuntime) -> io::Result<()> {
     );
     assert!(rt; is_run && sent.is_ok() && has_notice(&rt, "serve_noticed.tmp/told"));
     fs::remove_dir_all(&rt, "serve_noticed.tmp")
+}
+
+/// A writer that counts what it is given to write.
+#[derive(Clone, Copy)]
+struct CountingWriter<'a> {
+    writes: &'a AtomicU64,
+}
+
+impl Write for CountingWriter<'_> {
+    fn write(&mut self, bytes: &[u8]) -> io::Result<usize> {
+        self.writes.fetch_add(1, Ordering::SeqCst);
+        Ok(bytes.len())
+    }
+
+    fn flush(&mut self) -> io::Result<()> {
+        Ok(())
+    }
+}
+
+/// Tells of all modules, once two threads are there.
+fn tell_all(notices: &WrittenNotices<CountingWriter<'_>>, there: &AtomicU64) {
+    there.fetch_add(1, Ordering::SeqCst);
+    for _ in 0..TURNS {
+        if there.load(Ordering::SeqCst) == 2 {
+            break;
+        }
+        yield_now();
+    }
+    for number in 0..ModuleNumber::COUNT {
+        notices.refused(ModuleNumber::at(number));
+    }
+}
+
+/// How often two threads tell of all modules at the same time.
+const MEETINGS: u64 = 2000;
+
+#[test]
+fn one_notice_of_two_threads(rt: HostRuntime) {
+    let writes = AtomicU64::new(0);
+    for _ in 0..MEETINGS {
+        let notices = WrittenNotices::new(CountingWriter { writes: &writes });
+        let there = AtomicU64::new(0);
+        join(
+            &rt,
+            || tell_all(&notices, &there),
+            || tell_all(&notices, &there),
+        );
+    }
+    assert!(rt; writes.load(Ordering::SeqCst) == MEETINGS * 16);
 }
