@@ -2,6 +2,7 @@
 
 import ctypes
 import pathlib
+import re
 import threading
 import unittest
 from unittest import mock
@@ -9,7 +10,8 @@ from unittest import mock
 import lfi_verifier
 from lfi_verifier import BadLength, Code, End, Fault, Open, Reason, Refused, Status, Stray, Stream, StreamFault, Violation
 
-EXAMPLES = pathlib.Path(__file__).resolve().parent.parent.parent / "examples"
+TOP = pathlib.Path(__file__).resolve().parent.parent.parent
+EXAMPLES, HEADER = TOP / "examples", TOP / "include" / "lfi_verifier.h"
 LIBRARY = lfi_verifier._LIBRARY
 NOP, RET, SVC = 0xD503201F, 0xD65F03C0, 0xD4000001
 ACQUIRE, BASE_WRITTEN = 0xC8DFFE40, 0xAA0003F5  # ldar x0, [x18], an instruction of profile 2 alone; mov x21, x0, which breaks rule 3
@@ -86,6 +88,13 @@ def verdict(code, profile=1):
 
 
 class Verifying(unittest.TestCase):
+    def test_numbers(self):
+        """The header's."""
+        defined = {name: int(number) for name, number in re.findall(r"^#define LFI_(\w+) (\d+)u", HEADER.read_text(), re.M)}
+        named = {it.name: it.value for it in (*Status, *Reason)}
+        named.update((name, getattr(lfi_verifier, name)) for name in ("VERSION", "MAX_WORDS", "MODULES", "MOST_MENDED"))
+        self.assertEqual(named, {name: defined[name] for name in named})
+
     def test_rules(self):
         """Each sequence of docs/PROFILE.md with the verdict that stands above it."""
         files = sorted((EXAMPLES / "rules").glob("*.s"))
