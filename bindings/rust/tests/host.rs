@@ -2,7 +2,7 @@
 
 use lfi_verifier::{
     explain, mend, registers, verify, version, Event, Fault, ModuleNumber, Profile, Reason, RefusedWord, Rule, SlotMap, Stream,
-    StreamFault, Verifier, Violation, VERSION,
+    StreamFault, Verifier, Violation, MAX_BYTES, MAX_WORDS, VERSION,
 };
 use std::{fs, path::Path};
 
@@ -23,6 +23,9 @@ fn interface() {
     assert_eq!(version(), VERSION);
     let header = fs::read_to_string("../../include/lfi_verifier.h").expect("the header is there");
     assert!(header.contains(&format!("#define LFI_VERSION {VERSION}u\n")));
+    assert!(header.contains(&format!("#define LFI_MAX_WORDS {MAX_WORDS}u\n")));
+    assert!(header.contains(&format!("#define LFI_MAX_BYTES {MAX_BYTES}u\n")));
+    assert!(header.contains(&format!("#define LFI_MODULES {}u\n", ModuleNumber::COUNT)));
 }
 
 /// Each sequence of docs/PROFILE.md with the verdict that stands above it.
@@ -98,6 +101,7 @@ fn lengths() {
     assert_eq!(verifier.update(&[0; 3]), Err(Violation::BadLength));
     assert_eq!(verifier.update(&[0; 8]), Err(Violation::BadLength));
     assert_eq!(verifier.judged(), 0);
+    assert_eq!(Violation::BadLength.to_string(), "bad length");
 }
 
 #[test]

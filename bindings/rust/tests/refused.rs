@@ -28,15 +28,35 @@ fn refused_word(&(number, profile, words, fault): &Module) -> RefusedWord {
 const EXPLAINED: [(Module, &str); 3] = [
     (
         (3, Profile::Two, &[ACQUIRE, NOP], fault(0, Rule::AccessConfined)),
-        "word 0 rule 2\n  0x0000000700010000  c8dffc20  ldar x0, [x1]\n  a load or store may go only through x18, x21, x23, x24 or sp at an immediate offset, through sp and change it, or through x21 by a W register with uxtw and no shift; this one goes through x1\n  mend: in its place\n    add x18, x21, w1, uxtw\n    ldar x0, [x18]",
+        concat!(
+            "word 0 rule 2\n",
+            "  0x0000000700010000  c8dffc20  ldar x0, [x1]\n",
+            "  a load or store may go only through x18, x21, x23, x24 or sp at an immediate offset, through sp ",
+            "and change it, or through x21 by a W register with uxtw and no shift; this one goes through x1\n",
+            "  mend: in its place\n",
+            "    add x18, x21, w1, uxtw\n",
+            "    ldar x0, [x18]",
+        ),
     ),
     (
         (0, Profile::One, &[0xF940_06BE, NOP, RET], fault(1, Rule::NeedMet)),
-        "word 1 rule 10\n  0x0000000100010000  f94006be  ldr x30, [x21, #8]\n  0x0000000100010004  d503201f  nop\n  a load of a table entry into x30 has to be followed by blr x30; this word isn't that\n  mend: put blr x30 right after the load, and before the load what stood between them",
+        concat!(
+            "word 1 rule 10\n",
+            "  0x0000000100010000  f94006be  ldr x30, [x21, #8]\n",
+            "  0x0000000100010004  d503201f  nop\n",
+            "  a load of a table entry into x30 has to be followed by blr x30; this word isn't that\n",
+            "  mend: put blr x30 right after the load, and before the load what stood between them",
+        ),
     ),
     (
         (15, Profile::One, &[0x1400_0002, NOP], fault(0, Rule::TargetInside)),
-        "word 0 rule 8\n  0x0000001f00010000  14000002  b .+8\n  a direct branch may go only to a word of the module; it has 2, and this one goes to word 2\n  mend: let it go to a word of the module; code outside is called by ldr x30, [x21, #8j], j being 0 to 511, with blr x30 right after it",
+        concat!(
+            "word 0 rule 8\n",
+            "  0x0000001f00010000  14000002  b .+8\n",
+            "  a direct branch may go only to a word of the module; it has 2, and this one goes to word 2\n",
+            "  mend: let it go to a word of the module; code outside is called by ldr x30, [x21, #8j], j being 0 ",
+            "to 511, with blr x30 right after it",
+        ),
     ),
 ];
 
