@@ -35,7 +35,8 @@ EXPLAINED = (
      "word 0 rule 8\n"
      "  0x0000001f00010000  14000002  b .+8\n"
      "  a direct branch may go only to a word of the module; it has 2, and this one goes to word 2\n"
-     "  mend: let it go to a word of the module; code outside is called by ldr x30, [x21, #8j], j being 0 to 511, with blr x30 right after it"),
+     "  mend: let it go to a word of the module; code outside is called by ldr x30, [x21, #8j], j being 0 to 511, with blr x30 right"
+     " after it"),
 )
 # A profile, words, their first fault, and the mend that checks/c_callers/calls.c and crates/tests_mends (rows.rt) have of it.
 MENDED = (
@@ -152,6 +153,8 @@ class Verifying(unittest.TestCase):
             code = code_of(*words)
             self.assertEqual(verdict(code, profile), f"word {fault.word} rule {fault.rule}")
             self.assertEqual(lfi_verifier.mend(code, fault, profile), wanted)
+        for fault, profile in (Fault(1, 1), 1), (Fault(0, 0), 1), (Fault(-1, 1), 1), (Fault(0, 1 + 2**32), 1), (Fault(0, 1), 3):
+            self.assertRaises(ValueError, lfi_verifier.mend, code_of(SVC), fault, profile)
 
 
 # Modules of both profiles and of both page sizes, whose messages are mixed. Beside each stands its first byte's place. Each word of the

@@ -96,7 +96,7 @@ fn each_event() {
     assert_eq!(told.len(), wanted.len());
 }
 
-/// What an iterator didn't come to is read by the next one.
+/// What an iterator didn't come to is read by the next one, and a piece without bytes brings nothing.
 #[test]
 fn the_rest_of_a_piece() {
     let text = [header(1, 0, 3, 1, 0), page(2, 3, 0, &[RET]), header(3, 0, 3, 0, 0)].concat();
@@ -105,6 +105,7 @@ fn the_rest_of_a_piece() {
     assert_eq!(events.rest(), text);
     assert!(matches!(events.next(), Some(Event::Open { .. })));
     assert_eq!(events.rest(), &text[12..]);
+    assert_eq!(stream.read(&[]).next(), None);
     let mut events = stream.read(&text[12..]);
     assert!(matches!(events.next(), Some(Event::Code { ends_page: true, .. })));
     assert_eq!(events.rest(), &text[28..]);
