@@ -1,12 +1,82 @@
 """What a host relies on, with values of docs/PROFILE.md and the examples: `python3 -m unittest`, in this folder."""
 
+import ctypes
 import pathlib
+import re
+import threading
 import unittest
+from unittest import mock
 
 import lfi_verifier
-from lfi_verifier import BadLength, Code, End, Fault, Reason, Refused, Status, Stream, StreamFault, Violation
+from lfi_verifier import BadLength, Code, End, Fault, Open, Reason, Refused, Status, Stray, Stream, StreamFault, Violation
 
-EXAMPLES = pathlib.Path(__file__).resolve().parent.parent.parent / "examples"
+TOP = pathlib.Path(__file__).resolve().parent.parent.parent
+EXAMPLES, HEADER = TOP / "examples", TOP / "include" / "lfi_verifier.h"
+LIBRARY = lfi_verifier._LIBRARY
+NOP, RET, SVC = 0xD503201F, 0xD65F03C0, 0xD4000001
+ACQUIRE, BASE_WRITTEN = 0xC8DFFE40, 0xAA0003F5  # ldar x0, [x18], an instruction of profile 2 alone; mov x21, x0, which breaks rule 3
+
+# A profile, a module, its words, its first fault, and the text that crates/tests_profile (explained/rules.rt) and
+# checks/runs/explain.runs have of the same words: by profile 2; of the word before; of the module's words, and of the last slot.
+EXPLAINED = (
+    (2, 3, (0xC8DFFC20, NOP), Fault(0, 2),
+     "word 0 rule 2\n"
+     "  0x0000000700010000  c8dffc20  ldar x0, [x1]\n"
+     "  a load or store may go only through x18, x21, x23, x24 or sp at an immediate offset, through sp and change it, or through x21 by a"
+     " W register with uxtw and no shift; this one goes through x1\n"
+     "  mend: in its place\n    add x18, x21, w1, uxtw\n    ldar x0, [x18]"),
+    (1, 0, (0xF94006BE, NOP, RET), Fault(1, 10),
+     "word 1 rule 10\n"
+     "  0x0000000100010000  f94006be  ldr x30, [x21, #8]\n"
+     "  0x0000000100010004  d503201f  nop\n"
+     "  a load of a table entry into x30 has to be followed by blr x30; this word isn't that\n"
+     "  mend: put blr x30 right after the load, and before the load what stood between them"),
+    (1, 15, (0x14000002, NOP), Fault(0, 8),
+     "word 0 rule 8\n"
+     "  0x0000001f00010000  14000002  b .+8\n"
+     "  a direct branch may go only to a word of the module; it has 2, and this one goes to word 2\n"
+     "  mend: let it go to a word of the module; code outside is called by ldr x30, [x21, #8j], j being 0 to 511, with blr x30 right"
+     " after it"),
+)
+# A profile, words, their first fault, and the mend that checks/c_callers/calls.c and crates/tests_mends (rows.rt) have of it.
+MENDED = (
+    # sub sp, sp, #16; ldr x0, [x1]: ldr xzr, [sp]; ldr x0, [x21, w1, uxtw]
+    (1, (0xD10043FF, 0xF9400020, RET), Fault(1, 2), [0xF94003FF, 0xF8614AA0]),
+    # ldr x30, [x18, #16]; nop: add x30, x21, w30, uxtw
+    (1, (0xF9400A5E, NOP, RET), Fault(1, 10), [0x8B3E42BE]),
+    # rbit x0, x1; clz x0, x0: neg x16, x1; and x16, x16, x1; mov x17, #0x8000000000000000; udiv x0, x17, x16
+    (1, (NOP, 0xDAC00020, 0xDAC01000), Fault(1, 1), [0xCB0103F0, 0x8A010210, 0xD2F00011, 0x9AD00A20]),
+    # ldar x0, [x1]: add x18, x21, w1, uxtw; ldar x0, [x18]
+    (2, (0xC8DFFC20,), Fault(0, 2), [0x8B2142B2, 0xC8DFFE40]),
+    # prfm pldl1keep, [x1, #64]
+    (1, (0xF9802020,), Fault(0, 1), []),
+    (1, (BASE_WRITTEN,), Fault(0, 3), None),
+)
+
+
+def code_of(*words):
+    return b"".join(word.to_bytes(4, "little") for word in words)
+
+
+def header(kind, second, module, a, b):
+    """A message without payload."""
+    return bytes((kind, second, module, 0)) + a.to_bytes(4, "little") + b.to_bytes(4, "little")
+
+
+def page(kind, module, index, *words):
+    """A Page, of kind 2 or of kind 5, with its payload."""
+    return header(kind, 0, module, index, 4 * len(words)) + code_of(*words)
+
+
+def written_during(name, data, written):
+    """Has somebody else write to the caller's buffer when this call of the library begins."""
+    call = getattr(LIBRARY, name)
+
+    def called(*given):
+        data[:] = written
+        return call(*given)
+
+    return mock.patch.object(LIBRARY, name, called)
 
 
 def verdict(code, profile=1):
@@ -19,6 +89,13 @@ def verdict(code, profile=1):
 
 
 class Verifying(unittest.TestCase):
+    def test_numbers(self):
+        """The header's."""
+        defined = {name: int(number) for name, number in re.findall(r"^#define LFI_(\w+) (\d+)u", HEADER.read_text(), re.M)}
+        named = {it.name: it.value for it in (*Status, *Reason)}
+        named.update((name, getattr(lfi_verifier, name)) for name in ("VERSION", "MAX_WORDS", "MODULES", "MOST_MENDED"))
+        self.assertEqual(named, {name: defined[name] for name in named})
+
     def test_rules(self):
         """Each sequence of docs/PROFILE.md with the verdict that stands above it."""
         files = sorted((EXAMPLES / "rules").glob("*.s"))
@@ -31,6 +108,14 @@ class Verifying(unittest.TestCase):
         code = (EXAMPLES / "checksums.code").read_bytes()
         for it in code, bytearray(code), memoryview(code):
             self.assertIsNone(lfi_verifier.verify(it))
+
+    def test_a_buffer_that_changes(self):
+        """What is judged is the copy that was made before."""
+        for view in bytearray, memoryview:
+            data = bytearray(code_of(RET))
+            with written_during("lfi_verify", data, code_of(SVC)):
+                self.assertIsNone(lfi_verifier.verify(data if view is bytearray else view(data)))
+            self.assertEqual(verdict(data), "word 0 rule 1")
 
     def test_lengths(self):
         for code in b"", b"\0", bytes(16_777_220):
@@ -56,6 +141,63 @@ class Verifying(unittest.TestCase):
         self.assertIsNone(lfi_verifier.mend((0xAA0003F5).to_bytes(4, "little"), Fault(0, 3)))  # mov x21, x0
         for fault, module in (Fault(105, 1), 0), (Fault(16, 0), 0), (Fault(16, 2), 16), (Fault(-1, 2), 0), (Fault(16, 2 + 2**32), 0):
             self.assertRaises(ValueError, lfi_verifier.explain, code, fault, 1, module)
+
+    def test_explanations(self):
+        for profile, module, words, fault, wanted in EXPLAINED:
+            code = code_of(*words)
+            self.assertEqual(verdict(code, profile), f"word {fault.word} rule {fault.rule}")
+            self.assertEqual(lfi_verifier.explain(code, fault, profile, module), wanted)
+
+    def test_mends(self):
+        for profile, words, fault, wanted in MENDED:
+            code = code_of(*words)
+            self.assertEqual(verdict(code, profile), f"word {fault.word} rule {fault.rule}")
+            self.assertEqual(lfi_verifier.mend(code, fault, profile), wanted)
+        for fault, profile in (Fault(1, 1), 1), (Fault(0, 0), 1), (Fault(-1, 1), 1), (Fault(0, 1 + 2**32), 1), (Fault(0, 1), 3):
+            self.assertRaises(ValueError, lfi_verifier.mend, code_of(SVC), fault, profile)
+
+
+# Modules of both profiles and of both page sizes, whose messages are mixed. Beside each stands its first byte's place. Each word of the
+# full large page is another one: movz w0, #0; movz w0, #1; and so on.
+MIXED = b"".join((
+    header(4, 2, 7, 4098, 4097),                                   # 0: profile 2, large pages
+    header(1, 0, 2, 3, 2),                                         # 12: profile 1
+    page(5, 7, 0, *(0x52800000 + 32 * it for it in range(4096))),  # 24
+    page(2, 2, 0, NOP, ACQUIRE, RET),                              # 16,420: word 1 breaks rule 1 in profile 1
+    page(5, 7, 1, ACQUIRE, RET),                                   # 16,444
+    page(2, 9, 0, NOP),                                            # 16,464: of a module that isn't open
+    header(1, 0, 4, 1, 0),                                         # 16,480
+    page(2, 4, 0, NOP),                                            # 16,492
+    page(2, 4, 5, NOP),                                            # 16,508: it isn't due
+    header(4, 0, 6, 2, 1),                                         # 16,524: profile 2, small pages
+    page(2, 6, 0, ACQUIRE, BASE_WRITTEN),                          # 16,536: word 1 breaks rule 3
+    header(3, 0, 2, 0, 0),                                         # 16,556
+    header(3, 0, 7, 0, 0),                                         # 16,568
+    header(3, 0, 6, 1, 0),                                         # 16,580: a Close with a number
+))
+# What it tells in pieces of 4,999 bytes, the first three of which end within a word of module 7, by docs/PROFILE.md, "Streams", and by
+# what include/lfi_verifier.h says of an event.
+TOLD = [
+    Open(module=7, words=4098, entry=4097, profile=2, page_bytes=16_384),
+    Open(module=2, words=3, entry=2, profile=1, page_bytes=4_096),
+    Code(7, 0, MIXED[36:4_999], ends_page=False, fault=None),
+    Code(7, 4_963, MIXED[4_999:9_998], ends_page=False, fault=None),
+    Code(7, 9_962, MIXED[9_998:14_997], ends_page=False, fault=None),
+    Code(7, 14_961, MIXED[14_997:16_420], ends_page=True, fault=None),
+    Code(2, 0, MIXED[16_432:16_444], ends_page=True, fault=Fault(1, 1)),
+    Code(7, 16_384, MIXED[16_456:16_464], ends_page=True, fault=None),
+    Stray(9),
+    Open(module=4, words=1, entry=0, profile=1, page_bytes=4_096),
+    Code(4, 0, MIXED[16_504:16_508], ends_page=True, fault=None),
+    End(4, 1, 1, Reason.PAGE_FAULT, 5, Status.INCOMPLETE, None),
+    Open(module=6, words=2, entry=1, profile=2, page_bytes=4_096),
+    Code(6, 0, MIXED[16_548:16_556], ends_page=True, fault=Fault(1, 3)),
+    End(2, 3, 1, Reason.CLOSED, 0, Status.REFUSED, Fault(1, 1)),
+    End(7, 4098, 2, Reason.CLOSED, 0, Status.LAWFUL, None),
+    StreamFault(5),
+    End(6, 2, 1, Reason.LOST, 5, Status.REFUSED, Fault(1, 3)),
+]
+ONE_RET = header(1, 0, 5, 1, 0) + page(2, 5, 0, RET) + header(3, 0, 5, 0, 0)
 
 
 class Streaming(unittest.TestCase):
@@ -95,6 +237,54 @@ class Streaming(unittest.TestCase):
         stream.read(text[:-1])
         self.assertEqual(stream.end(), [StreamFault(9), End(1, 124, 1, Reason.LOST, 9, Status.INCOMPLETE, None)])
         self.assertEqual(Stream().end(), [])
+
+    def test_each_event(self):
+        stream, events = Stream(), []
+        for at in range(0, len(MIXED), 4_999):
+            events += stream.read(MIXED[at : at + 4_999])
+        events += stream.end()
+        for event, wanted in zip(events, TOLD):
+            self.assertEqual((type(event), event), (type(wanted), wanted))
+        self.assertEqual(len(events), len(TOLD))
+
+    def test_a_buffer_that_changes(self):
+        """What is judged and told is the copy that was made before."""
+        data = bytearray(ONE_RET)
+        with written_during("lfi_stream_next", data, bytes(len(data))):
+            events = Stream().read(data)
+        self.assertEqual(events[1:], [Code(5, 0, code_of(RET), True, None), End(5, 1, 1, Reason.CLOSED, 0, Status.LAWFUL, None)])
+
+    def test_turns(self):
+        """While a thread is in a call of a stream, another thread waits before its own."""
+        for name, first in ("lfi_stream_next", lambda it: it.read(b"\1")), ("lfi_stream_end", Stream.end):
+            for second in (lambda it: it.read(b"\0")), Stream.end:
+                stream, waits = Stream(), []
+                other = threading.Thread(target=second, args=(stream,))
+                call = getattr(LIBRARY, name)
+
+                def called(*given):
+                    if other.ident is None:
+                        other.start()
+                        other.join(0.1)
+                        waits.append(other.is_alive())
+                    return call(*given)
+
+                with mock.patch.object(LIBRARY, name, called):
+                    first(stream)
+                    other.join()
+                self.assertEqual(waits, [True])
+
+    def test_numbers_that_no_call_wrote(self):
+        """docs/C.md, "A stream": 840 bytes, whose first number is 0 to 2, and whose modules' verdicts begin at byte 424."""
+        self.assertEqual(ctypes.sizeof(lfi_verifier._Stream), 840)
+        stream = Stream()
+        stream.read(ONE_RET[:12])
+        stream._numbers[(424 + 5 * 24) // 8] = 0  # module 5 is judged by no profile
+        self.assertRaisesRegex(RuntimeError, "wasn't judged", stream.read, ONE_RET[12:])
+        stream = Stream()
+        stream._numbers[0] = 3
+        for call in (lambda: stream.read(ONE_RET)), stream.end:
+            self.assertRaisesRegex(RuntimeError, "no stream", call)
 
 
 if __name__ == "__main__":

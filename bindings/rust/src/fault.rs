@@ -181,3 +181,26 @@ impl fmt::Display for StreamFault {
 }
 
 impl core::error::Error for StreamFault {}
+
+#[cfg(test)]
+mod tests {
+    use super::*;
+
+    /// docs/C.md, the table of statuses: 0 alone is lawful, and what isn't one of 0 to 3 says that nothing was judged.
+    #[test]
+    fn each_verdict() {
+        let (none, fault) = (LfiFault { word: 0, rule: 0 }, LfiFault { word: 7, rule: 2 });
+        assert_eq!(verdict(0, none), Ok(()));
+        assert_eq!(verdict(1, fault), Err(Violation::Refused(Fault { word: 7, rule: Rule::AccessConfined })));
+        assert_eq!(verdict(2, none), Err(Violation::BadLength));
+        assert_eq!(verdict(3, none), Err(Violation::Incomplete));
+        assert_eq!(verdict(4, none), Err(Violation::Unjudged(Status::BadState)));
+        assert_eq!(verdict(5, none), Err(Violation::Unjudged(Status::UnknownProfile)));
+        assert_eq!(verdict(6, none), Err(Violation::Unjudged(Status::UnknownModule)));
+        assert_eq!(verdict(7, none), Err(Violation::Unjudged(Status::NoRoom)));
+        assert_eq!(verdict(8, none), Err(Violation::Unjudged(Status::Other(8))));
+        for rule in [0, 11] {
+            assert_eq!(verdict(1, LfiFault { word: 7, rule }), Err(Violation::Unjudged(Status::Refused)));
+        }
+    }
+}

@@ -215,3 +215,58 @@ impl Iterator for Ends<'_> {
 }
 
 impl FusedIterator for Ends<'_> {}
+
+/// What a host can't bring about: numbers that these calls didn't write, and events that the library doesn't tell.
+#[cfg(test)]
+#[allow(clippy::expect_used, clippy::indexing_slicing, clippy::panic)]
+mod tests {
+    use super::*;
+
+    /// The Open of module 5 with one word, its page with `ret`, and its Close.
+    const OPEN: [u8; 12] = [1, 0, 5, 0, 1, 0, 0, 0, 0, 0, 0, 0];
+    const PAGE: [u8; 16] = [2, 0, 5, 0, 0, 0, 0, 0, 4, 0, 0, 0, 0xC0, 0x03, 0x5F, 0xD6];
+    const CLOSE: [u8; 12] = [3, 0, 5, 0, 0, 0, 0, 0, 0, 0, 0, 0];
+
+    /// docs/C.md, "A stream": code of a module whose verdict's numbers it can't have is told, and wasn't judged.
+    #[test]
+    fn code_that_is_not_judged() {
+        let mut stream = Stream::new().expect("a stream");
+        assert!(matches!(stream.read(&OPEN).next(), Some(Event::Open { .. })));
+        stream.numbers.verdicts.modules[5].profile = 0;
+        let told: Vec<_> = stream.read(&PAGE).collect();
+        let module = ModuleNumber::new(5).expect("there is a module 5");
+        let verdict = Err(Violation::Unjudged(Status::BadState));
+        assert_eq!(told, [Event::Code { module, offset: 0, bytes: &PAGE[12..], ends_page: true, verdict }]);
+    }
+
+    /// It is told by a piece and by the end, once each, and nothing is read.
+    #[test]
+    fn numbers_of_no_stream() {
+        let mut stream = Stream::new().expect("a stream");
+        stream.numbers.text.feed.place = 3;
+        assert_eq!(stream.read(&OPEN).collect::<Vec<_>>(), [Event::Unreadable]);
+        assert_eq!(stream.read(&CLOSE).next(), None);
+        assert_eq!(stream.end().collect::<Vec<_>>(), [Event::Unreadable]);
+    }
+
+    /// Kinds, modules, profiles and reasons that this crate doesn't know.
+    #[test]
+    fn unknown_events() {
+        let open = LfiEvent { kind: 1, module: 15, words: 1, profile: 2, page_bytes: 4_096, ..LfiEvent::default() };
+        let end = LfiEvent { kind: 4, module: 15, words: 1, reason: 1, ..LfiEvent::default() };
+        assert!(matches!(Event::of(&open, &[]), Some(Event::Open { .. })));
+        assert!(matches!(Event::of(&end, &[]), Some(Event::End { .. })));
+        let unknown = [
+            LfiEvent { kind: 6, ..open },
+            LfiEvent { kind: 7, ..open },
+            LfiEvent { module: 16, ..open },
+            LfiEvent { profile: 0, ..open },
+            LfiEvent { profile: 3, ..open },
+            LfiEvent { reason: 0, ..end },
+            LfiEvent { reason: 4, ..end },
+        ];
+        for told in unknown {
+            assert_eq!(Event::of(&told, &[]), Some(Event::Unreadable));
+        }
+    }
+}

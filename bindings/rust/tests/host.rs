@@ -2,7 +2,7 @@
 
 use lfi_verifier::{
     explain, mend, registers, verify, version, Event, Fault, ModuleNumber, Profile, Reason, RefusedWord, Rule, SlotMap, Stream,
-    StreamFault, Verifier, Violation, VERSION,
+    StreamFault, Verifier, Violation, MAX_BYTES, MAX_WORDS, VERSION,
 };
 use std::{fs, path::Path};
 
@@ -23,6 +23,9 @@ fn interface() {
     assert_eq!(version(), VERSION);
     let header = fs::read_to_string("../../include/lfi_verifier.h").expect("the header is there");
     assert!(header.contains(&format!("#define LFI_VERSION {VERSION}u\n")));
+    assert!(header.contains(&format!("#define LFI_MAX_WORDS {MAX_WORDS}u\n")));
+    assert!(header.contains(&format!("#define LFI_MAX_BYTES {MAX_BYTES}u\n")));
+    assert!(header.contains(&format!("#define LFI_MODULES {}u\n", ModuleNumber::COUNT)));
 }
 
 /// Each sequence of docs/PROFILE.md with the verdict that stands above it.
@@ -53,6 +56,41 @@ fn profiles() {
     assert_eq!(verify(&acquire, Profile::Two), Ok(()));
 }
 
+/// `ldar x30, [x21]` and its guard, a word at a time.
+#[test]
+fn pieces_of_a_profile() {
+    let (load, guard) = (code(&[0xC8DF_FEBE]), code(&[0x8B3E_42BE]));
+    let mut verifier = Verifier::new(2, Profile::Two).expect("two words");
+    assert_eq!(verifier.update(&load), Ok(()));
+    assert_eq!((verifier.judged(), verifier.finish()), (1, Err(Violation::Incomplete)));
+    assert_eq!(verifier.update(&guard), Ok(()));
+    assert_eq!((verifier.judged(), verifier.finish()), (2, Ok(())));
+    let mut verifier = Verifier::new(2, Profile::One).expect("two words");
+    assert_eq!(verifier.update(&load), refused(0, Rule::Spelled));
+    assert_eq!(verifier.update(&guard), refused(0, Rule::Spelled));
+    assert_eq!(verifier.finish(), refused(0, Rule::Spelled));
+}
+
+/// The headings of docs/PROFILE.md, "Rules".
+#[test]
+fn names_of_rules() {
+    let text = fs::read_to_string("../../docs/PROFILE.md").expect("the document is there");
+    let rules = [
+        Rule::Spelled,
+        Rule::AccessConfined,
+        Rule::BaseKept,
+        Rule::AddressGuarded,
+        Rule::LinkGuarded,
+        Rule::OffsetNarrow,
+        Rule::StackBounded,
+        Rule::TargetInside,
+        Rule::BranchBounded,
+        Rule::NeedMet,
+    ];
+    let named: Vec<String> = rules.iter().map(|it| format!("### Rule {}: {it:?}", it.number())).collect();
+    assert_eq!(named, text.lines().filter(|line| line.starts_with("### Rule ")).collect::<Vec<_>>());
+}
+
 #[test]
 fn lengths() {
     assert_eq!(verify(&[], Profile::One), Err(Violation::BadLength));
@@ -63,6 +101,7 @@ fn lengths() {
     assert_eq!(verifier.update(&[0; 3]), Err(Violation::BadLength));
     assert_eq!(verifier.update(&[0; 8]), Err(Violation::BadLength));
     assert_eq!(verifier.judged(), 0);
+    assert_eq!(Violation::BadLength.to_string(), "bad length");
 }
 
 #[test]
