@@ -1,5 +1,7 @@
 //! How threads wait for one another and tell of filled lanes, on several threads. What is compared is the same in every schedule.
 
+ghost use Rattle.std.specs.Prelude.{◌<◌};
+
 use lfi_module::ModuleNumber;
 use lfi_sync::{Lifecycle, LoadError, WaitSet, Waiter};
 use std::process::Abort;
@@ -66,27 +68,24 @@ fn take_each<R: Wait>(rt: &R, lifecycle: &Lifecycle, seen: &Seen) {
     }
 }
 
-/// A thread for each lane from a number on, and this one beside them: whether each lane was seen each time.
+/// A thread for each lane, and this one beside them: whether each lane was seen each time.
 fn tell_and_take<'s, 'e, R: Threads + Wait + Abort>(
     scope: &Scope<'s, &'e ()>,
     rt: &R,
     lifecycle: &'e Lifecycle,
     seen: &'e Seen,
-    number: usize,
 ) -> bool {
-    if number >= TELLERS {
-        take_each(rt, lifecycle, seen);
-        return true;
-    }
-    let Ok(thread) = scope.spawn(
-        move || -> bool
-            requires { number < 3 }
-        { tell_each(lifecycle, seen, number) },
-    ) else {
+    let Ok(first) = scope.spawn(move || -> bool { tell_each(lifecycle, seen, 0) }) else {
         panic!(rt; "no thread")
     };
-    let others = tell_and_take(scope, rt, lifecycle, seen, number + 1);
-    thread.join(rt) && others
+    let Ok(second) = scope.spawn(move || -> bool { tell_each(lifecycle, seen, 1) }) else {
+        panic!(rt; "no thread")
+    };
+    let Ok(third) = scope.spawn(move || -> bool { tell_each(lifecycle, seen, 2) }) else {
+        panic!(rt; "no thread")
+    };
+    take_each(rt, lifecycle, seen);
+    [first.join(rt), second.join(rt), third.join(rt)] == [true; TELLERS]
 }
 
 /// Whether each lane that is told of is seen, while others are told of and taken.
@@ -97,7 +96,7 @@ fn each_lane_is_seen<R: Threads + Wait + Abort>(rt: &R) -> bool {
         telling: AtomicU64::new(TELLERS as u64),
     };
     scope(scope_env(), rt, move |scope| -> bool {
-        tell_and_take(scope, rt, lifecycle, seen, 0)
+        tell_and_take(scope, rt, lifecycle, seen)
     })
 }
 
@@ -118,45 +117,44 @@ fn wait_at<R: Wait>(rt: &R, lifecycle: &Lifecycle, wait_set: &WaitSet) -> bool {
     true
 }
 
-/// The wait set with this number.
-fn wait_set_of(lifecycle: &Lifecycle, number: usize) -> &WaitSet {
-    let all = lifecycle.wait_sets();
-    match number {
-        0 => &all.items,
-        1 => &all.intake_room,
-        2 => &all.judged,
-        _ => &all.lane_room,
-    }
-}
-
 /// How many milliseconds the threads have to come to their wait sets.
 const TO_COME: u64 = 100;
 
-/// A thread at each wait set from a number on; once all sleep there, all are told to stop. Whether all come back.
+/// A thread at each wait set; once all sleep there, all are told to stop. Whether all come back.
 fn wait_and_stop<'s, 'e, R: Threads + Wait + Abort + Sync>(
     scope: &Scope<'s, &'e ()>,
     rt: &'e R,
     lifecycle: &'e Lifecycle,
-    number: usize,
 ) -> bool {
-    if number >= 4 {
-        lifecycle.sleep(rt, Duration::from_millis(TO_COME));
-        lifecycle.stop(LoadError::NoMemory);
-        return true;
-    }
-    let wait_set = wait_set_of(lifecycle, number);
-    let Ok(thread) = scope.spawn(move || -> bool { wait_at(rt, lifecycle, wait_set) }) else {
+    let all = lifecycle.wait_sets();
+    let Ok(items) = scope.spawn(move || -> bool { wait_at(rt, lifecycle, &all.items) }) else {
         panic!(rt; "no thread")
     };
-    let others = wait_and_stop(scope, rt, lifecycle, number + 1);
-    thread.join(rt) && others
+    let Ok(intake) = scope.spawn(move || -> bool { wait_at(rt, lifecycle, &all.intake_room) })
+    else {
+        panic!(rt; "no thread")
+    };
+    let Ok(judged) = scope.spawn(move || -> bool { wait_at(rt, lifecycle, &all.judged) }) else {
+        panic!(rt; "no thread")
+    };
+    let Ok(lanes) = scope.spawn(move || -> bool { wait_at(rt, lifecycle, &all.lane_room) }) else {
+        panic!(rt; "no thread")
+    };
+    lifecycle.sleep(rt, Duration::from_millis(TO_COME));
+    lifecycle.stop(LoadError::NoMemory);
+    [
+        items.join(rt),
+        intake.join(rt),
+        judged.join(rt),
+        lanes.join(rt),
+    ] == [true; 4]
 }
 
 /// Whether threads that wait for anything come back where all are to stop.
 fn all_stop<R: Threads + Wait + Abort + Sync>(rt: &R) -> bool {
     let lifecycle = &Lifecycle::new(1);
     scope(scope_env(), rt, move |scope| -> bool {
-        wait_and_stop(scope, rt, lifecycle, 0)
+        wait_and_stop(scope, rt, lifecycle)
     })
 }
 
