@@ -14,7 +14,7 @@ pub enum Status {
     BadLength,
     /// 3: words are still to come.
     Incomplete,
-    /// 4: the numbers of a state or of a fault are none that the calls make.
+    /// 4: the numbers can't be a state's, or a fault's.
     BadState,
     /// 5: there is no such profile.
     UnknownProfile,

@@ -16,7 +16,7 @@ pub(crate) enum Status {
     BadLength,
     /// Words are still to come, and those that came break no rule.
     Incomplete,
-    /// The numbers of a state, or of a fault, are none that these calls make.
+    /// The numbers can't be a state's, or a fault's.
     BadState,
     /// There is no such profile.
     UnknownProfile,
