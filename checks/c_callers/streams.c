@@ -216,7 +216,7 @@ static int numbers_told(const lfi_stream_text *stream, const lfi_event *event, c
 
 /* Whether a feed holds the bytes of the header that came: the last ones before this place, where it was in a header before. */
 static int holds_header(const lfi_stream_feed *feed, uint32_t before, size_t end) {
-    size_t count = feed->place == 0 ? feed->number : feed->place == 1 && before == 0 ? 12 : 0;
+    size_t count = feed->place == 0 ? feed->number : before == 0 ? 12 : 0;
     return count <= 12 && count <= end && memcmp(feed->held, text + end - count, count) == 0;
 }
 
@@ -263,7 +263,12 @@ static int bad_states(void) {
     if (lfi_stream_next(&stream, bytes, 12, &event) != 0 || event.kind != LFI_NO_STREAM || memcmp(&stream, &before, sizeof stream)) return 2;
     if (lfi_stream_end(&stream, &event) != LFI_BAD_STATE || event.kind != LFI_NO_STREAM || memcmp(&stream, &before, sizeof stream)) return 3;
     stream.text.feed.place = 0, stream.text.feed.number = 12;
-    return lfi_stream_end(&stream, &event) == LFI_BAD_STATE ? 0 : 4;
+    if (lfi_stream_end(&stream, &event) != LFI_BAD_STATE) return 4;
+    /* A module's numbers that no module has are read as those of one that has ended: it isn't opened again. */
+    static const uint8_t open[12] = {1, 0, 5, 0, 2, 0, 0, 0, 0, 0, 0, 0};
+    if (lfi_stream_init(&stream, LFI_PROFILE_1)) return 5;
+    stream.text.modules[5].phase = 1;
+    return lfi_stream_next(&stream, open, 12, &event) == 12 && event.kind == LFI_STRAY && event.module == 5 ? 0 : 6;
 }
 
 /* A stream of whose verifier's numbers some are none of a module: its events are told, and its code isn't judged. */

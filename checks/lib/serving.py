@@ -170,10 +170,10 @@ def told_while(client, serve):
     return ""
 
 
-def try_slow(program):
+def try_one_slow(program, verifiers):
     with tempfile.TemporaryDirectory() as folder:
         path = os.path.join(folder, "s")
-        words = [program, "serve", "--socket", path, "--connections", "2"]
+        words = [program, "serve", "--socket", path, "--connections", "2", "--verifiers", str(verifiers)]
         serve = subprocess.Popen(words, stdout=subprocess.PIPE, stderr=subprocess.PIPE, text=True)
         with connected(path) as first, connected(path) as second:
             first.sendall(formats.header(1, 0, 7, 3072, 0) + formats.header(2, 0, 7, 0, 4096) + NOP * 1024)
@@ -185,8 +185,13 @@ def try_slow(program):
         came = told, out.splitlines()[:2], err, serve.returncode
     wanted = "module 7 refused\n", ["module 7: refused, word 1024 rule 1", "connection 0: fault 9"], "", 1
     if came != wanted:
-        wrong("slow", "a page, and then nothing", came, wanted)
-    print("slow: one page that is refused is judged and told while its client sends nothing more")
+        wrong("slow", f"a page, and then nothing, with {verifiers} verifiers", came, wanted)
+
+
+def try_slow(program):
+    for verifiers in (1, 2, 8):
+        try_one_slow(program, verifiers)
+    print("slow: one page that is refused is judged and told while its client sends nothing more, by 1, 2 and 8 verifiers")
 
 
 # ---- path
@@ -208,21 +213,30 @@ def try_taken_path(program):
             other.accept()[0].close()
 
 
-def try_path(program):
+def try_one_path(program, kind):
+    """What stands at the path of `serve` once its socket was moved: a file of another one's, or a link to the socket."""
     with tempfile.TemporaryDirectory() as folder:
         path, moved = (pathlib.Path(folder, name) for name in ("s", "moved"))
         serve = subprocess.Popen([program, "serve", "--socket", path, "--connections", "1"], stdout=subprocess.PIPE, text=True)
         first = connected(str(path))
         path.rename(moved)
-        path.write_text("another one's")
+        if kind == "link":
+            path.symlink_to("moved")
+        else:
+            path.write_text("another one's")
         with first:
             first.sendall(formats.stream(0, RET))
-        came = serve.communicate(timeout=60)[0], serve.returncode, path.exists() and path.read_text()
-    wanted = "module 0: complete, 1 words\nstrays 0\n", 0, "another one's"
+        came = serve.communicate(timeout=60)[0], serve.returncode, path.is_symlink() if kind == "link" else path.exists() and path.read_text()
+    wanted = "module 0: complete, 1 words\nstrays 0\n", 0, True if kind == "link" else "another one's"
     if came != wanted:
-        wrong("path", "a file that came to stand there", came, wanted)
+        wrong("path", f"a {kind} that came to stand there", came, wanted)
+
+
+def try_path(program):
+    for kind in ("file", "link"):
+        try_one_path(program, kind)
     try_taken_path(program)
-    print("path: a file that came to stand at the path of `serve` is still there, and so is the socket of somebody who listens there")
+    print("path: a file and a link that came to stand at the path of `serve` are still there, and so is the socket of somebody who listens there")
 
 
 # ---- faulty

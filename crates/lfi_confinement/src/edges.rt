@@ -9,12 +9,13 @@ ghost use Rattle.a64_semantics.specs.Registers.{x_at};
 ghost use Rattle.lfi_module.specs.Numbers.{base_of, module_count, most_words};
 ghost use Rattle.lfi_rules.specs.Map.{entry_count};
 ghost use Rattle.lfi_confinement.specs.Slots.{base, is_guarded, entry_address, entry_at, word_place, data_offset, Readable, Writable, NoAccess, permission_in, byte_in, memory_of};
-ghost use Rattle.lfi_confinement.specs.Moves.{word_at, performed, given, stop, ask, escape};
+ghost use Rattle.lfi_confinement.specs.Moves.{word_at, performed, given, stop, ask, escape, State, Moves};
+ghost use Rattle.lfi_confinement.specs.Runs.{Reach, Escaped};
 ghost use Rattle.lfi_confinement.specs.declared.cause.StopCause.TheVariants as cause;
 ghost use Rattle.lfi_confinement.specs.Edges.{edge_image, with_x0, loads_at_x0, loads_pair_at_x0, with_x30, goes_to};
 
 /// What an escape is, by rows: a byte that is accessed just outside of the guards of slot 0, and a pc just outside of the slot.
-/// In a guard the machine stops.
+/// In a guard the machine stops. A run whose step is an escape has escaped: so code that isn't lawful can.
 pub fn escapes_at_the_edges()
     ensures below { performed edge_image (with_x0 (2 ^ 32 - 65537)) (loads_at_x0 Byte) ≡ escape }
     ensures low_guard { performed edge_image (with_x0 (2 ^ 32 - 65536)) (loads_at_x0 Byte) ≡ stop (cause.NoAccess (2 ^ 32 - 65536)) }
@@ -22,6 +23,7 @@ pub fn escapes_at_the_edges()
     ensures above { performed edge_image (with_x0 (2 ^ 33 + 65536)) (loads_at_x0 Byte) ≡ escape }
     ensures left_below { performed edge_image (with_x0 (2 ^ 32 - 1)) (goes_to Br 0) ≡ escape }
     ensures left_above { performed edge_image (with_x0 (2 ^ 33)) (goes_to Br 0) ≡ escape }
+    ensures reached { (c : Image) (s : State) → Moves c s escape → Reach c s 1 Escaped }
 {}
 
 /// Of several bytes each counts: an access escapes where one of its bytes lies outside of the guards, and stops at the first that
