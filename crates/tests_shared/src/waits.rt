@@ -1,9 +1,10 @@
 //! How threads wait for one another and tell of filled lanes, on several threads. What is compared is the same in every schedule.
 
-ghost use Rattle.std.specs.Prelude.{◌<◌};
+ghost use Rattle.std.specs.Prelude.{◌<◌, ◌≤◌};
 
 use lfi_module::ModuleNumber;
-use lfi_sync::{Lifecycle, LoadError, WaitSet, Waiter};
+use lfi_sync::{Lifecycle, LoadError, Notifier, WaitSet, Waiter};
+use std::array;
 use std::process::Abort;
 use std::sync::Wait;
 use std::sync::atomic::{AtomicU64, Ordering};
@@ -161,4 +162,44 @@ fn all_stop<R: Threads + Wait + Abort + Sync>(rt: &R) -> bool {
 #[test]
 fn threads_that_wait_for_anything_are_told_to_stop(rt: HostRuntime) {
     assert!(rt; all_stop(&rt));
+}
+
+/// Whether a thread that waits is called, though another one that waited there has left.
+fn is_called<R: Wait>(rt: &R) -> bool {
+    let lifecycle = Lifecycle::new(2);
+    let room = &lifecycle.wait_sets().lane_room;
+    let (mut leaving, mut waiting) = (Waiter::new(room, 0), Waiter::new(room, 1));
+    leaving.pause(rt);
+    waiting.pause(rt);
+    leaving.end();
+    Notifier::of_all(room, 1).brought();
+    waiting.pause(rt);
+    true
+}
+
+#[test]
+fn who_leaves_takes_no_other_ones_call(rt: HostRuntime) {
+    assert!(rt; is_called(&rt));
+}
+
+/// Whether one of so many threads is called where all of them wait.
+fn one_of_all_is_called<R: Wait>(rt: &R, count: usize) -> bool
+    requires { count ≤ 8 }
+{
+    let lifecycle = Lifecycle::new(count);
+    let items = &lifecycle.wait_sets().items;
+    let mut waiting: [Waiter<'_>; 8] = array::from_fn(|number| Waiter::new(items, number));
+    for number in 0..count {
+        waiting[number].pause(rt);
+    }
+    Notifier::of_one(items, 1).brought();
+    waiting[0].pause(rt);
+    true
+}
+
+#[test]
+fn one_is_called_where_all_wait(rt: HostRuntime) {
+    for count in 1..=8usize {
+        assert!(rt; one_of_all_is_called(&rt, count));
+    }
 }

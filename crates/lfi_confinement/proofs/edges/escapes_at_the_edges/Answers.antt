@@ -1,4 +1,4 @@
-use Rattle.std.proofs.Common.{◌≡◌, refl}
+use Rattle.std.proofs.Common.{refl}
 use Rattle.lfi_confinement.specs.Moves.{escape}
 use Rattle.lfi_confinement.proofs.edges.escapes_at_the_edges.Goals as goal
 
