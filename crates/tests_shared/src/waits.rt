@@ -1,10 +1,9 @@
 //! How threads wait for one another and tell of filled lanes, on several threads. What is compared is the same in every schedule.
 
-ghost use Rattle.std.specs.Prelude.{◌<◌, ◌≤◌};
+ghost use Rattle.std.specs.Prelude.{◌<◌};
 
 use lfi_module::ModuleNumber;
 use lfi_sync::{Lifecycle, LoadError, Notifier, WaitSet, Waiter};
-use std::array;
 use std::process::Abort;
 use std::sync::Wait;
 use std::sync::atomic::{AtomicU64, Ordering};
@@ -182,24 +181,23 @@ fn who_leaves_takes_no_other_ones_call(rt: HostRuntime) {
     assert!(rt; is_called(&rt));
 }
 
-/// Whether one of so many threads is called where all of them wait.
-fn one_of_all_is_called<R: Wait>(rt: &R, count: usize) -> bool
-    requires { count ≤ 8 }
-{
+/// Whether the first of so many threads is called where all of them wait.
+fn first_of_all_is_called<R: Wait>(rt: &R, count: usize) -> bool {
     let lifecycle = Lifecycle::new(count);
     let items = &lifecycle.wait_sets().items;
-    let mut waiting: [Waiter<'_>; 8] = array::from_fn(|number| Waiter::new(items, number));
-    for number in 0..count {
-        waiting[number].pause(rt);
+    let mut first = Waiter::new(items, 0);
+    first.pause(rt);
+    for number in 1..count {
+        Waiter::new(items, number).pause(rt);
     }
     Notifier::of_one(items, 1).brought();
-    waiting[0].pause(rt);
+    first.pause(rt);
     true
 }
 
 #[test]
 fn one_is_called_where_all_wait(rt: HostRuntime) {
     for count in 1..=8usize {
-        assert!(rt; one_of_all_is_called(&rt, count));
+        assert!(rt; first_of_all_is_called(&rt, count));
     }
 }
