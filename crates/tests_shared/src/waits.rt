@@ -181,7 +181,7 @@ fn who_leaves_takes_no_other_ones_call(rt: HostRuntime) {
     assert!(rt; is_called(&rt));
 }
 
-/// Whether the first of so many threads is called where all of them wait.
+/// Whether the first of `count` threads is called where all of them wait.
 fn first_of_all_is_called<R: Wait>(rt: &R, count: usize) -> bool {
     let lifecycle = Lifecycle::new(count);
     let items = &lifecycle.wait_sets().items;
