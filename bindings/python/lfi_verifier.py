@@ -21,7 +21,7 @@ import enum
 import os
 import pathlib
 import threading
-from typing import List, NamedTuple, Optional, Union
+from typing import List, NamedTuple, Optional, Tuple, Union
 
 VERSION = 6
 MAX_WORDS, MODULES = 4_194_304, 16
@@ -59,6 +59,9 @@ class Refused(Violation):
     def __init__(self, fault: Fault) -> None:
         super().__init__(f"word {fault.word} rule {fault.rule}")
         self.fault = fault
+
+    def __reduce__(self) -> Tuple[type, Tuple[Fault]]:
+        return type(self), (self.fault,)
 
 
 class BadLength(Violation):

@@ -2,6 +2,7 @@
 
 import ctypes
 import pathlib
+import pickle
 import re
 import threading
 import unittest
@@ -120,6 +121,11 @@ class Verifying(unittest.TestCase):
     def test_lengths(self):
         for code in b"", b"\0", bytes(16_777_220):
             self.assertRaises(BadLength, lfi_verifier.verify, code)
+
+    def test_violations_cross_to_other_processes(self):
+        for violation in Refused(Fault(3, 2)), BadLength("bad length"):
+            found = pickle.loads(pickle.dumps(violation))
+            self.assertEqual((type(found), str(found), vars(found)), (type(violation), str(violation), vars(violation)))
 
     def test_profiles(self):
         acquire = (0x88DFFE40).to_bytes(4, "little")  # ldar w0, [x18]

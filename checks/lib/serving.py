@@ -79,23 +79,61 @@ def status_of(process, key):
     return int(re.search(rf"^{key}:\s+(\d+)", pathlib.Path(f"/proc/{process.pid}/status").read_text(), re.M)[1])
 
 
-def try_refused_thread(program):
-    """`serve` of two clients, of which the second is refused a thread: there are no addresses left for its stack."""
+def flood(client):
+    """Sends messages that no module takes, as long as somebody reads them."""
+    try:
+        while True:
+            client.sendall(formats.header(formats.CLOSE, 0, 9, 0, 0) * 1000)
+    except OSError:
+        pass
+
+
+def try_refused_thread(program, words, floods):
+    """`serve` of two clients, of which the second is refused a thread: there are no addresses left for its stack. The first stays, or
+    sends on."""
     with tempfile.TemporaryDirectory() as folder:
         path = os.path.join(folder, "s")
-        words = [program, "serve", "--socket", path, "--connections", "2", "--verifiers", "1"]
+        words = [program, "serve", "--socket", path, "--connections", "2", "--verifiers", "1", *words]
         serve = subprocess.Popen(words, stdout=subprocess.PIPE, stderr=subprocess.PIPE, text=True)
         with connected(path) as first:
+            if floods:
+                threading.Thread(target=flood, args=(first,), daemon=True).start()
             # The first one's thread is the fourth.
             while serve.poll() is None and status_of(serve, "Threads") < 4:
                 time.sleep(0.01)
             most = 1024 * status_of(serve, "VmSize")
             resource.prlimit(serve.pid, resource.RLIMIT_AS, (most, most))
             with connected(path):
-                came = *serve.communicate(timeout=60), serve.returncode, first.recv(1)
+                came = *serve.communicate(timeout=60), serve.returncode, b"" if floods else first.recv(1)
         wanted = "", "lfiload: no memory\n", 3, b""
         if came != wanted:
             wrong("taken", "a thread refused", came, wanted)
+
+
+def size_of_serve(program):
+    """How many bytes of addresses `serve` has with one verifier, while nobody has come."""
+    with tempfile.TemporaryDirectory() as folder:
+        path = os.path.join(folder, "s")
+        serve = subprocess.Popen([program, "serve", "--socket", path, "--connections", "1", "--verifiers", "1"], stdout=subprocess.DEVNULL)
+        while serve.poll() is None and not (os.path.exists(path) and status_of(serve, "Threads") == 3):
+            time.sleep(0.01)
+        size = 1024 * status_of(serve, "VmSize")
+        connected(path).close()
+        serve.wait(timeout=60)
+        return size
+
+
+def try_refused_verifier(program):
+    """`serve` whose verifiers' threads are refused, before anybody came: it ends by itself."""
+    size = size_of_serve(program)
+    with tempfile.TemporaryDirectory() as folder:
+        words = [program, "serve", "--socket", os.path.join(folder, "s"), "--connections", "1", "--verifiers", "8"]
+        serve = subprocess.Popen(
+            words, stdout=subprocess.PIPE, stderr=subprocess.PIPE, text=True, preexec_fn=lambda: resource.setrlimit(resource.RLIMIT_AS, (size, size))
+        )
+        came = *serve.communicate(timeout=60), serve.returncode
+        if came != ("", "lfiload: no memory\n", 3):
+            wrong("taken", "a verifier's thread refused, and nobody there", came, "no memory")
 
 
 def try_taken(program):
@@ -111,8 +149,14 @@ def try_taken(program):
         wanted = ["heard"] * taken + ["not taken"] * (3 - taken), told, 3
         if came != wanted:
             wrong("taken", f"{taken} of three clients, as an object", came, wanted)
-    try_refused_thread(program)
-    print("taken: `serve` with descriptors for none and for one of three clients: each connection without one is told, in both formats; a thread refused for the second of two: it ends, though the first stays")
+    for words in ([], ["--seconds", "3000"]):
+        for floods in (False, True):
+            try_refused_thread(program, words, floods)
+    try_refused_verifier(program)
+    print(
+        "taken: `serve` with descriptors for none and for one of three clients: each connection without one is told, in both formats; "
+        "a thread refused for the second of two, and for a verifier: it ends, though the first stays or sends on, and though nobody came"
+    )
 
 
 # ---- limit
@@ -214,29 +258,27 @@ def try_taken_path(program):
 
 
 def try_one_path(program, kind):
-    """What stands at the path of `serve` once its socket was moved: a file of another one's, or a link to the socket."""
-    with tempfile.TemporaryDirectory() as folder:
+    """What stands at the path of `serve` once its socket was moved: a file or a socket of another one's, or a link to the socket."""
+    with tempfile.TemporaryDirectory() as folder, socket.socket(socket.AF_UNIX) as other:
         path, moved = (pathlib.Path(folder, name) for name in ("s", "moved"))
         serve = subprocess.Popen([program, "serve", "--socket", path, "--connections", "1"], stdout=subprocess.PIPE, text=True)
         first = connected(str(path))
         path.rename(moved)
-        if kind == "link":
-            path.symlink_to("moved")
-        else:
-            path.write_text("another one's")
+        {"link": lambda: path.symlink_to("moved"), "file": lambda: path.write_text("another one's"), "socket": lambda: other.bind(str(path))}[kind]()
         with first:
             first.sendall(formats.stream(0, RET))
-        came = serve.communicate(timeout=60)[0], serve.returncode, path.is_symlink() if kind == "link" else path.exists() and path.read_text()
-    wanted = "module 0: complete, 1 words\nstrays 0\n", 0, True if kind == "link" else "another one's"
+        stands = {"link": path.is_symlink, "file": path.is_file, "socket": path.is_socket}[kind]
+        came = serve.communicate(timeout=60)[0], serve.returncode, stands()
+    wanted = "module 0: complete, 1 words\nstrays 0\n", 0, True
     if came != wanted:
         wrong("path", f"a {kind} that came to stand there", came, wanted)
 
 
 def try_path(program):
-    for kind in ("file", "link"):
+    for kind in ("file", "link", "socket"):
         try_one_path(program, kind)
     try_taken_path(program)
-    print("path: a file and a link that came to stand at the path of `serve` are still there, and so is the socket of somebody who listens there")
+    print("path: a file, a link and a socket that came to stand at the path of `serve` are still there, and so is the socket of somebody who listens there")
 
 
 # ---- faulty

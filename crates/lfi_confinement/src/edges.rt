@@ -5,12 +5,14 @@ ghost use Rattle.lfi_image.specs.Image.{Image};
 ghost use Rattle.a64_word.specs.declared.operands.Size.TheVariants.{Byte, Half, Double};
 ghost use Rattle.a64_word.specs.declared.operands.BranchKind.TheVariants.{Br, Blr, Ret};
 ghost use Rattle.a64_word.specs.Bytes.{number_at};
+ghost use Rattle.a64_semantics.specs.declared.registers.Registers.{Registers};
 ghost use Rattle.a64_semantics.specs.Registers.{x_at};
 ghost use Rattle.lfi_module.specs.Numbers.{base_of, module_count, most_words};
 ghost use Rattle.lfi_rules.specs.Map.{entry_count};
 ghost use Rattle.lfi_confinement.specs.Slots.{base, is_guarded, entry_address, entry_at, word_place, data_offset, Readable, Writable, NoAccess, permission_in, byte_in, memory_of};
 ghost use Rattle.lfi_confinement.specs.Moves.{word_at, performed, given, stop, ask, escape, State, Moves};
-ghost use Rattle.lfi_confinement.specs.Runs.{Reach, Escaped};
+ghost use Rattle.lfi_confinement.specs.Lawful.{Held};
+ghost use Rattle.lfi_confinement.specs.Runs.{Outcome, Running, Escaped, Leads, Step, Reach, NeverEscapes};
 ghost use Rattle.lfi_confinement.specs.declared.cause.StopCause.TheVariants as cause;
 ghost use Rattle.lfi_confinement.specs.Edges.{edge_image, with_x0, loads_at_x0, loads_pair_at_x0, with_x30, goes_to};
 
@@ -24,6 +26,15 @@ pub fn escapes_at_the_edges()
     ensures left_below { performed edge_image (with_x0 (2 ^ 32 - 1)) (goes_to Br 0) ≡ escape }
     ensures left_above { performed edge_image (with_x0 (2 ^ 33)) (goes_to Br 0) ≡ escape }
     ensures reached { (c : Image) (s : State) → Moves c s escape → Reach c s 1 Escaped }
+{}
+
+/// What a run is, so that one that never escapes is one of any number of steps: it begins where it is, each step that may follow
+/// it makes one of one step more, and whatever lawful registers and bytes the runtime answers may follow a call of it.
+pub fn runs_are_made_of_steps()
+    ensures begins { (c : Image) (s : State) → Reach c s 0 (Running s) }
+    ensures steps { (c : Image) (s : State) (mid : State) (count : ℕ) (t : Outcome) → Reach c s count (Running mid) → Step c mid t → Reach c s (count + 1) t }
+    ensures answered { (c : Image) (s : State) (entry : ℕ) (given : Registers) (t : State) → Held (base c) t.registers → Leads c s (ask entry given) (Running t) }
+    ensures never { (c : Image) (s : State) (count : ℕ) → Reach c s count Escaped → NeverEscapes c s → ⊥ }
 {}
 
 /// Of several bytes each counts: an access escapes where one of its bytes lies outside of the guards, and stops at the first that

@@ -1,7 +1,8 @@
 //! How long clients are waited for, and heard.
 
-ghost use Rattle.std.specs.Prelude.{◌≡◌};
-ghost use Rattle.lfi_sync.specs.Deadlines.{limit_of};
+ghost use Rattle.std.specs.Duration.{as_nanos};
+ghost use Rattle.std.specs.Prelude.{◌≡◌, ◌-◌};
+ghost use Rattle.lfi_sync.specs.Deadlines.{length_of, limit_of};
 
 use std::rt::Clock;
 use std::time::{Duration, Instant};
@@ -17,13 +18,22 @@ pub(crate) struct Span {
 impl Span {
     /// How much of it is left. Where the clock can't be read it is over.
     pub(crate) fn left<C: Clock>(&self, rt: &C) -> Duration {
-        let Some(began) = self.began else {
-            return Duration::ZERO;
-        };
-        match began.elapsed(rt) {
-            Ok(gone) => self.length.saturating_sub(gone),
-            Err(_) => Duration::ZERO,
+        match self.gone(rt) {
+            Some(gone) => self.left_after(gone),
+            None => Duration::ZERO,
         }
+    }
+
+    /// How much time has gone by since it began, or nothing where the clock can't be read.
+    fn gone<C: Clock>(&self, rt: &C) -> Option<Duration> {
+        self.began?.elapsed(rt).ok()
+    }
+
+    /// How much of it is left once so much time has gone by.
+    fn left_after(&self, gone: Duration) -> Duration
+        ensures { as_nanos result ≡ as_nanos (length_of self.now) - as_nanos gone }
+    {
+        self.length.saturating_sub(gone)
     }
 }
 

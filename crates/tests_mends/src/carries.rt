@@ -195,3 +195,49 @@ fn sums_of_any_numbers_have_their_flags(rt: HostRuntime) -> Result<(), Fail> {
     }
     Ok(())
 }
+
+/// ADCS and SBCS of W and of X registers, all of number 0.
+const SUMS: [u32; 4] = [0x3A000000, 0xBA000000, 0x7A000000, 0xFA000000];
+
+/// The result's register and both operands', of which some are one register, or the register of zeros.
+const SHARED: [(u32, u32, u32); 10] = [
+    (0, 1, 1),
+    (1, 1, 2),
+    (2, 1, 2),
+    (1, 1, 1),
+    (31, 1, 1),
+    (0, 31, 2),
+    (0, 1, 31),
+    (0, 31, 31),
+    (31, 31, 31),
+    (31, 1, 31),
+];
+
+/// A row of one of these sums of these registers. What its mend is isn't told.
+fn row_of(sum: u32, (into, one, other): (u32, u32, u32)) -> Row {
+    Row {
+        profile: Profile::One,
+        rule: Rule::Spelled,
+        unmet: Need::Nothing,
+        word: sum | into | one << 5 | other << 16,
+        next: NOP,
+        mend: &[],
+    }
+}
+
+#[test]
+fn sums_of_shared_registers_have_their_flags(rt: HostRuntime) -> Result<(), Fail> {
+    let mut draws = Draws { state: 11 };
+    let registers = numbers(&mut draws);
+    for sum in SUMS {
+        for shared in SHARED {
+            let row = row_of(sum, shared);
+            for one in EDGES {
+                let same = sums_both(&row, &registers, one, one)
+                    && sums_both(&row, &registers, one, 1);
+                assert!(rt; same, "{} {one}", row.word);
+            }
+        }
+    }
+    Ok(())
+}
