@@ -255,10 +255,11 @@ class Streaming(unittest.TestCase):
 
     def test_a_buffer_that_changes(self):
         """What is judged and told is the copy that was made before."""
-        data = bytearray(ONE_RET)
-        with written_during("lfi_stream_next", data, bytes(len(data))):
-            events = Stream().read(data)
-        self.assertEqual(events[1:], [Code(5, 0, code_of(RET), True, None), End(5, 1, 1, Reason.CLOSED, 0, Status.LAWFUL, None)])
+        for view in bytearray, memoryview:
+            data = bytearray(ONE_RET)
+            with written_during("lfi_stream_next", data, bytes(len(data))):
+                events = Stream().read(data if view is bytearray else view(data))
+            self.assertEqual(events[1:], [Code(5, 0, code_of(RET), True, None), End(5, 1, 1, Reason.CLOSED, 0, Status.LAWFUL, None)])
 
     def test_turns(self):
         """While a thread is in a call of a stream, another thread waits before its own."""

@@ -311,11 +311,30 @@ static int all_explained(void) {
     /* The longest: what stands in the place of reversed bytes and bits, behind a load that asks for a guard. */
     for (uint32_t i = 0; i < 32768; i++) {
         uint32_t word = 0x5AC00000u | (i >> 14 & 1u) << 31 | (i & 3u) << 10 | (i >> 2 & 31u) << 5 | (i >> 7 & 31u);
-        lfi_fault f = {1, i >> 13 & 1u ? 1 : 10};
-        CHECK(112, lfi_explain(1 + (i >> 12 & 1u), 15, 4, &f, word, 0xF9400A5E, text, sizeof text, &size) == LFI_LAWFUL);
+        lfi_fault f = {LFI_MAX_WORDS - 1, i >> 13 & 1u ? 1 : 10};
+        CHECK(112, lfi_explain(1 + (i >> 12 & 1u), 15, LFI_MAX_WORDS, &f, word, 0xF9400A5E, text, sizeof text, &size) == LFI_LAWFUL);
         if (size > longest) longest = size;
     }
-    CHECK(113, longest > 480 && longest < 1024);
+    CHECK(113, longest > 500 && longest < 1024);
+    return 0;
+}
+
+/* At place 0 there is no word before, whatever is passed for it. */
+static int none_before(void) {
+    static const uint32_t BEFORE[] = {0xF94006BE, 0xF9400A5E, 0xD10043FF, 0xA8C17BFD}, WORDS[] = {0xF9400020, 0xD503201F, 0xDAC00020, 0xD4000001};
+    uint8_t text[600], other[600];
+    uint32_t mend[LFI_MOST_MENDED], like[LFI_MOST_MENDED];
+    for (size_t i = 0; i < 4 * 4 * 10 * 2; i++) {
+        uint32_t word = WORDS[i & 3], before = BEFORE[i >> 2 & 3], profile = 1 + (i >> 4 & 1);
+        lfi_fault f = {0, 1 + (uint32_t)(i >> 5)};
+        size_t size = 0, length = 0, count = 0, number = 0;
+        memset(mend, 0, sizeof mend), memset(like, 0, sizeof like);
+        CHECK(160, lfi_explain(profile, 0, 1, &f, word, before, text, sizeof text, &size) == LFI_LAWFUL);
+        CHECK(161, lfi_explain(profile, 0, 1, &f, word, 0xD503201F, other, sizeof other, &length) == LFI_LAWFUL);
+        CHECK(162, size == length && !memcmp(text, other, size));
+        CHECK(163, lfi_mend(profile, 1, &f, word, before, 0, mend, LFI_MOST_MENDED, &count) == lfi_mend(profile, 1, &f, word, 0xD503201F, 0, like, LFI_MOST_MENDED, &number));
+        CHECK(164, count == number && !memcmp(mend, like, sizeof mend));
+    }
     return 0;
 }
 
@@ -359,7 +378,7 @@ static int streams(void) {
 }
 
 int main(void) {
-    int (*const parts[])(void) = {whole_code, long_code, pieces, refused_pieces, other_states, profile, explanations, all_explained, mends, all_mended, streams};
+    int (*const parts[])(void) = {whole_code, long_code, pieces, refused_pieces, other_states, profile, explanations, all_explained, none_before, mends, all_mended, streams};
     for (size_t i = 0; i < sizeof parts / sizeof *parts; i++) {
         int failed = parts[i]();
         if (failed) return failed;

@@ -140,10 +140,11 @@ def try_taken(program):
     """`serve` that has no descriptor left for the second client, or for any."""
     for taken in (0, 1):
         told = "".join(f"lfiload: connection {number}: cannot read\n" for number in range(taken, 3))
-        came = serve_few(program, taken, [])
         wanted = "module 0: complete, 1 words\n" * taken + "strays 0\n", told, 3
-        if came != wanted:
-            wrong("taken", f"{taken} of three clients", came, wanted)
+        for words in ([], ["--seconds", "3000"]):
+            came = serve_few(program, taken, words)
+            if came != wanted:
+                wrong("taken", f"{taken} of three clients", came, wanted)
         out, err, status = serve_few(program, taken, ["--format", "json"])
         came = [it.get("client") for it in json.loads(out)["connections"]], err, status
         wanted = ["heard"] * taken + ["not taken"] * (3 - taken), told, 3
@@ -162,13 +163,13 @@ def try_taken(program):
 # ---- limit
 
 
-def seconds_of_serve(program, comes):
-    """How long `serve --seconds 4` takes of two connections, of which one has a client after so many seconds, which stays; or none has.
-    And what it writes to the errors, each write by itself, and its status."""
+def seconds_of_serve(program, count, comes):
+    """How long `serve --seconds 4` takes of so many connections, of which one has a client after so many seconds, which stays; or none
+    has. And what it writes to the errors, each write by itself, and its status."""
     with tempfile.TemporaryDirectory() as folder:
         path, begin = os.path.join(folder, "s"), time.monotonic()
         ours, theirs = socket.socketpair(socket.AF_UNIX, socket.SOCK_SEQPACKET)
-        words = [program, "serve", "--socket", path, "--connections", "2", "--seconds", "4"]
+        words = [program, "serve", "--socket", path, "--connections", str(count), "--seconds", "4"]
         with ours:
             with theirs:
                 serve = subprocess.Popen(words, stdout=subprocess.DEVNULL, stderr=theirs)
@@ -183,23 +184,28 @@ def seconds_of_serve(program, comes):
             return seconds, list(iter(lambda: ours.recv(4096), b"")), serve.returncode
 
 
-def try_one_limit(program, comes):
+def try_one_limit(program, count, comes):
     state = "come" if comes is None else "ended"
-    told = [f"lfiload: time is over: connection {c} had not {state if c == 0 else 'come'}\n".encode() for c in range(2)]
+    told = [f"lfiload: time is over: connection {c} had not {state if c == 0 else 'come'}\n".encode() for c in range(count)]
+    status_told = 3 if count > 1 or comes is None else 1
     # Busy cores may make one late. A longer limit would make each of them so.
     for _ in range(5):
-        seconds, parts, status = seconds_of_serve(program, comes)
-        if seconds < 4 or (parts, status) != (told, 3):
-            wrong("limit", "`serve --seconds 4`", (seconds, parts, status), ("at least four seconds", told, 3))
+        seconds, parts, status = seconds_of_serve(program, count, comes)
+        if seconds < 4 or (parts, status) != (told, status_told):
+            wrong("limit", "`serve --seconds 4`", (seconds, parts, status), ("at least four seconds", told, status_told))
         if seconds < 4.8:
             return
     wrong("limit", "`serve --seconds 4`", seconds, "less than 4.8 seconds, once in five times")
 
 
 def try_limit(program):
-    try_one_limit(program, None)
-    try_one_limit(program, 2)
-    print("limit: `serve --seconds 4` without a client, and with one that comes after two: it ends after four seconds and before 4.8, and tells of each connection in one write")
+    try_one_limit(program, 2, None)
+    try_one_limit(program, 2, 2)
+    try_one_limit(program, 1, 2)
+    print(
+        "limit: `serve --seconds 4` without a client, and with one that comes after two, of two and of one: it ends after four seconds "
+        "and before 4.8, and tells of each connection in one write"
+    )
 
 
 # ---- slow
@@ -257,6 +263,21 @@ def try_taken_path(program):
             other.accept()[0].close()
 
 
+def try_other_socket(program, kind):
+    """A path at which a socket stands that takes no connections: one of messages by themselves, or one that nobody holds any more."""
+    with tempfile.TemporaryDirectory() as folder:
+        path = pathlib.Path(folder, "s")
+        with socket.socket(socket.AF_UNIX, kind) as other:
+            other.bind(str(path))
+            if kind == socket.SOCK_STREAM:
+                other.close()
+            words = [program, "serve", "--socket", path, "--connections", "1", "--seconds", "1"]
+            came = subprocess.run(words, capture_output=True, text=True, timeout=60)
+            wanted = 3, "", f"lfiload: cannot listen\n  {path}: Address already in use\n", True
+            if (came.returncode, came.stdout, came.stderr, path.is_socket()) != wanted:
+                wrong("path", "where another socket stands", (came, path.is_socket()), wanted)
+
+
 def try_one_path(program, kind):
     """What stands at the path of `serve` once its socket was moved: a file or a socket of another one's, or a link to the socket."""
     with tempfile.TemporaryDirectory() as folder, socket.socket(socket.AF_UNIX) as other:
@@ -278,7 +299,12 @@ def try_path(program):
     for kind in ("file", "link", "socket"):
         try_one_path(program, kind)
     try_taken_path(program)
-    print("path: a file, a link and a socket that came to stand at the path of `serve` are still there, and so is the socket of somebody who listens there")
+    for kind in (socket.SOCK_DGRAM, socket.SOCK_STREAM):
+        try_other_socket(program, kind)
+    print(
+        "path: a file, a link and a socket that came to stand at the path of `serve` are still there, and so are the sockets of somebody "
+        "who listens there, who takes messages there, and who went"
+    )
 
 
 # ---- faulty

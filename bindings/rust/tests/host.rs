@@ -68,6 +68,7 @@ fn pieces_of_a_profile() {
     let mut verifier = Verifier::new(2, Profile::One).expect("two words");
     assert_eq!(verifier.update(&load), refused(0, Rule::Spelled));
     assert_eq!(verifier.update(&guard), refused(0, Rule::Spelled));
+    assert_eq!(verifier.update(&[]), refused(0, Rule::Spelled));
     assert_eq!(verifier.finish(), refused(0, Rule::Spelled));
 }
 
@@ -165,7 +166,9 @@ fn stream() {
 /// docs/PROFILE.md, "Modules, pages, slots" and "Registers".
 #[test]
 fn map() {
-    assert_eq!(ModuleNumber::new(16), None);
+    for number in [16, 255, 256, 271, 65_536, 1 << 31, u32::MAX] {
+        assert_eq!(ModuleNumber::new(number), None);
+    }
     for number in 0..16 {
         let module = ModuleNumber::new(number).expect("there are 16");
         let map = SlotMap::of(Profile::One, module).expect("it has a slot");

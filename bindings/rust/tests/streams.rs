@@ -97,6 +97,18 @@ fn each_event() {
 }
 
 /// What an iterator didn't come to is read by the next one, and a piece without bytes brings nothing.
+/// What one end didn't come to is told by the next, and nothing twice.
+#[test]
+fn an_end_that_is_left() {
+    let text = [header(1, 0, 3, 1, 0), header(1, 0, 5, 1, 0)].concat();
+    let mut stream = Stream::new().expect("a stream");
+    assert_eq!(stream.read(&text).count(), 2);
+    assert_eq!(stream.end().next(), Some(Event::Fault(StreamFault::Ended)));
+    assert!(matches!(stream.end().next(), Some(Event::End { .. })));
+    assert!(matches!(stream.end().collect::<Vec<_>>()[..], [Event::End { .. }]));
+    assert_eq!(stream.end().next(), None);
+}
+
 #[test]
 fn the_rest_of_a_piece() {
     let text = [header(1, 0, 3, 1, 0), page(2, 3, 0, &[RET]), header(3, 0, 3, 0, 0)].concat();
