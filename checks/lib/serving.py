@@ -1,5 +1,6 @@
 """The parts of checks/hostile that are clients of `serve`: too few descriptors, a thread refused, a limit of time, silence, noise."""
 
+import atexit
 import collections
 import json
 import os
@@ -206,6 +207,35 @@ def try_limit(program):
         "limit: `serve --seconds 4` without a client, and with one that comes after two, of two and of one: it ends after four seconds "
         "and before 4.8, and tells of each connection in one write"
     )
+
+
+# ---- waits
+
+
+class Waiting:
+    """`serve` of two clients without a limit of time: the first sends the beginning of its stream, the second hasn't come."""
+
+    def __init__(self, program):
+        self.room, self.begin = tempfile.TemporaryDirectory(), time.monotonic()
+        self.path = os.path.join(self.room.name, "s")
+        self.serve = subprocess.Popen([program, "serve", "--socket", self.path, "--connections", "2"], stdout=subprocess.PIPE, text=True)
+        # Where another part fails, it would wait for ever.
+        atexit.register(self.serve.kill)
+        self.first, self.text = connected(self.path), formats.stream(0, RET)
+        self.first.sendall(self.text[:20])
+
+    def end(self):
+        """At least 75 seconds later the first sends the rest, and the second comes."""
+        time.sleep(max(0, self.begin + 75 - time.monotonic()))
+        waited = int(time.monotonic() - self.begin)
+        with self.first, connected(self.path) as second:
+            self.first.sendall(self.text[20:])
+            second.sendall(formats.stream(1, RET))
+        came, wanted = (self.serve.communicate(timeout=60)[0], self.serve.returncode), ("module 0: complete, 1 words\nmodule 1: complete, 1 words\nstrays 0\n", 0)
+        if came != wanted:
+            wrong("waits", f"a client that is silent, and one that comes late, for {waited} seconds", came, wanted)
+        print(f"waits: a client that is silent within a message, and one that comes late, for {waited} seconds")
+        self.room.cleanup()
 
 
 # ---- slow
