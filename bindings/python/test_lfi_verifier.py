@@ -154,6 +154,30 @@ class Verifying(unittest.TestCase):
             self.assertEqual(verdict(code, profile), f"word {fault.word} rule {fault.rule}")
             self.assertEqual(lfi_verifier.explain(code, fault, profile, module), wanted)
 
+    def test_calls_at_once(self):
+        """What another thread calls while a call is in the library changes nothing of it."""
+        bare, behind = code_of(NOP, 0xF9400020), code_of(0xD10043FF, 0xF9400020, RET)
+        calls = (
+            ("lfi_verify", lambda: verdict(code_of(NOP, BASE_WRITTEN)), lambda: verdict(code_of(SVC))),
+            ("lfi_explain", lambda: lfi_verifier.explain(bare, Fault(1, 2)), lambda: lfi_verifier.explain(behind, Fault(1, 2))),
+            ("lfi_mend", lambda: lfi_verifier.mend(bare, Fault(1, 2)), lambda: lfi_verifier.mend(behind, Fault(1, 2))),
+        )
+        for name, ours, theirs in calls:
+            call, wanted, told = getattr(LIBRARY, name), (ours(), theirs()), []
+
+            def called(*given):
+                found = call(*given)
+                if not told:
+                    told.append(None)
+                    other = threading.Thread(target=lambda: told.append(theirs()))
+                    other.start()
+                    other.join()
+                return found
+
+            with mock.patch.object(LIBRARY, name, called):
+                self.assertEqual((ours(), told[1]), wanted)
+            self.assertNotEqual(*wanted)
+
     def test_mends(self):
         for profile, words, fault, wanted in MENDED:
             code = code_of(*words)
