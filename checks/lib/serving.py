@@ -199,13 +199,34 @@ def try_one_limit(program, count, comes):
     wrong("limit", "`serve --seconds 4`", seconds, "less than 4.8 seconds, once in five times")
 
 
+def try_client_in_time(program):
+    """`serve` with a long limit: a client that comes after three seconds, and goes, is heard at once."""
+    for _ in range(5):
+        with tempfile.TemporaryDirectory() as folder:
+            path = os.path.join(folder, "s")
+            words = [program, "serve", "--socket", path, "--connections", "1", "--seconds", "3000"]
+            serve = subprocess.Popen(words, stdout=subprocess.PIPE, text=True)
+            time.sleep(3)
+            begin = time.monotonic()
+            with connected(path) as client:
+                client.sendall(formats.stream(0, RET))
+            came = serve.communicate(timeout=60)[0], serve.returncode
+            if came != ("module 0: complete, 1 words\nstrays 0\n", 0):
+                wrong("limit", "a client after three seconds", came, "heard")
+            # Busy cores may make one late.
+            if time.monotonic() - begin < 0.5:
+                return
+    wrong("limit", "a client after three seconds", "heard late", "heard within half a second, once in five times")
+
+
 def try_limit(program):
     try_one_limit(program, 2, None)
     try_one_limit(program, 2, 2)
     try_one_limit(program, 1, 2)
+    try_client_in_time(program)
     print(
         "limit: `serve --seconds 4` without a client, and with one that comes after two, of two and of one: it ends after four seconds "
-        "and before 4.8, and tells of each connection in one write"
+        "and before 4.8, and tells of each connection in one write; with a long limit one that comes after three is heard at once"
     )
 
 

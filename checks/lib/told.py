@@ -247,11 +247,20 @@ class Checks(Mode):
         return {"file": HINTS[kind]} if kind else {}
 
 
+def across_pages(source):
+    """A stream of a module in which the last word of a page may ask something of the first of the next."""
+    large = source.random() < 0.5
+    opens, meets = source.choice(RULES.MEETING), source.choice((*RULES.MEETING, RULES.NOP, 0xD4000001))
+    code = code_of(*[RULES.NOP] * (4095 if large else 1023), opens, meets, *[RULES.NOP] * source.randrange(4))
+    return stream(source.randrange(MODULES), code, 2 if large else source.choice((1, 2)), large)
+
+
 class Loads(Mode):
     """Streams for `load --explain`, in words and as an object, whose modules no two of them open."""
 
     def draw(self, source):
-        texts = [some_text(source) if source.random() < 0.95 else some_file(source) for _ in range(source.choice((1, 1, 2, 3)))]
+        kinds = (some_text, some_text, some_text, across_pages, some_file)
+        texts = [source.choice(kinds)(source) for _ in range(source.choice((1, 1, 2, 3)))]
         return [[], [(f"s {number}", text) for number, text in enumerate(texts)]]
 
     def compare(self, program, folder, case):
