@@ -1,5 +1,7 @@
 """What the parts of checks/hostile share: words, kinds of modules, and how they tell what is otherwise."""
 
+import os
+import subprocess
 import sys
 
 # The last is a branch to itself.
@@ -15,3 +17,18 @@ def progress(part, tried):
 
 def wrong(part, what, came, wanted):
     sys.exit(f"hostile: {part}: {what}: {came!r}, and not {wanted!r}")
+
+
+def run(program, folder, words, **more):
+    more = {"stdout": subprocess.PIPE, "stderr": subprocess.PIPE, **more}
+    return subprocess.run([program, *words], cwd=folder, stdin=subprocess.DEVNULL, text=True, errors="replace", timeout=60, **more)
+
+
+def without(descriptors):
+    """Closes these descriptors in the process that is to be started."""
+
+    def close():
+        for descriptor in descriptors:
+            os.close(descriptor)
+
+    return close

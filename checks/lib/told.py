@@ -51,9 +51,13 @@ def run(program, folder, *words):
 
 
 def some_words(source):
-    """Words for a listing or a report: drawn ones, those that other words mend, and prefetches, whose mends are empty."""
+    """Words for a listing or a report: drawn ones, those that other words mend, and prefetches, whose mends are empty. A few are at places
+    above 65,536."""
     count = source.choice((1, 2, 3, 8, 40))
     words = list(words_of(some_code(source, count)))
+    if source.random() < 0.02:
+        before = source.choice((70_000, 140_000, 270_000))
+        count, words = count + before, [RULES.NOP] * before + words
     others = (0xF9400020, 0xF9802020, 0xD61F0000, 0xDAC00000, 0x9AC12000, 0xD4000001, 0xF94006BE, 0x14000001, 0x54000000)
     for _ in range(source.randrange(4)):
         words[source.randrange(count)] = source.choice(others)

@@ -1,0 +1,181 @@
+"""The parts of checks/hostile on what the program reads: inputs of all kinds, and code of the most words."""
+
+import fcntl
+import os
+import pathlib
+import resource
+import select
+import subprocess
+import tempfile
+import threading
+import time
+
+from lib import formats
+from lib.cases import NOP, RET, run, without, wrong
+from lib.formats import LARGE_PAGE, MOST_WORDS, image
+
+def waiting_pipe(content):
+    """The reading end of a pipe with some bytes, which doesn't wait for more, and the writing end."""
+    reader, writer = os.pipe()
+    os.set_blocking(reader, False)
+    os.write(writer, content)
+    return reader, writer
+
+
+def try_inputs(program):
+    """A named pipe, the pipe of a shell's `<(..)`, and a standard input that has no more bytes yet, or is closed."""
+    with tempfile.TemporaryDirectory() as folder:
+        os.mkfifo(os.path.join(folder, "pipe"))
+        # A program that never opens the pipe leaves this thread behind, and fails below.
+        feeder = threading.Thread(target=lambda: pathlib.Path(folder, "pipe").write_bytes(NOP * 30_000 + RET), daemon=True)
+        feeder.start()
+        came = run(program, folder, ["check", "pipe"])
+        feeder.join(60)
+        if (came.returncode, came.stdout) != (0, "lawful, 30001 words\n"):
+            wrong("inputs", "a named pipe", came, "lawful")
+        came = subprocess.run(["bash", "-c", 'printf "\\300\\003\\137\\326" | "$0" check <(cat)', program], capture_output=True, text=True, timeout=60)
+        if (came.returncode, came.stdout) != (0, "lawful, 1 words\n"):
+            wrong("inputs", "<(..)", came, "lawful")
+        reader, writer = waiting_pipe(RET)
+        came = subprocess.run([program, "check", "-"], stdin=reader, capture_output=True, text=True, timeout=60)
+        os.close(reader), os.close(writer)
+        if (came.returncode, came.stdout, came.stderr[:25]) != (3, "", "lfiload: cannot read -\n"):
+            wrong("inputs", "a pipe that has no more yet", came, "cannot read")
+    for command in READERS:
+        with tempfile.TemporaryDirectory() as folder:
+            try_standard_inputs(program, folder, command)
+    for command in ("check", "check --format json", "info"):
+        try_many_files(program, command)
+    try_terminal(program)
+    try_terminal_output(program)
+    try_long_stream(program)
+    try_lock(program)
+    print(f"inputs: two pipes read, one that has no more yet told; {len(READERS)} commands read what is left of a file, and tell an input that is closed or a folder; 40 files read one after another; a terminal, and what is printed to one at once; a stream of 4.3 GB")
+
+
+READERS = {
+    "check": RET, "disassemble": RET, "pack": RET, "info": formats.stream(0, RET), "load": formats.stream(0, RET),
+    "run --steps 5": image(0, 0, RET), "unpack": image(0, 0, RET),
+}
+
+
+def try_many_files(program, command):
+    """More files than a process may have open at once: they are read one after another."""
+    with tempfile.TemporaryDirectory() as folder:
+        names = [f"{number}.code" for number in range(40)]
+        for name in names:
+            pathlib.Path(folder, name).write_bytes(RET)
+        done = run(program, folder, [*command.split(), *names], preexec_fn=lambda: resource.setrlimit(resource.RLIMIT_NOFILE, (20, 20)))
+    if (done.returncode, done.stderr) != (0, "") or any(name not in done.stdout for name in names):
+        wrong("inputs", f"{command} of 40 files with 20 descriptors", done, "status 0, and each file told")
+
+
+def try_terminal(program):
+    """A standard input that is a terminal: a line, and its end."""
+    ours, theirs = os.openpty()
+    os.write(ours, b"abc\n\x04")
+    came = subprocess.run([program, "info", "-"], stdin=theirs, capture_output=True, text=True, timeout=60)
+    os.close(ours), os.close(theirs)
+    if (came.returncode, came.stdout, came.stderr) != (0, "code, 1 words\n", ""):
+        wrong("inputs", "a terminal", came, "code, 1 words")
+
+
+def try_terminal_output(program):
+    """A run on a terminal that prints a byte and goes on: the byte is there at once."""
+    # mov x0, #65; ldr x30, [x21, #8]; blr x30; b .
+    code = bytes.fromhex("200880d2 be0640f9 c0033fd6 00000014")
+    ours, theirs = os.openpty()
+    with tempfile.TemporaryDirectory() as folder:
+        pathlib.Path(folder, "a.img").write_bytes(image(0, 0, code))
+        going = subprocess.Popen([program, "run", "a.img", "--steps", "1000000000"], stdout=theirs, stderr=subprocess.PIPE, cwd=folder)
+        came = os.read(ours, 1) if select.select([ours], [], [], 60)[0] else b""
+        # One that wrote it at its end has ended by then.
+        time.sleep(0.5)
+        ended = going.poll()
+        going.kill()
+        going.communicate()
+    os.close(ours), os.close(theirs)
+    if (came, ended) != (b"A", None):
+        wrong("inputs", "a byte printed to a terminal", (came, ended), "there while the run goes on")
+
+
+def try_lock(program):
+    """An input that another process has locked is read."""
+    with tempfile.TemporaryDirectory() as folder:
+        with open(os.path.join(folder, "a.code"), "wb") as file:
+            file.write(RET)
+            file.flush()
+            fcntl.flock(file, fcntl.LOCK_EX)
+            done = run(program, folder, ["check", "a.code"])
+    if (done.returncode, done.stdout) != (0, "lawful, 1 words\n"):
+        wrong("inputs", "a locked file", done, "lawful")
+
+
+def try_long_stream(program):
+    """A stream of more than 2^32 bytes, by a pipe: pages and Closes that no module takes, a module, and a message that isn't whole."""
+    pages = (formats.header(5, 0, 9, 0, LARGE_PAGE) + bytes(LARGE_PAGE)) * 500
+    rest = formats.header(formats.CLOSE, 0, 9, 0, 0) * 60_000 + formats.stream(3, RET)
+    load = subprocess.Popen([program, "load", "--explain", "/dev/stdin"], stdin=subprocess.PIPE, stdout=subprocess.PIPE, text=False)
+    for _ in range(525):
+        load.stdin.write(pages)
+    came = load.communicate(rest + b"\x01", timeout=60)[0].decode().splitlines()
+    strays = 525 * 500 + 60_000
+    wanted = ["module 3: complete, 1 words", "connection 0: fault 9", f"strays {strays}", "module 3: from connection 0",
+              "connection 0: input ended too early", f"  message at byte {525 * len(pages) + len(rest)} of /dev/stdin", f"connection 0: strays {strays}"]
+    if came != wanted or 525 * len(pages) <= 1 << 32:
+        wrong("inputs", "a long stream", came, wanted)
+
+
+def try_standard_inputs(program, folder, command):
+    """A command whose standard input is a file of which four bytes were read: it reads the others, as from a pipe; closed; a folder."""
+    words, content = [*command.split(), "-"], READERS[command]
+    pathlib.Path(folder, "read").write_bytes(NOP + content)
+    with open(os.path.join(folder, "read"), "rb", buffering=0) as file:
+        file.seek(4)
+        came = subprocess.run([program, *words], stdin=file, capture_output=True, cwd=folder, timeout=60)
+        piped = subprocess.run([program, *words], input=content, capture_output=True, cwd=folder, timeout=60)
+    if (came.returncode, came.stdout, came.stderr) != (piped.returncode, piped.stdout, piped.stderr) or piped.returncode == 3:
+        wrong("inputs", f"{command} - with a file of which four bytes were read", came, piped)
+    closed = run(program, folder, words, preexec_fn=without((0,)))
+    descriptor = os.open(folder, os.O_RDONLY)
+    of_folder = subprocess.run([program, *words], stdin=descriptor, capture_output=True, text=True, cwd=folder, timeout=60)
+    os.close(descriptor)
+    for what, done in ("without an input", closed), ("with a folder as its input", of_folder):
+        if done.returncode != 3 or not done.stderr:
+            wrong("inputs", f"{command} - {what}", (done.returncode, done.stderr), "status 3, and a message")
+
+
+# ---- far
+
+
+def try_far(program):
+    """Code of the most words: what is told of the last of them, of branches between both ends, of its pages, and of a run that begins there."""
+    most, last = MOST_WORDS, MOST_WORDS - 1
+    ends = formats.code_of(0x14000000 | last), formats.code_of(0x14000000 | -last & 0x3FFFFFF)
+    with tempfile.TemporaryDirectory() as folder:
+        pathlib.Path(folder, "svc.code").write_bytes(NOP * last + bytes.fromhex("010000d4"))
+        pathlib.Path(folder, "svc.stream").write_bytes(formats.stream(15, NOP * last + bytes.fromhex("010000d4"), 2, True, last))
+        pathlib.Path(folder, "branches.code").write_bytes(ends[0] + NOP * (most - 2) + ends[1])
+        pathlib.Path(folder, "stops.img").write_bytes(image(15, last, NOP * last + bytes.fromhex("000020d4"), 2))
+        told = f"word {last} rule 1\n  0x{{:016x}}  d4000001  .inst 0xd4000001\n"
+        at, high = formats.base(0) + 65_536 + 4 * last, formats.base(15) + 65_536 + 4 * last
+        large = most * 4 // LARGE_PAGE
+        rows = (
+            (["check", "--explain", "svc.code"], 1, told.format(at)),
+            (["load", "--explain", "svc.stream"], 1, f"module 15: refused, word {last} rule 1\nstrays 0\nmodule 15: " + told.format(high)),
+            (["info", "svc.stream"], 0, f"stream\n  byte 0: module 15 open, {most} words, entry {last}, profile 2, large pages\n"),
+            (["run", "stops.img", "--steps", "3"], 0, f"halt 4 at 0x{high:016x} after 0 steps\n"),
+        )
+        for words, status, wanted in rows:
+            done = run(program, folder, words)
+            if done.returncode != status or not (done.stdout + done.stderr).startswith(wanted):
+                wrong("far", " ".join(words), (done.returncode, done.stdout[:300], done.stderr[:300]), wanted)
+        info = run(program, folder, ["info", "svc.stream"]).stdout.splitlines()[-2:]
+        wanted = [f"  byte {12 + (large - 1) * (12 + LARGE_PAGE)}: module 15 page {large - 1}, {LARGE_PAGE} bytes", f"  byte {12 + large * (12 + LARGE_PAGE)}: module 15 close"]
+        if info != wanted:
+            wrong("far", "info of the last page", info, wanted)
+        listed = run(program, folder, ["disassemble", "--check", "branches.code"]).stdout
+        wanted = f"      0  0x{at - 4 * last:016x}  {0x14000000 | last:08x}  b .+{4 * last}  -> word {last}\n", f"{last:7}  0x{at:016x}  {0x14000000 | -last & 0x3FFFFFF:08x}  b .-{4 * last}  -> word 0\n"
+        if not listed.startswith(wanted[0]) or not listed.endswith(wanted[1]):
+            wrong("far", "a listing", (listed[:100], listed[-100:]), wanted)
+    print(f"far: {len(rows) + 2} rows on the last of {most} words")
