@@ -319,6 +319,18 @@ static int all_explained(void) {
     return 0;
 }
 
+/* More room than a text takes changes nothing. */
+static int much_room(void) {
+    static uint8_t text[200000];
+    lfi_fault f = {1, 2};
+    size_t size = 0, length = 0;
+    CHECK(170, lfi_explain(LFI_PROFILE_1, 0, 9, &f, 0xF9400020, 0, text, 2048, &length) == LFI_LAWFUL && length);
+    for (size_t room = 2048; room <= sizeof text; room += room < 70000 ? 31 : 10007)
+        CHECK(171, lfi_explain(LFI_PROFILE_1, 0, 9, &f, 0xF9400020, 0, text, room, &size) == LFI_LAWFUL && size == length);
+    CHECK(172, lfi_explain(LFI_PROFILE_1, 0, 9, &f, 0xF9400020, 0, text, sizeof text, &size) == LFI_LAWFUL && size == length);
+    return 0;
+}
+
 /* At place 0 there is no word before, whatever is passed for it. */
 static int none_before(void) {
     static const uint32_t BEFORE[] = {0xF94006BE, 0xF9400A5E, 0xD10043FF, 0xA8C17BFD}, WORDS[] = {0xF9400020, 0xD503201F, 0xDAC00020, 0xD4000001};
@@ -378,7 +390,7 @@ static int streams(void) {
 }
 
 int main(void) {
-    int (*const parts[])(void) = {whole_code, long_code, pieces, refused_pieces, other_states, profile, explanations, all_explained, none_before, mends, all_mended, streams};
+    int (*const parts[])(void) = {whole_code, long_code, pieces, refused_pieces, other_states, profile, explanations, all_explained, much_room, none_before, mends, all_mended, streams};
     for (size_t i = 0; i < sizeof parts / sizeof *parts; i++) {
         int failed = parts[i]();
         if (failed) return failed;

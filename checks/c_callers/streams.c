@@ -220,6 +220,15 @@ static int holds_header(const lfi_stream_feed *feed, uint32_t before, size_t end
     return count <= 12 && count <= end && memcmp(feed->held, text + end - count, count) == 0;
 }
 
+/* What a kind doesn't tell is 0. */
+static int only_told(const lfi_event *it) {
+    int open = it->kind == LFI_OPEN, code = it->kind == LFI_CODE, end = it->kind == LFI_END;
+    return (!it->module || open || code || end || it->kind == LFI_STRAY) && (!it->words || open || end)
+        && ((!it->entry && !it->profile && !it->page_bytes) || open) && ((!it->pages && !it->reason) || end)
+        && (!it->number || it->kind == LFI_FAULT || (end && it->reason != LFI_CLOSED)) && ((!it->ended && !it->offset) || code)
+        && (!it->verdict || code || end) && ((!it->fault.word && !it->fault.rule) || it->verdict == LFI_REFUSED);
+}
+
 static int in_pieces(told *to, uint32_t longest) {
     lfi_stream stream, copy;
     lfi_event event, again;
@@ -237,7 +246,7 @@ static int in_pieces(told *to, uint32_t longest) {
         if (event.kind == LFI_NO_STREAM || (used == 0 && event.kind != LFI_FAULT)) return 3;
         if (event.kind == LFI_OPEN) words[event.module] = event.words, by[event.module] = event.profile, phase[event.module] = 1;
         if (event.kind == LFI_END) phase[event.module] = 2;
-        if (!numbers_told(&stream.text, &event, phase) || !holds_header(&stream.text.feed, before, place + used)) return 7;
+        if (!numbers_told(&stream.text, &event, phase) || !holds_header(&stream.text.feed, before, place + used) || !only_told(&event)) return 7;
         tell(to, &event, text + place, used);
         if (!judged(to, &event, used, words, by)) return 6;
         place += used;
@@ -246,7 +255,7 @@ static int in_pieces(told *to, uint32_t longest) {
     do {
         if (lfi_stream_end(&stream, &event)) return 5;
         if (event.kind == LFI_END) phase[event.module] = 2;
-        if (!numbers_told(&stream.text, &event, phase)) return 8;
+        if (!numbers_told(&stream.text, &event, phase) || !only_told(&event)) return 8;
         tell(to, &event, text, 0);
     } while (event.kind != LFI_NOTHING);
     return 0;
@@ -290,11 +299,51 @@ static int bad_verdicts(void) {
     return 0;
 }
 
+/* The word at a place of the longest module: MOVZ of one of sixteen registers, and no two of them alike. */
+static uint32_t word_at(uint32_t place) {
+    return 0xD2800000u | (place >> 20 & 3u) << 21 | (place & 0xFFFFu) << 5 | (place >> 16 & 15u);
+}
+
+/* The longest module, entered at its last word, in pieces of up to 70,000 bytes, in small pages and in large ones: each byte lies where its
+ * event says. */
+static int longest_module(uint32_t second, uint32_t page_bytes) {
+    uint8_t head[12] = {4, (uint8_t)second, 15}, *there = calloc(LFI_MAX_BYTES, 1), *wanted = malloc(LFI_MAX_BYTES), *message = malloc(12 + page_bytes);
+    lfi_stream stream;
+    lfi_event event = {0};
+    uint32_t pages = LFI_MAX_BYTES / page_bytes, last = LFI_MAX_WORDS - 1;
+    if (!there || !wanted || !message || lfi_stream_init(&stream, LFI_PROFILE_1)) return 1;
+    for (uint32_t k = 0; k < LFI_MAX_WORDS; k++) for (int b = 0; b < 4; b++) wanted[4 * k + (uint32_t)b] = (uint8_t)(word_at(k) >> (8 * b));
+    for (int b = 0; b < 4; b++) head[4 + b] = (uint8_t)(LFI_MAX_WORDS >> (8 * b)), head[8 + b] = (uint8_t)(last >> (8 * b));
+    if (lfi_stream_next(&stream, head, 12, &event) != 12 || event.kind != LFI_OPEN || event.words != LFI_MAX_WORDS || event.entry != last) return 2;
+    for (uint32_t page = 0; page < pages; page++) {
+        memset(message, 0, 12);
+        message[0] = second ? 5 : 2, message[2] = 15;
+        for (int b = 0; b < 4; b++) message[4 + b] = (uint8_t)(page >> (8 * b)), message[8 + b] = (uint8_t)(page_bytes >> (8 * b));
+        memcpy(message + 12, wanted + (size_t)page * page_bytes, page_bytes);
+        for (size_t place = 0, size, used; place < 12 + page_bytes; place += used) {
+            size = 1 + number(70000);
+            if (size > 12 + page_bytes - place) size = 12 + page_bytes - place;
+            used = lfi_stream_next(&stream, message + place, size, &event);
+            if (!used || (event.kind != LFI_NOTHING && event.kind != LFI_CODE) || !only_told(&event)) return 3;
+            if (event.kind != LFI_CODE) continue;
+            if (event.verdict != LFI_LAWFUL || event.module != 15 || event.offset > LFI_MAX_BYTES || used > LFI_MAX_BYTES - event.offset) return 4;
+            memcpy(there + event.offset, message + place, used);
+        }
+    }
+    memset(head, 0, 12);
+    head[0] = 3, head[2] = 15;
+    if (lfi_stream_next(&stream, head, 12, &event) != 12 || event.kind != LFI_END || event.verdict != LFI_LAWFUL || event.pages != pages || !only_told(&event)) return 5;
+    int differ = memcmp(there, wanted, LFI_MAX_BYTES) != 0;
+    free(there), free(wanted), free(message);
+    return differ ? 6 : 0;
+}
+
 int main(int count, char **words) {
     if (count != 3) return 9;
     if (bad_states() || bad_verdicts()) return 8;
     long streams = atol(words[1]), faulty = 0, refused = 0, complete = 0;
     seed = 88172645463325252ull + (uint64_t)atol(words[2]);
+    if (longest_module(0, 4096) || longest_module(2, 16384)) return 7;
     for (long i = 0; i < streams; i++) {
         make();
         memset(&whole, 0, sizeof whole);

@@ -163,6 +163,16 @@ fn stream() {
     }
 }
 
+/// What a host keeps may go from thread to thread.
+#[test]
+fn threads() {
+    const fn goes<T: Send + Sync>() {}
+    goes::<Stream>();
+    goes::<Verifier>();
+    goes::<RefusedWord>();
+    goes::<Event<'_>>();
+}
+
 /// docs/PROFILE.md, "Modules, pages, slots" and "Registers".
 #[test]
 fn map() {
