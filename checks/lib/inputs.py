@@ -50,6 +50,7 @@ def try_inputs(program):
     try_terminal_output(program)
     try_long_stream(program)
     try_lock(program)
+    try_growing(program)
     print(f"inputs: two pipes read, one that has no more yet told; {len(READERS)} commands read what is left of a file, and tell an input that is closed or a folder; 40 files read one after another; a terminal, and what is printed to one at once; a stream of 4.3 GB")
 
 
@@ -97,6 +98,30 @@ def try_terminal_output(program):
     os.close(ours), os.close(theirs)
     if (came, ended) != (b"A", None):
         wrong("inputs", "a byte printed to a terminal", (came, ended), "there while the run goes on")
+
+
+def append(path, over):
+    """Appends words to a file again and again."""
+    with open(path, "ab", buffering=0) as file:
+        while not over.is_set():
+            file.write(NOP * 64)
+
+
+def try_growing(program):
+    """Code that grows while it is read: no beginning of it is told lawful. Checks it, until one met that."""
+    with tempfile.TemporaryDirectory() as folder:
+        path, told = os.path.join(folder, "a.code"), []
+        while len(told) < 100 and 3 not in told:
+            pathlib.Path(path).write_bytes(NOP * 2_000_000)
+            over = threading.Event()
+            writer = threading.Thread(target=append, args=(path, over))
+            writer.start()
+            done = run(program, folder, ["check", "a.code"])
+            over.set()
+            writer.join()
+            told.append(done.returncode)
+    if told[-1] != 3 or set(told) - {0, 3} or done.stderr != "lfiload: cannot read a.code\n":
+        wrong("inputs", "a file that grows", (told, done), "cannot read")
 
 
 def try_lock(program):

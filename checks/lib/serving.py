@@ -9,6 +9,7 @@ import random
 import re
 import resource
 import select
+import signal
 import socket
 import struct
 import subprocess
@@ -199,6 +200,26 @@ def try_one_limit(program, count, comes):
     wrong("limit", "`serve --seconds 4`", seconds, "less than 4.8 seconds, once in five times")
 
 
+def try_sent_in_time(program):
+    """`serve` that is stopped while a client sends, until the time is over: what was sent is still read."""
+    with tempfile.TemporaryDirectory() as folder:
+        path = os.path.join(folder, "s")
+        words = [program, "serve", "--socket", path, "--connections", "1", "--seconds", "2"]
+        serve = subprocess.Popen(words, stdout=subprocess.PIPE, stderr=subprocess.PIPE, text=True)
+        with connected(path) as client:
+            while serve.poll() is None and status_of(serve, "Threads") < 4:
+                time.sleep(0.01)
+            serve.send_signal(signal.SIGSTOP)
+            client.settimeout(60)
+            client.sendall(formats.stream(0, NOP * 20_000 + RET))
+            time.sleep(2.5)
+            serve.send_signal(signal.SIGCONT)
+            came = *serve.communicate(timeout=60), serve.returncode
+    wanted = "module 0: complete, 20001 words\nstrays 0\n", "lfiload: time is over: connection 0 had not ended\n", 1
+    if came != wanted:
+        wrong("limit", "what was sent before the time was over", came, wanted)
+
+
 def try_client_in_time(program):
     """`serve` with a long limit: a client that comes after three seconds, and goes, is heard at once."""
     for _ in range(5):
@@ -224,9 +245,10 @@ def try_limit(program):
     try_one_limit(program, 2, 2)
     try_one_limit(program, 1, 2)
     try_client_in_time(program)
+    try_sent_in_time(program)
     print(
         "limit: `serve --seconds 4` without a client, and with one that comes after two, of two and of one: it ends after four seconds "
-        "and before 4.8, and tells of each connection in one write; with a long limit one that comes after three is heard at once"
+        "and before 4.8, and tells of each connection in one write; with a long limit one that comes after three is heard at once; what was sent in time is read"
     )
 
 
