@@ -118,6 +118,11 @@ class Verifying(unittest.TestCase):
                 self.assertIsNone(lfi_verifier.verify(data if view is bytearray else view(data)))
             self.assertEqual(verdict(data), "word 0 rule 1")
 
+    def test_longest(self):
+        longest = code_of(NOP) * lfi_verifier.MAX_WORDS
+        self.assertIsNone(lfi_verifier.verify(longest))
+        self.assertEqual(verdict(longest[:-4] + code_of(SVC)), "word 4194303 rule 1")
+
     def test_lengths(self):
         for code in b"", b"\0", bytes(16_777_220):
             self.assertRaises(BadLength, lfi_verifier.verify, code)

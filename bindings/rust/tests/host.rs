@@ -163,6 +163,21 @@ fn stream() {
     }
 }
 
+/// Code of the most words, whole and in one piece, and one word more.
+#[test]
+fn longest() {
+    let mut code = [0x1F, 0x20, 0x03, 0xD5].repeat(usize::try_from(MAX_WORDS).expect("there is room"));
+    assert_eq!(code.len(), MAX_BYTES);
+    assert_eq!(verify(&code, Profile::One), Ok(()));
+    let mut verifier = Verifier::new(MAX_WORDS, Profile::One).expect("the most words");
+    assert_eq!(verifier.update(&code), Ok(()));
+    assert_eq!(verifier.finish(), Ok(()));
+    code[MAX_BYTES - 4..].copy_from_slice(&[1, 0, 0, 0xD4]);
+    assert_eq!(verify(&code, Profile::One), Err(Violation::Refused(Fault { word: MAX_WORDS - 1, rule: Rule::Spelled })));
+    code.extend([0; 4]);
+    assert_eq!(verify(&code, Profile::One), Err(Violation::BadLength));
+}
+
 /// What a host keeps may go from thread to thread.
 #[test]
 fn threads() {
