@@ -103,19 +103,34 @@ class Lines:
         return taken
 
 
-class Refusal:
-    """What is told of a word at fault: the first line says which, the others are taken from the text."""
+def shown_places(words, place, profile):
+    """The places of the words that are shown for rule 10: that of the word which opened the need, and that of the word at fault."""
+    need, opener = None, place
+    # No need stays open for so long.
+    for k in range(max(0, place - 12), place + 1):
+        instruction = RULES.decode(words[k], profile)
+        waits = need and need[1] > 1 and RULES.is_calm(instruction)
+        kept, after = RULES.after(instruction, need, profile)
+        if k == place and not kept:
+            break
+        opener = k if after and not waits else opener
+        need = after
+    return sorted({opener, place})
 
-    def __init__(self, lines, words, place, rule, module, prefix=""):
+
+class Refusal:
+    """What is told of a word at fault: the first line says which, the others are taken from the text. A load knows the word right before
+    it alone."""
+
+    def __init__(self, lines, words, place, rule, profile, module, prefix="", is_loaded=False):
         lines.take(f"{prefix}word {place} rule {rule}", "the word at fault")
         block = lines.block()
         at = base(module) + FIRST_WORD
-        shown = [re.fullmatch(r"  0x([0-9a-f]{16})  ([0-9a-f]{8})  (.+)", line) for line in block]
-        places = [(int(it[1], 16) - at) // 4 for it in shown if it]
-        require(places[-1:], [place], "the word that is shown")
-        require(len(places) <= (2 if rule == 10 else 1), True, f"{places} are shown for rule {rule}")
-        require([int(it[2], 16) for it in shown if it], [words[it] for it in places], "the values of the words that are shown")
-        self.texts = {it: text[3] for it, text in zip(places, (it for it in shown if it))}
+        located = [it for it in (re.fullmatch(r"  0x([0-9a-f]{16})  ([0-9a-f]{8})  (.+)", line) for line in block) if it]
+        places = [(int(it[1], 16) - at) // 4 for it in located]
+        shown = shown_places(words, place, profile) if rule == 10 else [place]
+        require(places, [it for it in shown if it >= place - 1] if is_loaded else shown, "the words that are shown")
+        require([int(it[2], 16) for it in located], [words[it] for it in places], "the values of the words that are shown")
         self.explanation = "\n".join([f"word {place} rule {rule}", *block])
         self.mend = mend_of(block)
         self.members = {"word": place, "rule": rule}
@@ -234,7 +249,7 @@ class Checks(Mode):
             lines.take(f"{prefix}word {faults[0][0]} rule {faults[0][1]}", "the word at fault")
             return found | self.hint(lines, words, data)
         shown = faults if "--all" in words else faults[:1]
-        refusals = [Refusal(lines, words_of(data), *fault, 0, "" if number else prefix) for number, fault in enumerate(shown)]
+        refusals = [Refusal(lines, words_of(data), *fault, profile, 0, "" if number else prefix) for number, fault in enumerate(shown)]
         if "--all" not in words:
             return found | refusals[0].told() | self.hint(lines, words, data)
         mends = sum(it.mend is not None for it in refusals)
@@ -293,7 +308,8 @@ class Loads(Mode):
             found[module] = {"module": module} | outcome_members(share)
             if "rule" in found[module]:
                 code = words_of(b"".join(share.pages))
-                found[module] |= Refusal(lines, code, found[module]["word"], found[module]["rule"], module, f"module {module}: ").told()
+                fault = found[module]["word"], found[module]["rule"]
+                found[module] |= Refusal(lines, code, *fault, share.profile, module, f"module {module}: ", True).told()
         for module in sorted(shares):
             lines.take(f"module {module}: from connection {shares[module][0]}", "where a module is from")
             found[module]["connection"] = shares[module][0]
