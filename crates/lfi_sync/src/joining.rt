@@ -9,13 +9,13 @@ use std::thread;
 use std::thread::{Promise, PromisedHandle, Threads};
 
 /// Keeps the handle of a thread, where it was started. Where memory is refused, all threads are told
-/// to stop, and this one is joined.
+/// to stop, and this one isn't joined: its client may be silent, and ends once connections are shut down. Its scope waits for it.
 ///
 /// # Errors
 ///
 /// Why it wasn't started, or `NoMemory` where memory for its handle is refused.
 pub fn keep<S: Threads, T: Drop, P: Promise<T>>(
-    rt: &S,
+    _rt: &S,
     lifecycle: &Lifecycle,
     handles: &mut Vec<PromisedHandle<T, P>>,
     started: Result<PromisedHandle<T, P>, LoadError>,
@@ -29,7 +29,7 @@ pub fn keep<S: Threads, T: Drop, P: Promise<T>>(
         Ok(()) => Ok(()),
         Err(refused) => {
             let why = lifecycle.stop(LoadError::NoMemory);
-            refused.value.join(rt);
+            drop(refused.value);
             Err(why)
         }
     }
