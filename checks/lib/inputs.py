@@ -46,12 +46,11 @@ def try_inputs(program):
             try_standard_inputs(program, folder, command)
     for command in ("check", "check --format json", "info"):
         try_many_files(program, command)
-    try_terminal(program)
-    try_terminal_output(program)
+    terminal = try_terminals(program)
     try_long_stream(program)
     try_lock(program)
     try_growing(program)
-    print(f"inputs: two pipes read, one that has no more yet told; {len(READERS)} commands read what is left of a file, and tell an input that is closed or a folder; 40 files read one after another; a terminal, and what is printed to one at once; a stream of 4.3 GB")
+    print(f"inputs: two pipes read, one that has no more yet told; {len(READERS)} commands read what is left of a file, and tell an input that is closed or a folder; 40 files read one after another; {terminal}; a stream of 4.3 GB")
 
 
 READERS = {
@@ -69,6 +68,17 @@ def try_many_files(program, command):
         done = run(program, folder, [*command.split(), *names], preexec_fn=lambda: resource.setrlimit(resource.RLIMIT_NOFILE, (20, 20)))
     if (done.returncode, done.stderr) != (0, "") or any(name not in done.stdout for name in names):
         wrong("inputs", f"{command} of 40 files with 20 descriptors", done, "status 0, and each file told")
+
+
+def try_terminals(program):
+    try:
+        for end in os.openpty():
+            os.close(end)
+    except OSError:
+        return "no terminal, since none is to be had here"
+    try_terminal(program)
+    try_terminal_output(program)
+    return "a terminal, and what is printed to one at once"
 
 
 def try_terminal(program):

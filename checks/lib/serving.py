@@ -204,7 +204,7 @@ def try_sent_in_time(program):
     """`serve` that is stopped while a client sends, until the time is over: what was sent is still read."""
     with tempfile.TemporaryDirectory() as folder:
         path = os.path.join(folder, "s")
-        words = [program, "serve", "--socket", path, "--connections", "1", "--seconds", "2"]
+        words = [program, "serve", "--socket", path, "--connections", "1", "--verifiers", "1", "--seconds", "2"]
         serve = subprocess.Popen(words, stdout=subprocess.PIPE, stderr=subprocess.PIPE, text=True)
         with connected(path) as client:
             while serve.poll() is None and status_of(serve, "Threads") < 4:
