@@ -50,6 +50,11 @@ def run(program, folder, *words):
     return subprocess.run([program, *words], cwd=folder, stdin=subprocess.DEVNULL, capture_output=True, text=True, errors="replace", timeout=60)
 
 
+def bad_length(name, data):
+    """What is told of a file that is no code, by its length."""
+    return f"bad length {name}\n  {len(data)} bytes; code has a multiple of 4, from 4 to 16777216"
+
+
 def some_words(source):
     """Words for a listing or a report: drawn ones, those that other words mend, and prefetches, whose mends are empty. A few are at places
     above 65,536."""
@@ -238,7 +243,7 @@ class Checks(Mode):
         found = {"path": name, "profile": profile}
         if not data or len(data) % 4:
             lines.take(f"{prefix}bad length", "a bad length")
-            errors.append(f"bad length {name}\n  {len(data)} bytes; code has a multiple of 4, from 4 to 16777216")
+            errors.append(bad_length(name, data))
             return found | {"verdict": "bad length", "bytes": len(data)} | self.hint(lines, words, data)
         faults = RULES.faults(words_of(data), profile)
         if not faults:
@@ -464,7 +469,7 @@ def pack_errors(files, first, entry):
         return "lfiload: more files than modules, of which the last is 15\n", 2
     for name, data in files:
         if not data or len(data) % 4:
-            return f"lfiload: bad length {name}\n  {len(data)} bytes; code has a multiple of 4, from 4 to 16777216\n", 1
+            return f"lfiload: {bad_length(name, data)}\n", 1
         if entry >= len(data) // 4:
             return f"lfiload: no word {entry} in {name}\n", 1
     return "".join(f"lfiload: {name}: {HINTS[kind_of(data)]}\n" for name, data in files if kind_of(data)), 0
@@ -494,7 +499,7 @@ class Listings(Mode):
         profile, named = int(words[-1]), put(folder, case[1])
         came = run(program, folder, "disassemble", *words, *named)
         if not data or len(data) % 4:
-            told = f"lfiload: bad length {name}\n  {len(data)} bytes; code has a multiple of 4, from 4 to 16777216\n"
+            told = f"lfiload: {bad_length(name, data)}\n"
             require((came.stdout, came.stderr, came.returncode), ("bad length\n", told, 1), "a bad length")
             return
         told = f"lfiload: {name}: {HINTS[kind_of(data)]}\n" if kind_of(data) else ""
