@@ -14,8 +14,7 @@ use std::thread::{Promise, PromisedHandle, Threads};
 /// # Errors
 ///
 /// Why it wasn't started, or `NoMemory` where memory for its handle is refused.
-pub fn keep<S: Threads, T: Drop, P: Promise<T>>(
-    _rt: &S,
+pub fn keep<T: Drop, P: Promise<T>>(
     lifecycle: &Lifecycle,
     handles: &mut Vec<PromisedHandle<T, P>>,
     started: Result<PromisedHandle<T, P>, LoadError>,

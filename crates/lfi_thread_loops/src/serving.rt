@@ -99,7 +99,7 @@ fn accept_all<'s, 'e: 's, S: Threads + Wait + Files + Clock + Sync, G, N: Notice
         let fate = client.fate();
         let input = input_of(env, client)?;
         let handle = start_receiver(scope, env, number, receiver, input);
-        keep(env.rt, env.lifecycle, handles, handle)?;
+        keep(env.lifecycle, handles, handle)?;
         fates[number] = fate;
     }
     Ok(fates)

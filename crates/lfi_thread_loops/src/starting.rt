@@ -105,7 +105,7 @@ pub(crate) fn start_receivers<
         let number = handles.len();
         let input = inputs.next().unwrap();
         let handle = start_receiver(scope, env, number, receiver, input);
-        keep(env.rt, env.lifecycle, handles, handle)?;
+        keep(env.lifecycle, handles, handle)?;
     }
     Ok(())
 }
@@ -153,7 +153,7 @@ pub(crate) fn start_verifiers<'s, 'e: 's, S: Threads + Wait + Sync, G: Gate + Sy
     for verifier in verifiers {
         let number = handles.len();
         let handle = start_verifier(scope, env, number, verifier);
-        keep(env.rt, env.lifecycle, handles, handle)?;
+        keep(env.lifecycle, handles, handle)?;
     }
     Ok(())
 }
