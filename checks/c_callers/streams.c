@@ -361,5 +361,5 @@ int main(int count, char **words) {
         }
     }
     printf("%ld streams, %ld with a fault; %ld modules refused, %ld complete\n", streams, faulty, refused, complete);
-    return 0;
+    return faulty && refused && complete ? 0 : 1;
 }
