@@ -1,0 +1,11 @@
+// examples/stream_host.c over a stream whose numbers somebody spoils before each call: code that isn't judged is not taken.
+#define _GNU_SOURCE
+#include "lfi_verifier.h"
+
+static size_t next_of_spoiled(lfi_stream *stream, const uint8_t *bytes, size_t size, lfi_event *event) {
+    for (int i = 0; i < LFI_MODULES; i++) stream->verdicts.modules[i].profile = 9;
+    return lfi_stream_next(stream, bytes, size, event);
+}
+
+#define lfi_stream_next next_of_spoiled
+#include "../../examples/stream_host.c"
