@@ -3,7 +3,7 @@
 #include "lfi_verifier.h"
 
 static size_t next_of_spoiled(lfi_stream *stream, const uint8_t *bytes, size_t size, lfi_event *event) {
-    for (int i = 0; i < LFI_MODULES; i++) stream->verdicts.modules[i].profile = 9;
+    for (uint32_t i = 0; i < LFI_MODULES; i++) stream->verdicts.modules[i].profile = 9;
     return lfi_stream_next(stream, bytes, size, event);
 }
 
