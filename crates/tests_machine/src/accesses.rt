@@ -27,7 +27,7 @@ const STORED: u32 = 0xF900_0242;
 /// LDR X0, [X18].
 const LOADED: u32 = 0xF940_0240;
 
-const LOADS: [Row; 23] = [
+const LOADS: [Row; 25] = [
     (STORED, 0x39400240, 0x87, INDEX), // LDRB W0, [X18]
     (STORED, 0x39401E40, 0xF0, INDEX), // LDRB W0, [X18, #7]
     (STORED, 0x39800240, 0xFFFFFFFFFFFFFF87, INDEX), // LDRSB X0, [X18]
@@ -51,6 +51,8 @@ const LOADS: [Row; 23] = [
     (STORED, 0x29400640, 0xB4A59687, 0xF0E1D2C3), // LDP W0, W1, [X18]
     (STORED, 0xA97F8241, VALUE, 0), // LDP X1, X0, [X18, #-8]
     (STORED, 0xF940025F, 9, INDEX), // LDR XZR, [X18]
+    (STORED, 0xB980025F, 9, INDEX), // LDRSW XZR, [X18]
+    (STORED, 0xA940065F, 9, 0), // LDP XZR, X1, [X18]
 ];
 
 const STORES: [Row; 13] = [

@@ -197,10 +197,29 @@ fn registers_one_past_their_range(rt: HostRuntime) -> Result<(), Fail> {
     Ok(())
 }
 
+/// Registers that hold one value too high each, in the order in which they are asked for, and what is refused of each.
+const IN_ORDER: [(usize, u64, StartFault); 6] = [
+    (21, 0, StartFault::Base),
+    (18, END, StartFault::Address),
+    (22, 1 << 32, StartFault::Offset),
+    (31, END + 512, StartFault::Stack),
+    (32, END, StartFault::Pc),
+    (33, 16, StartFault::Flags),
+];
+
 /// Of several reasons the first counts.
 #[test]
 fn first_reason(rt: HostRuntime) -> Result<(), Fail> {
-    let refused = refusal(rt.alloc(), &[(21, 0), (32, 0)])?;
-    assert!(rt; refused == Some(StartFault::Base));
+    for (place, value, fault) in IN_ORDER {
+        for (other, there, later) in IN_ORDER {
+            let refused = refusal(rt.alloc(), &[(place, value), (other, there)])?;
+            let first = if fault.number() < later.number() {
+                fault
+            } else {
+                later
+            };
+            assert!(rt; refused == Some(first), "{place} {other}");
+        }
+    }
     Ok(())
 }

@@ -10,3 +10,4 @@ mod places;
 mod products;
 mod rows;
 mod sums;
+mod thirty_one;

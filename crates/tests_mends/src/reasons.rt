@@ -29,3 +29,10 @@ pub const REASONS: [(Rule, u32, Reason); 24] = [
     (Rule::Spelled, 0x69400452, Reason::Reserved), // ldpsw x18, x1, [x2]
     (Rule::Spelled, 0xDAC01420, Reason::Outside), // cls x0, x1
 ];
+
+/// The same of ordered accesses of the second profile, whose results go through no other register (docs/PROFILE.md, "Mends").
+pub const ORDERED_REASONS: [(Rule, u32, Reason); 3] = [
+    (Rule::AccessConfined, 0xC8DFFC37, Reason::Reserved), // ldar x23, [x1]
+    (Rule::AccessConfined, 0x88DFFC3E, Reason::Reserved), // ldar w30, [x1]
+    (Rule::AccessConfined, 0x08DFFC36, Reason::Reserved), // ldarb w22, [x1]
+];

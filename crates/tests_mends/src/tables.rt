@@ -1,5 +1,5 @@
 //! The tables beside `mend_of`, and the mends beside the rules.
-use crate::reasons::REASONS;
+use crate::reasons::{ORDERED_REASONS, REASONS};
 use crate::rows::{OTHERS, OUTSIDE, PAIRS, Row, SINGLES};
 use crate::writes::WRITES;
 use a64_encode::encode;
@@ -108,11 +108,16 @@ const BRANCHES: [(u32, u32, u32); 3] = [
     (0xD65F0000, 0x8B2042BE, 0xD65F03C0), // add x30, x21, w0, uxtw; ret
 ];
 
-/// Whether a branch through a register gets these two words.
-fn is_branch_mended(word: u32, guard: u32, branch: u32) -> bool {
+/// ldr xzr, [sp]
+const PROBE: u32 = 0xF94003FF;
+/// add x30, x21, w30, uxtw
+const RETURN_GUARD: u32 = 0x8B3E42BE;
+
+/// Whether a branch through a register gets these words, behind a need.
+fn is_branch_mended(word: u32, unmet: Need, mended: &[u32]) -> bool {
     let rule = Rule::BranchBounded;
-    match mend_of(Profile::One, rule, word, Need::Nothing, &None) {
-        Ok(mend) => spells(mend.instructions(), &[guard, branch], Profile::One),
+    match mend_of(Profile::One, rule, word, unmet, &None) {
+        Ok(mend) => spells(mend.instructions(), mended, Profile::One),
         Err(_) => false,
     }
 }
@@ -123,7 +128,18 @@ fn mends_branches_through_each_register(rt: HostRuntime) -> Result<(), Fail> {
         for (word, guard, branch) in BRANCHES {
             let through = word | register << 5;
             let by = guard | register << 16;
-            assert!(rt; is_branch_mended(through, by, branch), "{through:x}");
+            assert!(rt;
+                is_branch_mended(through, Need::Nothing, &[by, branch]),
+                "{through:x}"
+            );
+            assert!(rt;
+                is_branch_mended(through, Need::Guard, &[RETURN_GUARD, by, branch]),
+                "{through:x}"
+            );
+            assert!(rt;
+                is_branch_mended(through, Need::Probe(1), &[PROBE, by, branch]),
+                "{through:x}"
+            );
         }
     }
     Ok(())
@@ -156,8 +172,8 @@ fn mends_reversed_bits_only_where_they_are_counted(rt: HostRuntime) -> Result<()
 }
 
 /// Whether a word has this reason.
-fn has_reason(rule: Rule, word: u32, reason: Reason) -> bool {
-    match mend_of(Profile::One, rule, word, Need::Nothing, &None) {
+fn has_reason(profile: Profile, rule: Rule, word: u32, reason: Reason) -> bool {
+    match mend_of(profile, rule, word, Need::Nothing, &None) {
         Ok(_) => false,
         Err(told) => told == reason,
     }
@@ -166,7 +182,10 @@ fn has_reason(rule: Rule, word: u32, reason: Reason) -> bool {
 #[test]
 fn tells_why_there_is_none(rt: HostRuntime) -> Result<(), Fail> {
     for (rule, word, reason) in REASONS {
-        assert!(rt; has_reason(rule, word, reason), "{word}");
+        assert!(rt; has_reason(Profile::One, rule, word, reason), "{word:x}");
+    }
+    for (rule, word, reason) in ORDERED_REASONS {
+        assert!(rt; has_reason(Profile::Two, rule, word, reason), "{word:x}");
     }
     Ok(())
 }

@@ -5,7 +5,7 @@ use lfi_rules::{Need, meets, opens};
 use std::test::Fail;
 
 /// Words, and what they open in the second profile.
-const OPENINGS: [(u32, Need); 37] = [
+const OPENINGS: [(u32, Need); 39] = [
     (0xF94002BE, Need::Call), // LDR X30, [X21]
     (0xF947FEBE, Need::Call), // LDR X30, [X21, #4088]
     (0xF94802BE, Need::Guard), // LDR X30, [X21, #4096]
@@ -31,6 +31,8 @@ const OPENINGS: [(u32, Need); 37] = [
     (0x910003FF, Need::Probe(4)), // ADD SP, SP, #0
     (0x510043FF, Need::Nothing), // SUB WSP, WSP, #16
     (0xD14043FF, Need::Nothing), // SUB SP, SP, #16, LSL #12
+    (0xD14003FF, Need::Nothing), // SUB SP, SP, #0, LSL #12
+    (0x914003FF, Need::Nothing), // ADD SP, SP, #0, LSL #12
     (0xF10043FF, Need::Nothing), // SUBS XZR, SP, #16
     (0xD10043FE, Need::Nothing), // SUB X30, SP, #16
     (0xD10043DF, Need::Nothing), // SUB SP, X30, #16
@@ -117,7 +119,7 @@ fn needs_opened(rt: HostRuntime) {
 /// The first profile asks for a probe at once, and the second for one of four words; all else is the same.
 #[test]
 fn needs_opened_in_the_first_profile(rt: HostRuntime) {
-    for (word, need) in &OPENINGS[..32] {
+    for (word, need) in &OPENINGS[..34] {
         let first = match need {
             Need::Probe(_) => Need::Probe(1),
             other => *other,

@@ -410,7 +410,7 @@ const WRITE_LINK: [u32; 14] = [
 ];
 
 /// Words that write x22 as X: rule 6.
-const WRITE_OFFSET: [u32; 16] = [
+const WRITE_OFFSET: [u32; 17] = [
     0xAA0003F6, // MOV X22, X0
     0x8B2042B6, // ADD X22, X21, W0, UXTW
     0xF9400256, // LDR X22, [X18]
@@ -421,6 +421,7 @@ const WRITE_OFFSET: [u32; 16] = [
     0xB9800256, // LDRSW X22, [X18]
     0xD2800016, // MOVZ X22, #0
     0x92407C16, // AND X22, X0, #0xffffffff
+    0xD3407C36, // UBFM X22, X1, #0, #31
     0xF2400016, // ANDS X22, X0, #1
     0xB1000416, // ADDS X22, X0, #1
     0x10000016, // ADR X22
@@ -430,7 +431,7 @@ const WRITE_OFFSET: [u32; 16] = [
 ];
 
 /// Words that write sp otherwise than the profile allows: rule 7.
-const WRITE_STACK: [u32; 18] = [
+const WRITE_STACK: [u32; 20] = [
     0x110003FF, // ADD WSP, WSP, #0
     0x0B3662BF, // ADD WSP, W21, W22, UXTX
     0x8B3562BF, // from X21
@@ -441,6 +442,8 @@ const WRITE_STACK: [u32; 18] = [
     0x8B36E2BF, // SXTX
     0xCB3662BF, // SUB
     0x914003FF, // ADD SP, SP, #0, LSL #12
+    0xD14003FF, // SUB SP, SP, #0, LSL #12
+    0xD14043FF, // SUB SP, SP, #16, LSL #12
     0x9100041F, // ADD SP, X0, #1
     0x910002BF, // ADD SP, X21, #0
     0x9240001F, // AND SP, X0, #1

@@ -4,7 +4,7 @@ use crate::semantics::rows::{after, registers_of};
 /// A word at 0x10000; what x0 holds and the flags before; pc and x30 after. Before, x1 is 0x12345678 and x30 is 0x500.
 type Branched = (u32, u64, u8, u64, u64);
 
-const BRANCHES: [Branched; 35] = [
+const BRANCHES: [Branched; 41] = [
     (0x14000002, 0, 0, 0x10008, 0x500), // B #8
     (0x17FFFFFF, 0, 0, 0xFFFC, 0x500), // B #-4
     (0x15FFFFFF, 0, 0, 0x800FFFC, 0x500), // B #134217724
@@ -37,6 +37,12 @@ const BRANCHES: [Branched; 35] = [
     (0xD63F03C0, 0, 0, 0x500, 0x10004), // BLR X30
     (0xD65F03C0, 0, 0, 0x500, 0x500), // RET
     (0xD61F03E0, 0, 0, 0, 0x500), // BR XZR
+    (0xD63F03E0, 0, 0, 0, 0x10004), // BLR XZR
+    (0xD65F03E0, 0, 0, 0, 0x500), // RET XZR
+    (0xB400005F, 0, 0, 0x10008, 0x500), // CBZ XZR, #8
+    (0x3500005F, 0, 0, 0x10004, 0x500), // CBNZ WZR, #8
+    (0x3660005F, 0, 0, 0x10008, 0x500), // TBZ WZR, #12, #8
+    (0x3760005F, 0, 0, 0x10004, 0x500), // TBNZ WZR, #12, #8
     (0xD503201F, 0, 0, 0x10004, 0x500), // NOP
     (0xD4200020, 0, 0, 0x10004, 0x500), // BRK #1
     (0x54000041, 0, 0, 0x10008, 0x500), // B.NE #8

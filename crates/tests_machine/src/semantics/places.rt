@@ -4,7 +4,7 @@ use a64_semantics::Registers;
 
 /// A word at 0x10000; the register that it writes, 31 for sp and 32 for none; its value and the flags after. Before, x1 is
 /// 0xFFFFFFFF00000010, x2 is 0x20, sp is 0x7000 and the flags are 15.
-type Placed = (u32, usize, u64, u8);
+pub type Placed = (u32, usize, u64, u8);
 
 const PLACED: [Placed; 27] = [
     (0x9100043F, 31, 0xFFFFFFFF00000011, 15), // ADD SP, X1, #1
@@ -40,7 +40,7 @@ fn before() -> Registers {
     registers_of(0, 0xFFFFFFFF00000010, 0x20, 3, 15)
 }
 
-fn is_right(row: &Placed) -> bool {
+pub fn is_right(row: &Placed) -> bool {
     let (word, place, value, nzcv) = *row;
     let mut wanted = before();
     if place < 31 {

@@ -18,7 +18,21 @@ struct Told {
     told: &'static str,
 }
 
-const ROWS: [Told; 31] = [
+const ROWS: [Told; 33] = [
+    Told {
+        profile: Profile::One,
+        words: [0xD63F03E0, 0xD503201F], // BLR XZR
+        place: 0,
+        rule: Rule::BranchBounded,
+        told: "word 0 rule 9\n  0x0000000100010000  d63f03e0  blr xzr\n  br and blr may go only through x18, x23, x24 or x30, and ret only through x30; this one goes through xzr\n  mend: in its place\n    add x18, x21, wzr, uxtw\n    blr x18",
+    },
+    Told {
+        profile: Profile::One,
+        words: [0xF940025E, 0xD65F0040], // LDR X30, [X18]; RET X2
+        place: 1,
+        rule: Rule::BranchBounded,
+        told: "word 1 rule 9\n  0x0000000100010004  d65f0040  ret x2\n  br and blr may go only through x18, x23, x24 or x30, and ret only through x30; this one goes through x2\n  mend: in its place\n    add x30, x21, w30, uxtw\n    add x30, x21, w2, uxtw\n    ret x30",
+    },
     Told {
         profile: Profile::One,
         words: [0xD4000001, 0xD503201F], // SVC #0

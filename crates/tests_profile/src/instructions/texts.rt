@@ -7,8 +7,14 @@ use std::alloc::{AllocError, Global};
 use std::test::Fail;
 
 /// A word, and its text.
-const TEXTS: [(u32, &str); 130] = [
+const TEXTS: [(u32, &str); 136] = [
     (0x910043FF, "add sp, sp, #16"),
+    (0x9343FC20, "sbfm x0, x1, #3, #63"),
+    (0xD343FC20, "ubfm x0, x1, #3, #63"),
+    (0x13037C20, "sbfm w0, w1, #3, #31"),
+    (0xD37DF020, "ubfm x0, x1, #61, #60"),
+    (0xCB0103E0, "sub x0, xzr, x1"),
+    (0x9B017C20, "madd x0, x1, x1, xzr"),
     (0x517FFFFF, "sub wsp, wsp, #4095, lsl #12"),
     (0xB10007FF, "adds xzr, sp, #1"),
     (0x710003E0, "subs w0, wsp, #0"),
