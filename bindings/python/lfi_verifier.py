@@ -163,12 +163,17 @@ def _number(value: int) -> int:
     return value if 0 <= value < 2**32 else 2**32 - 1
 
 
+def _bytes(data: Buffer) -> bytes:
+    """All bytes of a buffer: `bytes` themselves, and a copy of another one. TypeError: it is none."""
+    return data if type(data) is bytes else bytes(memoryview(data))
+
+
 def verify(data: Buffer, profile: int = 1) -> None:
     """Judges the code of a whole module. Returns where it is lawful; else raises Refused or BadLength.
 
     ValueError: there is no such profile.
     """
-    code, fault = bytes(data), _Fault()
+    code, fault = _bytes(data), _Fault()
     status = Status(_LIBRARY.lfi_verify(code, len(code), _number(profile), fault))
     if status is Status.REFUSED:
         raise Refused(Fault(fault.word, fault.rule))
@@ -183,7 +188,7 @@ def explain(data: Buffer, fault: Fault, profile: int = 1, module: int = 0) -> st
 
     ValueError: the fault is none that the code can have, or there is no such profile or module.
     """
-    code, text, size = bytes(data), ctypes.create_string_buffer(ROOM), ctypes.c_size_t()
+    code, text, size = _bytes(data), ctypes.create_string_buffer(ROOM), ctypes.c_size_t()
     words = [int.from_bytes(code[4 * at : 4 * at + 4], "little") if at >= 0 else 0 for at in (fault.word, fault.word - 1)]
     status = Status(_LIBRARY.lfi_explain(_number(profile), _number(module), len(code) // 4, _Fault(_number(fault.word), _number(fault.rule)),
                                          *words, text, ROOM, size))
@@ -198,7 +203,7 @@ def mend(data: Buffer, fault: Fault, profile: int = 1) -> Optional[List[int]]:
     For a fault of rule 10 they stand before the word, which stays; or, at the code's end, after it.
     ValueError: the fault is none that the code can have, or there is no such profile.
     """
-    code, found, count = bytes(data), (ctypes.c_uint32 * MOST_MENDED)(), ctypes.c_size_t()
+    code, found, count = _bytes(data), (ctypes.c_uint32 * MOST_MENDED)(), ctypes.c_size_t()
     words = [int.from_bytes(code[4 * at : 4 * at + 4], "little") if at >= 0 else 0 for at in (fault.word, fault.word - 1, fault.word + 1)]
     status = Status(_LIBRARY.lfi_mend(_number(profile), len(code) // 4, _Fault(_number(fault.word), _number(fault.rule)), *words, found, MOST_MENDED, count))
     if status is Status.REFUSED:
@@ -238,7 +243,7 @@ class Stream:
 
     def read(self, piece: Buffer) -> List[Event]:
         """Goes on in the next bytes, cut in any way, and tells what they bring. After the stream's fault nothing is read."""
-        whole, at, events = bytes(piece), 0, []
+        whole, at, events = _bytes(piece), 0, []
         start = ctypes.cast(ctypes.c_char_p(whole), ctypes.c_void_p).value or 0
         with self._turn:
             while at < len(whole) and not self._is_over:

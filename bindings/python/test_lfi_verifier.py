@@ -1,5 +1,6 @@
 """What a host relies on, with values of docs/PROFILE.md and the examples: `python3 -m unittest`, in this folder."""
 
+import array
 import ctypes
 import pathlib
 import pickle
@@ -69,6 +70,14 @@ def page(kind, module, index, *words):
     return header(kind, 0, module, index, 4 * len(words)) + code_of(*words)
 
 
+def views_of(data):
+    """Buffers that have these bytes, in items of four bytes, and with others between them."""
+    words = array.array("I", data)
+    pairs = array.array("I", [it for word in words for it in (word, 0)])
+    doubled = bytes(it for byte in data for it in (byte, 0))
+    return memoryview(data).cast("I"), words, memoryview(pairs)[::2], memoryview(doubled)[::2]
+
+
 def written_during(name, data, written):
     """Has somebody else write to the caller's buffer when this call of the library begins."""
     call = getattr(LIBRARY, name)
@@ -110,6 +119,25 @@ class Verifying(unittest.TestCase):
         for it in code, bytearray(code), memoryview(code):
             self.assertIsNone(lfi_verifier.verify(it))
 
+    def test_views(self):
+        """All bytes of a buffer count, whatever its items are."""
+        for view in views_of(code_of(NOP, NOP, NOP, SVC)):
+            self.assertEqual(verdict(view), "word 3 rule 1")
+        profile, words, fault, wanted = MENDED[0]
+        for view in views_of(code_of(*words)):
+            self.assertEqual(lfi_verifier.mend(view, fault, profile), wanted)
+        profile, module, words, fault, wanted = EXPLAINED[0]
+        for view in views_of(code_of(*words)):
+            self.assertEqual(lfi_verifier.explain(view, fault, profile, module), wanted)
+
+    def test_what_has_no_bytes(self):
+        """A number isn't taken for a count of zero bytes, nor a list or a path for its bytes."""
+        for data in 12, [0, 0, 0, 0], "code", EXAMPLES, None:
+            for call in lfi_verifier.verify, Stream().read:
+                self.assertRaises(TypeError, call, data)
+            for call in lfi_verifier.explain, lfi_verifier.mend:
+                self.assertRaises(TypeError, call, data, Fault(0, 1))
+
     def test_a_buffer_that_changes(self):
         """What is judged is the copy that was made before."""
         for view in bytearray, memoryview:
@@ -126,6 +154,7 @@ class Verifying(unittest.TestCase):
     def test_lengths(self):
         for code in b"", b"\0", bytes(16_777_220):
             self.assertRaises(BadLength, lfi_verifier.verify, code)
+            self.assertEqual(verdict(code), "bad length")
 
     def test_violations_cross_to_other_processes(self):
         for violation in Refused(Fault(3, 2)), BadLength("bad length"):
@@ -289,6 +318,12 @@ class Streaming(unittest.TestCase):
             with written_during("lfi_stream_next", data, bytes(len(data))):
                 events = Stream().read(data if view is bytearray else view(data))
             self.assertEqual(events[1:], [Code(5, 0, code_of(RET), True, None), End(5, 1, 1, Reason.CLOSED, 0, Status.LAWFUL, None)])
+
+    def test_views(self):
+        """A piece with items of four bytes tells what its bytes do."""
+        wanted = Stream().read(MIXED)
+        for view in views_of(MIXED):
+            self.assertTrue(Stream().read(view) == wanted)  # without a text of how thousands of bytes differ
 
     def test_turns(self):
         """While a thread is in a call of a stream, another thread waits before its own."""

@@ -4,6 +4,7 @@ use std::{env, path::PathBuf, process::Command};
 
 /// The number of the interface that src/calls.rs declares: LFI_VERSION of the header.
 const INTERFACE: &str = "6";
+const NAME_IT: &str = "name the library's folder by LFI_VERIFIER_LIB";
 
 fn main() -> Result<(), String> {
     for name in ["LFI_VERIFIER_LIB", "PKG_CONFIG", "PKG_CONFIG_PATH"] {
@@ -36,11 +37,12 @@ fn by_pkg_config() -> Result<PathBuf, String> {
         let told = Command::new(&program).args(words).output().map_err(|why| format!("{program}: {why}"))?;
         match told.status.success() {
             true => Ok(String::from_utf8_lossy(&told.stdout).trim().to_owned()),
-            false => {
-                Err(format!("{}; name the library's folder by LFI_VERIFIER_LIB", String::from_utf8_lossy(&told.stderr).trim()))
-            }
+            false => Err(format!("{}; {NAME_IT}", String::from_utf8_lossy(&told.stderr).trim())),
         }
     };
-    ask(&["--print-errors", &format!("--exact-version={INTERFACE}"), "lfi_verifier"])?;
-    ask(&["--variable=libdir", "lfi_verifier"]).map(PathBuf::from)
+    let installed = ask(&["--print-errors", "--modversion", "lfi_verifier"])?;
+    match installed == INTERFACE {
+        true => ask(&["--variable=libdir", "lfi_verifier"]).map(PathBuf::from),
+        false => Err(format!("the installed library has interface {installed}, and this crate is for {INTERFACE}; {NAME_IT}")),
+    }
 }

@@ -71,3 +71,28 @@ impl fmt::Display for Status {
 }
 
 impl core::error::Error for Status {}
+
+#[cfg(test)]
+mod tests {
+    use super::*;
+
+    /// The numbers of docs/C.md, and what its table says of them in a few words.
+    #[test]
+    fn each_text() {
+        let rows = [
+            (0, Status::Lawful, "lawful"),
+            (1, Status::Refused, "refused"),
+            (2, Status::BadLength, "bad length"),
+            (3, Status::Incomplete, "words are missing"),
+            (4, Status::BadState, "bad state"),
+            (5, Status::UnknownProfile, "unknown profile"),
+            (6, Status::UnknownModule, "unknown module"),
+            (7, Status::NoRoom, "no room for the text"),
+            (OTHER_INTERFACE, Status::OtherInterface, "the library is of another interface"),
+            (8, Status::Other(8), "unknown status 8"),
+        ];
+        for (number, status, text) in rows {
+            assert_eq!((Status::of(number), status.to_string().as_str()), (status, text));
+        }
+    }
+}

@@ -96,7 +96,6 @@ fn each_event() {
     assert_eq!(told.len(), wanted.len());
 }
 
-/// What an iterator didn't come to is read by the next one, and a piece without bytes brings nothing.
 /// What one end didn't come to is told by the next, and nothing twice.
 #[test]
 fn an_end_that_is_left() {
@@ -109,6 +108,17 @@ fn an_end_that_is_left() {
     assert_eq!(stream.end().next(), None);
 }
 
+/// Also behind an end at which nothing was left to tell.
+#[test]
+fn nothing_is_read_after_the_end() {
+    let mut stream = Stream::new().expect("a stream");
+    assert_eq!(stream.end().count(), 0);
+    assert_eq!(stream.read(&header(1, 0, 3, 1, 0)).next(), None);
+    assert_eq!(stream.read(&[1]).next(), None);
+    assert_eq!(stream.end().next(), None);
+}
+
+/// What an iterator didn't come to is read by the next one, and a piece without bytes brings nothing.
 #[test]
 fn the_rest_of_a_piece() {
     let text = [header(1, 0, 3, 1, 0), page(2, 3, 0, &[RET]), header(3, 0, 3, 0, 0)].concat();
