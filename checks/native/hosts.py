@@ -30,7 +30,7 @@ OVER = {
     "mapped": (),
     "steps": (),
 }
-LINKED = {"steps": ["-Wl,--wrap=mprotect,--wrap=syscall,--wrap=__clear_cache"]}
+LINKED = {"steps": ["-Wl,--wrap=mprotect,--wrap=syscall,--wrap=__clear_cache"], "registers": ["-Wl,--wrap=lfi_enter"]}
 MOST_LINES, BASE, SLOT, GUARD = 500, 0x100000000, 1 << 32, 65_536
 ESCAPE = "ESCAPE at 0x[0-9a-f]{16}"
 
