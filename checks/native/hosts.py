@@ -56,7 +56,8 @@ def build(room, archive, name, *flags):
     if name in OVER:
         files = sorted(it for it in HOST.iterdir() if it.suffix in (".c", ".S") and it.name not in OVER[name])
         words = ["-std=gnu11", "-O2", "-Wall", "-Wextra", "-Werror", "-static", "-pthread", "-DPLANT=0", "-I", TOP / "include", "-I", HOST]
-        told = subprocess.run([COMPILER, *words, *files, HERE / f"{name}.c", archive, *LINKED.get(name, []), "-o", made], capture_output=True, text=True)
+        sources = [*files, HERE / f"{name}.c", archive]
+        told = subprocess.run([COMPILER, *words, *sources, *LINKED.get(name, []), "-o", made], capture_output=True, text=True)
     else:
         told = subprocess.run([HOST / "make", *flags, made, archive], capture_output=True, text=True, env={**os.environ, "CC": COMPILER})
     if told.returncode or told.stderr:
@@ -118,11 +119,12 @@ def compare_numbers(program):
         (f"x{offset}", f"below {end}"),
         ("sp", f"B - {reach} to below B + {end} + {reach}"),
     ]
-    for heading, wanted in (("The map", map_of(base, size, guard, table, code)), ("Registers", registers)):
-        if not set(wanted) <= set(rows_of(heading)):
-            fail(f"docs/HOST.md, {heading}: the library tells otherwise: {sorted(set(wanted) - set(rows_of(heading)))}")
-    sentences = f"begins at `B = (2m + 1) * {end}`", f"{entries} numbers of 8 bytes", f"number j is `{power} + {step}j`", f"Addresses up to {power} + {entries * step:,}."
-    for words in sentences:
+    others = [row for row in rows_of("Registers") if not row[0].startswith(("pc", "all others"))]
+    for heading, told, wanted in (("The map", rows_of("The map"), map_of(base, size, guard, table, code)), ("Registers", others, registers)):
+        if told != wanted:
+            fail(f"docs/HOST.md, {heading}: it has {told}, and the library {wanted}")
+    sentences = [f"begins at `B = (2m + 1) * {end}`", f"{entries} numbers of 8 bytes", f"number j is `{power} + {step}j`"]
+    for words in [*sentences, f"Addresses up to {power} + {entries * step:,}."]:
         if words not in DOCUMENT.read_text():
             fail(f"docs/HOST.md doesn't say what the library tells: {words}")
 

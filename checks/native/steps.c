@@ -11,8 +11,8 @@ long __wrap_syscall(long number, ...);
 void __wrap___clear_cache(void *from, void *to);
 
 int __wrap_mprotect(void *from, size_t size, int rights) {
-    fprintf(stderr, "step: %p %p%s%s%s\n", from, (void *)((char *)from + size), rights & PROT_READ ? " read" : "", rights & PROT_WRITE ? " write" : "",
-            rights & PROT_EXEC ? " execute" : "");
+    const char *reads = rights & PROT_READ ? " read" : "", *writes = rights & PROT_WRITE ? " write" : "", *executes = rights & PROT_EXEC ? " execute" : "";
+    fprintf(stderr, "step: %p %p%s%s%s\n", from, (void *)((char *)from + size), reads, writes, executes);
     return __real_mprotect(from, size, rights);
 }
 
