@@ -213,7 +213,16 @@ def check_told(host, room, corpus):
         done, count = run(host, *words, cwd=room), count + 1
         if (done.returncode, done.stdout, done.stderr.decode()) != (status, out, line):
             fail(f"native_host {' '.join(map(str, words))}: {done}, and not status {status}, {out}, {line}")
-    return count
+    if not is_full_told(host):
+        fail("native_host checksums.stream, to a device that is full: no `halt 5 status 255`, or not status 0")
+    return count + 1
+
+
+def is_full_told(host):
+    """Code whose output can't be written ends with 255, as `lfiload run --help` says."""
+    with open("/dev/full", "wb") as full:
+        done = subprocess.run([*RUNNER, host, EXAMPLES / "checksums.stream"], stdout=full, stderr=subprocess.PIPE, timeout=60)
+    return (done.returncode, done.stderr) == (0, b"halt 5 status 255\n")
 
 
 def check_escapes(hosts, room):
