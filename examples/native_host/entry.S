@@ -74,6 +74,7 @@ entered:
     ldr x2, [x17, #256]
     str x0, [x17, #248]
     str x1, [x17, #264]
+    .if PLANT >= 18; mov x9, #-1; str x9, [x17, #8 * PLANT]; .endif    // a fault that checks/native plants, and has to find
     mov sp, x2                      /* HOST: uses no byte at sp: it takes a stack of the host's */
     mov x19, x17
     mov x0, x17
@@ -82,9 +83,7 @@ entered:
     mov x17, x19
     cbz w0, 3f
     take_registers                  /* HOST: gives them back as they were */
-    .if PLANT == 2
-    mov x24, #0                     // a fault that checks/native plants, and has to find
-    .endif
+    .if PLANT == 2; mov x24, #0; .endif                                // another one
     ldp x16, x17, [x17, #8 * 16]
     ret                             /* HOST: returns through x30 of the call, or doesn't return. */
 3:  mov x0, x17

@@ -28,7 +28,7 @@ typedef struct ending { enum halt halt; uint32_t status; uint64_t at; } ending;
 /* The code's registers while its thread is in the host, and the host's stack meanwhile. entry.S knows where they lie in it. */
 typedef struct frame { uint64_t x[31], sp, host_sp, flags; } frame;
 
-/* A fault that checks/native plants by the build (PLANT), and has to find; 0: none. */
+/* A fault that checks/native plants by the build (PLANT), and has to find; 0: none; 18 and more: a register, in entry.S. */
 enum plant { PLANT_NONE, PLANT_GUARDS, PLANT_ENTRY, PLANT_STACK };
 
 /* slot.c: the map */

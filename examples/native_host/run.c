@@ -87,6 +87,7 @@ void prepare_process(void) {
 /* Has SIGALRM come after so many seconds, and then again and again; 0: never. */
 static void limit(double seconds) {
     struct timeval first = {(time_t)seconds, (suseconds_t)(1e6 * (seconds - (double)(time_t)seconds))}, later = {0, seconds > 0 ? 20000 : 0};
+    if (seconds > 0 && first.tv_sec == 0 && first.tv_usec == 0) first.tv_usec = 1; /* 0 would be no limit */
     if (setitimer(ITIMER_REAL, &(struct itimerval){later, first}, 0)) die("setitimer");
 }
 

@@ -1,0 +1,234 @@
+"""The example host of examples/native_host for checks/native: how it is built, and the rows in which it is called by itself. Their values
+are from docs/HOST.md, the host's README, the corpus's first lines, the Arm manuals and Linux's."""
+
+import os
+import pathlib
+import platform
+import re
+import subprocess
+import sys
+
+HERE = pathlib.Path(__file__).resolve().parent
+sys.path.insert(0, str(HERE.parent))
+import programs
+from lib import formats
+from lib.tree import EXAMPLES, TOP
+
+HOST, DOCUMENT = TOP / "examples" / "native_host", TOP / "docs" / "HOST.md"
+IS_AARCH64 = platform.machine() == "aarch64"
+RUNNER = [] if IS_AARCH64 else ["qemu-aarch64"]
+COMPILER = "cc" if IS_AARCH64 else "aarch64-linux-gnu-gcc"
+FAULTS = {1: "guards that can be read", 2: "an entry that loses a register", 3: "a start with sp too low"}
+# Registers that rows hand over at a call as no lawful code has them: by the number of the fault that does it.
+UNLAWFUL = {18: "x18", 21: "x21", 22: "x22", 23: "x23", 24: "x24", 30: "x30", 31: "sp"}
+# Programs over the host's files, with those that they leave out, and the linker's flags.
+OVER = {
+    "threads": ("command.c",),
+    "registers": ("command.c",),
+    "numbers": ("command.c",),
+    "lawful": ("command.c", "run.c"),
+    "mapped": (),
+    "steps": (),
+}
+LINKED = {"steps": ["-Wl,--wrap=mprotect,--wrap=syscall,--wrap=__clear_cache"], "registers": ["-Wl,--wrap=lfi_enter"]}
+MOST_LINES, BASE, SLOT, GUARD = 500, 0x100000000, 1 << 32, 65_536
+ESCAPE = "ESCAPE at 0x[0-9a-f]{16}"
+
+
+def fail(text):
+    sys.exit(f"native: {text}")
+
+
+def run(program, *words, **more):
+    """A program of this host, run; it ends within a minute, or is told of."""
+    try:
+        return subprocess.run([*RUNNER, program, *map(str, words)], capture_output=True, timeout=60, **more)
+    except subprocess.TimeoutExpired:
+        fail(f"{program.name} {' '.join(map(str, words))}: it runs for more than a minute")
+
+
+# ---- how it is built
+
+
+def build(room, archive, name, *flags):
+    """Builds a host, or another program over the host's files."""
+    made = room / name
+    if name in OVER:
+        files = sorted(it for it in HOST.iterdir() if it.suffix in (".c", ".S") and it.name not in OVER[name])
+        words = ["-std=gnu11", "-O2", "-Wall", "-Wextra", "-Werror", "-static", "-pthread", "-DPLANT=0", "-I", TOP / "include", "-I", HOST]
+        sources = [*files, HERE / f"{name}.c", archive]
+        told = subprocess.run([COMPILER, *words, *sources, *LINKED.get(name, []), "-o", made], capture_output=True, text=True)
+    else:
+        told = subprocess.run([HOST / "make", *flags, made, archive], capture_output=True, text=True, env={**os.environ, "CC": COMPILER})
+    if told.returncode or told.stderr:
+        fail(f"{name} isn't built: {told.stdout}{told.stderr}")
+    return made
+
+
+# ---- the document
+
+
+def compare_words():
+    """Each line of docs/HOST.md that the host's source cites stands there."""
+    document, cited, lines = " ".join(DOCUMENT.read_text().split()), 0, 0
+    for file in sorted(it for it in HOST.iterdir() if it.suffix in (".c", ".h", ".S") or it.name == "make"):
+        text = file.read_text()
+        lines += text.count("\n")
+        for words in re.findall(r"HOST: (.*?)\s*\*/", text, flags=re.S):
+            words = " ".join(re.sub(r"\n \* ", " ", words).split())
+            cited += 1
+            if words not in document:
+                fail(f"{file.name} cites what docs/HOST.md doesn't say: {words}")
+    if cited < 25 or lines >= MOST_LINES:
+        fail(f"the host cites {cited} lines of docs/HOST.md, and has {lines} lines")
+
+
+def rows_of(heading):
+    """The first three cells of the rows of the table below a heading of docs/HOST.md."""
+    part = DOCUMENT.read_text().partition(f"\n## {heading}\n")[2].partition("\n## ")[0]
+    rows = [[cell.strip() for cell in line.strip("|").split("|")] for line in part.splitlines() if line.startswith("|")]
+    return [tuple(row[:3]) for row in rows[2:]]
+
+
+def map_of(base, size, guard, table, code):
+    """The table of the map, as lfi_verifier.h says what is mapped where; the numbers are those of slot 0."""
+    most = int(re.search(r"define LFI_MAX_BYTES (\d+)u", (TOP / "include" / "lfi_verifier.h").read_text())[1])
+    end = f"2^{size.bit_length() - 1}"
+    return [
+        (f"B - {guard:,} to B - 1: a guard", f"0x{base - guard:010x}", "without access"),
+        (f"B to B + {table - 1:,}: the table of entries", f"0x{base:010x}", "read"),
+        (f"B + {table:,} to B + {code - 1:,}", f"0x{base + table:010x}", "without access"),
+        (f"B + {code:,} to B + R - 1: the code, then zero bytes", f"0x{base + code:010x}", "read, execute"),
+        (f"B + R to B + {end} - 1: data", f"at most 0x{base + code + most:010x}", "read, write"),
+        (f"B + {end} to B + {end} + {guard - 1:,}: a guard", f"0x{base + size:010x}", "without access"),
+    ]
+
+
+def compare_numbers(program):
+    """The map and the registers of docs/HOST.md are those that the library tells, of each slot and in both profiles."""
+    lines = [tuple(map(int, line.split())) for line in run(program).stdout.decode().splitlines()]
+    base, size, guard, table, code, entry, step, entries = lines[0]
+    slots = [((2 * m + 1) << 32, *lines[0][1:]) for m in range(formats.MODULES)]
+    own, offset, *addresses, reach = lines[16]
+    if lines != [*slots, lines[16]] * 2:
+        fail(f"the library tells other bases than docs/HOST.md, or other maps for other slots: {lines}")
+    end, power = f"2^{size.bit_length() - 1}", f"2^{entry.bit_length() - 1}"
+    registers = [
+        (f"x{own}", "B"),
+        (", ".join(f"x{it}" for it in addresses), f"an address in the slot, B to B + {end} - 1"),
+        (f"x{offset}", f"below {end}"),
+        ("sp", f"B - {reach} to below B + {end} + {reach}"),
+    ]
+    others = [row for row in rows_of("Registers") if not row[0].startswith(("pc", "all others"))]
+    for heading, told, wanted in (("The map", rows_of("The map"), map_of(base, size, guard, table, code)), ("Registers", others, registers)):
+        if told != wanted:
+            fail(f"docs/HOST.md, {heading}: it has {told}, and the library {wanted}")
+    sentences = [f"begins at `B = (2m + 1) * {end}`", f"{entries} numbers of 8 bytes", f"number j is `{power} + {step}j`"]
+    for words in [*sentences, f"Addresses up to {power} + {entries * step:,}."]:
+        if words not in DOCUMENT.read_text():
+            fail(f"docs/HOST.md doesn't say what the library tells: {words}")
+
+
+# ---- the host by itself
+
+
+def check_registers(registers, lawful):
+    """A run keeps what AAPCS64 has a function keep; and the host tells lawful registers at a call, one by one at their edges."""
+    for program, wanted in ((registers, b"kept: by a call 1, by a signal 1\n"), (lawful, b"7 registers\n")):
+        done = run(program)
+        if done.stdout != wanted:
+            fail(f"{program.name}: status {done.returncode}\n{done.stdout.decode()}{done.stderr.decode()}")
+
+
+def check_mapped(mapped):
+    """Where something lies in a slot, a guard or at the entries, the host ends (mmap(2): EEXIST), and what lies there is as it was."""
+    for at in (BASE - GUARD, BASE + SLOT // 2, BASE + SLOT + GUARD - 4_096, 1 << 40):
+        done = run(mapped, EXAMPLES / "one_ret.stream", env={**os.environ, "MAPPED": hex(at)})
+        wanted = 3, b"the page is of another part of this process\n", b"native_host: mmap: File exists\n"
+        if (done.returncode, done.stdout, done.stderr) != wanted:
+            fail(f"a page at {at:#x} is there first: {done}")
+
+
+def check_steps(steps):
+    """Of one_ret.stream, whose code is one word in slot 0, the calls come in the order of docs/HOST.md, "Writing the code"; so do those for
+    code of the host's own, in other places."""
+    done = run(steps, EXAMPLES / "one_ret.stream")
+    told = re.findall(r"^step: (.*)$", done.stderr.decode(), re.M)
+    table, code, data = (f"{BASE + first:#x} {BASE + last:#x}" for first, last in ((0, 4_096), (65_536, 69_632), (69_632, SLOT)))
+    wanted = [
+        *(f"{table} read write", f"{table} read"),  # step 2
+        f"{code} read write",  # 3
+        *(f"{code} read", f"{code} caches", "synchronize", f"{code} read execute"),  # 6 and 7
+        f"{data} read write",  # 8
+    ]
+    own = [line for line in told if line not in wanted]
+    if [line for line in told if line in wanted] != wanted or own[:1] != ["register"]:
+        fail("the calls for code in a slot come in another order than docs/HOST.md has: " + "; ".join(told))
+    for first, second, third in zip(own[1::3], own[2::3], own[3::3]):
+        place = first.removesuffix(" read write")
+        if [first, second, third] != [f"{place} read write", f"{place} caches", f"{place} read execute"]:
+            fail("the calls for the host's own code come in another order: " + "; ".join(own))
+
+
+# ---- what it tells
+
+
+def cases(room, corpus):
+    """What the host tells, by its README: words of the command line, the status, both outputs. `corpus` has images with what they print and
+    their last lines."""
+    image, words = formats.image, programs
+    loop = image(0, 0, formats.code_of(words.branch(0)))
+    # LDAR X0, [X18], 15 bytes past a multiple of 16
+    crossing = image(0, 0, formats.code_of(*words.move(9, 0x2000F), words.guard(18, 9), 0xC8DFFE40, words.BRK), 2)
+    for name, file in (("loop.img", loop), ("crossing.img", crossing), ("spoiled.img", b"LFI0" + loop[4:]), ("short.img", loop[:-1])):
+        (room / name).write_bytes(file)
+    usage = "usage: native_host [--emulate] [--seconds N] [--batch] FILE..\n"
+    sums, halted = b"a10a5abb\nc324e8c9\n", "halt 5 status 59\n"
+    for case in corpus:
+        out, line = case.written
+        yield ["--emulate", case.name], int(line.startswith(("halt 2", "halt 3"))), out, f"{line}\n"
+    stack, flags = ((case.name, case.written) for case in corpus if case.name in ("corpus-stack.img", "corpus-flags.img"))
+    for first, second in ((stack, flags), (flags, stack)):
+        lines = [f"{name} 0 {out.hex()} {line}\n" for name, (out, line) in (first, second)]
+        yield ["--batch", first[0], second[0]], 1, "".join(lines).encode(), ""
+    yield [EXAMPLES / "checksums.stream"], 0, sums, halted
+    yield [EXAMPLES / "two_modules.stream"], 1, sums, f"halt 3 at 0x{BASE:016x}\n{halted}"  # RET at the start goes to B, the table
+    yield [EXAMPLES / "hostile.stream"], 1, b"", "not run\n" * 3
+    yield ["--batch", EXAMPLES / "hostile.stream"], 1, b"".join(b"%s %d  not run\n" % (bytes(EXAMPLES / "hostile.stream"), m) for m in (2, 3, 4)), ""
+    yield ["spoiled.img"], 1, b"", "image refused, fault 1\n"
+    yield ["short.img"], 1, b"", "image refused, fault 5\n"
+    yield ["crossing.img"], 1, b"", "bus at 0x000000010002000f\n"
+    yield ["--emulate", "crossing.img"], 0, b"", f"halt 4 at 0x{BASE + 0x10010:016x}\n"
+    for seconds in ("0.05", "0.0000001"):
+        yield ["--seconds", seconds, "loop.img"], 0, b"", "halt 1\n"
+    yield ["missing.img"], 3, b"", "native_host: missing.img: No such file or directory\n"
+    for wrong in ([], ["--batch"], ["--seconds"], ["--other", "loop.img"]):
+        yield wrong, 2, b"", usage
+
+
+def check_told(host, room, corpus):
+    """The status and both outputs of single runs. Answers how many there were."""
+    count = 0
+    for words, status, out, line in cases(room, corpus):
+        done, count = run(host, *words, cwd=room), count + 1
+        if (done.returncode, done.stdout, done.stderr.decode()) != (status, out, line):
+            fail(f"native_host {' '.join(map(str, words))}: {done}, and not status {status}, {out}, {line}")
+    if not is_full_told(host):
+        fail("native_host checksums.stream, to a device that is full: no `halt 5 status 255`, or not status 0")
+    return count + 1
+
+
+def is_full_told(host):
+    """Code whose output can't be written ends with 255, as `lfiload run --help` says."""
+    with open("/dev/full", "wb") as full:
+        done = subprocess.run([*RUNNER, host, EXAMPLES / "checksums.stream"], stdout=full, stderr=subprocess.PIPE, timeout=60)
+    return (done.returncode, done.stderr) == (0, b"halt 5 status 255\n")
+
+
+def check_escapes(hosts, room):
+    """Each register that isn't lawful at a call is told as an escape. `hosts` have a fault each."""
+    (room / "call.img").write_bytes(formats.image(0, 0, formats.code_of(*programs.call(1), programs.BRK)))
+    for number, host in hosts.items():
+        done = run(host, "call.img", cwd=room)
+        if done.returncode != 9 or done.stdout or not re.fullmatch(f"{ESCAPE}\n", done.stderr.decode()):
+            fail(f"{UNLAWFUL[number]} isn't lawful at a call, and no escape is told: {done}")

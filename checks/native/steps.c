@@ -1,0 +1,33 @@
+/* Tells on standard error, as they come, the host's calls that change what may be done with pages, that bring caches in step and that have
+ * other cores synchronize. Made of all files of examples/native_host, with --wrap=mprotect, --wrap=syscall and --wrap=__clear_cache. */
+#include "native_host.h"
+#include <stdarg.h>
+
+int __real_mprotect(void *from, size_t size, int rights);
+long __real_syscall(long number, ...);
+void __real___clear_cache(void *from, void *to);
+int __wrap_mprotect(void *from, size_t size, int rights);
+long __wrap_syscall(long number, ...);
+void __wrap___clear_cache(void *from, void *to);
+
+int __wrap_mprotect(void *from, size_t size, int rights) {
+    const char *reads = rights & PROT_READ ? " read" : "", *writes = rights & PROT_WRITE ? " write" : "", *executes = rights & PROT_EXEC ? " execute" : "";
+    fprintf(stderr, "step: %p %p%s%s%s\n", from, (void *)((char *)from + size), reads, writes, executes);
+    return __real_mprotect(from, size, rights);
+}
+
+void __wrap___clear_cache(void *from, void *to) {
+    fprintf(stderr, "step: %p %p caches\n", from, to);
+    __real___clear_cache(from, to);
+}
+
+long __wrap_syscall(long number, ...) {
+    va_list given;
+    va_start(given, number);
+    long first = va_arg(given, long), second = va_arg(given, long), third = va_arg(given, long);
+    va_end(given);
+    if (number == SYS_membarrier && first == MEMBARRIER_CMD_REGISTER_PRIVATE_EXPEDITED_SYNC_CORE) fprintf(stderr, "step: register\n");
+    else if (number == SYS_membarrier && first == MEMBARRIER_CMD_PRIVATE_EXPEDITED_SYNC_CORE) fprintf(stderr, "step: synchronize\n");
+    else fprintf(stderr, "step: system call %ld\n", number);
+    return __real_syscall(number, first, second, third);
+}
