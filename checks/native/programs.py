@@ -120,7 +120,7 @@ class Body:
         if name == "RegisterOffset" and field in ("option", "S"):
             return 2 if field == "option" else 0
         if field in RULES.REGISTERS and field != "b40" and source.random() < 0.9:
-            return source.choice(FREE)
+            return source.choice(FREE) if source.random() < 0.9 else ZERO
         if field == "imm" and name in BRANCHES:
             return source.randrange(1, 9) if source.random() < 0.98 else -source.randrange(1, 9)
         if field == "imm" and width > 5 and source.random() < 0.7:
