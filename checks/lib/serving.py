@@ -134,7 +134,8 @@ def of_four_threads(user):
 
 
 def refused_while_judged(program, folder, streams, delay):
-    """What comes of `serve` of two clients, of which the first sends whole modules, and the second is refused a thread so many seconds later."""
+    """What comes of `serve` of two clients, of which the first sends whole modules, and the second is refused a thread so many seconds later.
+    None where it has one."""
     path = os.path.join(folder, f"s{delay}")
     words = [os.path.join(folder, program.name), "serve", "--socket", path, "--connections", "2", "--verifiers", "1"]
     # A user whom nobody else is: threads are counted by user.
@@ -152,7 +153,7 @@ def refused_while_judged(program, folder, streams, delay):
                 threads = status_of(serve, "Threads")
                 serve.kill()
                 serve.communicate()
-                return f"not ended after 20 seconds, with {threads} threads"
+                return f"not ended after 20 seconds, with {threads} threads" if threads <= 4 else None
 
 
 def try_refused_while_judged(program):
@@ -170,6 +171,8 @@ def try_refused_while_judged(program):
                 came = refused_while_judged(program, folder, streams, (20 + 10 * (number * 7 % 15)) / 1000)
             except (PermissionError, subprocess.SubprocessError):
                 return "none while modules are judged, since another user can't come to the folder"
+            if came is None:
+                return "none while modules are judged, since threads aren't counted by user here"
             if came != ("", "lfiload: no memory\n", 3):
                 wrong("taken", "a thread refused while modules are judged", came, "no memory")
     return "and 16 times while modules are judged"
