@@ -118,11 +118,12 @@ def append(path, over):
 
 
 def try_growing(program):
-    """Code that grows while it is read: no beginning of it is told lawful. Checks it, until one met that."""
+    """Code that grows while it is read: no beginning of it is told lawful. Checks it, until one met that. Its length is none of a disk's
+    sectors."""
     with tempfile.TemporaryDirectory() as folder:
         path, told = os.path.join(folder, "a.code"), []
         while len(told) < 100 and 3 not in told:
-            pathlib.Path(path).write_bytes(NOP * 2_000_000)
+            pathlib.Path(path).write_bytes(NOP * 2_000_001)
             over = threading.Event()
             writer = threading.Thread(target=append, args=(path, over))
             writer.start()

@@ -2,6 +2,7 @@
 
 import atexit
 import collections
+import contextlib
 import json
 import os
 import pathlib
@@ -9,6 +10,7 @@ import random
 import re
 import resource
 import select
+import shutil
 import signal
 import socket
 import struct
@@ -112,6 +114,70 @@ def try_refused_thread(program, words, floods):
             wrong("taken", "a thread refused", came, wanted)
 
 
+def send_all(client, streams):
+    """Sends these, as long as somebody reads them."""
+    with contextlib.suppress(OSError):
+        for stream in streams:
+            client.sendall(stream)
+
+
+def of_four_threads(user):
+    """Lets the process that is to be started belong to a user who may have four threads."""
+
+    def become():
+        resource.setrlimit(resource.RLIMIT_NPROC, (4, 4))
+        os.setgroups([])
+        os.setgid(user)
+        os.setuid(user)
+
+    return become
+
+
+def refused_while_judged(program, folder, streams, delay):
+    """What comes of `serve` of two clients, of which the first sends whole modules, and the second is refused a thread so many seconds later.
+    None where it has one."""
+    path = os.path.join(folder, f"s{delay}")
+    words = [os.path.join(folder, program.name), "serve", "--socket", path, "--connections", "2", "--verifiers", "1"]
+    # A user whom nobody else is: threads are counted by user.
+    few = of_four_threads(64_000 + os.getpid() % 1000)
+    serve = subprocess.Popen(words, stdout=subprocess.PIPE, stderr=subprocess.PIPE, text=True, preexec_fn=few)
+    with connected(path) as first:
+        threading.Thread(target=send_all, args=(first, streams), daemon=True).start()
+        while serve.poll() is None and status_of(serve, "Threads") < 4:
+            time.sleep(0.001)
+        time.sleep(delay)
+        with connected(path):
+            try:
+                return *serve.communicate(timeout=20), serve.returncode
+            except subprocess.TimeoutExpired:
+                threads = status_of(serve, "Threads")
+                serve.kill()
+                serve.communicate()
+                return f"not ended after 20 seconds, with {threads} threads" if threads <= 4 else None
+
+
+def try_refused_while_judged(program):
+    """The same, while the first one's thread waits for the verifier, which judges slower than the modules come: the second comes at several
+    times. Answers what is told of it."""
+    if os.geteuid() != 0:
+        return "none while modules are judged, since only root can be another user"
+    # add x18, x21, w0, uxtw; ldr x0, [x18].
+    streams = [formats.stream(module, formats.code_of(0x8B2042B2, 0xF9400240) * 1_000_000) for module in range(16)]
+    with tempfile.TemporaryDirectory() as folder:
+        os.chmod(folder, 0o777)
+        shutil.copy(program, folder)
+        for number in range(16):
+            try:
+                came = refused_while_judged(program, folder, streams, (20 + 10 * (number * 7 % 15)) / 1000)
+            except (PermissionError, subprocess.SubprocessError):
+                return "none while modules are judged, since another user can't come to the folder"
+            if came is None:
+                return "none while modules are judged, since threads aren't counted by user here"
+            if came != ("", "lfiload: no memory\n", 3):
+                wrong("taken", "a thread refused while modules are judged", came, "no memory")
+    return "and 16 times while modules are judged"
+
+
 def size_of_serve(program):
     """How many bytes of addresses `serve` has with one verifier, while nobody has come."""
     with tempfile.TemporaryDirectory() as folder:
@@ -156,9 +222,11 @@ def try_taken(program):
         for floods in (False, True):
             try_refused_thread(program, words, floods)
     try_refused_verifier(program)
+    judged = try_refused_while_judged(program)
     print(
         "taken: `serve` with descriptors for none and for one of three clients: each connection without one is told, in both formats; "
-        "a thread refused for the second of two, and for a verifier: it ends, though the first stays or sends on, and though nobody came"
+        "a thread refused for the second of two, and for a verifier: it ends, though the first stays or sends on, and though nobody came; "
+        f"{judged}"
     )
 
 

@@ -178,6 +178,11 @@ def difference_of_run(program, folder, words, done):
     return None
 
 
+def value_of(words, name, default):
+    """What stands behind an option, or what is so by default."""
+    return words[words.index(name) + 1] if name in words else default
+
+
 class Mode:
     """Draws a case, and says how what came of it differs from what is told elsewhere."""
 
@@ -342,10 +347,10 @@ class Serves(Mode):
     """The same streams from clients of `serve`, who come one after another: it tells what `load` does, but for their paths."""
 
     def draw(self, source):
-        return Loads().draw(source)
+        return [source.choice(([], ["--explain"])), Loads().draw(source)[1]]
 
     def compare(self, program, folder, case):
-        texts = [text for _, text in case[1]]
+        explain, texts = case[0], [text for _, text in case[1]]
         if len(reports(texts)) > 1:
             return
         named = put(folder, case[1])
@@ -354,11 +359,11 @@ class Serves(Mode):
         words = re.sub(r"^(  message at byte \d+) of .*", r"\1", loaded.stdout, flags=re.M)
         require(served[0::2], (words, loaded.returncode), "what is told")
         require(sorted(served[1].splitlines()), sorted(set(served[1].splitlines())), "its notices")
-        wanted = json.loads(run(program, folder, "load", "--format", "json", "--out", ".", *named).stdout)
+        wanted = json.loads(run(program, folder, "load", "--format", "json", *explain, "--out", ".", *named).stdout)
         for it in wanted["connections"]:
             del it["path"]
             it["client"] = "heard"
-        out, _, status = serve(program, folder, texts, "--format", "json", "--out", ".")
+        out, _, status = serve(program, folder, texts, "--format", "json", *explain, "--out", ".")
         require((json.loads(out), status), (wanted, loaded.returncode), "the object")
 
 
@@ -446,17 +451,22 @@ def stream_info(data):
 class Packs(Mode):
     """Files for `pack`."""
 
+    DEFAULTS = {"--module": "0", "--entry": "0", "--profile": "1", "--pages": "small"}  # as --help has them
+
     def draw(self, source):
         names = source.sample(NAMES, source.choice((1, 1, 2, 3)))
         profile, module, entry = source.choice((1, 2)), source.choice((0, 1, 12, 13, 14, 15)), source.choice((0, 0, 1, 2))
         large = profile == 2 and source.random() < 0.5
-        words = ["--module", str(module), "--entry", str(entry), "--profile", str(profile), "--pages", "large" if large else "small"]
+        asked = {"--module": str(module), "--entry": str(entry), "--profile": str(profile), "--pages": "large" if large else "small"}
+        # Of what is so by default a third isn't said.
+        words = [word for it in asked.items() if it not in self.DEFAULTS.items() or source.random() < 2 / 3 for word in it]
         counts = (1, 3, 1024, 1025, 4096, 4097)
         return [words, [(name, some_code(source, source.choice(counts)) if source.random() < 0.8 else some_file(source)) for name in names]]
 
     def compare(self, program, folder, case):
         words, files = case
-        first, entry, profile, large = int(words[1]), int(words[3]), int(words[5]), words[7] == "large"
+        first, entry, profile = (int(value_of(words, name, self.DEFAULTS[name])) for name in ("--module", "--entry", "--profile"))
+        large = value_of(words, "--pages", "small") == "large"
         came = subprocess.run([program, "pack", *words, *put(folder, files)], cwd=folder, stdin=subprocess.DEVNULL, capture_output=True, timeout=60)
         told, status = pack_errors(files, first, entry)
         wanted = b"" if status else b"".join(stream(first + at, code, profile, large, entry) for at, (_, code) in enumerate(files))
@@ -492,11 +502,12 @@ class Listings(Mode):
     """Files for `disassemble`."""
 
     def draw(self, source):
-        return [[*source.choice(((), ("--check",))), "--profile", source.choice("12")], [(source.choice(NAMES), some_file(source))]]
+        words = [*source.choice(((), ("--check",))), *source.choice(((), ("--profile", "1"), ("--profile", "2")))]
+        return [words, [(source.choice(NAMES), some_file(source))]]
 
     def compare(self, program, folder, case):
         words, [(name, data)] = case
-        profile, named = int(words[-1]), put(folder, case[1])
+        profile, named = int(value_of(words, "--profile", "1")), put(folder, case[1])
         came = run(program, folder, "disassemble", *words, *named)
         if not data or len(data) % 4:
             told = f"lfiload: {bad_length(name, data)}\n"
