@@ -498,6 +498,13 @@ class Unpacks(Mode):
         require((came.stdout, came.stderr.decode().splitlines(), came.returncode), (data[24:], [], 0) if well else (b"", lines, 1), "the code")
 
 
+def asked_by(instruction, profile):
+    """What an instruction asks of what follows it (docs/PROFILE.md, "Rule 10: NeedMet")."""
+    asked = {"Call": "blr x30", "Guard": "add x30, x21, w30, uxtw", "Probe": "a load or store at [sp]"}[RULES.opens(instruction)]
+    among = "one of the next 4" if RULES.opens(instruction) == "Probe" and profile == 2 else "next"
+    return f"{among} is {asked}"
+
+
 class Listings(Mode):
     """Files for `disassemble`."""
 
@@ -519,10 +526,13 @@ class Listings(Mode):
         lines = came.stdout.splitlines()
         require(len(lines), len(data) // 4, "how many lines")
         for place, (word, line) in enumerate(zip(words_of(data), lines)):
-            self.compare_line(line, place, word, RULES.decode(word, profile), len(lines), rules.get(place))
+            instruction = RULES.decode(word, profile)
+            opened = f"  ; opens: {asked_by(instruction, profile)}" if instruction and RULES.opens(instruction) else ""
+            self.compare_line(line, (place, word), instruction, len(lines), opened, rules.get(place))
 
-    def compare_line(self, line, place, word, instruction, count, rule):
+    def compare_line(self, line, at, instruction, count, opened, rule):
         """A line: its numbers, where a branch goes, what it opens, and its rule."""
+        place, word = at
         start = f"{place:7}  0x{base(0) + FIRST_WORD + 4 * place:016x}  {word:08x}  "
         require(line[: len(start)], start, "the beginning of a line")
         text = line[len(start) :]
@@ -531,7 +541,8 @@ class Listings(Mode):
         if instruction and instruction.name in RULES.DIRECT:
             target = place + instruction.signed("imm")
             ends.append(f"  -> word {target}" if 0 <= target < count else f"  -> outside, word {target}")
-        opened = instruction and RULES.opens(instruction)
+        if opened:
+            ends.append(opened)
         require("; opens: " in text, bool(opened), f"what {line!r} opens")
         if rule:
             ends.append(f"  ; rule {rule}")
