@@ -163,7 +163,52 @@ def try_installs(prefix, words):
         fail(f"left after several installs: {sorted(map(str, prefix.rglob('*')))}, where {program.parent} was before")
 
 
+def try_failures(prefix):
+    """An install that can't put a file in its place leaves none beside it. Where nobody reads what it tells, and of a record that is
+    none, a line says so."""
+    page, record, words = prefix / PAGE, prefix / "share" / "lfiload" / "installed", [TOP / "install", "--prefix", prefix]
+    run(*words)
+    page.unlink()
+    page.mkdir()
+    run(*words, status=1)
+    if list(prefix.rglob(".*")):
+        fail(f"an install that fails leaves {list(prefix.rglob('.*'))}")
+    page.rmdir()
+    unread, out = os.pipe()
+    os.close(unread)
+    for unbuffered in "", "1":
+        told = subprocess.run(words, stdout=out, stderr=subprocess.PIPE, text=True, env={**os.environ, "PYTHONUNBUFFERED": unbuffered})
+        if (told.returncode, told.stderr) != (1, "install: nobody reads all that it tells\n"):
+            fail(f"an install of which nobody reads what it tells: status {told.returncode}, {told.stderr}")
+    os.close(out)
+    for text in b"tree\n", b"tree a\n\n", b"\xff \n":
+        record.write_bytes(text)
+        for word in "--check", "--uninstall":
+            told = subprocess.run([*words, word], capture_output=True, text=True)
+            if told.returncode != 1 or not told.stderr.startswith(f"install: {record}: ") or told.stderr.count("\n") != 1:
+                fail(f"{word} with a record of {text}: status {told.returncode}, {told.stderr}")
+
+
 # ---- other archives and trees
+
+def try_other_tree(room, prefix):
+    """--check by a tree in which nothing is built says so; it tells at which commit that tree stands, and whether files differ."""
+    top = room / "tree"
+    for name in "include", "docs", "completions":
+        shutil.copytree(TOP / name, top / name)
+    shutil.copy(TOP / "install", top)
+    git = ["git", "-c", "user.name=a", "-c", "user.email=a", "-C", top]
+    run(*git, "init", "--quiet")
+    run(*git, "add", ".")
+    run(*git, "commit", "--quiet", "-m", "a")
+    head = run(*git, "rev-parse", "HEAD").strip()
+    for this in head, f"{head}-dirty":
+        told = run(top / "install", "--check", "--prefix", prefix, status=1).splitlines()
+        if not told[0].endswith(f"; this one is {this}") or "bin/lfiload: this tree has none built" not in told:
+            fail(f"--check by a tree at {this} in which nothing is built tells {told}")
+        with open(top / "docs" / "C.md", "a", encoding="utf-8") as file:
+            file.write("\n")
+
 
 def tell_unproved(stub, prefix):
     """An install of an archive that nothing proved says so."""
