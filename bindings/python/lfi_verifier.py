@@ -132,12 +132,19 @@ class _Event(ctypes.Structure):
 _Stream = ctypes.c_uint64 * 105  # 840 bytes of plain numbers, which the calls alone read
 
 
+def _place() -> str:
+    """The library that is named, by its whole path; else its name, by which the system looks for it."""
+    named, name = os.environ.get("LFI_VERIFIER_LIB"), f"liblfi_verifier.so.{VERSION}"
+    if not named:
+        return name
+    place = pathlib.Path(named)
+    return str((place / name if place.is_dir() else place).resolve())
+
+
 def _library() -> ctypes.CDLL:
-    named = os.environ.get("LFI_VERIFIER_LIB")
-    name = f"liblfi_verifier.so.{VERSION}"
-    place = pathlib.Path(named or name)
+    place = _place()
     try:
-        found = ctypes.CDLL(str((place / name).resolve() if place.is_dir() else place))
+        found = ctypes.CDLL(place)
     except OSError as why:
         raise ImportError(f"{why}; name the shared library, or its folder, by LFI_VERIFIER_LIB") from why
     if found.lfi_version() != VERSION:

@@ -188,6 +188,14 @@ class Verifying(unittest.TestCase):
             self.assertEqual(verdict(code, profile), f"word {fault.word} rule {fault.rule}")
             self.assertEqual(lfi_verifier.explain(code, fault, profile, module), wanted)
 
+    def test_room(self):
+        """docs/C.md, of LFI_NO_ROOM: no text is longer. The longest mend stands whole in its text."""
+        most = re.search(r"a text is longer than ([\d,]+) bytes", (TOP / "docs" / "C.md").read_text())[1]
+        self.assertEqual(f"{lfi_verifier.ROOM:,}", most)
+        code, fault = code_of(0xF9400A5E, 0xDAC00BC4), Fault(1, 1)  # ldr x30, [x18, #16]; rev32 x4, x30
+        lines = lfi_verifier.explain(code, fault).partition("mend: ")[2].splitlines()
+        self.assertEqual(len(lines) - 1, len(lfi_verifier.mend(code, fault)))
+
     def test_calls_at_once(self):
         """What another thread calls while a call is in the library changes nothing of it."""
         bare, behind = code_of(NOP, 0xF9400020), code_of(0xD10043FF, 0xF9400020, RET)
@@ -294,6 +302,11 @@ class Streaming(unittest.TestCase):
             self.assertEqual(ends, {2: (Reason.CLOSED, 0, Status.REFUSED, Fault(0, 2)), 3: (Reason.PAGE_FAULT, 1, Status.INCOMPLETE, None),
                                     4: (Reason.LOST, 1, Status.INCOMPLETE, None)})
             self.assertIn(StreamFault(1), events)
+
+    def test_nothing_is_read_after_the_end(self):
+        """Also behind an end at which nothing was left to tell."""
+        stream = Stream()
+        self.assertEqual((stream.end(), stream.read(ONE_RET), stream.end()), ([], [], []))
 
     def test_an_end_too_early(self):
         text = (EXAMPLES / "checksums.stream").read_bytes()

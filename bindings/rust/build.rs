@@ -10,7 +10,7 @@ fn main() -> Result<(), String> {
     for name in ["LFI_VERIFIER_LIB", "PKG_CONFIG", "PKG_CONFIG_PATH"] {
         println!("cargo:rerun-if-env-changed={name}");
     }
-    let named = match env::var_os("LFI_VERIFIER_LIB") {
+    let named = match env::var_os("LFI_VERIFIER_LIB").filter(|it| !it.is_empty()) {
         Some(named) => PathBuf::from(named),
         None => by_pkg_config()?,
     };

@@ -39,9 +39,9 @@ def definition_files(crate):
     return [folder / f"{name}.antt" for name in names if name != "inner" and (folder / f"{name}.antt").is_file()]
 
 
-def script(name):
-    """A script of checks/ as a module."""
-    loader = importlib.machinery.SourceFileLoader(name.replace("/", "_"), str(CHECKS / name))
+def script(name, checks=CHECKS):
+    """A script of checks/, or of a copy of it, as a module."""
+    loader = importlib.machinery.SourceFileLoader(name.replace("/", "_"), str(checks / name))
     module = importlib.util.module_from_spec(importlib.util.spec_from_loader(loader.name, loader))
     loader.exec_module(module)
     return module

@@ -103,6 +103,7 @@ fn lengths() {
     assert_eq!(verifier.update(&[0; 8]), Err(Violation::BadLength));
     assert_eq!(verifier.judged(), 0);
     assert_eq!(Violation::BadLength.to_string(), "bad length");
+    assert_eq!(Violation::Incomplete.to_string(), "words are missing");
 }
 
 #[test]

@@ -118,6 +118,16 @@ fn nothing_is_read_after_the_end() {
     assert_eq!(stream.end().next(), None);
 }
 
+/// Also where not all of the end was told yet.
+#[test]
+fn nothing_is_read_after_a_part_of_the_end() {
+    let open = header(1, 0, 3, 1, 0);
+    let mut stream = Stream::new().expect("a stream");
+    assert_eq!(stream.read(&open).count(), 1);
+    assert_eq!(stream.end().next(), Some(Event::Fault(StreamFault::Ended)));
+    assert_eq!(stream.read(&open).next(), None);
+}
+
 /// What an iterator didn't come to is read by the next one, and a piece without bytes brings nothing.
 #[test]
 fn the_rest_of_a_piece() {
@@ -155,4 +165,6 @@ fn each_fault() {
         assert_eq!(told, [Event::Fault(fault)]);
         assert_eq!((fault.number(), fault.to_string().as_str()), (number, words));
     }
+    // A number that bytes don't show.
+    assert_eq!(StreamFault::Other(8).to_string(), "fault 8");
 }

@@ -1,0 +1,258 @@
+"""What `./install` puts into a prefix, what it leaves there, and what it takes away again: for checks/delivered."""
+
+import os
+import pathlib
+import re
+import shutil
+import stat
+import subprocess
+import sys
+
+from lib.tree import TOP, script
+
+HEADER = TOP / "include" / "lfi_verifier.h"
+CALLERS = script("c_callers/run")
+# The files of the tree that are installed, by the names that ./install and docs/C.md, "Installed", say.
+FILES = {
+    "bin/lfiload": "crates/lfiload/out/lfiload",
+    "share/man/man1/lfiload.1": "docs/lfiload.1",
+    "share/bash-completion/completions/lfiload": "completions/lfiload.bash",
+    "share/zsh/site-functions/_lfiload": "completions/_lfiload",
+    "share/fish/vendor_completions.d/lfiload.fish": "completions/lfiload.fish",
+    "include/lfi_verifier.h": "include/lfi_verifier.h",
+    **{f"share/doc/lfiload/{it}.md": f"docs/{it}.md" for it in ("C", "HOST", "COMMANDS", "GLOSSARY", "PROFILE")},
+}
+PAGE = "share/man/man1/lfiload.1"
+
+untried = []
+
+
+def fail(why):
+    sys.exit(f"delivered: {why}")
+
+
+def run(*words, status=0, stderr=subprocess.PIPE, **more):
+    """Runs a command to its end; stops where its status is another one. Returns its output."""
+    told = subprocess.run([str(word) for word in words], stdout=subprocess.PIPE, stderr=stderr, text=True, **more)
+    if told.returncode != status:
+        fail(f"{' '.join(map(str, words))}: status {told.returncode}\n{told.stdout}{told.stderr or ''}")
+    return told.stdout
+
+
+def has(*tools):
+    """Whether the machine has these tools; which of them it hasn't is told at the end."""
+    missing = [it for it in tools if not shutil.which(it)]
+    untried.extend(f"{it} isn't here" for it in missing)
+    return not missing
+
+
+def of_document(pattern):
+    """What docs/C.md says where this stands."""
+    return re.search(pattern, (TOP / "docs" / "C.md").read_text(), re.M) or fail(f"docs/C.md doesn't have {pattern}")
+
+
+def put_stub(folder, number, version, compiler="cc"):
+    """Both libraries of an interface of this number, all of whose other functions end the process."""
+    functions = CALLERS.of_header(HEADER.read_text())
+    bodies = {name: f"return {number};" if name == "lfi_version" else "__builtin_trap();" for name in functions}
+    folder.mkdir()
+    (folder / "stub.c").write_text("".join(f"unsigned {name}(void) {{ {body} }}\n" for name, body in bodies.items()))
+    run(compiler, "-fPIC", "-c", folder / "stub.c", "-o", folder / "stub.o")
+    run(run(compiler, "-print-prog-name=ar").strip(), "rcs", folder / "liblfi_verifier.a", folder / "stub.o")
+    run(compiler, "-shared", "-fPIC", folder / "stub.c", "-o", folder / f"liblfi_verifier.so.{version}")
+
+
+# ---- what is installed
+
+def mode_of(name):
+    """The mode of a file that is installed, or in a release, under this name: what can be run may be run by all."""
+    return 0o755 if pathlib.PurePath(name).parent.name == "bin" or ".so." in name else 0o644
+
+
+def compare_modes(prefix):
+    """What is installed is for all to read, and no one else's to write, whatever the mask is."""
+    for place in prefix.rglob("*"):
+        wanted = 0o755 if place.is_dir() else mode_of(str(place.relative_to(prefix)))
+        if not place.is_symlink() and stat.S_IMODE(place.stat().st_mode) != wanted:
+            fail(f"{place.relative_to(prefix)} is installed with the mode {stat.S_IMODE(place.stat().st_mode):o}")
+
+
+def compare_contents(prefix, archive):
+    """What is installed of the tree's files, and the archive, has their bytes."""
+    files = {**{name: TOP / it for name, it in FILES.items()}, "lib/liblfi_verifier.a": archive}
+    differ = [name for name, it in files.items() if (prefix / name).read_bytes() != it.read_bytes()]
+    if differ:
+        fail(f"installed with other bytes than the tree's: {differ}")
+
+
+def files_in(prefix):
+    """All files and links there."""
+    return [it for it in prefix.rglob("*") if it.is_symlink() or not it.is_dir()]
+
+
+# ---- files of others, and changed ones
+
+def try_files_of_others(prefix, words):
+    """A file of somebody else isn't replaced, and then nothing is written; nor is one to which a link leads, or which has the name of
+    an installed file and another."""
+    page, mine, kept = prefix / PAGE, prefix.parent / "mine", prefix.parent / "kept"
+    page.parent.mkdir(parents=True)
+    page.write_text("another page\n")
+    for _ in range(2):
+        run(*words, status=1)
+        if files_in(prefix) != [page] or page.read_text() != "another page\n":
+            fail(f"an install that replaces nothing of somebody else leaves {files_in(prefix)}")
+    page.unlink()
+    run(*words)
+    mine.write_text("mine\n")
+    page.unlink()
+    page.symlink_to(mine)
+    run(*words)
+    if page.is_symlink() or mine.read_text() != "mine\n":
+        fail("an install over a link writes to what the link names")
+    page.write_text("kept\n")
+    os.link(page, kept)
+    run(*words)
+    if kept.read_text() != "kept\n":
+        fail("an install writes to a file that has another name, too")
+
+
+def try_changes(prefix, words):
+    """All goes, also the prefix; a file that was changed is told and left."""
+    run(TOP / "install", "--uninstall", "--prefix", prefix)
+    if prefix.exists():
+        fail(f"left after --uninstall: {sorted(map(str, prefix.rglob('*')))}")
+    others, page = prefix / "bin", prefix / PAGE
+    others.mkdir(parents=True)
+    try_files_of_others(prefix, words)
+    page.write_text("a changed page\n")
+    told = run(TOP / "install", "--check", *words[1:3], status=1)
+    if f"{PAGE}: changed since it was installed\n" not in told:
+        fail(f"--check of a changed page tells {told}")
+    told = run(TOP / "install", "--uninstall", "--prefix", prefix, status=1)
+    if told != f"{PAGE}: changed since it was installed, and left\n":
+        fail(f"--uninstall of a changed page tells {told}")
+    if files_in(prefix) != [page] or not others.is_dir():
+        fail(f"left after --uninstall beside a changed file: {files_in(prefix)}, and a folder that was there before: {others.is_dir()}")
+
+
+def try_installs(prefix, words):
+    """A dangling link of somebody else isn't replaced; --check tells a file that is missing; an install without the library takes away
+    what one with it put there, but for what was changed; after several installs only what was there before is left."""
+    program, header = prefix / "bin" / "lfiload", prefix / "include" / "lfi_verifier.h"
+    program.parent.mkdir(parents=True)
+    program.symlink_to("nowhere")
+    run(*words[:1], "--prefix", prefix, *words[3:], status=1)
+    if not program.is_symlink():
+        fail("an install replaces a dangling link of somebody else")
+    program.unlink()
+    run(*words[:1], "--prefix", prefix, *words[3:])
+    program.unlink()
+    if "bin/lfiload: missing\n" not in run(TOP / "install", "--check", "--prefix", prefix, *words[4:], status=1):
+        fail("--check doesn't tell that a file is missing")
+    header.write_text("changed\n")
+    told = run(TOP / "install", "--prefix", prefix)
+    left = [it for it in files_in(prefix) if "verifier" in it.name]
+    if left != [header] or header.read_text() != "changed\n" or not program.exists():
+        fail(f"an install without the library leaves {left}, where {header} was changed")
+    if "include/lfi_verifier.h: changed since it was installed, and left\n" not in told:
+        fail(f"an install that leaves a changed header tells {told}")
+    header.unlink()
+    run(TOP / "install", "--uninstall", "--prefix", prefix)
+    if list(prefix.rglob("*")) != [program.parent]:
+        fail(f"left after several installs: {sorted(map(str, prefix.rglob('*')))}, where {program.parent} was before")
+
+
+def try_failures(prefix):
+    """An install that can't put a file in its place leaves none beside it. Where nobody reads what it tells, and of a record that is
+    none, a line says so."""
+    page, record, words = prefix / PAGE, prefix / "share" / "lfiload" / "installed", [TOP / "install", "--prefix", prefix]
+    run(*words)
+    page.unlink()
+    page.mkdir()
+    run(*words, status=1)
+    if list(prefix.rglob(".*")):
+        fail(f"an install that fails leaves {list(prefix.rglob('.*'))}")
+    page.rmdir()
+    unread, out = os.pipe()
+    os.close(unread)
+    for unbuffered in "", "1":
+        told = subprocess.run(words, stdout=out, stderr=subprocess.PIPE, text=True, env={**os.environ, "PYTHONUNBUFFERED": unbuffered})
+        if (told.returncode, told.stderr) != (1, "install: nobody reads all that it tells\n"):
+            fail(f"an install of which nobody reads what it tells: status {told.returncode}, {told.stderr}")
+    os.close(out)
+    for text in b"tree\n", b"tree a\n\n", b"\xff \n":
+        record.write_bytes(text)
+        for word in "--check", "--uninstall":
+            told = subprocess.run([*words, word], capture_output=True, text=True)
+            if told.returncode != 1 or not told.stderr.startswith(f"install: {record}: ") or told.stderr.count("\n") != 1:
+                fail(f"{word} with a record of {text}: status {told.returncode}, {told.stderr}")
+
+
+# ---- other archives and trees
+
+def try_other_tree(room, prefix):
+    """--check by a tree in which nothing is built says so; it tells at which commit that tree stands, and whether files differ."""
+    top = room / "tree"
+    for name in "include", "docs", "completions":
+        shutil.copytree(TOP / name, top / name)
+    shutil.copy(TOP / "install", top)
+    git = ["git", "-c", "user.name=a", "-c", "user.email=a", "-C", top]
+    run(*git, "init", "--quiet")
+    run(*git, "add", ".")
+    run(*git, "commit", "--quiet", "-m", "a")
+    head = run(*git, "rev-parse", "HEAD").strip()
+    for this in head, f"{head}-dirty":
+        told = run(top / "install", "--check", "--prefix", prefix, status=1).splitlines()
+        if not told[0].endswith(f"; this one is {this}") or "bin/lfiload: this tree has none built" not in told:
+            fail(f"--check by a tree at {this} in which nothing is built tells {told}")
+        with open(top / "docs" / "C.md", "a", encoding="utf-8") as file:
+            file.write("\n")
+
+
+def tell_unproved(stub, prefix):
+    """An install of an archive that nothing proved says so."""
+    told = run(TOP / "install", "--prefix", prefix, "--library", "--no-program", "--archive", stub, umask=0o077)
+    others = [it for it in told.splitlines() if not it.endswith(": installed")]
+    if others != [f"{os.path.relpath(stub, TOP)}: no stamp tells that it was built from this tree's sources"]:
+        fail(f"an install of an archive that nothing proved tells {told}")
+
+
+def try_library_alone(room, version, archive):
+    """The library alone, of an archive that nothing proved, in folders that aren't there, with a mask that lets nobody else in."""
+    stub, above = room / "unproved" / "liblfi_verifier.a", room / "above 100%41\n"
+    prefix, stamp = above / "it" / "prefix", archive.with_name("liblfi_verifier.stamp")
+    put_stub(stub.parent, version, version)
+    tell_unproved(stub, prefix)
+    # The stamp of another file, which was proved.
+    if stamp.exists():
+        shutil.copy(stamp, stub.parent)
+        tell_unproved(stub, prefix)
+    compare_modes(above)
+    alone = of_document(r"^\| share/doc/lfiload/ \| ([A-Z, ]+); with the program")[1].split(", ")
+    found = sorted(it.name for it in (prefix / "share" / "doc" / "lfiload").iterdir())
+    if (prefix / "bin").exists() or found != sorted(f"{it}.md" for it in alone):
+        fail(f"the library alone is installed with the documents {found}, and the program: {(prefix / 'bin').exists()}")
+    told = run(TOP / "install", "--check", "--prefix", prefix, "--archive", archive, status=1).splitlines()
+    if not {"lib/liblfi_verifier.a: of another tree", "include/lfi_verifier.h: of this tree"} <= set(told):
+        fail(f"--check of another archive tells {told}")
+    run(TOP / "install", "--uninstall", "--prefix", prefix)
+    if above.exists():
+        fail(f"left after --uninstall: {sorted(map(str, [above, *above.rglob('*')]))}")
+
+
+def try_another_machine(room, version):
+    """What docs/C.md says of AArch64, with its archive where that is built, makes a shared library for it."""
+    told = of_document(r"For another machine `--archive (\S+) --no-program` and `CC=(\S+)`")
+    archive, compiler = TOP / told[1], told[2]
+    if not has(compiler):
+        return
+    if not archive.exists():
+        put_stub(room / "aarch64", version, version, compiler)
+        archive = room / "aarch64" / "liblfi_verifier.a"
+    prefix = room / "machine"
+    run(TOP / "install", "--prefix", prefix, "--library", "--archive", archive, "--no-program", env={**os.environ, "CC": compiler})
+    head = (prefix / "lib" / "liblfi_verifier.so").read_bytes()[:20]
+    # The field e_machine of an ELF header, which is EM_AARCH64.
+    if int.from_bytes(head[18:], "little") != 183:
+        fail(f"CC={compiler} installs a shared library that begins {head}")
