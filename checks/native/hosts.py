@@ -27,10 +27,17 @@ OVER = {
     "registers": ("command.c",),
     "numbers": ("command.c",),
     "lawful": ("command.c", "run.c"),
+    "signals": ("command.c", "run.c"),
     "mapped": (),
+    "refused": (),
+    "timer": (),
     "steps": (),
 }
-LINKED = {"steps": ["-Wl,--wrap=mprotect,--wrap=syscall,--wrap=__clear_cache"], "registers": ["-Wl,--wrap=lfi_enter"]}
+LINKED = {
+    "steps": ["-Wl,--wrap=mprotect,--wrap=syscall,--wrap=__clear_cache"],
+    "registers": ["-Wl,--wrap=lfi_enter"],
+    "timer": ["-Wl,--wrap=setitimer"],
+}
 MOST_LINES, BASE, SLOT, GUARD = 500, 0x100000000, 1 << 32, 65_536
 ESCAPE = "ESCAPE at 0x[0-9a-f]{16}"
 
@@ -132,9 +139,10 @@ def compare_numbers(program):
 # ---- the host by itself
 
 
-def check_registers(registers, lawful):
-    """A run keeps what AAPCS64 has a function keep; and the host tells lawful registers at a call, one by one at their edges."""
-    for program, wanted in ((registers, b"kept: by a call 1, by a signal 1\n"), (lawful, b"7 registers\n")):
+def check_registers(registers, lawful, signals):
+    """A run keeps what AAPCS64 has a function keep. The host tells lawful registers at a call, one by one at their edges; and so signals, from
+    which it gets back as docs/HOST.md says."""
+    for program, wanted in ((registers, b"kept: by a call 1, by a signal 1\n"), (lawful, b"7 registers\n"), (signals, b"8 signals\n")):
         done = run(program)
         if done.stdout != wanted:
             fail(f"{program.name}: status {done.returncode}\n{done.stdout.decode()}{done.stderr.decode()}")
@@ -147,6 +155,25 @@ def check_mapped(mapped):
         wanted = 3, b"the page is of another part of this process\n", b"native_host: mmap: File exists\n"
         if (done.returncode, done.stdout, done.stderr) != wanted:
             fail(f"a page at {at:#x} is there first: {done}")
+
+
+def check_refused(refused, room):
+    """Of a slot whose code was refused, or didn't come whole, the table alone may be read afterwards (docs/HOST.md, "Writing the code", 5)."""
+    (room / "refused.img").write_bytes(formats.image(0, 0, formats.code_of(0xD503201F, 0xD4000001)))  # NOP, SVC #0
+    for file, modules in ((room / "refused.img", [0]), (EXAMPLES / "hostile.stream", [2, 3, 4])):
+        done = run(refused, file)
+        tables = [f"{formats.base(m):x} {formats.base(m) + 4_096:x} r--p" for m in modules]
+        if done.returncode != 1 or done.stdout.decode().splitlines() != tables:
+            fail(f"after {file.name}, of which nothing is run, more may be accessed than the tables: {done}")
+
+
+def check_timer(timer):
+    """A run has the time that the host's README says, and then no timer is left."""
+    for words, seconds in (([], "60.000000"), (["--seconds", "2.5"], "2.500000")):
+        done = run(timer, *words, EXAMPLES / "checksums.stream")
+        told = re.findall(r"^timer: (.*)$", done.stderr.decode(), re.M)
+        if done.returncode or told != [seconds, "0.000000"]:
+            fail(f"native_host {' '.join(words)}: it sets its timer to {told}, and not to {seconds} and then to 0")
 
 
 def check_steps(steps):
@@ -180,7 +207,9 @@ def cases(room, corpus):
     loop = image(0, 0, formats.code_of(words.branch(0)))
     # LDAR X0, [X18], 15 bytes past a multiple of 16
     crossing = image(0, 0, formats.code_of(*words.move(9, 0x2000F), words.guard(18, 9), 0xC8DFFE40, words.BRK), 2)
-    for name, file in (("loop.img", loop), ("crossing.img", crossing), ("spoiled.img", b"LFI0" + loop[4:]), ("short.img", loop[:-1])):
+    ends = image(0, 0, formats.code_of(words.BRK))
+    spoiled = {"spoiled.img": b"LFI0" + loop[4:], "short.img": loop[:-1], "more.img": ends + b"\0"}
+    for name, file in {"loop.img": loop, "crossing.img": crossing, **spoiled}.items():
         (room / name).write_bytes(file)
     usage = "usage: native_host [--emulate] [--seconds N] [--batch] FILE..\n"
     sums, halted = b"a10a5abb\nc324e8c9\n", "halt 5 status 59\n"
@@ -197,6 +226,7 @@ def cases(room, corpus):
     yield ["--batch", EXAMPLES / "hostile.stream"], 1, b"".join(b"%s %d  not run\n" % (bytes(EXAMPLES / "hostile.stream"), m) for m in (2, 3, 4)), ""
     yield ["spoiled.img"], 1, b"", "image refused, fault 1\n"
     yield ["short.img"], 1, b"", "image refused, fault 5\n"
+    yield ["more.img"], 1, b"", "image refused, fault 6\n"
     yield ["crossing.img"], 1, b"", "bus at 0x000000010002000f\n"
     yield ["--emulate", "crossing.img"], 0, b"", f"halt 4 at 0x{BASE + 0x10010:016x}\n"
     for seconds in ("0.05", "0.0000001"):
