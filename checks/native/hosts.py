@@ -21,6 +21,17 @@ COMPILER = "cc" if IS_AARCH64 else "aarch64-linux-gnu-gcc"
 FAULTS = {1: "guards that can be read", 2: "an entry that loses a register", 3: "a start with sp too low"}
 # Registers that rows hand over at a call as no lawful code has them: by the number of the fault that does it.
 UNLAWFUL = {18: "x18", 21: "x21", 22: "x22", 23: "x23", 24: "x24", 30: "x30", 31: "sp"}
+# How the steps of docs/HOST.md, "Writing the code", begin.
+STEPS = (
+    "Reserve slot and guards without access",
+    "Write the table",
+    "Map 65,536 to R for reading and writing, not for execution",
+    "Judge these very bytes",
+    "Where they are refused",
+    "Take the right to write away. Then bring the instruction caches in step",
+    "Map them for reading and execution",
+    "Map R to the slot's end for reading and writing",
+)
 # Programs over the host's files, with those that they leave out, and the linker's flags.
 OVER = {
     "threads": ("command.c",),
@@ -90,24 +101,40 @@ def compare_words():
         fail(f"the host cites {cited} lines of docs/HOST.md, and has {lines} lines")
 
 
+def part_of(heading):
+    """What stands below a heading of docs/HOST.md."""
+    return DOCUMENT.read_text().partition(f"\n## {heading}\n")[2].partition("\n## ")[0]
+
+
 def rows_of(heading):
-    """The first three cells of the rows of the table below a heading of docs/HOST.md."""
-    part = DOCUMENT.read_text().partition(f"\n## {heading}\n")[2].partition("\n## ")[0]
-    rows = [[cell.strip() for cell in line.strip("|").split("|")] for line in part.splitlines() if line.startswith("|")]
-    return [tuple(row[:3]) for row in rows[2:]]
+    """The rows of the table below a heading of docs/HOST.md, by their cells."""
+    rows = [[cell.strip() for cell in line.strip("|").split("|")] for line in part_of(heading).splitlines() if line.startswith("|")]
+    return [tuple(row) for row in rows[2:]]
+
+
+def compare_order():
+    """The steps of docs/HOST.md, "Writing the code", are those that check_steps sees, in that order; and each signal that stops code is
+    Linux's (arch/arm64/kernel/traps.c and arch/arm64/mm/fault.c)."""
+    steps = re.findall(r"^(\d)\. (.*)$", part_of("Writing the code"), re.M)
+    if [int(number) for number, _ in steps] != list(range(1, len(STEPS) + 1)) or not all(map(str.startswith, (it for _, it in steps), STEPS)):
+        fail(f"docs/HOST.md has other steps, or another order: {[(number, text[:40]) for number, text in steps]}")
+    told = {halt: re.findall(r"SIG[A-Z]+", signals) for first, signals, _ in rows_of("When the code stops") for halt in re.findall(r"halt \d", first)}
+    if told != {"halt 2": ["SIGSEGV"], "halt 3": ["SIGSEGV", "SIGILL", "SIGBUS"], "halt 4": ["SIGTRAP"]}:
+        fail(f"docs/HOST.md, When the code stops: other signals: {told}")
 
 
 def map_of(base, size, guard, table, code):
-    """The table of the map, as lfi_verifier.h says what is mapped where; the numbers are those of slot 0."""
+    """The table of the map, as lfi_verifier.h says what is mapped where; the numbers are those of slot 0. Nobody writes what can't be written:
+    the host did so before."""
     most = int(re.search(r"define LFI_MAX_BYTES (\d+)u", (TOP / "include" / "lfi_verifier.h").read_text())[1])
     end = f"2^{size.bit_length() - 1}"
     return [
-        (f"B - {guard:,} to B - 1: a guard", f"0x{base - guard:010x}", "without access"),
-        (f"B to B + {table - 1:,}: the table of entries", f"0x{base:010x}", "read"),
-        (f"B + {table:,} to B + {code - 1:,}", f"0x{base + table:010x}", "without access"),
-        (f"B + {code:,} to B + R - 1: the code, then zero bytes", f"0x{base + code:010x}", "read, execute"),
-        (f"B + R to B + {end} - 1: data", f"at most 0x{base + code + most:010x}", "read, write"),
-        (f"B + {end} to B + {end} + {guard - 1:,}: a guard", f"0x{base + size:010x}", "without access"),
+        (f"B - {guard:,} to B - 1: a guard", f"0x{base - guard:010x}", "without access", "nobody"),
+        (f"B to B + {table - 1:,}: the table of entries", f"0x{base:010x}", "read", "the host, before the first start; then nobody"),
+        (f"B + {table:,} to B + {code - 1:,}", f"0x{base + table:010x}", "without access", "nobody"),
+        (f"B + {code:,} to B + R - 1: the code, then zero bytes", f"0x{base + code:010x}", "read, execute", "the host, before it is judged; then nobody"),
+        (f"B + R to B + {end} - 1: data", f"at most 0x{base + code + most:010x}", "read, write", "the code; the host in a call of its runtime"),
+        (f"B + {end} to B + {end} + {guard - 1:,}: a guard", f"0x{base + size:010x}", "without access", "nobody"),
     ]
 
 
@@ -131,6 +158,7 @@ def compare_numbers(program):
         if told != wanted:
             fail(f"docs/HOST.md, {heading}: it has {told}, and the library {wanted}")
     sentences = [f"begins at `B = (2m + 1) * {end}`", f"{entries} numbers of 8 bytes", f"number j is `{power} + {step}j`"]
+    sentences += [f"sp may be up to {reach} bytes outside of the slot", f"sp {reach - 1} bytes past its end"]
     for words in [*sentences, f"Addresses up to {power} + {entries * step:,}."]:
         if words not in DOCUMENT.read_text():
             fail(f"docs/HOST.md doesn't say what the library tells: {words}")
