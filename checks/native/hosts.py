@@ -132,7 +132,12 @@ def map_of(base, size, guard, table, code):
         (f"B - {guard:,} to B - 1: a guard", f"0x{base - guard:010x}", "without access", "nobody"),
         (f"B to B + {table - 1:,}: the table of entries", f"0x{base:010x}", "read", "the host, before the first start; then nobody"),
         (f"B + {table:,} to B + {code - 1:,}", f"0x{base + table:010x}", "without access", "nobody"),
-        (f"B + {code:,} to B + R - 1: the code, then zero bytes", f"0x{base + code:010x}", "read, execute", "the host, before it is judged; then nobody"),
+        (
+            f"B + {code:,} to B + R - 1: the code, then zero bytes",
+            f"0x{base + code:010x}",
+            "read, execute",
+            "the host, before it is judged; then nobody",
+        ),
         (f"B + R to B + {end} - 1: data", f"at most 0x{base + code + most:010x}", "read, write", "the code; the host in a call of its runtime"),
         (f"B + {end} to B + {end} + {guard - 1:,}: a guard", f"0x{base + size:010x}", "without access", "nobody"),
     ]
