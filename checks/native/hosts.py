@@ -21,16 +21,34 @@ COMPILER = "cc" if IS_AARCH64 else "aarch64-linux-gnu-gcc"
 FAULTS = {1: "guards that can be read", 2: "an entry that loses a register", 3: "a start with sp too low"}
 # Registers that rows hand over at a call as no lawful code has them: by the number of the fault that does it.
 UNLAWFUL = {18: "x18", 21: "x21", 22: "x22", 23: "x23", 24: "x24", 30: "x30", 31: "sp"}
+# How the steps of docs/HOST.md, "Writing the code", begin.
+STEPS = (
+    "Reserve slot and guards without access",
+    "Write the table",
+    "Map 65,536 to R for reading and writing, not for execution",
+    "Judge these very bytes",
+    "Where they are refused",
+    "Take the right to write away. Then bring the instruction caches in step",
+    "Map them for reading and execution",
+    "Map R to the slot's end for reading and writing",
+)
 # Programs over the host's files, with those that they leave out, and the linker's flags.
 OVER = {
     "threads": ("command.c",),
     "registers": ("command.c",),
     "numbers": ("command.c",),
     "lawful": ("command.c", "run.c"),
+    "signals": ("command.c", "run.c"),
     "mapped": (),
+    "refused": (),
+    "timer": (),
     "steps": (),
 }
-LINKED = {"steps": ["-Wl,--wrap=mprotect,--wrap=syscall,--wrap=__clear_cache"], "registers": ["-Wl,--wrap=lfi_enter"]}
+LINKED = {
+    "steps": ["-Wl,--wrap=mprotect,--wrap=syscall,--wrap=__clear_cache"],
+    "registers": ["-Wl,--wrap=lfi_enter"],
+    "timer": ["-Wl,--wrap=setitimer"],
+}
 MOST_LINES, BASE, SLOT, GUARD = 500, 0x100000000, 1 << 32, 65_536
 ESCAPE = "ESCAPE at 0x[0-9a-f]{16}"
 
@@ -83,24 +101,45 @@ def compare_words():
         fail(f"the host cites {cited} lines of docs/HOST.md, and has {lines} lines")
 
 
+def part_of(heading):
+    """What stands below a heading of docs/HOST.md."""
+    return DOCUMENT.read_text().partition(f"\n## {heading}\n")[2].partition("\n## ")[0]
+
+
 def rows_of(heading):
-    """The first three cells of the rows of the table below a heading of docs/HOST.md."""
-    part = DOCUMENT.read_text().partition(f"\n## {heading}\n")[2].partition("\n## ")[0]
-    rows = [[cell.strip() for cell in line.strip("|").split("|")] for line in part.splitlines() if line.startswith("|")]
-    return [tuple(row[:3]) for row in rows[2:]]
+    """The rows of the table below a heading of docs/HOST.md, by their cells."""
+    rows = [[cell.strip() for cell in line.strip("|").split("|")] for line in part_of(heading).splitlines() if line.startswith("|")]
+    return [tuple(row) for row in rows[2:]]
+
+
+def compare_order():
+    """The steps of docs/HOST.md, "Writing the code", are those that check_steps sees, in that order; and each signal that stops code is
+    Linux's (arch/arm64/kernel/traps.c and arch/arm64/mm/fault.c)."""
+    steps = re.findall(r"^(\d)\. (.*)$", part_of("Writing the code"), re.M)
+    if [int(number) for number, _ in steps] != list(range(1, len(STEPS) + 1)) or not all(map(str.startswith, (it for _, it in steps), STEPS)):
+        fail(f"docs/HOST.md has other steps, or another order: {[(number, text[:40]) for number, text in steps]}")
+    told = {halt: re.findall(r"SIG[A-Z]+", signals) for first, signals, _ in rows_of("When the code stops") for halt in re.findall(r"halt \d", first)}
+    if told != {"halt 2": ["SIGSEGV"], "halt 3": ["SIGSEGV", "SIGILL", "SIGBUS"], "halt 4": ["SIGTRAP"]}:
+        fail(f"docs/HOST.md, When the code stops: other signals: {told}")
 
 
 def map_of(base, size, guard, table, code):
-    """The table of the map, as lfi_verifier.h says what is mapped where; the numbers are those of slot 0."""
+    """The table of the map, as lfi_verifier.h says what is mapped where; the numbers are those of slot 0. Nobody writes what can't be written:
+    the host did so before."""
     most = int(re.search(r"define LFI_MAX_BYTES (\d+)u", (TOP / "include" / "lfi_verifier.h").read_text())[1])
     end = f"2^{size.bit_length() - 1}"
     return [
-        (f"B - {guard:,} to B - 1: a guard", f"0x{base - guard:010x}", "without access"),
-        (f"B to B + {table - 1:,}: the table of entries", f"0x{base:010x}", "read"),
-        (f"B + {table:,} to B + {code - 1:,}", f"0x{base + table:010x}", "without access"),
-        (f"B + {code:,} to B + R - 1: the code, then zero bytes", f"0x{base + code:010x}", "read, execute"),
-        (f"B + R to B + {end} - 1: data", f"at most 0x{base + code + most:010x}", "read, write"),
-        (f"B + {end} to B + {end} + {guard - 1:,}: a guard", f"0x{base + size:010x}", "without access"),
+        (f"B - {guard:,} to B - 1: a guard", f"0x{base - guard:010x}", "without access", "nobody"),
+        (f"B to B + {table - 1:,}: the table of entries", f"0x{base:010x}", "read", "the host, before the first start; then nobody"),
+        (f"B + {table:,} to B + {code - 1:,}", f"0x{base + table:010x}", "without access", "nobody"),
+        (
+            f"B + {code:,} to B + R - 1: the code, then zero bytes",
+            f"0x{base + code:010x}",
+            "read, execute",
+            "the host, before it is judged; then nobody",
+        ),
+        (f"B + R to B + {end} - 1: data", f"at most 0x{base + code + most:010x}", "read, write", "the code; the host in a call of its runtime"),
+        (f"B + {end} to B + {end} + {guard - 1:,}: a guard", f"0x{base + size:010x}", "without access", "nobody"),
     ]
 
 
@@ -124,6 +163,7 @@ def compare_numbers(program):
         if told != wanted:
             fail(f"docs/HOST.md, {heading}: it has {told}, and the library {wanted}")
     sentences = [f"begins at `B = (2m + 1) * {end}`", f"{entries} numbers of 8 bytes", f"number j is `{power} + {step}j`"]
+    sentences += [f"sp may be up to {reach} bytes outside of the slot", f"sp {reach - 1} bytes past its end"]
     for words in [*sentences, f"Addresses up to {power} + {entries * step:,}."]:
         if words not in DOCUMENT.read_text():
             fail(f"docs/HOST.md doesn't say what the library tells: {words}")
@@ -132,9 +172,10 @@ def compare_numbers(program):
 # ---- the host by itself
 
 
-def check_registers(registers, lawful):
-    """A run keeps what AAPCS64 has a function keep; and the host tells lawful registers at a call, one by one at their edges."""
-    for program, wanted in ((registers, b"kept: by a call 1, by a signal 1\n"), (lawful, b"7 registers\n")):
+def check_registers(registers, lawful, signals):
+    """A run keeps what AAPCS64 has a function keep. The host tells lawful registers at a call, one by one at their edges; and so signals, from
+    which it gets back as docs/HOST.md says."""
+    for program, wanted in ((registers, b"kept: by a call 1, by a signal 1\n"), (lawful, b"7 registers\n"), (signals, b"8 signals\n")):
         done = run(program)
         if done.stdout != wanted:
             fail(f"{program.name}: status {done.returncode}\n{done.stdout.decode()}{done.stderr.decode()}")
@@ -147,6 +188,25 @@ def check_mapped(mapped):
         wanted = 3, b"the page is of another part of this process\n", b"native_host: mmap: File exists\n"
         if (done.returncode, done.stdout, done.stderr) != wanted:
             fail(f"a page at {at:#x} is there first: {done}")
+
+
+def check_refused(refused, room):
+    """Of a slot whose code was refused, or didn't come whole, the table alone may be read afterwards (docs/HOST.md, "Writing the code", 5)."""
+    (room / "refused.img").write_bytes(formats.image(0, 0, formats.code_of(0xD503201F, 0xD4000001)))  # NOP, SVC #0
+    for file, modules in ((room / "refused.img", [0]), (EXAMPLES / "hostile.stream", [2, 3, 4])):
+        done = run(refused, file)
+        tables = [f"{formats.base(m):x} {formats.base(m) + 4_096:x} r--p" for m in modules]
+        if done.returncode != 1 or done.stdout.decode().splitlines() != tables:
+            fail(f"after {file.name}, of which nothing is run, more may be accessed than the tables: {done}")
+
+
+def check_timer(timer):
+    """A run has the time that the host's README says, and then no timer is left."""
+    for words, seconds in (([], "60.000000"), (["--seconds", "2.5"], "2.500000")):
+        done = run(timer, *words, EXAMPLES / "checksums.stream")
+        told = re.findall(r"^timer: (.*)$", done.stderr.decode(), re.M)
+        if done.returncode or told != [seconds, "0.000000"]:
+            fail(f"native_host {' '.join(words)}: it sets its timer to {told}, and not to {seconds} and then to 0")
 
 
 def check_steps(steps):
@@ -180,7 +240,9 @@ def cases(room, corpus):
     loop = image(0, 0, formats.code_of(words.branch(0)))
     # LDAR X0, [X18], 15 bytes past a multiple of 16
     crossing = image(0, 0, formats.code_of(*words.move(9, 0x2000F), words.guard(18, 9), 0xC8DFFE40, words.BRK), 2)
-    for name, file in (("loop.img", loop), ("crossing.img", crossing), ("spoiled.img", b"LFI0" + loop[4:]), ("short.img", loop[:-1])):
+    ends = image(0, 0, formats.code_of(words.BRK))
+    spoiled = {"spoiled.img": b"LFI0" + loop[4:], "short.img": loop[:-1], "more.img": ends + b"\0"}
+    for name, file in {"loop.img": loop, "crossing.img": crossing, **spoiled}.items():
         (room / name).write_bytes(file)
     usage = "usage: native_host [--emulate] [--seconds N] [--batch] FILE..\n"
     sums, halted = b"a10a5abb\nc324e8c9\n", "halt 5 status 59\n"
@@ -197,6 +259,7 @@ def cases(room, corpus):
     yield ["--batch", EXAMPLES / "hostile.stream"], 1, b"".join(b"%s %d  not run\n" % (bytes(EXAMPLES / "hostile.stream"), m) for m in (2, 3, 4)), ""
     yield ["spoiled.img"], 1, b"", "image refused, fault 1\n"
     yield ["short.img"], 1, b"", "image refused, fault 5\n"
+    yield ["more.img"], 1, b"", "image refused, fault 6\n"
     yield ["crossing.img"], 1, b"", "bus at 0x000000010002000f\n"
     yield ["--emulate", "crossing.img"], 0, b"", f"halt 4 at 0x{BASE + 0x10010:016x}\n"
     for seconds in ("0.05", "0.0000001"):
