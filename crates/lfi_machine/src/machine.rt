@@ -6,7 +6,6 @@ ghost use Rattle.sparse_memory.specs.Kept.{byte_at, KeepsNone};
 ghost use Rattle.lfi_confinement.specs.Slots.{base};
 ghost use Rattle.lfi_confinement.specs.Lawful.{Held};
 ghost use Rattle.lfi_machine.specs.Starts.{refusal_of};
-ghost use Rattle.lfi_machine.specs.Keeping.{KeepsByStep};
 ghost use Rattle.lfi_machine.specs.Runs.{Steps, IsConfined, RanThenHalts};
 ghost use Rattle.lfi_machine.specs.inner.Rows.{RanRow};
 
@@ -105,7 +104,6 @@ impl Machine {
     pub fn step<R: Runtime>(&mut self, runtime: &mut R) -> Result<(), Halt>
         ensures steps { Steps R.answers self.old runtime.old self.new runtime.new result }
         ensures image { self.new.owned.image ≡ self.old.owned.image }
-        ensures keeps { KeepsByStep self.old.registers self.old.owned self.new.owned }
         ensures confined { IsConfined self.new }
     {
         step_on(

@@ -26,10 +26,10 @@ module _ {H G : Type 0} (answers : Answers H) (others : Answers G) (seen : H →
   halts_alike halt move c d h k e = absurd e
 
   next_alike : (c d : Config) (h k : H) → NextStep answers c h d k → NextStep others c (seen h) d (seen k)
-  next_alike c d h k e = record { move = e.move; moves = e.moves; leads = leads_alike e.move c d h k e.leads; image = e.image }
+  next_alike c d h k e = record { move = e.move; moves = e.moves; leads = leads_alike e.move c d h k e.leads; keeps = e.keeps; image = e.image }
 
   stops_alike : (halt : Halt) (c d : Config) (h k : H) → StopsAt answers halt c h d k → StopsAt others halt c (seen h) d (seen k)
-  stops_alike halt c d h k e = record { move = e.move; moves = e.moves; halts = halts_alike halt e.move c d h k e.halts; image = e.image }
+  stops_alike halt c d h k e = record { move = e.move; moves = e.moves; halts = halts_alike halt e.move c d h k e.halts; keeps = e.keeps; image = e.image }
 
   ran_alike : (count : ℕ) (c d : Config) (h k : H) → Ran answers c h count d k → Ran others c (seen h) count d (seen k)
   ran_alike zero c d h k e = (e.0, ap seen e.1)
