@@ -15,6 +15,7 @@ _lfiload() {
             ;;
         check:--format)
             compopt +o default 2>/dev/null
+            mapfile -t COMPREPLY < <(compgen -W 'text json' -- "$word")
             return
             ;;
         load:--verifiers)
@@ -28,6 +29,7 @@ _lfiload() {
             ;;
         load:--format)
             compopt +o default 2>/dev/null
+            mapfile -t COMPREPLY < <(compgen -W 'text json' -- "$word")
             return
             ;;
         serve:--socket)
@@ -53,6 +55,7 @@ _lfiload() {
             ;;
         serve:--format)
             compopt +o default 2>/dev/null
+            mapfile -t COMPREPLY < <(compgen -W 'text json' -- "$word")
             return
             ;;
         run:--steps)
@@ -61,6 +64,7 @@ _lfiload() {
             ;;
         run:--format)
             compopt +o default 2>/dev/null
+            mapfile -t COMPREPLY < <(compgen -W 'text json' -- "$word")
             return
             ;;
         disassemble:--profile)

@@ -5,6 +5,7 @@ import ctypes
 import pathlib
 import pickle
 import re
+import sys
 import threading
 import unittest
 from unittest import mock
@@ -68,6 +69,12 @@ def header(kind, second, module, a, b):
 def page(kind, module, index, *words):
     """A Page, of kind 2 or of kind 5, with its payload."""
     return header(kind, 0, module, index, 4 * len(words)) + code_of(*words)
+
+
+def module_of(module, pages):
+    """A module of whole pages, all NOP: its Open, its pages and its Close."""
+    body = b"".join(page(2, module, index, *[NOP] * 1024) for index in range(pages))
+    return header(1, 0, module, 1024 * pages, 0) + body + header(3, 0, module, 0, 0)
 
 
 def views_of(data):
@@ -357,6 +364,24 @@ class Streaming(unittest.TestCase):
                     first(stream)
                     other.join()
                 self.assertEqual(waits, [True])
+
+    def test_reads_of_several_threads(self):
+        """The bytes of a read are handled together, whatever other threads read meanwhile: each of 16 modules comes whole."""
+        switched = sys.getswitchinterval()
+        self.addCleanup(sys.setswitchinterval, switched)
+        sys.setswitchinterval(1e-6)
+        modules = [module_of(at, 4) for at in range(16)]
+        for _ in range(60):
+            stream, events = Stream(), []
+            threads = [threading.Thread(target=lambda it=it: events.extend(stream.read(it))) for it in modules]
+            for it in threads:
+                it.start()
+            for it in threads:
+                it.join()
+            events += stream.end()
+            self.assertFalse([it for it in events if isinstance(it, StreamFault)])
+            ends = [(it.module, it.verdict) for it in events if isinstance(it, End)]
+            self.assertEqual(sorted(ends), [(at, Status.LAWFUL) for at in range(16)])
 
     def test_numbers_that_no_call_wrote(self):
         """docs/C.md, "A stream": 840 bytes, whose first number is 0 to 2, and whose modules' verdicts begin at byte 424."""

@@ -10,8 +10,10 @@ fn main() -> Result<(), String> {
     for name in ["LFI_VERIFIER_LIB", "PKG_CONFIG", "PKG_CONFIG_PATH"] {
         println!("cargo:rerun-if-env-changed={name}");
     }
-    let named = match env::var_os("LFI_VERIFIER_LIB").filter(|it| !it.is_empty()) {
-        Some(named) => PathBuf::from(named),
+    let named = match env::var_os("LFI_VERIFIER_LIB").filter(|it| !it.is_empty()).map(PathBuf::from) {
+        // cargo runs this in the crate's own folder.
+        Some(named) if named.is_relative() => return Err(format!("LFI_VERIFIER_LIB has to be a whole path, and is {}", named.display())),
+        Some(named) => named,
         None => by_pkg_config()?,
     };
     let folder = match named.is_file() {
@@ -42,7 +44,13 @@ fn by_pkg_config() -> Result<PathBuf, String> {
     };
     let installed = ask(&["--print-errors", "--modversion", "lfi_verifier"])?;
     match installed == INTERFACE {
-        true => ask(&["--variable=libdir", "lfi_verifier"]).map(PathBuf::from),
+        true => ask(&["--variable=libdir", "lfi_verifier"]).map(|it| PathBuf::from(unescaped(&it))),
         false => Err(format!("the installed library has interface {installed}, and this crate is for {INTERFACE}; {NAME_IT}")),
     }
+}
+
+/// A text of pkg-config's, which puts a backslash before what a shell would read.
+fn unescaped(text: &str) -> String {
+    let mut letters = text.chars();
+    std::iter::from_fn(|| letters.next().and_then(|it| if it == '\\' { letters.next() } else { Some(it) })).collect()
 }

@@ -1,8 +1,10 @@
 """What `./install` puts into a prefix, what it leaves there, and what it takes away again: for checks/delivered."""
 
+import hashlib
 import os
 import pathlib
 import re
+import resource
 import shutil
 import stat
 import subprocess
@@ -44,6 +46,15 @@ def has(*tools):
     missing = [it for it in tools if not shutil.which(it)]
     untried.extend(f"{it} isn't here" for it in missing)
     return not missing
+
+
+def oldest_python():
+    """CPython 3.9, where it is here, also as one of pyenv's that isn't chosen; else nothing."""
+    for place in "python3.9", *pathlib.Path.home().glob(".pyenv/versions/3.9.*/bin/python3.9"):
+        if shutil.which(place) and subprocess.run([place, "-V"], capture_output=True).returncode == 0:
+            return place
+    untried.append("python3.9 isn't here")
+    return None
 
 
 def of_document(pattern):
@@ -163,6 +174,20 @@ def try_installs(prefix, words):
         fail(f"left after several installs: {sorted(map(str, prefix.rglob('*')))}, where {program.parent} was before")
 
 
+def try_full_disk(prefix):
+    """A first install that can write no more than 64 KiB of a file names the file, and is on record: --uninstall leaves nothing."""
+    def limited():
+        resource.setrlimit(resource.RLIMIT_FSIZE, (65536, 65536))
+
+    words, program = [TOP / "install", "--prefix", prefix], prefix / "bin" / "lfiload"
+    told = subprocess.run(words, capture_output=True, text=True, preexec_fn=limited)
+    if told.returncode != 1 or told.stderr != f"install: {program}: File too large\n":
+        fail(f"a first install that can't write the program: status {told.returncode}, {told.stderr}")
+    run(*words, "--uninstall")
+    if prefix.exists():
+        fail(f"left of a first install that failed, after --uninstall: {sorted(map(str, prefix.rglob('*')))}")
+
+
 def try_failures(prefix):
     """An install that can't put a file in its place leaves none beside it. Where nobody reads what it tells, and of a record that is
     none, a line says so."""
@@ -189,10 +214,18 @@ def try_failures(prefix):
                 fail(f"{word} with a record of {text}: status {told.returncode}, {told.stderr}")
 
 
+def try_oldest_python(prefix):
+    """CPython 3.9 installs, installs again, looks and uninstalls, as the README promises."""
+    python = oldest_python()
+    for more in ((), (), ("--check",), ("--uninstall",)) if python else ():
+        run(python, TOP / "install", "--prefix", prefix, *more)
+
+
 # ---- other archives and trees
 
 def try_other_tree(room, prefix):
-    """--check by a tree in which nothing is built says so; it tells at which commit that tree stands, and whether files differ."""
+    """--check by a tree in which nothing is built says so; it tells at which commit that tree stands, and whether files differ, and
+    writes nothing there."""
     top = room / "tree"
     for name in "include", "docs", "completions":
         shutil.copytree(TOP / name, top / name)
@@ -201,21 +234,41 @@ def try_other_tree(room, prefix):
     run(*git, "init", "--quiet")
     run(*git, "add", ".")
     run(*git, "commit", "--quiet", "-m", "a")
-    head = run(*git, "rev-parse", "HEAD").strip()
+    head, index = run(*git, "rev-parse", "HEAD").strip(), top / ".git" / "index"
     for this in head, f"{head}-dirty":
+        written = index.stat().st_mtime_ns
+        os.utime(top / "install", (1, 1))
         told = run(top / "install", "--check", "--prefix", prefix, status=1).splitlines()
         if not told[0].endswith(f"; this one is {this}") or "bin/lfiload: this tree has none built" not in told:
             fail(f"--check by a tree at {this} in which nothing is built tells {told}")
+        if index.stat().st_mtime_ns != written:
+            fail("--check writes git's index")
         with open(top / "docs" / "C.md", "a", encoding="utf-8") as file:
             file.write("\n")
 
 
-def tell_unproved(stub, prefix):
-    """An install of an archive that nothing proved says so."""
+def tell_sources(stub, prefix, wanted="no stamp tells that it was built from this tree's sources"):
+    """An install of an archive says what it was made from; where nothing proved it, so."""
     told = run(TOP / "install", "--prefix", prefix, "--library", "--no-program", "--archive", stub, umask=0o077)
     others = [it for it in told.splitlines() if not it.endswith(": installed")]
-    if others != [f"{os.path.relpath(stub, TOP)}: no stamp tells that it was built from this tree's sources"]:
-        fail(f"an install of an archive that nothing proved tells {told}")
+    if others != [f"{os.path.relpath(stub, TOP)}: {wanted}"]:
+        fail(f"an install of an archive of which is wanted {wanted!r} tells {told}")
+
+
+def tell_by_stamps(stub, prefix, stamp):
+    """An archive is of these sources where its stamp has their sum and the archive's own: not with another file's, nor of other sources."""
+    tell_sources(stub, prefix)
+    if stamp.exists():
+        shutil.copy(stamp, stub.parent)
+        tell_sources(stub, prefix)
+    if not shutil.which("rt"):
+        untried.append("rt isn't here")
+        return
+    sources, own = script("build").stamps_of("lfi_verifier")[0], hashlib.sha256(stub.read_bytes()).hexdigest()
+    others = ("0" if sources[0] != "0" else "1") + sources[1:]
+    for sum_, wanted in (others, {}), (sources, {"wanted": "proved and built from this tree's sources"}):
+        stub.with_name("liblfi_verifier.stamp").write_text(sum_ + own)
+        tell_sources(stub, prefix, **wanted)
 
 
 def try_library_alone(room, version, archive):
@@ -223,11 +276,7 @@ def try_library_alone(room, version, archive):
     stub, above = room / "unproved" / "liblfi_verifier.a", room / "above 100%41\n"
     prefix, stamp = above / "it" / "prefix", archive.with_name("liblfi_verifier.stamp")
     put_stub(stub.parent, version, version)
-    tell_unproved(stub, prefix)
-    # The stamp of another file, which was proved.
-    if stamp.exists():
-        shutil.copy(stamp, stub.parent)
-        tell_unproved(stub, prefix)
+    tell_by_stamps(stub, prefix, stamp)
     compare_modes(above)
     alone = of_document(r"^\| share/doc/lfiload/ \| ([A-Z, ]+); with the program")[1].split(", ")
     found = sorted(it.name for it in (prefix / "share" / "doc" / "lfiload").iterdir())

@@ -1,0 +1,101 @@
+"""What checks/build makes of a toolchain's answers, by one that proves nothing and only answers: for checks/delivered."""
+
+import os
+import shutil
+import subprocess
+import sys
+
+from lib.installed import fail, run
+from lib.tree import TOP
+
+ANSWERS = """import hashlib, os, pathlib, sys
+RATTLE = "prove"
+
+
+class Crate:
+    def __init__(self, folder, top, said):
+        self.folder, self.said = pathlib.Path(folder), said
+        self.rlib = str(self.folder / "out" / "rlib" / "it.rlib")
+
+    def stamp(self):
+        return hashlib.sha256((self.folder / "src" / "status").read_bytes()).hexdigest()
+
+    def stream(self, name):
+        return None
+
+    def is_built(self):
+        return False
+
+    def words(self, words, keeps):
+        return words
+
+    def call(self, *words):
+        pathlib.Path(self.rlib).write_text("proved")
+        return int((self.folder / "src" / "status").read_text())
+
+
+def main(verb, *words):
+    crate = Crate(os.getcwd(), None, {})
+    status = int((crate.folder / "src" / "status").read_text())
+    (crate.folder / "out").mkdir(exist_ok=True)
+    made = crate.folder / "out" / ("liblfi_verifier.a" if verb == "lib" else "lfiload")
+    if status == 0:
+        made.write_text("new")
+    text = crate.folder / "src" / "main.rt"
+    print("asked", verb, text.read_text() if verb == "run" else "")
+    return status
+
+
+if __name__ == "__main__":
+    sys.exit(main(*sys.argv[1:]))
+"""
+VERSION = 'const VERSION: &str = "0.1.0, library interface 6";\n'
+
+
+def put_tree(room):
+    """A checkout of three crates, a program and a library over a third, and the toolchain that answers for them."""
+    top, tools = room / "built", room / "tools"
+    for folder in top / "checks", tools:
+        folder.mkdir(parents=True)
+    shutil.copy(TOP / "checks" / "build", top / "checks" / "build")
+    (tools / "rtlib.py").write_text(ANSWERS)
+    (tools / "rt").write_text(f"#!/bin/sh\nexec {sys.executable} {tools / 'rtlib.py'} \"$@\"\n")
+    (tools / "rt").chmod(0o755)
+    (top / "crates.txt").write_text("low:\nlfiload: low\nlfi_verifier staticlib: low\n")
+    for name in "low", "lfiload", "lfi_verifier":
+        source = top / "crates" / name / "src"
+        source.mkdir(parents=True)
+        (source / "main.rt").write_text(VERSION)
+        (source / "status").write_text("0")
+    (top / "HANDLES").write_text("Handles allowed: none.\n")
+    (top / ".gitignore").write_text("out/\n")
+    git = ["git", "-c", "user.name=a", "-c", "user.email=a", "-C", top]
+    run(*git, "init", "--quiet")
+    run(*git, "add", ".")
+    run(*git, "commit", "--quiet", "-m", "a")
+    return top, {**os.environ, "PATH": f"{tools}:{os.environ['PATH']}"}, run(*git, "rev-parse", "--short=12", "HEAD").strip()
+
+
+def try_building(room):
+    """The program of a checkout that is its commit tells the commit. Where the proof of a crate fails, by whatever status, nothing above
+    it is made, the status says so, and an archive that was built before is neither put in its place nor called proved."""
+    top, found, commit = put_tree(room)
+    build, archive = [top / "checks" / "build"], top / "out" / "x86_64-unknown-linux-gnu" / "liblfi_verifier.a"
+    told = run(*build, env=found)
+    if f', commit {commit}, library interface 6"' not in told:
+        fail(f"checks/build makes a program that tells no commit {commit}: {told}")
+    library = [*build, "--library", "--target", "x86_64-unknown-linux-gnu"]
+    run(*library, env=found)
+    if archive.read_text() != "new":
+        fail("checks/build --library puts no archive in its place")
+    for name in "lfi_verifier", "low":
+        for status in 1, 2, 101:
+            (top / "crates" / name / "src" / "status").write_text(str(status))
+            archive.write_text("old")
+            done = subprocess.run(library, env=found, capture_output=True, text=True)
+            if done.returncode != status or archive.read_text() != "old" or "lfi_verifier.a: proved" in done.stdout:
+                fail(f"checks/build --library, where the proof of {name} has status {status}: {done.returncode}, {done.stdout}")
+        done = subprocess.run(build, env=found, capture_output=True, text=True)
+        if (done.returncode == 0) != (name == "lfi_verifier"):
+            fail(f"checks/build, where {name} isn't proved: {done.returncode}, {done.stdout}")
+        (top / "crates" / name / "src" / "status").write_text("0")
