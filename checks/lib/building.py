@@ -2,13 +2,15 @@
 
 import os
 import shutil
+import signal
 import subprocess
 import sys
+import time
 
 from lib.installed import fail, run
 from lib.tree import TOP
 
-ANSWERS = """import hashlib, os, pathlib, sys
+ANSWERS = """import hashlib, os, pathlib, sys, time
 RATTLE = "prove"
 
 
@@ -31,6 +33,9 @@ class Crate:
 
     def call(self, *words):
         pathlib.Path(self.rlib).write_text("proved")
+        if "WAITS" in os.environ:
+            pathlib.Path(os.environ["WAITS"]).write_text("here")
+            time.sleep(60)
         return int((self.folder / "src" / "status").read_text())
 
 
@@ -99,3 +104,22 @@ def try_building(room):
         if (done.returncode == 0) != (name == "lfi_verifier"):
             fail(f"checks/build, where {name} isn't proved: {done.returncode}, {done.stdout}")
         (top / "crates" / name / "src" / "status").write_text("0")
+
+
+def try_ending(room):
+    """A signal ends the checks that run; the crates' folders out/ are put back, and no scratch folder stays."""
+    top, found, _ = put_tree(room / "ended")
+    kept, waits, scratch = top / "crates" / "low" / "out" / "kept", room / "waits", room / "scratch"
+    kept.parent.mkdir()
+    scratch.mkdir()
+    for number in signal.SIGTERM, signal.SIGINT:
+        kept.write_text("kept")
+        waits.unlink(missing_ok=True)
+        began = time.monotonic()
+        running = subprocess.Popen([top / "checks" / "build"], env={**found, "WAITS": str(waits), "TMPDIR": str(scratch)}, stdout=subprocess.DEVNULL)
+        while not waits.exists() and running.poll() is None:
+            time.sleep(0.05)
+        running.send_signal(number)
+        status, took = running.wait(), time.monotonic() - began
+        if status != 128 + number or took > 30 or not kept.exists() or list(scratch.glob("build-*")):
+            fail(f"checks/build, ended by {number.name}: status {status} after {took:.0f} s, {list(scratch.glob('build-*'))}, out/ is back: {kept.exists()}")
