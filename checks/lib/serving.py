@@ -235,11 +235,12 @@ def try_taken(program):
 
 def seconds_of_serve(program, count, comes):
     """How long `serve --seconds 4` takes of so many connections, of which one has a client after so many seconds, which stays; or none
-    has. And what it writes to the errors, each write by itself, and its status."""
+    has. And what it writes to the errors, each write by itself, its status, and how many seconds of a processor it took."""
     with tempfile.TemporaryDirectory() as folder:
         path, begin = os.path.join(folder, "s"), time.monotonic()
         ours, theirs = socket.socketpair(socket.AF_UNIX, socket.SOCK_SEQPACKET)
         words = [program, "serve", "--socket", path, "--connections", str(count), "--seconds", "4"]
+        before = resource.getrusage(resource.RUSAGE_CHILDREN)
         with ours:
             with theirs:
                 serve = subprocess.Popen(words, stdout=subprocess.DEVNULL, stderr=theirs)
@@ -247,11 +248,12 @@ def seconds_of_serve(program, count, comes):
                 time.sleep(comes)
                 client = connected(path)
             serve.wait(timeout=60)
-            seconds = time.monotonic() - begin
+            seconds, after = time.monotonic() - begin, resource.getrusage(resource.RUSAGE_CHILDREN)
+            used = after.ru_utime + after.ru_stime - before.ru_utime - before.ru_stime
             if comes is not None:
                 client.close()
             ours.settimeout(60)
-            return seconds, list(iter(lambda: ours.recv(4096), b"")), serve.returncode
+            return seconds, list(iter(lambda: ours.recv(4096), b"")), serve.returncode, used
 
 
 def try_one_limit(program, count, comes):
@@ -260,9 +262,11 @@ def try_one_limit(program, count, comes):
     status_told = 3 if count > 1 or comes is None else 1
     # Busy cores may make one late. A longer limit would make each of them so.
     for _ in range(5):
-        seconds, parts, status = seconds_of_serve(program, count, comes)
+        seconds, parts, status, used = seconds_of_serve(program, count, comes)
         if seconds < 4 or (parts, status) != (told, status_told):
             wrong("limit", "`serve --seconds 4`", (seconds, parts, status), ("at least four seconds", told, status_told))
+        if used > 0.5:
+            wrong("limit", "`serve --seconds 4`, which mostly waits", used, "at most half a second of a processor")
         if seconds < 4.8:
             return
     wrong("limit", "`serve --seconds 4`", seconds, "less than 4.8 seconds, once in five times")
@@ -437,14 +441,34 @@ def try_one_path(program, kind):
         wrong("path", f"a {kind} that came to stand there", came, wanted)
 
 
+def try_changed_socket(program):
+    """The socket of `serve` is changed in all but what it is: others may connect, it has other times, another owner and another name. It goes
+    all the same."""
+    with tempfile.TemporaryDirectory() as folder:
+        path, other = (pathlib.Path(folder, name) for name in ("s", "other"))
+        serve = subprocess.Popen([program, "serve", "--socket", path, "--connections", "1"], stdout=subprocess.PIPE, text=True)
+        with connected(str(path)) as client:
+            path.chmod(0o666)
+            os.utime(path, (1, 1))
+            os.link(path, other)
+            if os.geteuid() == 0:
+                os.chown(path, 12345, 12345)
+            client.sendall(formats.stream(0, RET))
+        came = serve.communicate(timeout=60)[0], serve.returncode, path.exists()
+    wanted = "module 0: complete, 1 words\nstrays 0\n", 0, False
+    if came != wanted:
+        wrong("path", "a socket whose rights, times and owner were changed", came, wanted)
+
+
 def try_path(program):
+    try_changed_socket(program)
     for kind in ("file", "link", "socket"):
         try_one_path(program, kind)
     try_taken_path(program)
     for kind in (socket.SOCK_DGRAM, socket.SOCK_STREAM):
         try_other_socket(program, kind)
     print(
-        "path: a file, a link and a socket that came to stand at the path of `serve` are still there, and so are the sockets of somebody "
+        "path: a socket whose rights, times and owner were changed is gone; a file, a link and a socket that came to stand at the path of `serve` are still there, and so are the sockets of somebody "
         "who listens there, who takes messages there, and who went"
     )
 
