@@ -312,15 +312,67 @@ def try_client_in_time(program):
     wrong("limit", "a client after three seconds", "heard late", "heard within half a second, once in five times")
 
 
+def try_one_after_another(program):
+    """`serve` with a limit that is far off: eight clients come at once, and end one after another."""
+    with tempfile.TemporaryDirectory() as folder:
+        path = os.path.join(folder, "s")
+        words = [program, "serve", "--socket", path, "--connections", "8", "--seconds", "600"]
+        serve = subprocess.Popen(words, stdout=subprocess.PIPE, stderr=subprocess.PIPE, text=True)
+        clients = [connected(path) for _ in range(8)]
+        for module, client in enumerate(clients):
+            for part in formats.stream(module, RET)[:20], formats.stream(module, RET)[20:]:
+                client.sendall(part)
+                time.sleep(0.1)
+            client.close()
+        came = *serve.communicate(timeout=60), serve.returncode
+    wanted = "".join(f"module {module}: complete, 1 words\n" for module in range(8)) + "strays 0\n", "", 0
+    if came != wanted:
+        wrong("limit", "eight clients that end one after another", came, wanted)
+
+
+# For a program that is hurried, a day goes by in two seconds, and no sleep takes any time.
+A_DAY, TIMES_AS_FAST = 86_400, 43_200
+
+
+def hurried(folder):
+    """What is to be loaded before the C library, so that time goes by faster; nothing where it can't be compiled."""
+    made = os.path.join(folder, "hurried.so")
+    words = ["cc", "-O2", "-shared", "-fPIC", f"-DTIMES={TIMES_AS_FAST}", "-o", made, pathlib.Path(__file__).with_name("hurried.c")]
+    return made if shutil.which("cc") and subprocess.run(words).returncode == 0 else None
+
+
+def try_whole_day(program):
+    """`serve` with the longest limit, for which nobody comes, or one client that stays and is silent: each time it waits for all of it."""
+    with tempfile.TemporaryDirectory() as folder:
+        library = hurried(folder)
+        for comes in (False, True) if library else ():
+            path, begin = os.path.join(folder, "s"), time.monotonic()
+            words = [program, "serve", "--socket", path, "--connections", "1", "--seconds", str(A_DAY)]
+            serve = subprocess.Popen(words, stderr=subprocess.PIPE, stdout=subprocess.DEVNULL, text=True, env={**os.environ, "LD_PRELOAD": library})
+            client = connected(path) if comes else None
+            try:
+                told = serve.communicate(timeout=30)[1], serve.returncode, time.monotonic() - begin >= A_DAY / TIMES_AS_FAST
+            except subprocess.TimeoutExpired:
+                serve.kill()
+                told = serve.communicate()[1], None, True
+            wanted = f"lfiload: time is over: connection 0 had not {'ended' if comes else 'come'}\n", 1 if comes else 3, True
+            if told != wanted:
+                wrong("limit", f"a day, {TIMES_AS_FAST} times as fast, with a client: {comes}", told, wanted)
+    return "a day was waited for, without a client and with one" if library else "no day was waited for, since cc isn't here"
+
+
 def try_limit(program):
     try_one_limit(program, 2, None)
     try_one_limit(program, 2, 2)
     try_one_limit(program, 1, 2)
     try_client_in_time(program)
     try_sent_in_time(program)
+    try_one_after_another(program)
+    day = try_whole_day(program)
     print(
         "limit: `serve --seconds 4` without a client, and with one that comes after two, of two and of one: it ends after four seconds "
-        "and before 4.8, and tells of each connection in one write; with a long limit one that comes after three is heard at once; what was sent in time is read"
+        "and before 4.8, and tells of each connection in one write; with a long limit one that comes after three is heard at once; what was sent in time is read; "
+        f"of eight that end one after another all are heard; {day}"
     )
 
 
@@ -428,11 +480,12 @@ def try_one_path(program, kind):
     """What stands at the path of `serve` once its socket was moved: a file or a socket of another one's, or a link to the socket."""
     with tempfile.TemporaryDirectory() as folder, socket.socket(socket.AF_UNIX) as other:
         path, moved = (pathlib.Path(folder, name) for name in ("s", "moved"))
-        serve = subprocess.Popen([program, "serve", "--socket", path, "--connections", "1"], stdout=subprocess.PIPE, text=True)
+        # The path goes once the last client was taken.
+        serve = subprocess.Popen([program, "serve", "--socket", path, "--connections", "2"], stdout=subprocess.PIPE, text=True)
         first = connected(str(path))
         path.rename(moved)
         {"link": lambda: path.symlink_to("moved"), "file": lambda: path.write_text("another one's"), "socket": lambda: other.bind(str(path))}[kind]()
-        with first:
+        with first, connected(str(moved)):
             first.sendall(formats.stream(0, RET))
         stands = {"link": path.is_symlink, "file": path.is_file, "socket": path.is_socket}[kind]
         came = serve.communicate(timeout=60)[0], serve.returncode, stands()
@@ -446,7 +499,7 @@ def try_changed_socket(program):
     all the same."""
     with tempfile.TemporaryDirectory() as folder:
         path, other = (pathlib.Path(folder, name) for name in ("s", "other"))
-        serve = subprocess.Popen([program, "serve", "--socket", path, "--connections", "1"], stdout=subprocess.PIPE, text=True)
+        serve = subprocess.Popen([program, "serve", "--socket", path, "--connections", "2"], stdout=subprocess.PIPE, text=True)
         with connected(str(path)) as client:
             path.chmod(0o666)
             os.utime(path, (1, 1))
@@ -454,6 +507,7 @@ def try_changed_socket(program):
             if os.geteuid() == 0:
                 os.chown(path, 12345, 12345)
             client.sendall(formats.stream(0, RET))
+            connected(str(path)).close()
         came = serve.communicate(timeout=60)[0], serve.returncode, path.exists()
     wanted = "module 0: complete, 1 words\nstrays 0\n", 0, False
     if came != wanted:

@@ -5,7 +5,13 @@ use crate::runs::{
 };
 use std::{fs, io};
 
-const RUNS: [Run; 11] = [
+const RUNS: [Run; 12] = [
+    Run {
+        line: "lfiload --version",
+        status: WELL,
+        out: "lfiload 0\n",
+        err: "",
+    },
     Run {
         line: "lfiload check files.tmp/ret.code",
         status: WELL,
