@@ -330,35 +330,34 @@ def try_one_after_another(program):
         wrong("limit", "eight clients that end one after another", came, wanted)
 
 
-# For a program that is hurried, a day goes by in two seconds, and no sleep takes any time.
-A_DAY, TIMES_AS_FAST = 86_400, 43_200
-
-
 def hurried(folder):
-    """What is to be loaded before the C library, so that time goes by faster; nothing where it can't be compiled."""
+    """What is to be loaded before the C library, so that no sleep takes any time; nothing where it can't be compiled."""
     made = os.path.join(folder, "hurried.so")
-    words = ["cc", "-O2", "-shared", "-fPIC", f"-DTIMES={TIMES_AS_FAST}", "-o", made, pathlib.Path(__file__).with_name("hurried.c")]
+    words = ["cc", "-O2", "-shared", "-fPIC", "-o", made, pathlib.Path(__file__).with_name("hurried.c")]
     return made if shutil.which("cc") and subprocess.run(words).returncode == 0 else None
 
 
-def try_whole_day(program):
-    """`serve` with the longest limit, for which nobody comes, or one client that stays and is silent: each time it waits for all of it."""
+def try_hours(program):
+    """`serve` with a limit of two hours, for which nobody comes, or of a day, with a client that stays and is silent: each time it waits
+    for all of it."""
     with tempfile.TemporaryDirectory() as folder:
         library = hurried(folder)
-        for comes in (False, True) if library else ():
-            path, begin = os.path.join(folder, "s"), time.monotonic()
-            words = [program, "serve", "--socket", path, "--connections", "1", "--seconds", str(A_DAY)]
-            serve = subprocess.Popen(words, stderr=subprocess.PIPE, stdout=subprocess.DEVNULL, text=True, env={**os.environ, "LD_PRELOAD": library})
+        for limit, comes in ((7200, False), (86_400, True)) if library else ():
+            path, kept = os.path.join(folder, "s"), pathlib.Path(folder, "seconds")
+            words = [program, "serve", "--socket", path, "--connections", "1", "--seconds", str(limit)]
+            loaded = {**os.environ, "LD_PRELOAD": library, "HURRIED": str(kept)}
+            serve = subprocess.Popen(words, stderr=subprocess.PIPE, stdout=subprocess.DEVNULL, text=True, env=loaded)
             client = connected(path) if comes else None
             try:
-                told = serve.communicate(timeout=30)[1], serve.returncode, time.monotonic() - begin >= A_DAY / TIMES_AS_FAST
+                told = serve.communicate(timeout=60)[1], serve.returncode
             except subprocess.TimeoutExpired:
                 serve.kill()
-                told = serve.communicate()[1], None, True
-            wanted = f"lfiload: time is over: connection 0 had not {'ended' if comes else 'come'}\n", 1 if comes else 3, True
-            if told != wanted:
-                wrong("limit", f"a day, {TIMES_AS_FAST} times as fast, with a client: {comes}", told, wanted)
-    return "a day was waited for, without a client and with one" if library else "no day was waited for, since cc isn't here"
+                told = serve.communicate()[1], None
+            wanted = f"lfiload: time is over: connection 0 had not {'ended' if comes else 'come'}\n", 1 if comes else 3
+            waited = int(kept.read_text()) if kept.exists() else -1
+            if told != wanted or not limit - 60 <= waited <= limit + 60:
+                wrong("limit", f"{limit} hurried seconds, with a client: {comes}", (told, waited), (wanted, f"about {limit}"))
+    return "two hours and a day were waited for" if library else "no hours were waited for, since cc isn't here"
 
 
 def try_limit(program):
@@ -368,11 +367,11 @@ def try_limit(program):
     try_client_in_time(program)
     try_sent_in_time(program)
     try_one_after_another(program)
-    day = try_whole_day(program)
+    hours = try_hours(program)
     print(
         "limit: `serve --seconds 4` without a client, and with one that comes after two, of two and of one: it ends after four seconds "
         "and before 4.8, and tells of each connection in one write; with a long limit one that comes after three is heard at once; what was sent in time is read; "
-        f"of eight that end one after another all are heard; {day}"
+        f"of eight that end one after another all are heard; {hours}"
     )
 
 
