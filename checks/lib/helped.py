@@ -1,0 +1,147 @@
+"""What `--help` says of a command, and whether the runs that are written down, and its own example, are as it says: for checks/program."""
+
+import contextlib
+import os
+import pathlib
+import re
+import shlex
+import subprocess
+import sys
+import tempfile
+import threading
+
+from lib import formats, tree
+from lib.serving import connected
+
+COMMANDS = ("check", "load", "serve", "run", "disassemble", "pack", "unpack", "info")
+# What a line's words in capitals stand for; a path may be any text.
+PLACES = r"\b[A-Z]{4,}\b|\b[A-Z]\b"
+# What is printed only where memory or a client is refused, as checks/refused_growth does.
+REFUSED = {"no memory", "not taken", "client_error"}
+NOP, RET, BRK = (formats.code_of(word) for word in (0xD503201F, 0xD65F03C0, 0xD4200000))
+
+
+def fail(command, why):
+    sys.exit(f"program: lfiload {command} --help: {why}")
+
+
+# ---- the keys of objects
+
+def texts_of(command, runs):
+    """What runs of a command print where an object is asked for, whole or as far as it is compared."""
+    where = "err" if command == "run" else "out"
+    for run in runs:
+        if run.words[:1] == [command.encode()] and b"json" in run.words:
+            yield from [*run.holds.get(where, []), getattr(run, where) or b""]
+
+
+def compare_keys(helps, runs):
+    """The help of a command names each key that is printed, and in quotes no word that isn't. That of serve says what differs from load."""
+    for command in "check", "load", "run", "serve":
+        quoted = {name: set(re.findall(r'"([a-z_ ]+)"', " ".join(helps[name].partition("With --format json")[2].split()))) for name in COMMANDS}
+        named = quoted[command] | (quoted["load"] if command == "serve" else set())
+        printed = b"\n".join(texts_of(command, runs)).decode("latin-1")
+        keys, values = (set(re.findall(pattern, printed)) for pattern in (r'"([a-z_ ]+)":', r':"([a-z_ ]+)"'))
+        untold, unseen = keys - named, quoted[command] - keys - values - REFUSED
+        if untold or unseen or not keys:
+            fail(command, f"keys that it doesn't name: {sorted(untold)}, words that no object has: {sorted(unseen)}")
+
+
+# ---- statuses
+
+def entries(text):
+    """The lines that a help says are printed, as patterns and in its words, each with the one status that it gives."""
+    found = []
+    for line in re.sub(r"\n {12,}", " ", text).splitlines():
+        entry = re.match(r" {2,}(\S.*?\S)(?:  +|$)(.*)", line)
+        statuses = re.findall(r"\(status (\d)\)", line)
+        if entry and len(statuses) == 1:
+            parts = re.split(PLACES, entry[1])
+            found.append((re.compile(".+".join(re.escape(part) for part in parts) + "$"), entry[1], int(statuses[0])))
+    return found
+
+
+def compare_statuses(helps, runs):
+    """A run that prints one line of those that its help gives a status has that status. Returns how many runs were compared."""
+    count = 0
+    for command in COMMANDS:
+        known, seen = entries(helps[command]), set()
+        for run in (it for it in runs if it.words[:1] == [command.encode()] and it.out is not None and it.err is not None):
+            lines = (run.out + b"\n" + run.err).decode("latin-1").splitlines()
+            told = {(name, status) for pattern, name, status in known for line in lines if pattern.match(line)}
+            if len({status for _, status in told}) == 1 and run.status != 2 and len(run.words) < 7:
+                (name, status), *_ = told
+                seen |= {name for name, _ in told}
+                count += 1
+                if run.status != status:
+                    fail(command, f"{name!r} has status {status}, and {run.words} {run.status}")
+    return count
+
+
+# ---- examples
+
+def fill(folder):
+    """The files that the examples name."""
+    files = {"module.code": RET, "first.code": NOP * 16 + RET, "second.code": NOP * 16 + RET, "module-00.img": formats.image(0, 0, BRK)}
+    files |= {f"{name}.stream": formats.stream(module, RET) for module, name in enumerate(("a", "b", "both"))}
+    for name, content in files.items():
+        pathlib.Path(folder, name).write_bytes(content)
+    os.mkdir(os.path.join(folder, "images"))
+
+
+def visit(path, content):
+    """A client that sends these bytes, once it can connect."""
+    with connected(path) as client:
+        client.sendall(content)
+
+
+def try_examples(program, helps):
+    """The example at the end of each help ends well on files that its words fit."""
+    for command, text in helps.items():
+        words = shlex.split(re.search(r"^Example: lfiload (.*)$", text, re.M)[1].partition(" > ")[0])
+        with tempfile.TemporaryDirectory() as folder:
+            fill(folder)
+            path = os.path.join(folder, "s")
+            words = [path if before == "--socket" else it for before, it in zip(["", *words], words)]
+            clients = [threading.Thread(target=visit, args=(path, formats.stream(module, RET))) for module in range(2 if command == "serve" else 0)]
+            for client in clients:
+                client.start()
+            done = subprocess.run([program, *words], cwd=folder, capture_output=True, timeout=60)
+            for client in clients:
+                client.join()
+        if words[0] != command or done.returncode:
+            fail(command, f"its example ends with status {done.returncode}, {done.stdout!r:.200}, {done.stderr!r:.200}")
+
+
+# ---- how code lies in a file
+
+def compare_order(program, helps):
+    """A word lies in a file as the help of check says: the lowest byte first."""
+    with tempfile.TemporaryDirectory() as folder:
+        for order, content in ("lowest", RET), ("highest", RET[::-1]):
+            pathlib.Path(folder, "it.code").write_bytes(content)
+            is_lawful = subprocess.run([program, "check", "it.code"], cwd=folder, stdout=subprocess.DEVNULL).returncode == 0
+            if is_lawful != (f"the {order} byte first" in " ".join(helps["check"].split())):
+                fail("check", f"code with the {order} byte first is lawful: {is_lawful}")
+
+
+# ---- mends
+
+def compare_registers(helps):
+    """The registers that a mend may change are those that the helps of check and load name, in docs/COMMANDS.md with those that are told
+    where they are written."""
+    named = [set(re.findall(r"\b[wx]\d+", re.search(r"may overwrite(.*?);", " ".join(helps[name].split()))[1])) for name in ("check", "load")]
+    written = re.search(r"They may change (.*?), and, where told, (.*?)\.", (tree.TOP / "docs" / "COMMANDS.md").read_text())
+    whole = [set(re.findall(r"\b[wx]\d+", it)) for it in written.groups()]
+    if named != [{"w22", "x18", "x30"}] * 2 or whole != [named[0], {"x16", "x17"}]:
+        fail("check", f"mends may change {named}, and by docs/COMMANDS.md {whole}")
+
+
+def compare(program, runs):
+    """Compares all of this. Returns how many runs had a status to be compared."""
+    helps = {name: tree.help_of(program, name) for name in COMMANDS}
+    compare_keys(helps, runs)
+    compare_order(program, helps)
+    compare_registers(helps)
+    try_examples(program, helps)
+    return compare_statuses(helps, runs)
