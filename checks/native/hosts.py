@@ -5,6 +5,7 @@ import os
 import pathlib
 import platform
 import re
+import struct
 import subprocess
 import sys
 
@@ -233,6 +234,17 @@ def check_steps(steps):
 # ---- what it tells
 
 
+def heads():
+    """Heads of image files that only just break what docs/PROFILE.md, "Image files", says, by the faults' numbers: the first four bytes, the
+    words, the entry, the profile, the base. One is of slot 16, some of slots that lie much farther away, and some of no slot."""
+    first, most = b"LFI1", formats.MOST_WORDS
+    yield from ((1, it, 1, 0, 1, BASE) for it in (b"LFI0", b"LFI2", b"Lfi1", b"L\0\0\0"))
+    yield from ((2, first, 1, 0, it, BASE) for it in (0, 3, 0x101, 0x10001, 0xFFFFFFFF))
+    yield from ((3, first, words, entry, 1, BASE) for words, entry in ((0, 0), (most + 1, 0), (1, 1), (1, 0xFFFFFFFF)))
+    yield from ((4, first, 1, 0, 1, formats.base(it)) for it in (16, 17, 99, 1 << 16, (1 << 31) - 1))
+    yield from ((4, first, 1, 0, 1, it) for it in (0, 2 << 32, 32 << 32, BASE - 1, BASE + 4096, BASE + (1 << 31)))
+
+
 def cases(room, corpus):
     """What the host tells, by its README: words of the command line, the status, both outputs. `corpus` has images with what they print and
     their last lines."""
@@ -241,7 +253,9 @@ def cases(room, corpus):
     # LDAR X0, [X18], 15 bytes past a multiple of 16
     crossing = image(0, 0, formats.code_of(*words.move(9, 0x2000F), words.guard(18, 9), 0xC8DFFE40, words.BRK), 2)
     ends = image(0, 0, formats.code_of(words.BRK))
-    spoiled = {"spoiled.img": b"LFI0" + loop[4:], "short.img": loop[:-1], "more.img": ends + b"\0"}
+    spoiled = {"short.img": loop[:-1], "more.img": ends + b"\0"}
+    faults = {f"head-{number}.img": (head[0], struct.pack("<4sIIIQ", *head[1:]) + ends[24:]) for number, head in enumerate(heads())}
+    spoiled |= {name: file for name, (_, file) in faults.items()}
     for name, file in {"loop.img": loop, "crossing.img": crossing, **spoiled}.items():
         (room / name).write_bytes(file)
     usage = "usage: native_host [--emulate] [--seconds N] [--batch] FILE..\n"
@@ -257,7 +271,8 @@ def cases(room, corpus):
     yield [EXAMPLES / "two_modules.stream"], 1, sums, f"halt 3 at 0x{BASE:016x}\n{halted}"  # RET at the start goes to B, the table
     yield [EXAMPLES / "hostile.stream"], 1, b"", "not run\n" * 3
     yield ["--batch", EXAMPLES / "hostile.stream"], 1, b"".join(b"%s %d  not run\n" % (bytes(EXAMPLES / "hostile.stream"), m) for m in (2, 3, 4)), ""
-    yield ["spoiled.img"], 1, b"", "image refused, fault 1\n"
+    for name, (fault, _) in faults.items():
+        yield [name], 1, b"", f"image refused, fault {fault}\n"
     yield ["short.img"], 1, b"", "image refused, fault 5\n"
     yield ["more.img"], 1, b"", "image refused, fault 6\n"
     yield ["crossing.img"], 1, b"", "bus at 0x000000010002000f\n"
