@@ -51,6 +51,8 @@ LINKED = {
     "timer": ["-Wl,--wrap=setitimer"],
 }
 MOST_LINES, BASE, SLOT, GUARD = 500, 0x100000000, 1 << 32, 65_536
+# What --seconds doesn't take, by the host's README.
+NO_SECONDS = ("x", "1x", "", "0", "-1", "-0.5", "nan", "inf", "1000001", "1e300")
 ESCAPE = "ESCAPE at 0x[0-9a-f]{16}"
 
 
@@ -280,7 +282,7 @@ def cases(room, corpus):
     for seconds in ("0.05", "0.0000001"):
         yield ["--seconds", seconds, "loop.img"], 0, b"", "halt 1\n"
     yield ["missing.img"], 3, b"", "native_host: missing.img: No such file or directory\n"
-    for wrong in ([], ["--batch"], ["--seconds"], ["--other", "loop.img"]):
+    for wrong in ([], ["--batch"], ["--seconds"], ["--other", "loop.img"], *(["--seconds", it, "loop.img"] for it in NO_SECONDS)):
         yield wrong, 2, b"", usage
 
 
