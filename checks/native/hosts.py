@@ -146,12 +146,35 @@ def map_of(base, size, guard, table, code):
     ]
 
 
+def registers_in(text):
+    """The registers that a text names, one by one and from one to another; 31 is sp."""
+    ranges = (range(int(first), int(last) + 1) for first, last in re.findall(r"\bx(\d+) to x(\d+)", text))
+    return {int(it) for it in re.findall(r"\bx(\d+)", text)} | {it for some in ranges for it in some} | ({31} if re.search(r"\bsp\b", text) else set())
+
+
+def compare_registers(own, offset, *addresses):
+    """Where a document lists registers that a host sets or an entry keeps, these are those that the library tells; so are those that rows spoil."""
+    start, every = {own, *addresses}, {own, offset, *addresses, 31}
+    lists = (
+        ("HOST.md", r"\n- keeps (.*?), and gives them back as they were;", every),
+        ("HOST.md", r"`lfiload run` starts with (.*?) at B, sp at B \+ 2\^32 and 0 elsewhere", start),
+        ("PROFILE.md", r"A host enters it with (.*?) at B, sp at B \+ 2\^32 \(an empty stack\)", start),
+    )
+    for name, pattern, wanted in lists:
+        told = [registers_in(it) for it in re.findall(pattern, (TOP / "docs" / name).read_text())]
+        if told != [wanted]:
+            fail(f"docs/{name} lists other registers than {sorted(wanted)} (31: sp): {told}")
+    if UNLAWFUL.keys() != every or f"x{own} is B, so it tells which slot has called" not in DOCUMENT.read_text():
+        fail(f"the library tells the registers {sorted(every)} (31: sp), the rows have {sorted(UNLAWFUL)}, and docs/HOST.md another one at B")
+
+
 def compare_numbers(program):
     """The map and the registers of docs/HOST.md are those that the library tells, of each slot and in both profiles."""
     lines = [tuple(map(int, line.split())) for line in run(program).stdout.decode().splitlines()]
     base, size, guard, table, code, entry, step, entries = lines[0]
     slots = [((2 * m + 1) << 32, *lines[0][1:]) for m in range(formats.MODULES)]
     own, offset, *addresses, reach = lines[16]
+    compare_registers(own, offset, *addresses)
     if lines != [*slots, lines[16]] * 2:
         fail(f"the library tells other bases than docs/HOST.md, or other maps for other slots: {lines}")
     end, power = f"2^{size.bit_length() - 1}", f"2^{entry.bit_length() - 1}"
