@@ -263,12 +263,12 @@ class Case:
 
 
 def in_their_place(guard, flags, cases, folder):
-    """What the rewriter writes in place of each case's lines."""
-    (folder / "drawn.s").write_text("".join(f"case{number}:\n" + "".join(f"\t{it}\n" for it in case.lines) for number, case in enumerate(cases)))
+    """What the rewriter writes in place of each case's lines, which it gets as a function with a return."""
+    (folder / "drawn.s").write_text("".join(f"case{number}:\n" + "".join(f"\t{it}\n" for it in (*case.lines, "ret")) for number, case in enumerate(cases)))
     done = subprocess.run([guard, *flags, folder / "drawn.s", folder / "made.s"], capture_output=True, text=True, timeout=600)
     if done.returncode:
         stop(f"it refuses a drawn line: {done.stderr}")
-    return [part.partition(":\n")[2] for part in (folder / "made.s").read_text().split("case")[1:]]
+    return [part.partition(":\n")[2].rstrip().removesuffix("ret") for part in (folder / "made.s").read_text().split("case")[1:]]
 
 
 def assembly(cases, made):
@@ -283,7 +283,9 @@ def assembly(cases, made):
 
 def judge(program, folder):
     """What the rewriter wrote is lawful."""
-    subprocess.run(["aarch64-linux-gnu-as", "-o", folder / "made.o", folder / "made.s"], check=True, timeout=600)
+    done = subprocess.run(["aarch64-linux-gnu-as", "-o", folder / "made.o", folder / "made.s"], capture_output=True, text=True, timeout=600)
+    if done.returncode:
+        stop(f"what it writes can't be assembled: {done.stderr[:600]}")
     subprocess.run(["aarch64-linux-gnu-objcopy", "-O", "binary", "-j", ".text", folder / "made.o", folder / "made.code"], check=True, timeout=600)
     told = subprocess.run([program, "check", "--explain", folder / "made.code"], capture_output=True, text=True, timeout=600).stdout
     if not told.startswith("lawful, "):
