@@ -1,5 +1,5 @@
 /* What the rewriter of examples/guard is tried on: what it writes with what the profile has (EXTR, rotations by a number, sums, differences,
- * compares and products of 128 bits, ADCS and SBCS, products of two halves, REV, RBIT, LDPSW), and accesses through one address before and
+ * compares and products of 128 bits, ADCS and SBCS, products of two halves, REV, REV16, RBIT, LDPSW), and accesses through one address before and
  * after a call, of which --reuse must know nothing then. It prints the same in a slot and here. */
 void rt_putc(int c);
 
@@ -43,22 +43,17 @@ __attribute__((noinline)) static number upper_of_difference(wide left, wide righ
     return __builtin_sub_overflow(left, right, &it) ? 5 : (number)(it >> 64);
 }
 
-/* SMADDL, UMSUBL and their kin. */
-__attribute__((noinline)) static number with_sums(int left, int right, number third) {
-    number one = (number)((long)left * right) + third, two = third - (number)((long)left * right);
-    return one ^ two << 1 ^ (number)-((long)left * right);
-}
-__attribute__((noinline)) static number with_sums_unsigned(unsigned left, unsigned right, number third) {
-    number one = (number)left * right + third, two = third - (number)left * right;
-    return one ^ two << 1 ^ -((number)left * right);
-}
+/* SMADDL, SMSUBL and SMNEGL, and the same without signs: products of two halves, with a sum, a difference, and turned round. */
+#define PRODUCTS(name, half, whole) \
+    __attribute__((noinline)) static whole name##_and_sum(half left, half right, whole third) { return (whole)left * right + third; } \
+    __attribute__((noinline)) static whole name##_from(half left, half right, whole third) { return third - (whole)left * right; } \
+    __attribute__((noinline)) static whole name##_negative(half left, half right) { return -((whole)left * right); }
+PRODUCTS(product, int, long)
+PRODUCTS(product_unsigned, unsigned, number)
 
-/* REV16 and REV32, by their patterns. */
+/* REV16, by its patterns. */
 __attribute__((noinline)) static unsigned bytes_exchanged(unsigned it) { return (it & 0xff00ff00u) >> 8 | (it & 0x00ff00ffu) << 8; }
 __attribute__((noinline)) static number bytes_exchanged_of_64(number it) { return (it & 0xff00ff00ff00ff00u) >> 8 | (it & 0x00ff00ff00ff00ffu) << 8; }
-__attribute__((noinline)) static number words_reversed(number it) {
-    return (number)__builtin_bswap32((unsigned)(it >> 32)) << 32 | __builtin_bswap32((unsigned)it);
-}
 
 /* LDPSW, whose two numbers differ in what comes of their order and of their signs. */
 __attribute__((noinline)) static long of_pair(const int *pair) { return (long)pair[0] * 3 - (long)pair[1]; }
@@ -80,8 +75,11 @@ static void put_wide_ones(wide left, wide right) {
 }
 
 static void put_products(int left, int right) {
-    put((number)((long)left * right)), put((number)(unsigned)left * (unsigned)right + other);
-    put(with_sums(left, right, other)), put(with_sums_unsigned((unsigned)left, (unsigned)right, other));
+    unsigned first = (unsigned)left, second = (unsigned)right;
+    put((number)((long)left * right)), put((number)first * second);
+    put((number)product_and_sum(left, right, 77)), put((number)product_from(left, right, 0x7777777777)), put((number)product_negative(left, right));
+    put(product_unsigned_and_sum(first, second, some)), put(product_unsigned_from(first, second, other));
+    put(product_unsigned_negative(first, second));
     put((number)(((wide)some * other) >> 64));
 }
 
@@ -91,7 +89,7 @@ int main(void) {
     put(turned(some)), put(turned_of_32((unsigned)some)), put(turned_by((unsigned)some, (unsigned)other));
     put_wide_ones(left, right), put_wide_ones(right, left), put_wide_ones(left, left), put_wide_ones(~(wide)0, 1), put_wide_ones(0, ~(wide)0);
     put(__builtin_bswap64(some)), put(__builtin_bswap32((unsigned)some)), put(__builtin_bswap16((unsigned short)some));
-    put(bytes_exchanged((unsigned)some)), put(bytes_exchanged_of_64(some)), put(words_reversed(some));
+    put(bytes_exchanged((unsigned)some)), put(bytes_exchanged_of_64(some));
     put((number)around_calls(cells, cells + 32));
     for (int k = 0; k < 4; k += 2) put((number)of_pair((const int *)ints + k)), put((number)of_pair_behind((const int *)ints + k));
     put((number)__builtin_ctzl(some)), put((number)__builtin_clzl(some));

@@ -80,7 +80,9 @@ BY_INDEX(by_index_of_1, unsigned char)
 BY_INDEX(by_index_of_2, short)
 BY_INDEX(by_index_of_4, int)
 BY_INDEX(by_index_of_8, long)
-__attribute__((noinline)) static number by_index(const volatile unsigned *at, const volatile short *other, int index) { return at[index] + (number)other[-index]; }
+__attribute__((noinline)) static number by_index(const volatile unsigned *at, const volatile short *other, int index) {
+    return at[index] + (number)other[-index];
+}
 
 /* Accesses that change their base, before and after. */
 __attribute__((noinline)) static number before(const unsigned *at, int count) {
