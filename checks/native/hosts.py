@@ -228,7 +228,7 @@ def check_refused(refused, room):
 
 def check_timer(timer):
     """A run has the time that the host's README says, and then no timer is left."""
-    for words, seconds in (([], "60.000000"), (["--seconds", "2.5"], "2.500000")):
+    for words, seconds in (([], "60.000000"), (["--seconds", "2.5"], "2.500000"), (["--seconds", "1000000"], "1000000.000000")):
         done = run(timer, *words, EXAMPLES / "checksums.stream")
         told = re.findall(r"^timer: (.*)$", done.stderr.decode(), re.M)
         if done.returncode or told != [seconds, "0.000000"]:
