@@ -1,7 +1,7 @@
 /* A host that runs foreign code in its own process: takes the code of a module from standard input straight into its slot,
  * judges it as it comes, and only then lets it stay. docs/C.md says what each call promises and what it asks for.
  *
- *   cc -I include examples/host.c crates/lfi_verifier/out/liblfi_verifier.a -o host
+ *   cc -I include examples/host.c out/TARGET/liblfi_verifier.a -o host
  *   ./host 1 124 < examples/checksums.code
  *
  * The first word is the module, 0 to 15, the second one how many words it has; a third one is its profile, which is 1 without. */

@@ -1,7 +1,7 @@
 /* A host that takes a stream of modules from standard input: copies their code straight into their slots, hears of each module
  * what becomes of it, and prints the report that `lfiload load` prints. docs/C.md says what each call promises.
  *
- *   cc -I include examples/stream_host.c crates/lfi_verifier/out/liblfi_verifier.a -o stream_host
+ *   cc -I include examples/stream_host.c out/TARGET/liblfi_verifier.a -o stream_host
  *   ./stream_host < examples/two_modules.stream */
 #ifndef _GNU_SOURCE
 #define _GNU_SOURCE

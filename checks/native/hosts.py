@@ -5,6 +5,7 @@ import os
 import pathlib
 import platform
 import re
+import struct
 import subprocess
 import sys
 
@@ -50,6 +51,8 @@ LINKED = {
     "timer": ["-Wl,--wrap=setitimer"],
 }
 MOST_LINES, BASE, SLOT, GUARD = 500, 0x100000000, 1 << 32, 65_536
+# What --seconds doesn't take, by the host's README.
+NO_SECONDS = ("x", "1x", "", "0", "-1", "-0.5", "nan", "inf", "1000001", "1e300")
 ESCAPE = "ESCAPE at 0x[0-9a-f]{16}"
 
 
@@ -143,12 +146,35 @@ def map_of(base, size, guard, table, code):
     ]
 
 
+def registers_in(text):
+    """The registers that a text names, one by one and from one to another; 31 is sp."""
+    ranges = (range(int(first), int(last) + 1) for first, last in re.findall(r"\bx(\d+) to x(\d+)", text))
+    return {int(it) for it in re.findall(r"\bx(\d+)", text)} | {it for some in ranges for it in some} | ({31} if re.search(r"\bsp\b", text) else set())
+
+
+def compare_registers(own, offset, *addresses):
+    """Where a document lists registers that a host sets or an entry keeps, these are those that the library tells; so are those that rows spoil."""
+    start, every = {own, *addresses}, {own, offset, *addresses, 31}
+    lists = (
+        ("HOST.md", r"\n- keeps (.*?), and gives them back as they were;", every),
+        ("HOST.md", r"`lfiload run` starts with (.*?) at B, sp at B \+ 2\^32 and 0 elsewhere", start),
+        ("PROFILE.md", r"A host enters it with (.*?) at B, sp at B \+ 2\^32 \(an empty stack\)", start),
+    )
+    for name, pattern, wanted in lists:
+        told = [registers_in(it) for it in re.findall(pattern, (TOP / "docs" / name).read_text())]
+        if told != [wanted]:
+            fail(f"docs/{name} lists other registers than {sorted(wanted)} (31: sp): {told}")
+    if UNLAWFUL.keys() != every or f"x{own} is B, so it tells which slot has called" not in DOCUMENT.read_text():
+        fail(f"the library tells the registers {sorted(every)} (31: sp), the rows have {sorted(UNLAWFUL)}, and docs/HOST.md another one at B")
+
+
 def compare_numbers(program):
     """The map and the registers of docs/HOST.md are those that the library tells, of each slot and in both profiles."""
     lines = [tuple(map(int, line.split())) for line in run(program).stdout.decode().splitlines()]
     base, size, guard, table, code, entry, step, entries = lines[0]
     slots = [((2 * m + 1) << 32, *lines[0][1:]) for m in range(formats.MODULES)]
     own, offset, *addresses, reach = lines[16]
+    compare_registers(own, offset, *addresses)
     if lines != [*slots, lines[16]] * 2:
         fail(f"the library tells other bases than docs/HOST.md, or other maps for other slots: {lines}")
     end, power = f"2^{size.bit_length() - 1}", f"2^{entry.bit_length() - 1}"
@@ -202,7 +228,7 @@ def check_refused(refused, room):
 
 def check_timer(timer):
     """A run has the time that the host's README says, and then no timer is left."""
-    for words, seconds in (([], "60.000000"), (["--seconds", "2.5"], "2.500000")):
+    for words, seconds in (([], "60.000000"), (["--seconds", "2.5"], "2.500000"), (["--seconds", "1000000"], "1000000.000000")):
         done = run(timer, *words, EXAMPLES / "checksums.stream")
         told = re.findall(r"^timer: (.*)$", done.stderr.decode(), re.M)
         if done.returncode or told != [seconds, "0.000000"]:
@@ -233,6 +259,17 @@ def check_steps(steps):
 # ---- what it tells
 
 
+def heads():
+    """Heads of image files that only just break what docs/PROFILE.md, "Image files", says, by the faults' numbers: the first four bytes, the
+    words, the entry, the profile, the base. One is of slot 16, some of slots that lie much farther away, and some of no slot."""
+    first, most = b"LFI1", formats.MOST_WORDS
+    yield from ((1, it, 1, 0, 1, BASE) for it in (b"LFI0", b"LFI2", b"Lfi1", b"L\0\0\0"))
+    yield from ((2, first, 1, 0, it, BASE) for it in (0, 3, 0x101, 0x10001, 0xFFFFFFFF))
+    yield from ((3, first, words, entry, 1, BASE) for words, entry in ((0, 0), (most + 1, 0), (1, 1), (1, 0xFFFFFFFF)))
+    yield from ((4, first, 1, 0, 1, formats.base(it)) for it in (16, 17, 99, 1 << 16, (1 << 31) - 1))
+    yield from ((4, first, 1, 0, 1, it) for it in (0, 2 << 32, 32 << 32, BASE - 1, BASE + 4096, BASE + (1 << 31)))
+
+
 def cases(room, corpus):
     """What the host tells, by its README: words of the command line, the status, both outputs. `corpus` has images with what they print and
     their last lines."""
@@ -241,7 +278,9 @@ def cases(room, corpus):
     # LDAR X0, [X18], 15 bytes past a multiple of 16
     crossing = image(0, 0, formats.code_of(*words.move(9, 0x2000F), words.guard(18, 9), 0xC8DFFE40, words.BRK), 2)
     ends = image(0, 0, formats.code_of(words.BRK))
-    spoiled = {"spoiled.img": b"LFI0" + loop[4:], "short.img": loop[:-1], "more.img": ends + b"\0"}
+    spoiled = {"short.img": loop[:-1], "more.img": ends + b"\0"}
+    faults = {f"head-{number}.img": (head[0], struct.pack("<4sIIIQ", *head[1:]) + ends[24:]) for number, head in enumerate(heads())}
+    spoiled |= {name: file for name, (_, file) in faults.items()}
     for name, file in {"loop.img": loop, "crossing.img": crossing, **spoiled}.items():
         (room / name).write_bytes(file)
     usage = "usage: native_host [--emulate] [--seconds N] [--batch] FILE..\n"
@@ -257,7 +296,8 @@ def cases(room, corpus):
     yield [EXAMPLES / "two_modules.stream"], 1, sums, f"halt 3 at 0x{BASE:016x}\n{halted}"  # RET at the start goes to B, the table
     yield [EXAMPLES / "hostile.stream"], 1, b"", "not run\n" * 3
     yield ["--batch", EXAMPLES / "hostile.stream"], 1, b"".join(b"%s %d  not run\n" % (bytes(EXAMPLES / "hostile.stream"), m) for m in (2, 3, 4)), ""
-    yield ["spoiled.img"], 1, b"", "image refused, fault 1\n"
+    for name, (fault, _) in faults.items():
+        yield [name], 1, b"", f"image refused, fault {fault}\n"
     yield ["short.img"], 1, b"", "image refused, fault 5\n"
     yield ["more.img"], 1, b"", "image refused, fault 6\n"
     yield ["crossing.img"], 1, b"", "bus at 0x000000010002000f\n"
@@ -265,7 +305,7 @@ def cases(room, corpus):
     for seconds in ("0.05", "0.0000001"):
         yield ["--seconds", seconds, "loop.img"], 0, b"", "halt 1\n"
     yield ["missing.img"], 3, b"", "native_host: missing.img: No such file or directory\n"
-    for wrong in ([], ["--batch"], ["--seconds"], ["--other", "loop.img"]):
+    for wrong in ([], ["--batch"], ["--seconds"], ["--other", "loop.img"], *(["--seconds", it, "loop.img"] for it in NO_SECONDS)):
         yield wrong, 2, b"", usage
 
 

@@ -102,16 +102,16 @@ static int take_file(const char *name) {
     if (!file) die(name);
     int first = ungetc(getc(file), file);
     int status = first == 'L' ? take_image(name, file) : take_stream(name, file);
-    fclose(file);
-    return status;
+    return fclose(file), status;
 }
 
 int main(int count, char **given) {
-    int k = 1, status = 0;
+    int k = 1, status = 0, read;
     for (; k < count && given[k][0] == '-'; k++)
         if (!strcmp(given[k], "--batch")) batch = 1;
         else if (!strcmp(given[k], "--emulate")) carries_out_ordered = 1;
-        else if (!strcmp(given[k], "--seconds") && k + 1 < count) seconds = atof(given[++k]);
+        else if (!strcmp(given[k], "--seconds") && k + 1 < count && sscanf(given[k + 1], "%lf%n", &seconds, &read) == 1 && !given[k + 1][read] &&
+                 seconds > 0 && seconds <= 1e6) k++;
         else break;
     if (k == count || given[k][0] == '-') return fprintf(stderr, "usage: native_host [--emulate] [--seconds N] [--batch] FILE..\n"), 2;
     prepare_process();

@@ -3,10 +3,10 @@
 //!
 //!   echo "d65f03c0 d4000001" | cargo run --example judge -- 1
 //!
-//! The word is the profile, 1 without.
+//! The word is the profile, 1 or 2, 1 without. Other words are a usage error, status 2.
 
 use lfi_verifier::{verify, Profile, Verifier, Violation};
-use std::{env, error::Error, io};
+use std::{env, error::Error, io, process::ExitCode};
 
 /// What is found of the code in pieces, from these lengths in turn.
 fn in_pieces(code: &[u8], profile: Profile, mut seed: u64) -> Result<(), Violation> {
@@ -25,8 +25,22 @@ fn in_pieces(code: &[u8], profile: Profile, mut seed: u64) -> Result<(), Violati
     verifier.finish()
 }
 
-fn main() -> Result<(), Box<dyn Error>> {
-    let profile = if env::args().nth(1).as_deref() == Some("2") { Profile::Two } else { Profile::One };
+/// The profile that the words of the command line name.
+fn profile_of(given: &[String]) -> Option<Profile> {
+    match given {
+        [] => Some(Profile::One),
+        [number] if number == "1" => Some(Profile::One),
+        [number] if number == "2" => Some(Profile::Two),
+        _ => None,
+    }
+}
+
+fn main() -> Result<ExitCode, Box<dyn Error>> {
+    let given: Vec<String> = env::args().skip(1).collect();
+    let Some(profile) = profile_of(&given) else {
+        eprintln!("usage: judge [1 | 2]");
+        return Ok(ExitCode::from(2));
+    };
     for (number, line) in (1..).zip(io::stdin().lines()) {
         let words: Vec<u32> = line?.split_whitespace().map(|word| u32::from_str_radix(word, 16)).collect::<Result<_, _>>()?;
         let code: Vec<u8> = words.iter().flat_map(|word| word.to_le_bytes()).collect();
@@ -37,5 +51,5 @@ fn main() -> Result<(), Box<dyn Error>> {
             Err(violation) => println!("{violation}"),
         }
     }
-    Ok(())
+    Ok(ExitCode::SUCCESS)
 }

@@ -2,7 +2,7 @@
 //!
 //!   cargo run --example load -- ../../examples/two_modules.stream
 //!
-//! A second word is how many bytes are read at once, 4,096 without.
+//! A second word is how many bytes are read at once, 1 or more, 4,096 without. Other words are a usage error, status 2.
 
 use lfi_verifier::{verify, Event, ModuleNumber, Profile, Reason, Stream, StreamFault, Violation};
 use std::{env, error::Error, fs, process::ExitCode};
@@ -61,10 +61,22 @@ impl Load {
     }
 }
 
+/// The file and the size of pieces that the words of the command line name.
+fn asked(given: &[String]) -> Option<(&String, usize)> {
+    match given {
+        [name] => Some((name, 4096)),
+        [name, size] => Some((name, size.parse().ok().filter(|it| *it > 0)?)),
+        _ => None,
+    }
+}
+
 fn main() -> Result<ExitCode, Box<dyn Error>> {
-    let mut words = env::args().skip(1);
-    let text = fs::read(words.next().ok_or("name a stream")?)?;
-    let size: usize = words.next().map_or(Ok(4096), |it| it.parse())?;
+    let given: Vec<String> = env::args().skip(1).collect();
+    let Some((name, size)) = asked(&given) else {
+        eprintln!("usage: load FILE [SIZE]");
+        return Ok(ExitCode::from(2));
+    };
+    let text = fs::read(name)?;
     let (mut stream, mut load) = (Stream::new()?, Load { is_well: true, ..Load::default() });
     for piece in text.chunks(size) {
         stream.read(piece).for_each(|event| load.follow(event));
