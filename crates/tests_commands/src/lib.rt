@@ -18,4 +18,7 @@ mod runs;
 #[cfg(test)]
 mod serves;
 
-pub use laws::runs_are_confined;
+pub use laws::{
+    images_are_put, lawful_code_is_told_lawful, loads_tell_their_report, no_file_is_put,
+    runs_are_confined, served_clients_are_told,
+};
