@@ -1,7 +1,9 @@
 //! What the definitions come to at the edges of slots, guards, table and code.
 
-ghost use Rattle.std.specs.Prelude.{◌≡◌, ℕ, ◌+◌, ◌-◌, ◌*◌, ◌^◌, ◌<◌, false, Some, None};
+ghost use Rattle.std.specs.Prelude.{◌≡◌, ℕ, ◌+◌, ◌-◌, ◌*◌, ◌^◌, ◌<◌, false, pos, negsuc, ◌∷◌, map, replicate, Some, None};
 ghost use Rattle.lfi_image.specs.Image.{Image};
+ghost use Rattle.a64_word.specs.declared.instruction.Instruction.{Instruction};
+ghost use Rattle.a64_word.specs.declared.instruction.Instruction.TheVariants.{Nop};
 ghost use Rattle.a64_word.specs.declared.operands.Size.TheVariants.{Byte, Half, Double};
 ghost use Rattle.a64_word.specs.declared.operands.BranchKind.TheVariants.{Br, Blr, Ret};
 ghost use Rattle.a64_word.specs.Bytes.{number_at};
@@ -14,7 +16,7 @@ ghost use Rattle.lfi_confinement.specs.Moves.{word_at, performed, given, stop, a
 ghost use Rattle.lfi_confinement.specs.Lawful.{Held};
 ghost use Rattle.lfi_confinement.specs.Runs.{Outcome, Running, Escaped, Leads, Step, Reach, NeverEscapes};
 ghost use Rattle.lfi_confinement.specs.declared.cause.StopCause.TheVariants as cause;
-ghost use Rattle.lfi_confinement.specs.Edges.{edge_image, with_x0, loads_at_x0, loads_pair_at_x0, with_x30, goes_to};
+ghost use Rattle.lfi_confinement.specs.Edges.{edge_image, with_x0, loads_at_x0, loads_pair_at_x0, stores_at_x0, stores_pair_at_x0, with_x30, goes_to, with_pc, branches_by, goes_on_at};
 
 /// What an escape is, by rows: a byte that is accessed just outside of the guards of slot 0, and a pc just outside of the slot.
 /// In a guard the machine stops. A run whose step is an escape has escaped: so code that isn't lawful can.
@@ -51,6 +53,29 @@ pub fn wide_escapes_at_the_edges()
     ensures double_out_above { performed edge_image (with_x0 (2 ^ 33 + 65529)) (loads_at_x0 Double) ≡ escape }
     ensures pair_in_the_high_guard { performed edge_image (with_x0 (2 ^ 33 + 65520)) loads_pair_at_x0 ≡ stop (cause.NoAccess (2 ^ 33 + 65520)) }
     ensures pair_out_above { performed edge_image (with_x0 (2 ^ 33 + 65521)) loads_pair_at_x0 ≡ escape }
+{}
+
+/// A store escapes just outside of the guards, as a load does, and stops in them.
+pub fn stores_escape_at_the_edges()
+    ensures below { map (performed edge_image (with_x0 (2 ^ 32 - 65537))) stores_at_x0 ≡ replicate 4 escape }
+    ensures low_guard { map (performed edge_image (with_x0 (2 ^ 32 - 65536))) stores_at_x0 ≡ replicate 4 (stop (cause.NoAccess (2 ^ 32 - 65536))) }
+    ensures high_guard { map (performed edge_image (with_x0 (2 ^ 33 + 65535))) stores_at_x0 ≡ replicate 4 (stop (cause.NoAccess (2 ^ 33 + 65535))) }
+    ensures above { map (performed edge_image (with_x0 (2 ^ 33 + 65536))) stores_at_x0 ≡ replicate 4 escape }
+    ensures pair_from_below { performed edge_image (with_x0 (2 ^ 32 - 65537)) stores_pair_at_x0 ≡ escape }
+    ensures pair_in_the_low_guard { performed edge_image (with_x0 (2 ^ 32 - 65536)) stores_pair_at_x0 ≡ stop (cause.NoAccess (2 ^ 32 - 65536)) }
+    ensures pair_in_the_high_guard { performed edge_image (with_x0 (2 ^ 33 + 65520)) stores_pair_at_x0 ≡ stop (cause.NoAccess (2 ^ 33 + 65520)) }
+    ensures pair_out_above { performed edge_image (with_x0 (2 ^ 33 + 65521)) stores_pair_at_x0 ≡ escape }
+{}
+
+/// A direct branch of each kind escapes where it leaves the slot by a word, and goes on within it. So does what goes on with the
+/// next word, an access too.
+pub fn direct_branches_escape_at_the_edges()
+    ensures left_below { map (performed edge_image (with_pc (2 ^ 32))) (branches_by (negsuc 0)) ≡ replicate 7 escape }
+    ensures first_word { map goes_on_at (map (performed edge_image (with_pc (2 ^ 32 + 4))) (branches_by (negsuc 0))) ≡ replicate 7 (Some (2 ^ 32)) }
+    ensures last_word { map goes_on_at (map (performed edge_image (with_pc (2 ^ 33 - 8))) (branches_by (pos 1))) ≡ replicate 7 (Some (2 ^ 33 - 4)) }
+    ensures left_above { map (performed edge_image (with_pc (2 ^ 33 - 4))) (branches_by (pos 1)) ≡ replicate 7 escape }
+    ensures next_within { map goes_on_at (map (performed edge_image (with_pc (2 ^ 33 - 8))) (Nop ∷ loads_at_x0 Byte ∷ stores_at_x0)) ≡ replicate 6 (Some (2 ^ 33 - 4)) }
+    ensures next_above { map (performed edge_image (with_pc (2 ^ 33 - 4))) (Nop ∷ loads_at_x0 Byte ∷ stores_at_x0) ≡ replicate 6 escape }
 {}
 
 /// The table holds the address of each entry of the runtime, which is called there; and there is no other entry.

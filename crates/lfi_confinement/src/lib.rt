@@ -28,8 +28,8 @@ mod laws;
 
 pub use cause::StopCause;
 pub use edges::{
-    code_ends_within_a_page, entries_are_called_by_x30, entries_lie_outside,
-    entries_stand_in_the_table, escapes_at_the_edges, runs_are_made_of_steps,
-    wide_escapes_at_the_edges, words_stand_in_the_code,
+    code_ends_within_a_page, direct_branches_escape_at_the_edges, entries_are_called_by_x30,
+    entries_lie_outside, entries_stand_in_the_table, escapes_at_the_edges, runs_are_made_of_steps,
+    stores_escape_at_the_edges, wide_escapes_at_the_edges, words_stand_in_the_code,
 };
 pub use laws::{lawful_code_runs_on, never_escapes};

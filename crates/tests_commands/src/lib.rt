@@ -1,5 +1,5 @@
 //! Tests of the commands: readers, writers and disks that give and take little, or fail, and each command once over files.
-//! Whole runs of the program over files are rows of checks/runs.
+//! Whole runs of the program over files are rows of checks/runs. `laws` read the records of contracts.
 #![tactic(auto)]
 
 #[cfg(test)]
@@ -10,9 +10,15 @@ mod disks;
 mod files;
 #[cfg(test)]
 mod images;
+mod laws;
 #[cfg(test)]
 mod notices;
 #[cfg(test)]
 mod runs;
 #[cfg(test)]
 mod serves;
+
+pub use laws::{
+    images_are_put, lawful_code_is_told_lawful, loads_tell_their_report, no_file_is_put,
+    runs_are_confined, served_clients_are_told,
+};

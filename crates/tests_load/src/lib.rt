@@ -1,4 +1,4 @@
-//! Worked rows of `lfi_loader`: streams loaded on threads, and clients over sockets.
+//! Worked rows of `lfi_loader`: streams loaded on threads, and clients over sockets. `laws` read the records of contracts.
 #![tactic(auto)]
 
 #[cfg(test)]
@@ -13,6 +13,7 @@ mod gates;
 mod growths;
 #[cfg(test)]
 mod inputs;
+mod laws;
 #[cfg(test)]
 mod limits;
 #[cfg(test)]
@@ -23,3 +24,5 @@ mod reads;
 mod reports;
 #[cfg(test)]
 mod workers;
+
+pub use laws::{absent_clients_have_no_module, new_parts_share_a_pool, opened_modules_are_loaded};

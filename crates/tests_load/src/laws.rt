@@ -1,0 +1,47 @@
+//! What `load_all`, `serve_on` and `Stage::new` promise, read from the records of their contracts: where one of these fields is
+//! dropped, a law here isn't proved any more.
+
+ghost use Rattle.std.specs.Prelude.{◌≡◌, ◌≢◌, ◌<◌, ℕ, List, [], Option, Some, None, true, get_or, slice_get};
+ghost use Rattle.std.specs.declared.time.Duration.{Duration};
+ghost use Rattle.lfi_module.specs.Numbers.{module_count};
+ghost use Rattle.lfi_frame.specs.Streams.{Message, Cut};
+ghost use Rattle.lfi_model.specs.declared.connection.EndCause.TheVariants.{End};
+ghost use Rattle.lfi_receive.specs.declared.receiver.Receiver.{Receiver};
+ghost use Rattle.lfi_receive.specs.Claims.{is_opened};
+ghost use Rattle.lfi_receive.specs.Receivers.{member_of};
+ghost use Rattle.lfi_sequence.specs.declared.sequencer.Sequencer.{Sequencer};
+ghost use Rattle.lfi_sequence.specs.declared.verifier.Verifier.{Verifier};
+ghost use Rattle.lfi_sequence.specs.Handed.{take_pass_of};
+ghost use Rattle.lfi_sequence.specs.Turns as turns;
+ghost use Rattle.lfi_stage.specs.declared.settlement.Report.{Report};
+ghost use Rattle.lfi_stage.specs.declared.stage.Stage.{Stage};
+ghost use Rattle.lfi_stage.specs.Reports.{verifiers_of};
+ghost use Rattle.lfi_stage.specs.Stages.{IsNew};
+ghost use Rattle.lfi_sync.specs.declared.fate.ClientFate.TheVariants.{CutOff};
+ghost use Rattle.lfi_sync.specs.Fates.{fate_at, is_absent};
+ghost use Rattle.lfi_loader.specs.declared.serve.Served.{Served};
+ghost use Rattle.lfi_loader.specs.Loaded.{IsLoaded};
+ghost use Rattle.lfi_loader.specs.Served.{HasServed};
+
+/// A connection without a client has sent nothing, so it has no module, and is one of those that were asked for. A module that a
+/// text opens is some connection's. Without a limit of time no client is cut off.
+pub fn absent_clients_have_no_module()
+    ensures absent { (connections verifiers : ℕ) (limit : Option Duration) (served : Served) → HasServed connections verifiers limit served → (c m : ℕ) → c < connections → m < module_count → is_absent (fate_at served.clients.fates c) ≡ true → get_or served.report.holders m None ≢ Some c }
+    ensures asked_for { (connections verifiers : ℕ) (limit : Option Duration) (served : Served) → HasServed connections verifiers limit served → (c : ℕ) → is_absent (fate_at served.clients.fates c) ≡ true → c < connections }
+    ensures opened { (connections verifiers : ℕ) (limit : Option Duration) (served : Served) → (is : HasServed connections verifiers limit served) → (c m : ℕ) (messages : List Message) (rest : List ℕ) → c < connections → m < module_count → Cut (is.is.texts c) messages rest → is_opened messages m ≡ true → get_or served.report.holders m None ≢ None }
+    ensures endless { (connections verifiers : ℕ) (served : Served) → HasServed connections verifiers None served → (c : ℕ) → fate_at served.clients.fates c ≢ CutOff }
+    ensures judged { (connections verifiers : ℕ) (limit : Option Duration) (served : Served) → HasServed connections verifiers limit served → verifiers_of served.report ≡ verifiers }
+{}
+
+/// A module that the text of an input opens is some connection's, where the input came to its end.
+pub fn opened_modules_are_loaded()
+    ensures opened { (connections verifiers : ℕ) (texts : ℕ → List ℕ) (report : Report) → (is : IsLoaded connections verifiers texts report) → (c m : ℕ) (messages : List Message) (rest : List ℕ) → c < connections → m < module_count → is.causes c ≡ End → Cut (texts c) messages rest → is_opened messages m ≡ true → get_or report.holders m None ≢ None }
+    ensures judged { (connections verifiers : ℕ) (texts : ℕ → List ℕ) (report : Report) → IsLoaded connections verifiers texts report → verifiers_of report ≡ verifiers }
+{}
+
+/// Receivers and sequencers of a new stage share one pool of pages, and its verifiers and sequencers have taken nothing.
+pub fn new_parts_share_a_pool()
+    ensures shared { (receivers verifiers : ℕ) (stage : Stage) → IsNew receivers verifiers stage → (c m : ℕ) (r : Receiver) (s : Sequencer) → slice_get stage.parts.receivers.items c ≡ Some r → slice_get stage.parts.sequencers.items m ≡ Some s → (member_of r).pool ≡ (turns.member_of s).pool }
+    ensures judging { (receivers verifiers : ℕ) (stage : Stage) → IsNew receivers verifiers stage → (k : ℕ) (v : Verifier) → slice_get stage.parts.verifiers.items k ≡ Some v → (take_pass_of v).items ≡ [] }
+    ensures placing { (receivers verifiers : ℕ) (stage : Stage) → IsNew receivers verifiers stage → (m : ℕ) (s : Sequencer) → slice_get stage.parts.sequencers.items m ≡ Some s → (turns.lane_pass_of s).items ≡ [] }
+{}
