@@ -165,7 +165,8 @@ def try_refused_while_judged(program):
     streams = [formats.stream(module, formats.code_of(0x8B2042B2, 0xF9400240) * 1_000_000) for module in range(16)]
     with tempfile.TemporaryDirectory() as folder:
         os.chmod(folder, 0o777)
-        shutil.copy(program, folder)
+        # For another user to carry out, whatever the mode of the program is.
+        os.chmod(shutil.copy(program, folder), 0o755)
         for number in range(16):
             try:
                 came = refused_while_judged(program, folder, streams, (20 + 10 * (number * 7 % 15)) / 1000)
