@@ -7,7 +7,7 @@ import subprocess
 import sys
 import time
 
-from lib.installed import fail, run
+from lib.installed import commit_all, fail, run
 from lib.tree import TOP
 
 ANSWERS = """import hashlib, os, pathlib, sys, time
@@ -74,10 +74,7 @@ def put_tree(room):
         (source / "status").write_text("0")
     (top / "HANDLES").write_text("Handles allowed: none.\n")
     (top / ".gitignore").write_text("out/\n")
-    git = ["git", "-c", "user.name=a", "-c", "user.email=a", "-C", top]
-    run(*git, "init", "--quiet")
-    run(*git, "add", ".")
-    run(*git, "commit", "--quiet", "-m", "a")
+    git = commit_all(top)
     return top, {**os.environ, "PATH": f"{tools}:{os.environ['PATH']}"}, run(*git, "rev-parse", "--short=12", "HEAD").strip()
 
 

@@ -41,6 +41,14 @@ def run(*words, status=0, stderr=subprocess.PIPE, **more):
     return told.stdout
 
 
+def commit_all(top):
+    """Makes a repository of a folder, with one commit of all its files. Returns the words by which git is called there."""
+    git = ["git", "-c", "user.name=a", "-c", "user.email=a", "-C", top]
+    for words in ("init", "--quiet"), ("add", "."), ("commit", "--quiet", "-m", "a"):
+        run(*git, *words)
+    return git
+
+
 def has(*tools):
     """Whether the machine has these tools; which of them it hasn't is told at the end."""
     missing = [it for it in tools if not shutil.which(it)]
@@ -230,10 +238,7 @@ def try_other_tree(room, prefix):
     for name in "include", "docs", "completions":
         shutil.copytree(TOP / name, top / name)
     shutil.copy(TOP / "install", top)
-    git = ["git", "-c", "user.name=a", "-c", "user.email=a", "-C", top]
-    run(*git, "init", "--quiet")
-    run(*git, "add", ".")
-    run(*git, "commit", "--quiet", "-m", "a")
+    git = commit_all(top)
     head, index = run(*git, "rev-parse", "HEAD").strip(), top / ".git" / "index"
     for this in head, f"{head}-dirty":
         written = index.stat().st_mtime_ns
