@@ -2,8 +2,9 @@
 //! proved any more.
 
 ghost use Rattle.std.specs.Prelude.{◌≡◌, ◌≤◌, ℕ, true, false, nat_lt, List, [], ◌++◌, Option, Some, None, codes, map, length};
-ghost use Rattle.std.specs.Io.KnownBytes.{Appends};
+ghost use Rattle.std.specs.Io.KnownBytes.{Appends, Keeps};
 ghost use Rattle.a64_word.specs.Words.{words_of};
+ghost use Rattle.a64_semantics.specs.declared.registers.Registers.{Registers};
 ghost use Rattle.sparse_memory.specs.Kept.{byte_at};
 ghost use Rattle.lfi_check.specs.declared.verdict.Verdict.TheVariants as verdicts;
 ghost use Rattle.lfi_check.specs.Checking.{Checks, IsCode, verdict_text};
@@ -13,12 +14,14 @@ ghost use Rattle.lfi_image_file.specs.declared.fault.ImageFault.{ImageFault};
 ghost use Rattle.lfi_image_file.specs.Files.{FileOf};
 ghost use Rattle.lfi_image_file.specs.Reading.{IsFault};
 ghost use Rattle.lfi_confinement.specs.Runs.{Reach, Escaped};
+ghost use Rattle.lfi_machine.specs.declared.runtime.Answer.TheVariants.{End};
 ghost use Rattle.lfi_machine.specs.declared.halt.Halt.{Halt};
 ghost use Rattle.lfi_machine.specs.declared.halt.Halt.TheVariants.{StepsUsed};
 ghost use Rattle.lfi_machine.specs.Starts.{start_of};
 ghost use Rattle.lfi_machine.specs.Runs.{Config, RanThenHalts, state};
 ghost use Rattle.lfi_run_image.specs.declared.image_run.ImageRun.TheVariants.{Refused, Ended};
-ghost use Rattle.lfi_run_image.specs.Serving.{serves};
+ghost use Rattle.lfi_run_image.specs.declared.service.Service.TheVariants.{Print};
+ghost use Rattle.lfi_run_image.specs.Serving.{serves, Serves};
 ghost use Rattle.lfi_model.specs.Texts.{summary_text};
 ghost use Rattle.lfi_stage.specs.declared.settlement.Report.{Report};
 ghost use Rattle.lfi_stage.specs.Summaries.{summary_of};
@@ -91,4 +94,9 @@ pub fn no_file_is_put()
     ensures told { (asked : DisassembleOptions) (bytes : List ℕ) (old new : Left) (ending : Ending) → (is : HasListed asked (Some bytes) old new ending) → new.is_lost ≡ false → Appends old.errors new.errors (listed_text asked.file.now is.listed) }
     ensures packed { (asked : PackOptions) (file_at : List ℕ → Option (List ℕ)) (old new : Left) (ending : Ending) → HasPacked asked file_at old new ending → new.put ≡ old.put }
     ensures informed { (bytes : List ℕ) (old new : Left) (ending : Ending) → (is : HasTold [] (Some bytes) old new ending) → IsShortInfo (nat_lt most_told (length bytes)) bytes is.text ending × Appends old.out new.out is.text × (new.put ≡ old.put) × (new.errors ≡ old.errors) }
+{}
+
+/// Where the runtime ends a run that wants to print, the byte could not be written: the status is 255, and the output as it was.
+pub fn unwritten_bytes_end_a_run()
+    ensures { (r : Registers) (old new : Option (List ℕ)) (status : ℕ) → Serves Print r old (End status) new → (status ≡ 255) × Keeps old new }
 {}

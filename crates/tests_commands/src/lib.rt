@@ -20,5 +20,5 @@ mod serves;
 
 pub use laws::{
     images_are_put, lawful_code_is_told_lawful, loads_tell_their_report, no_file_is_put,
-    runs_are_confined, served_clients_are_told,
+    runs_are_confined, served_clients_are_told, unwritten_bytes_end_a_run,
 };

@@ -1,14 +1,22 @@
 //! What `load_all`, `serve_on` and `Stage::new` promise, read from the records of their contracts: where one of these fields is
 //! dropped, a law here isn't proved any more.
 
-ghost use Rattle.std.specs.Prelude.{◌≡◌, ◌≢◌, ◌<◌, ℕ, List, [], Option, Some, None, true, get_or, slice_get};
+ghost use Rattle.std.specs.Prelude.{◌≡◌, ◌≢◌, ◌<◌, ℕ, List, [], ◌∷◌, Option, Some, None, true, get_or, slice_get};
 ghost use Rattle.std.specs.declared.time.Duration.{Duration};
 ghost use Rattle.lfi_module.specs.Numbers.{module_count};
 ghost use Rattle.lfi_frame.specs.Streams.{Message, Cut};
-ghost use Rattle.lfi_model.specs.declared.connection.EndCause.TheVariants.{End};
+ghost use Rattle.a64_word.specs.Words.{words_of};
+ghost use Rattle.lfi_rules.specs.Verdicts.{all_words};
+ghost use Rattle.lfi_model.specs.Item.{ItemView};
+ghost use Rattle.lfi_model.specs.Items.{item_of};
+ghost use Rattle.lfi_model.specs.Outcomes.{end_of, pages_of};
+ghost use Rattle.lfi_model.specs.declared.item.ItemKind.TheVariants.{Open};
+ghost use Rattle.lfi_model.specs.declared.item.Reason.TheVariants.{Close};
+ghost use Rattle.lfi_model.specs.declared.connection.EndCause.TheVariants.{End, Starved};
+ghost use Rattle.lfi_pack.specs.Heard.{IsHeard, PackedView};
 ghost use Rattle.lfi_receive.specs.declared.receiver.Receiver.{Receiver};
 ghost use Rattle.lfi_receive.specs.Claims.{is_opened};
-ghost use Rattle.lfi_receive.specs.Receivers.{member_of};
+ghost use Rattle.lfi_receive.specs.Receivers.{member_of, AsksMemory};
 ghost use Rattle.lfi_sequence.specs.declared.sequencer.Sequencer.{Sequencer};
 ghost use Rattle.lfi_sequence.specs.declared.verifier.Verifier.{Verifier};
 ghost use Rattle.lfi_sequence.specs.Handed.{take_pass_of};
@@ -17,26 +25,37 @@ ghost use Rattle.lfi_stage.specs.declared.settlement.Report.{Report};
 ghost use Rattle.lfi_stage.specs.declared.stage.Stage.{Stage};
 ghost use Rattle.lfi_stage.specs.Reports.{verifiers_of};
 ghost use Rattle.lfi_stage.specs.Stages.{IsNew};
-ghost use Rattle.lfi_sync.specs.declared.fate.ClientFate.TheVariants.{CutOff};
+ghost use Rattle.lfi_sync.specs.declared.fate.ClientFate.TheVariants.{Absent, CutOff};
+ghost use Rattle.lfi_sync.specs.declared.fate.Absence.TheVariants.{NotCome};
 ghost use Rattle.lfi_sync.specs.Fates.{fate_at, is_absent};
 ghost use Rattle.lfi_loader.specs.declared.serve.Served.{Served};
 ghost use Rattle.lfi_loader.specs.Loaded.{IsLoaded};
 ghost use Rattle.lfi_loader.specs.Served.{HasServed};
 
 /// A connection without a client has sent nothing, so it has no module, and is one of those that were asked for. A module that a
-/// text opens is some connection's. Without a limit of time no client is cut off.
+/// text opens is some connection's. Without a limit of time no client is cut off, and none comes too late.
 pub fn absent_clients_have_no_module()
     ensures absent { (connections verifiers : ℕ) (limit : Option Duration) (served : Served) → HasServed connections verifiers limit served → (c m : ℕ) → c < connections → m < module_count → is_absent (fate_at served.clients.fates c) ≡ true → get_or served.report.holders m None ≢ Some c }
     ensures asked_for { (connections verifiers : ℕ) (limit : Option Duration) (served : Served) → HasServed connections verifiers limit served → (c : ℕ) → is_absent (fate_at served.clients.fates c) ≡ true → c < connections }
     ensures opened { (connections verifiers : ℕ) (limit : Option Duration) (served : Served) → (is : HasServed connections verifiers limit served) → (c m : ℕ) (messages : List Message) (rest : List ℕ) → c < connections → m < module_count → Cut (is.is.texts c) messages rest → is_opened messages m ≡ true → get_or served.report.holders m None ≢ None }
     ensures endless { (connections verifiers : ℕ) (served : Served) → HasServed connections verifiers None served → (c : ℕ) → fate_at served.clients.fates c ≢ CutOff }
+    ensures waited { (connections verifiers : ℕ) (served : Served) → HasServed connections verifiers None served → (c : ℕ) → fate_at served.clients.fates c ≢ Absent NotCome }
     ensures judged { (connections verifiers : ℕ) (limit : Option Duration) (served : Served) → HasServed connections verifiers limit served → verifiers_of served.report ≡ verifiers }
 {}
 
-/// A module that the text of an input opens is some connection's, where the input came to its end.
+/// A module that the text of an input opens is some connection's, where the input came to its end. Where an input ended for want
+/// of memory, what was heard of it ends with the header of a page.
 pub fn opened_modules_are_loaded()
     ensures opened { (connections verifiers : ℕ) (texts : ℕ → List ℕ) (report : Report) → (is : IsLoaded connections verifiers texts report) → (c m : ℕ) (messages : List Message) (rest : List ℕ) → c < connections → m < module_count → is.causes c ≡ End → Cut (texts c) messages rest → is_opened messages m ≡ true → get_or report.holders m None ≢ None }
+    ensures starved { (connections verifiers : ℕ) (texts : ℕ → List ℕ) (report : Report) → (is : IsLoaded connections verifiers texts report) → (c : ℕ) → c < connections → is.causes c ≡ Starved → AsksMemory (is.claims c) (is.heard c) }
     ensures judged { (connections verifiers : ℕ) (texts : ℕ → List ℕ) (report : Report) → IsLoaded connections verifiers texts report → verifiers_of report ≡ verifiers }
+{}
+
+/// What a receiver hears of a packed module begins with its Open, has the words of its code, and ends by its Close.
+pub fn packed_modules_are_heard_whole()
+    ensures opened { (packed : PackedView) (items : List ItemView) → IsHeard packed items → (later : List ItemView) × (items ≡ item_of packed.number 0 packed.extent Open ∷ later) }
+    ensures words { (packed : PackedView) (items : List ItemView) → IsHeard packed items → all_words (pages_of items) ≡ words_of packed.code }
+    ensures ended { (packed : PackedView) (items : List ItemView) → IsHeard packed items → end_of items ≡ Some Close }
 {}
 
 /// Receivers and sequencers of a new stage share one pool of pages, and its verifiers and sequencers have taken nothing.

@@ -25,4 +25,7 @@ mod reports;
 #[cfg(test)]
 mod workers;
 
-pub use laws::{absent_clients_have_no_module, new_parts_share_a_pool, opened_modules_are_loaded};
+pub use laws::{
+    absent_clients_have_no_module, new_parts_share_a_pool, opened_modules_are_loaded,
+    packed_modules_are_heard_whole,
+};

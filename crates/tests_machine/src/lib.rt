@@ -11,6 +11,7 @@ mod edges;
 mod host;
 #[cfg(test)]
 mod late;
+mod laws;
 #[cfg(test)]
 mod ordered;
 #[cfg(test)]
@@ -21,3 +22,5 @@ mod semantics;
 mod texts;
 #[cfg(test)]
 mod whole_slot;
+
+pub use laws::no_word_keeps_no_page;

@@ -8,3 +8,7 @@ pub returns-clause-opened : goal.returns-clause-opened
 returns-clause-opened a connections verifiers texts report is c m messages rest within in_range ended cut opens =
     let whole = subst (λ cause. IsHeard (is.claims c) cause (is.heard c) (texts c)) ended (is.hears c within) in
     opened_held connections is.heard is.causes is.claims report is.reports c m messages rest within in_range (subst (λ text. Cut text messages rest) (sym whole) cut) opens
+
+pub returns-clause-starved : goal.returns-clause-starved
+returns-clause-starved a connections verifiers texts report is c within starved =
+    (subst (λ cause. IsHeard (is.claims c) cause (is.heard c) (texts c)) starved (is.hears c within)).0
