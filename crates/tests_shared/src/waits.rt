@@ -201,3 +201,101 @@ fn one_is_called_where_all_wait(rt: HostRuntime) {
         assert!(rt; first_of_all_is_called(&rt, count));
     }
 }
+
+/// How often a thread waits and is called while another one comes and goes.
+const CALLS: u64 = 50_000;
+
+/// What was brought last, what was found last, and whether all is over, each a number.
+#[derive(Drop)]
+struct Calls {
+    brought: AtomicU64,
+    found: AtomicU64,
+    over: AtomicU64,
+}
+
+/// Says that it waits and that it doesn't, again and again, until all is over.
+fn come_and_go<R: Wait>(rt: &R, room: &WaitSet, calls: &Calls) -> bool {
+    let mut waiter = Waiter::new(room, 0);
+    for _ in rt.forever() {
+        if calls.over.load(Ordering::SeqCst) != 0 {
+            break;
+        }
+        waiter.pause(rt);
+        waiter.end();
+    }
+    true
+}
+
+/// Waits for each thing that is brought.
+fn find_each<R: Wait>(rt: &R, room: &WaitSet, calls: &Calls) -> bool {
+    let mut waiter = Waiter::new(room, 1);
+    let mut next = 1;
+    for _ in rt.forever() {
+        if calls.brought.load(Ordering::SeqCst) < next {
+            waiter.pause(rt);
+            continue;
+        }
+        waiter.end();
+        calls.found.store(next, Ordering::SeqCst);
+        if next >= CALLS {
+            break;
+        }
+        next += 1;
+    }
+    true
+}
+
+/// Brings one thing after another, each once the last was found. Whether each was found; where one wasn't, whoever waits for it
+/// is called in another way, and finds all at once.
+fn bring_each<R: Wait>(rt: &R, room: &WaitSet, calls: &Calls) -> bool {
+    let mut notifier = Notifier::of_all(room, 1);
+    let mut all = true;
+    for number in 1..=CALLS {
+        calls.brought.store(number, Ordering::SeqCst);
+        notifier.brought();
+        if !comes_to(&calls.found, number) {
+            all = false;
+            calls.brought.store(CALLS, Ordering::SeqCst);
+            Waiter::new(room, 1).pause(rt);
+            notifier.tell();
+            break;
+        }
+    }
+    calls.over.store(1, Ordering::SeqCst);
+    all
+}
+
+/// A thread that waits, one that comes and goes, and this one, which calls: whether each call is heard.
+fn wait_and_call<'s, 'e, R: Threads + Wait + Abort + Sync>(
+    scope: &Scope<'s, &'e ()>,
+    rt: &'e R,
+    room: &'e WaitSet,
+    calls: &'e Calls,
+) -> bool {
+    let Ok(waiting) = scope.spawn(move || -> bool { find_each(rt, room, calls) }) else {
+        panic!(rt; "no thread")
+    };
+    let Ok(passing) = scope.spawn(move || -> bool { come_and_go(rt, room, calls) }) else {
+        panic!(rt; "no thread")
+    };
+    let all = bring_each(rt, room, calls);
+    [waiting.join(rt), passing.join(rt), all] == [true; 3]
+}
+
+/// Whether each call of a thread is heard while another one comes and goes at the same wait set.
+fn each_call_is_heard<R: Threads + Wait + Abort + Sync>(rt: &R) -> bool {
+    let lifecycle = &Lifecycle::new(2);
+    let calls = &Calls {
+        brought: AtomicU64::new(0),
+        found: AtomicU64::new(0),
+        over: AtomicU64::new(0),
+    };
+    scope(scope_env(), rt, move |scope| -> bool {
+        wait_and_call(scope, rt, &lifecycle.wait_sets().lane_room, calls)
+    })
+}
+
+#[test]
+fn who_comes_and_goes_takes_no_other_ones_call(rt: HostRuntime) {
+    assert!(rt; each_call_is_heard(&rt));
+}
