@@ -1,0 +1,61 @@
+"""The part of checks/hostile on what one core does."""
+
+import os
+import pathlib
+import subprocess
+import tempfile
+import time
+
+from lib import formats
+from lib.cases import NOP, RET, wrong
+from lib.serving import connected
+
+LOADS, SERVES, SECONDS = 200, 100, 20
+
+
+def on_one_core():
+    os.sched_setaffinity(0, {min(os.sched_getaffinity(0))})
+
+
+def ended(part, words, running, wanted):
+    """What came of a run that has to end in time."""
+    try:
+        out, err = running.communicate(timeout=SECONDS)
+    except subprocess.TimeoutExpired:
+        running.kill()
+        wrong(part, words[1:], "no end", f"an end within {SECONDS} seconds")
+    if (out, err, running.returncode) != (wanted, "", 0):
+        wrong(part, words[1:], (out, err, running.returncode), (wanted, "", 0))
+
+
+def start(words, folder, before=None):
+    return subprocess.Popen(words, cwd=folder, stdout=subprocess.PIPE, stderr=subprocess.PIPE, text=True, preexec_fn=before)
+
+
+def load_once(program, folder, number):
+    streams = [f"{module}.stream" for module in range(1 + number % 4)]
+    words = [program, "load", "--verifiers", str(1 + number % 3), *streams]
+    wanted = "".join(f"module {module}: complete, 3001 words\n" for module in range(len(streams))) + "strays 0\n"
+    ended("core", words, start(words, folder, on_one_core), wanted)
+
+
+def serve_once(program, folder, number):
+    path = os.path.join(folder, f"s{number}")
+    words = [program, "serve", "--socket", path, "--connections", "1", "--seconds", "3000"]
+    serving = start(words, folder, on_one_core)
+    with connected(path) as client:
+        time.sleep(0.001 * (number % 20))
+        client.sendall(formats.stream(0, RET))
+    ended("core", words, serving, "module 0: complete, 1 words\nstrays 0\n")
+
+
+def try_core(program):
+    """A thread that isn't called where it sleeps shows itself on one core, since another one then rarely comes to its help."""
+    with tempfile.TemporaryDirectory() as folder:
+        for module in range(4):
+            pathlib.Path(folder, f"{module}.stream").write_bytes(formats.stream(module, NOP * 3000 + RET))
+        for number in range(LOADS):
+            load_once(program, folder, number)
+        for number in range(SERVES):
+            serve_once(program, folder, number)
+    print(f"core: {LOADS} loads and {SERVES} clients of `serve` on one core")
