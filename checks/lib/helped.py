@@ -1,6 +1,6 @@
 """What `--help` says of a command, and whether the runs that are written down, and its own example, are as it says: for checks/program."""
 
-import contextlib
+import itertools
 import os
 import pathlib
 import re
@@ -10,7 +10,7 @@ import sys
 import tempfile
 import threading
 
-from lib import formats, tree
+from lib import formats, numbered, tree
 from lib.serving import connected
 
 COMMANDS = ("check", "load", "serve", "run", "disassemble", "pack", "unpack", "info")
@@ -18,6 +18,15 @@ COMMANDS = ("check", "load", "serve", "run", "disassemble", "pack", "unpack", "i
 PLACES = r"\b[A-Z]{4,}\b|\b[A-Z]\b"
 # What is printed only where memory or a client is refused, as checks/refused_growth does.
 REFUSED = {"no memory", "not taken", "client_error"}
+# The lines that no run of checks/runs prints, with the statuses that the helps of these commands give them.
+UNSEEN = {
+    (COMMANDS, "lfiload: no memory"): (3,),  # checks/refused_growth refuses memory
+    (("load",), "module M: no memory"): (),  # and so here
+    (("run",), "halt 7 after N steps"): (3,),  # and here
+    (("run",), "halt 6 after N steps"): (1,),  # the program's own runtime answers lawful registers
+    (("serve",), "lfiload: connection C: cannot read"): (3,),  # checks/refused_growth has clients that aren't taken, or are reset
+    (("load", "serve"), "module M refused"): (),  # a notice, which may come or not
+}
 NOP, RET, BRK = (formats.code_of(word) for word in (0xD503201F, 0xD65F03C0, 0xD4200000))
 
 
@@ -50,31 +59,45 @@ def compare_keys(helps, runs):
 # ---- statuses
 
 def entries(text):
-    """The lines that a help says are printed, as patterns and in its words, each with the one status that it gives."""
+    """The lines that a help says are printed, as patterns and in its words, each with the statuses that it gives."""
     found = []
-    for line in re.sub(r"\n {12,}", " ", text).splitlines():
-        entry = re.match(r" {2,}(\S.*?\S)(?:  +|$)(.*)", line)
-        statuses = re.findall(r"\(status (\d)\)", line)
-        if entry and len(statuses) == 1:
-            parts = re.split(PLACES, entry[1])
-            found.append((re.compile(".+".join(re.escape(part) for part in parts) + "$"), entry[1], int(statuses[0])))
+    for line in re.sub(r"\n {12,}", "  ", text).splitlines():
+        entry = re.match(r" {2,}([a-z]\S.*?\S)(?:  +|$)", line)
+        if entry:
+            pattern = ".+".join(re.escape(part) for part in re.split(PLACES, entry[1])) + "$"
+            statuses = re.findall(r"\(status +(\d)(?:,? or (\d)\b[^()]*)?\)", line)
+            found.append((re.compile(pattern), entry[1], tuple(sorted(int(it) for both in statuses for it in both if it))))
     return found
 
 
+def told_lines(run):
+    """The lines that a run prints, as far as they are compared, without spaces before them, and without a file's path and colon. None of a
+    run whose output fails, nor of what no help tells."""
+    if run.out is None or run.err is None or b"--help" in run.words or b"lfiload: cannot read the command line" in run.err:
+        return []
+    texts = [run.out, run.err, *run.holds.get("out", []), *run.holds.get("err", [])]
+    lines = [line.strip() for line in b"\n".join(texts).decode("latin-1").splitlines()]
+    files = [word.decode("latin-1") + ": " for word in run.words]
+    return [next((line.removeprefix(it) for it in files if line.startswith(it)), line) for line in lines]
+
+
 def compare_statuses(helps, runs):
-    """A run that prints one line of those that its help gives a status has that status. Returns how many runs were compared."""
+    """A run that prints lines of those that its help gives statuses has the worst of these. Each line is printed by a run, but for those of
+    UNSEEN. Returns how many runs were compared."""
     count = 0
     for command in COMMANDS:
         known, seen = entries(helps[command]), set()
-        for run in (it for it in runs if it.words[:1] == [command.encode()] and it.out is not None and it.err is not None):
-            lines = (run.out + b"\n" + run.err).decode("latin-1").splitlines()
-            told = {(name, status) for pattern, name, status in known for line in lines if pattern.match(line)}
-            if len({status for _, status in told}) == 1 and run.status != 2 and len(run.words) < 7:
-                (name, status), *_ = told
-                seen |= {name for name, _ in told}
-                count += 1
-                if run.status != status:
-                    fail(command, f"{name!r} has status {status}, and {run.words} {run.status}")
+        for run in (it for it in runs if it.words[:1] == [command.encode()]):
+            told = {(name, statuses) for pattern, name, statuses in known for line in told_lines(run) if pattern.match(line)}
+            given = [statuses for _, statuses in told if statuses]
+            seen |= told
+            count += bool(given)
+            if given and run.status not in map(max, itertools.product(*given)):
+                fail(command, f"it gives {sorted(told)}, and {run.words} has status {run.status}")
+        left = {(name, statuses) for _, name, statuses in known} - seen
+        wanted = {(name, statuses) for (commands, name), statuses in UNSEEN.items() if command in commands}
+        if left != wanted:
+            fail(command, f"lines that no run prints: {sorted(left - wanted)}, and those of UNSEEN that it doesn't have so: {sorted(wanted - left)}")
     return count
 
 
@@ -143,5 +166,6 @@ def compare(program, runs):
     compare_keys(helps, runs)
     compare_order(program, helps)
     compare_registers(helps)
+    numbered.compare(program, helps)
     try_examples(program, helps)
     return compare_statuses(helps, runs)

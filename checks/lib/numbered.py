@@ -1,0 +1,103 @@
+"""The numbers that `--help` tells, beside what the program does: for checks/program."""
+
+import pathlib
+import re
+import struct
+import subprocess
+import sys
+import tempfile
+
+from lib import formats, tree
+
+RET, BRK, SVC = (formats.code_of(word) for word in (0xD65F03C0, 0xD4200000, 0xD4000001))
+# What `run` tells of a fault of images, as a pattern, and a file of it; None: a folder.
+IMAGES = {
+    "it doesn't begin with LFI1": b"LFI2" + formats.image(0, 0, RET)[4:],
+    "its profile": formats.image(0, 0, RET, 3),
+    "its counts": formats.image(0, 1, RET),
+    "its base": struct.pack("<4sIIIQ", b"LFI1", 1, 0, 1, 2 << 32) + RET,
+    "it is cut": formats.image(0, 0, RET)[:-1],
+    "bytes follow it": formats.image(0, 0, RET) + b"\0",
+    "no memory": b"",
+    "a read failed": None,
+}
+
+
+def fail(command, why):
+    sys.exit(f"program: lfiload {command} --help: {why}")
+
+
+def flat(text):
+    return " ".join(text.split())
+
+
+def told_of(program, content, *words):
+    """What the program writes of a file with these bytes, on both of its outputs; None: of a folder."""
+    with tempfile.TemporaryDirectory() as folder:
+        file = pathlib.Path(folder, "file")
+        file.mkdir() if content is None else file.write_bytes(content)
+        done = subprocess.run([program, *words, "file"], cwd=folder, stdin=subprocess.DEVNULL, capture_output=True, timeout=60)
+    return done.stdout + done.stderr
+
+
+def number_in_profile(row, column):
+    """The number of a fault in the table of docs/PROFILE.md, whose second column is of streams and whose fourth of images."""
+    rows = [line.strip("| ").split(" | ") for line in (tree.TOP / "docs" / "PROFILE.md").read_text().splitlines()]
+    return next((it[0] for it in rows if it[column : column + 1] == [row]), None)
+
+
+def compare_stream_faults(program, helps):
+    """Of load: the last fault of a header, a stream that ends too early, a read that fails. No memory is refused by checks/refused_growth."""
+    told = re.search(r"Its stream has fault F: 1 to (\d+) a header, (\d+) no memory, (\d+) its end, (\d+) a read that failed\.", flat(helps["load"]))
+    entry = formats.header(1, 0, 0, 1, 1)  # entered past its last word
+    found = [re.search(rb"connection 0: fault (\d+)", told_of(program, it, "load")) for it in (entry, formats.stream(0, RET)[:-1], None)]
+    last, early, failed = (it and it[1].decode() for it in found)
+    wanted = (last, number_in_profile("NoMemory", 1), early, failed)
+    if not told or told.groups() != wanted:
+        fail("load", f"it tells the faults {told and told.groups()} of streams, and not {wanted}")
+
+
+def compare_image_faults(program, helps):
+    """Of run: each fault of an image by a file of it. Of unlawful code, too."""
+    told = flat(helps["run"]).partition("There is no image: ")[2].partition(" (status 3).")[0]
+    faults = {text: number for number, text in re.findall(r"\b(\d) (.*?)(?:, | \(status 1\), |$)", told)}
+    if faults.keys() != IMAGES.keys():
+        fail("run", f"it tells of faults of images that {sorted(faults.keys() ^ IMAGES.keys())}")
+    found = {text: re.match(rb"image refused, fault (\d)\n", told_of(program, it, "run", "--steps", "1")) for text, it in IMAGES.items()}
+    numbers = {text: it and it[1].decode() for text, it in found.items()} | {"no memory": number_in_profile("NoMemory", 3)}
+    if faults != numbers:
+        fail("run", f"it tells the faults {faults} of images, and they have {numbers}")
+    if not told_of(program, formats.image(0, 0, SVC), "run", "--steps", "1").startswith(b"image refused, fault 7, word 0 rule 1\n"):
+        fail("run", "a word that breaks a rule isn't fault 7")
+
+
+def compare_longest(helps):
+    """Of info: the bytes of a stream of all modules of the most words. The rows of info.runs have a file of them, and a longer one."""
+    most = formats.MODULES * sum(map(len, formats.messages(0, bytes(4 * formats.MOST_WORDS))))
+    if re.findall(r"more than (\d+) bytes", helps["info"]) != [str(most)]:
+        fail("info", f"the longest stream has {most} bytes")
+
+
+def printed_of(program, registers):
+    """A byte of each of these registers at the start: 0 where it holds the base, 1 where it holds the end, 255 where it is 0. 31 is sp."""
+    words = []
+    for it in registers:  # mov x0, sp where that is asked; sub x0, xN, x21; lsr x0, x0, #32; ldr x30, [x21, #8]; blr x30
+        words += [*([0x910003E0] if it == 31 else []), 0xCB150000 | it % 31 << 5, 0xD360FC00, 0xF94006BE, 0xD63F03C0]
+    return told_of(program, formats.image(0, 0, formats.code_of(*words) + BRK), "run", "--steps", "1000")[: len(registers)]
+
+
+def compare_start(program, helps):
+    """Of run: which registers hold the base at the start, which the end, and that all others are 0."""
+    said = re.search(r"with the base of its slot in (.*?), the end of its slot in sp, and 0 in all other registers", flat(helps["run"]))
+    bases = {int(it) for it in re.findall(r"\bx(\d+)", said[1])} if said else set()
+    found = printed_of(program, [*range(30), 31]) + printed_of(program, [30])
+    wanted = bytes(0 if it in bases else 1 if it == 31 else 255 for it in (*range(30), 31, 30))
+    if found != wanted:
+        fail("run", f"the registers x0 to x29, sp and x30 begin as {found.hex(' ')}, and by it as {wanted.hex(' ')}")
+
+
+def compare(program, helps):
+    compare_stream_faults(program, helps)
+    compare_image_faults(program, helps)
+    compare_longest(helps)
+    compare_start(program, helps)

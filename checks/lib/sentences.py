@@ -1,0 +1,101 @@
+"""What docs/COMMANDS.md says in sentences, beside runs: for checks/program."""
+
+import os
+import pathlib
+import resource
+import signal
+import subprocess
+import sys
+import tempfile
+import threading
+
+from lib import formats, tree
+from lib.serving import connected
+
+DOCUMENT = tree.TOP / "docs" / "COMMANDS.md"
+RET, SVC = 0xD65F03C0, 0xD4000001
+
+
+class Room:
+    """A folder with files of each kind, and the program there."""
+
+    def __init__(self, program, folder):
+        self.program, self.folder = program, pathlib.Path(folder)
+        code = formats.code_of(RET)
+        # ldr x30, [x21, #8]; blr x30: it prints a byte.
+        writes = formats.image(0, 0, formats.code_of(0xF94006BE, 0xD63F03C0, 0xD4200000))
+        for name, content in {"a.code": code, "bad.code": formats.code_of(SVC), "a.stream": formats.stream(0, code), "a.img": formats.image(0, 0, code),
+                              "writes.img": writes}.items():
+            (self.folder / name).write_bytes(content)
+
+    def run(self, *words, **more):
+        given = {"stdin": subprocess.DEVNULL, "stdout": subprocess.PIPE, "stderr": subprocess.PIPE, "cwd": self.folder, "timeout": 60, **more}
+        done = subprocess.run([self.program, *words], **given)
+        return done.returncode, done.stdout, done.stderr
+
+
+def visit(path):
+    """A client that sends nothing."""
+    with connected(str(path)):
+        pass
+
+
+def closed_pipe(room):
+    unread, out = os.pipe()
+    os.close(unread)
+    client = threading.Thread(target=visit, args=(room.folder / "s",))
+    client.start()
+    serve = ("serve", "--socket", str(room.folder / "s"), "--connections", "1")
+    others = [("check", "a.code"), ("load", "a.stream"), ("disassemble", "a.code"), ("pack", "a.code"), ("unpack", "a.img"), ("info", "a.code"), serve]
+    found = {words[0]: room.run(*words, stdout=out)[::2] for words in others}
+    client.join()
+    found["run"] = room.run("run", "writes.img", "--steps", "9", stdout=out)[::2]
+    os.close(out)
+    return found == {words[0]: (3, b"") for words in others} | {"run": (0, b"halt 5 status 255 after 1 steps\n")}, found
+
+
+def unread(room):
+    given = (["load", "none", "a.stream"], ["run", "none", "--steps", "1"], ["pack", "none", "a.code"], ["unpack", "none"], ["disassemble", "none"],
+             ["check", "none", "a.code"], ["info", "none", "a.code"])
+    told = {words[0]: room.run(*words) for words in given}
+    go_on = [name for name, (_, out, _) in told.items() if out]
+    return go_on == ["check", "info"] and all(status == 3 and errors.startswith(b"lfiload: cannot read none\n") for status, _, errors in told.values()), told
+
+
+def named_once(room):
+    (room.folder / "-").write_bytes(formats.code_of(SVC))
+    told = [room.run("check", *words, input=formats.code_of(RET), stdin=None)[:2] for words in (("-",), ("./-",), ("-", "-"))]
+    return told == [(0, b"lawful, 1 words\n"), (1, b"word 0 rule 1\n"), (2, b"")], told
+
+
+def limited(room):
+    def limit():
+        resource.setrlimit(resource.RLIMIT_FSIZE, (8, 8))
+
+    told = room.run("load", "--out", ".", "a.stream", preexec_fn=limit)
+    return told[0] == -signal.SIGXFSZ, told
+
+
+def all_explains(room):
+    told = [room.run("check", *words, "bad.code") for words in (("--all",), ("--all", "--explain"))]
+    return told[0] == told[1] and b"  mend: " in told[0][1], told
+
+
+SENTENCES = {
+    "ends a command but `run` with status 3 and no message": closed_pipe,
+    "After `cannot read PATH` `load`, `run`, `pack`, `unpack` and `disassemble` do nothing; `check` and `info` go on with the next file.": unread,
+    "A file of this name is `./-`, and `-` can be named once.": named_once,
+    "A limit on the size of files (`ulimit -f`) ends the program by the signal SIGXFSZ.": limited,
+    "`--all` includes `--explain`.": all_explains,
+}
+
+
+def compare(program):
+    """Each of these sentences stands there, and runs do what it says. Returns how many they are."""
+    text = " ".join(DOCUMENT.read_text(encoding="utf-8").split())
+    for sentence, tried in SENTENCES.items():
+        with tempfile.TemporaryDirectory() as folder:
+            is_so, told = tried(Room(program, folder))
+        if sentence not in text or not is_so:
+            sys.exit(f"program: docs/COMMANDS.md: {sentence!r} stands there: {sentence in text}; runs: {told!r:.600}")
+    return len(SENTENCES)
