@@ -175,6 +175,23 @@ class Verifying(unittest.TestCase):
         for profile in 0, 3, -1, 2**32 + 1:
             self.assertRaises(ValueError, lfi_verifier.verify, acquire, profile)
 
+    def test_numbers_that_do_not_fit(self):
+        """A number of which 32 bits are right is none, in each parameter of each call."""
+        code = (EXAMPLES / "checksums_unguarded.code").read_bytes()
+        for more in 2**32, -(2**32), 2**64, 2**32 - 2**64:
+            for call, *given in (
+                (lfi_verifier.verify, 1 + more),
+                (lfi_verifier.explain, Fault(16 + more, 2)),
+                (lfi_verifier.explain, Fault(16, 2 + more)),
+                (lfi_verifier.explain, Fault(16, 2), 1 + more),
+                (lfi_verifier.explain, Fault(16, 2), 2 + more),
+                (lfi_verifier.explain, Fault(16, 2), 1, more),
+                (lfi_verifier.mend, Fault(16 + more, 2)),
+                (lfi_verifier.mend, Fault(16, 2 + more)),
+                (lfi_verifier.mend, Fault(16, 2), 1 + more),
+            ):
+                self.assertRaises(ValueError, call, code, *given)
+
     def test_explanation(self):
         """The text that README.md shows."""
         code = (EXAMPLES / "checksums_unguarded.code").read_bytes()
