@@ -1,5 +1,6 @@
 """What checks/build makes of a toolchain's answers, by one that proves nothing and only answers: for checks/delivered."""
 
+import hashlib
 import os
 import shutil
 import signal
@@ -44,8 +45,12 @@ def main(verb, *words):
     status = int((crate.folder / "src" / "status").read_text())
     (crate.folder / "out").mkdir(exist_ok=True)
     made = crate.folder / "out" / ("liblfi_verifier.a" if verb == "lib" else "lfiload")
+    with open(pathlib.Path(__file__).with_name("asked"), "a") as asked:
+        print(crate.folder.name, verb, *words[:2], file=asked)
     if status == 0:
         made.write_text("new")
+    if "CHANGES" in os.environ:
+        (crate.folder / "src" / "status").write_text(f"{status}\\n")
     text = crate.folder / "src" / "main.rt"
     print("asked", verb, text.read_text() if verb == "run" else "")
     return status
@@ -103,6 +108,28 @@ def try_building(room):
         (top / "crates" / name / "src" / "status").write_text("0")
 
 
+def try_words(room):
+    """Tests are run of the crates that are named with --test, by as many jobs as --jobs tells, which are some. The stamp of the library is that
+    of the sources from which the build began, also where they change meanwhile."""
+    top, found, _ = put_tree(room / "words")
+    build, asked = top / "checks" / "build", room / "words" / "tools" / "asked"
+    for words, wanted in (("low",), []), (("--test", "low"), ["low test --jobs 1"]), (("--keep", "low"), ["low lib --jobs 1"]), (
+            ("--test", "low", "lfi_verifier"), ["low test --jobs 1", "lfi_verifier test --jobs 1"]):
+        asked.write_text("")
+        run(build, "--jobs", "1", *words, env=found)
+        if asked.read_text().splitlines() != wanted:
+            fail(f"checks/build {' '.join(words)} asks rt for {asked.read_text().splitlines()}")
+    for words in ("--jobs", "0"), ("--jobs", "00"), ("--jobs", "-1"), ("--jobs", "x"), ("--jobs",), ("--tests",):
+        done = subprocess.run([build, *words], env=found, capture_output=True, text=True)
+        if done.returncode != 2 or done.stdout or not done.stderr.startswith(f"checks/build: {' '.join(words)}: ") or done.stderr.count("\n") != 1:
+            fail(f"checks/build {' '.join(words)}: status {done.returncode}, {done.stderr}")
+    begun = hashlib.sha256((top / "crates" / "lfi_verifier" / "src" / "status").read_bytes()).hexdigest()
+    run(build, "--library", "--target", "x86_64-unknown-linux-gnu", env={**found, "CHANGES": "1"})
+    stamp = (top / "out" / "x86_64-unknown-linux-gnu" / "liblfi_verifier.stamp").read_text()
+    if not stamp.startswith(begun):
+        fail(f"checks/build stamps a library of sources that changed meanwhile {stamp}, where the build began with {begun}")
+
+
 def try_ending(room):
     """A signal ends the checks that run; the crates' folders out/ are put back, and no scratch folder stays."""
     top, found, _ = put_tree(room / "ended")
@@ -120,3 +147,9 @@ def try_ending(room):
         status, took = running.wait(), time.monotonic() - began
         if status != 128 + number or took > 30 or not kept.exists() or list(scratch.glob("build-*")):
             fail(f"checks/build, ended by {number.name}: status {status} after {took:.0f} s, {list(scratch.glob('build-*'))}, out/ is back: {kept.exists()}")
+
+
+def try_all(room):
+    try_building(room)
+    try_words(room)
+    try_ending(room)
