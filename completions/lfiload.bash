@@ -1,6 +1,8 @@
 # Written by checks/completions from the program's --help.
 _lfiload() {
     local word=${COMP_WORDS[COMP_CWORD]} before=${COMP_WORDS[COMP_CWORD - 1]} offered=
+    # Of --profile=1 bash makes three words.
+    if [[ $before == = ]]; then before=${COMP_WORDS[COMP_CWORD - 2]}; elif [[ $word == = ]]; then word=; fi
     COMPREPLY=()
     if ((COMP_CWORD == 1)); then
         offered='check load serve run disassemble pack unpack info --help --version'
