@@ -1,7 +1,9 @@
-"""The part of checks/hostile on what one core does."""
+"""The parts of checks/hostile on what one core does, and on a client that nobody takes."""
 
 import os
 import pathlib
+import signal
+import socket
 import subprocess
 import tempfile
 import time
@@ -11,6 +13,9 @@ from lib.cases import NOP, RET, wrong
 from lib.serving import connected
 
 LOADS, SERVES, SECONDS = 200, 100, 20
+
+
+# ---- core
 
 
 def on_one_core():
@@ -59,3 +64,37 @@ def try_core(program):
         for number in range(SERVES):
             serve_once(program, folder, number)
     print(f"core: {LOADS} loads and {SERVES} clients of `serve` on one core")
+
+
+# ---- late
+
+
+def is_cut_off(client):
+    """Whether the other end is closed before long."""
+    client.settimeout(SECONDS)
+    try:
+        return client.recv(1) == b""
+    except ConnectionResetError:
+        return True
+    except socket.timeout:
+        return False
+
+
+def try_late(program):
+    """Two clients connect while `serve` is held, which takes one: the other one is cut off while the first stays."""
+    with tempfile.TemporaryDirectory() as folder:
+        path = os.path.join(folder, "s")
+        words = [program, "serve", "--socket", path, "--connections", "1"]
+        serving = start(words, folder)
+        while not os.path.exists(path):
+            time.sleep(0.01)
+        time.sleep(0.5)
+        serving.send_signal(signal.SIGSTOP)
+        with connected(path) as first, connected(path) as second:
+            serving.send_signal(signal.SIGCONT)
+            if not is_cut_off(second):
+                wrong("late", words[1:], "a client that waits", "one that is cut off")
+            first.sendall(formats.stream(0, RET))
+            first.shutdown(socket.SHUT_WR)
+            ended("late", words, serving, "module 0: complete, 1 words\nstrays 0\n")
+    print("late: a client of `serve` that came after the last one which was taken")

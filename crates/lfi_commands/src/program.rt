@@ -226,7 +226,7 @@ fn run_serve<
             return Err(Failure::CannotListen(asked.socket, DeviceCause::of(&error)));
         }
     };
-    let acceptor = Acceptor::new(rt, &listener, asked.socket, limit_of(asked.seconds));
+    let acceptor = Acceptor::new(rt, listener, asked.socket, limit_of(asked.seconds));
     let size = StageSize {
         connections: asked.connections,
         verifiers: asked.verifiers,

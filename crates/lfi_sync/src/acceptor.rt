@@ -42,12 +42,12 @@ impl Identity {
     }
 }
 
-/// The listener at a path, and until when clients are waited for and heard. The path is removed when
-/// this is dropped, and so once, whatever comes before, where what stands there is still what stood
-/// there when this was made. That this fails isn't told.
+/// The listener at a path, and until when clients are waited for and heard. When this is dropped, and so once, whatever
+/// comes before, the path is removed, where what stands there is still what stood there when this was made; that this
+/// fails isn't told. Then the listener is closed: a client that came and wasn't taken is cut off.
 pub struct Acceptor<'a, S: Files> {
     rt: &'a S,
-    listener: &'a UnixListener,
+    listener: UnixListener,
     path: &'a str,
     socket: Option<Identity>,
     deadline: Deadline,
@@ -57,7 +57,7 @@ impl<'a, S: Files> Drop for Acceptor<'a, S> {
     fn drop(self) {
         let Acceptor {
             rt,
-            listener: _,
+            listener,
             path,
             socket,
             deadline: _,
@@ -65,6 +65,7 @@ impl<'a, S: Files> Drop for Acceptor<'a, S> {
         if Identity::at(rt, path) == socket {
             let _ = fs::remove_file(rt, path);
         }
+        drop(listener);
     }
 }
 
@@ -72,7 +73,7 @@ impl<'a, S: Files> Acceptor<'a, S> {
     /// That of a listener that was bound to this path just now. Where its time is limited, it begins now.
     pub fn new(
         rt: &'a S,
-        listener: &'a UnixListener,
+        listener: UnixListener,
         path: &'a str,
         limit: Option<Duration>,
     ) -> Acceptor<'a, S>
@@ -135,7 +136,7 @@ impl<'a, S: Files> Acceptor<'a, S> {
         unreachable!()
     }
 
-    /// Removes the path. Nobody is accepted any more.
+    /// Removes the path and closes the listener. Nobody is accepted any more.
     pub fn close(self) -> Closed
         ensures { limit_of_closed result ≡ limit_of_acceptor self.entry }
     {

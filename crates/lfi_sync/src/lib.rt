@@ -26,8 +26,9 @@
 //!   they sleep: the start receivers, the end of all verifiers the sequencers' thread, and that all are to stop all.
 //! - **Streams of clients lie in places that are written once and lent** (`Streams`): no descriptor is doubled, and whoever
 //!   accepts can shut them all down while their threads read. A connection is shut down where its reader is dropped.
-//! - **The path is removed where the acceptor is dropped**, and only where it still is the socket that was bound, by device
-//!   and inode. A signal leaves the path: the toolchain catches none.
+//! - **The path is removed and the listener closed where the acceptor is dropped**, the path only where it still is the
+//!   socket that was bound, by device and inode. So nobody waits at a listener that takes no more. A signal leaves the path:
+//!   the toolchain catches none.
 //! - **What becomes of a client is told by its connection** (`ClientFate`), and why a read failed beside the reader
 //!   (`ReadErrors`), since a receiver keeps that a read failed and no more. A client is a reader or absent (`Client`).
 //! - **A limit of time is kept by the thread that accepts** (`Deadline`). Where there is one, the listener is asked

@@ -62,7 +62,7 @@ pub(crate) fn served<S: Threads + Wait + Files + Clock + Sync + AllocGlobal, G: 
         connections: connections.max(1).min(8),
         verifiers: 2,
     };
-    let acceptor = Acceptor::new(rt, &listener, path, limit);
+    let acceptor = Acceptor::new(rt, listener, path, limit);
     let served = serve_on(rt, rt.alloc(), acceptor, size, gate, &NoNotices)?;
     Ok(ServedSummary {
         summary: served.report.summary(),
