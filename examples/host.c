@@ -29,37 +29,31 @@ static int write_table(const lfi_map *map, uint8_t *slot) {
     return !mprotect(slot, map->table, PROT_READ);
 }
 
-/* Reads the code to its place, and judges each piece there. */
-static lfi_status take_code(uint8_t *code, uint32_t words, uint32_t profile, lfi_fault *fault) {
-    lfi_state state;
+/* Reads the code to its place, and judges each piece there. The state tells how much came. */
+static lfi_status take_code(uint8_t *code, uint32_t words, uint32_t profile, lfi_state *state, lfi_fault *fault) {
     size_t come = 0, size = 4 * (size_t)words;
-    lfi_status status = lfi_verify_init(&state, words, profile);
+    lfi_status status = lfi_verify_init(state, words, profile);
     while (status == LFI_LAWFUL && come < size) {
         ssize_t got = read(0, code + come, size - come < 4096 ? size - come : 4096);
         if (got <= 0) break;
         come += (size_t)got;
-        size_t judged = 4 * (size_t)state.judged;
-        status = lfi_verify_update(&state, code + judged, (come - judged) / 4 * 4);
+        size_t judged = 4 * (size_t)state->judged;
+        status = lfi_verify_update(state, code + judged, (come - judged) / 4 * 4);
     }
-    return status > LFI_REFUSED ? status : lfi_verify_final(&state, fault);
+    return status > LFI_REFUSED ? status : lfi_verify_final(state, fault);
 }
 
-static uint32_t word_at(const uint8_t *code, uint32_t place) {
-    const uint8_t *at = code + 4 * (size_t)place;
-    return (uint32_t)at[0] | (uint32_t)at[1] << 8 | (uint32_t)at[2] << 16 | (uint32_t)at[3] << 24;
-}
-
-/* Tells why the code is refused. */
-static void tell(const uint8_t *code, uint32_t module, uint32_t words, uint32_t profile, lfi_fault fault) {
+/* Tells why the code is refused, of which so much came. */
+static void tell(const uint8_t *code, uint32_t module, const lfi_state *state, const lfi_fault *fault) {
     uint8_t text[1024];
-    size_t size = 0;
-    uint32_t before = fault.word ? word_at(code, fault.word - 1) : 0;
-    lfi_explain(profile, module, words, &fault, word_at(code, fault.word), before, text, sizeof text, &size);
-    printf("%.*s\n", (int)(size < sizeof text ? size : sizeof text), (const char *)text);
+    size_t size = 4 * (size_t)state->judged, count = 0;
+    lfi_explain(state->profile, module, state->words, code, size, fault, text, sizeof text, &count);
+    printf("%.*s\n", (int)(count < sizeof text ? count : sizeof text), (const char *)text);
 }
 
 int main(int count, char **given) {
     lfi_map map;
+    lfi_state state;
     lfi_fault fault;
     uint32_t module = count > 2 ? (uint32_t)atol(given[1]) : LFI_MODULES, words = count > 2 ? (uint32_t)atol(given[2]) : 0;
     uint32_t profile = count > 3 ? (uint32_t)atol(given[3]) : LFI_PROFILE_1;
@@ -67,13 +61,13 @@ int main(int count, char **given) {
     size_t end = (map.code + 4 * (size_t)words + 4095) / 4096 * 4096;
     uint8_t *slot = reserve(&map);
     if (!slot || !write_table(&map, slot) || mprotect(slot + map.code, end - map.code, PROT_READ | PROT_WRITE)) return 3;
-    lfi_status status = take_code(slot + map.code, words, profile, &fault);
+    lfi_status status = take_code(slot + map.code, words, profile, &state, &fault);
     /* Nobody writes the code from here on: on AArch64 it would be PROT_READ | PROT_EXEC. Behind it lies what it may write. */
     if (mprotect(slot + map.code, end - map.code, PROT_READ) || mprotect(slot + end, map.size - end, PROT_READ | PROT_WRITE)) return 3;
     if (status == LFI_LAWFUL)
         printf("lawful, %u words\n", words);
     else if (status == LFI_REFUSED)
-        tell(slot + map.code, module, words, profile, fault);
+        tell(slot + map.code, module, &state, &fault);
     else
         printf("words are missing\n");
     return status == LFI_LAWFUL ? 0 : 1;

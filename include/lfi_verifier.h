@@ -21,7 +21,7 @@ extern "C" {
 #endif
 
 /* The number of this interface; lfi_version() answers that of the library that is linked. */
-#define LFI_VERSION 6u
+#define LFI_VERSION 7u
 
 /* The profiles: the rules, registers and map of slots of docs/PROFILE.md. The second has the instructions of the first,
  * and LDAR and STLR. Calls with another number answer LFI_UNKNOWN_PROFILE. */
@@ -141,7 +141,7 @@ typedef struct lfi_event {
  *  - `size` bytes can be read at `code`, `piece` or `bytes`, and `room` bytes written at `text`, or words at `mend`, each below
  *    2^63 bytes, and nobody else
  *    writes them during the call: bytes that another thread or process may still write are to be copied first;
- *  - a struct that is written overlaps nothing else that the call is handed, and no other thread uses it during the call;
+ *  - what is written overlaps nothing else that the call is handed, and no other thread uses it during the call;
  *  - nobody writes bytes that lfi_stream_next told as code, until the host has its own copy of them: they were judged there.
  * A state needs no more than that: numbers that no call made are answered, by LFI_BAD_STATE where they can't be a state's.
  */
@@ -174,32 +174,36 @@ lfi_status lfi_verify_update(lfi_state *LFI_RESTRICT state, const uint8_t *LFI_R
  * LFI_BAD_STATE: *state can't stand for any module; *fault is {0, 0}. */
 lfi_status lfi_verify_final(const lfi_state *LFI_RESTRICT state, lfi_fault *LFI_RESTRICT fault);
 
-/* Tells a fault as text, as `lfiload check --explain` does: the fault; the word before, where its need isn't met; the word
- * with its address in the module's slot and its assembly text; what the rule asks; and how the word is mended. It needs no
- * more of the code than `word`, the one at the fault's place, and `before`, the one before it, which is not looked at where
- * the place is 0. In profile 2 a probe may be late: the word that asks for it is told where it is `before`, and else is not.
- * Ensures:
- *  - LFI_LAWFUL: *size is the length of the text, and `text` begins with it, as far as `room` bytes reach; there is no 0 at
- *    its end, and the bytes of `text` after it are as they were;
- *  - else `text` and *size are as they were: LFI_UNKNOWN_PROFILE; LFI_UNKNOWN_MODULE; LFI_BAD_LENGTH, where `words` isn't
- *    1 to 4,194,304 or fault->word is none of them; LFI_BAD_STATE, where *fault is {0, 0} or tells none; LFI_NO_ROOM. */
-lfi_status lfi_explain(uint32_t profile, uint32_t module, uint32_t words, const lfi_fault *LFI_RESTRICT fault, uint32_t word,
-                       uint32_t before, uint8_t *LFI_RESTRICT text, size_t room, size_t *LFI_RESTRICT size);
+/* Tells a fault as text: the fault; the word that asks for what isn't met, where there is one; the word with its address in the
+ * module's slot and its assembly text; what the rule asks; and how the word is mended. `words` is how many words the module
+ * has, and `code` has the first `size` bytes of its code: all that came, or all. Looked at are the word at fault, up to four
+ * before it, and the one after it, where it came. Ensures:
+ *  - LFI_LAWFUL: *count is the length of the text, and `text` begins with it, as far as `room` bytes reach; there is no 0 at
+ *    its end, and the bytes of `text` after it are as they were. Where `code` is the whole module, of module 0, it is the text
+ *    that `lfiload check --explain` tells of this fault, without the end of its last line; of another module the addresses are
+ *    those in its slot;
+ *  - else `text` and *count are as they were: LFI_UNKNOWN_PROFILE; LFI_UNKNOWN_MODULE; LFI_BAD_LENGTH, where `words` isn't
+ *    1 to 4,194,304, or `code` isn't whole words, or is more than `words`, or fault->word is none of those that came;
+ *    LFI_BAD_STATE, where *fault is {0, 0} or tells none; LFI_NO_ROOM. */
+lfi_status lfi_explain(uint32_t profile, uint32_t module, uint32_t words, const uint8_t *LFI_RESTRICT code, size_t size,
+                       const lfi_fault *LFI_RESTRICT fault, uint8_t *LFI_RESTRICT text, size_t room, size_t *LFI_RESTRICT count);
 
 #define LFI_MOST_MENDED 8u /* the most words of a mend */
 
-/* Tells a mend: the words that stand in the place of the word at a fault, by that word, the one before it, which is not looked at
- * where the place is 0, and the one after it, which is not looked at at the module's last place. The text of lfi_explain has the
- * same instructions, but of RBIT before CLZ, since it isn't told the word after it. For a fault of rule 10 they stand before the
- * word, which stays; or, where the word itself asks for a next one that there isn't, after it. Ensures:
+/* Tells a mend: the words that stand in the place of the word at a fault. `code` and `size` are as in lfi_explain, and the words
+ * looked at are the same; the text of lfi_explain has the same instructions. RBIT has a mend only where the CLZ after it came.
+ * For a fault of rule 10 they stand before the word, which stays; or, where the word itself asks for a next one that there
+ * isn't, after it. Ensures:
  *  - LFI_LAWFUL: there is a mend; *count is how many words it has, 0 to LFI_MOST_MENDED, and `mend` begins with them, and is
  *    otherwise as it was. Each spells an instruction of the profile and breaks none of the rules 1 to 7 and 9, wherever it
- *    stands; the first meets what `before` asks for, each other one what the one before it does, and the last asks for nothing.
- *    None is a direct branch. Of a plain load or store in the slot they do what the word does, but for x18 and x22;
+ *    stands; the first meets what is open before it, by the words before it in `code`, each other one what the one before it
+ *    asks for, and the last asks for nothing. None is a direct branch. Of a plain load or store in the slot they do what the
+ *    word does, but for x18 and x22;
  *  - else `mend` and *count are as they were: LFI_REFUSED, where there is none, for a reason that lfi_explain tells;
- *    LFI_UNKNOWN_PROFILE; LFI_BAD_LENGTH and LFI_BAD_STATE, as in lfi_explain; LFI_NO_ROOM, where `room`, in words, is less than
- *    the mend needs, which LFI_MOST_MENDED never is. */
-lfi_status lfi_mend(uint32_t profile, uint32_t words, const lfi_fault *LFI_RESTRICT fault, uint32_t word, uint32_t before, uint32_t after,
+ *    LFI_UNKNOWN_PROFILE; LFI_BAD_LENGTH, where `code` isn't 1 to 4,194,304 whole words or fault->word is none of them;
+ *    LFI_BAD_STATE, as in lfi_explain; LFI_NO_ROOM, where `room`, in words, is less than the mend needs, which LFI_MOST_MENDED
+ *    never is. */
+lfi_status lfi_mend(uint32_t profile, const uint8_t *LFI_RESTRICT code, size_t size, const lfi_fault *LFI_RESTRICT fault,
                     uint32_t *LFI_RESTRICT mend, size_t room, size_t *LFI_RESTRICT count);
 
 /* Begins a stream (docs/PROFILE.md, "Streams"). Ensures: LFI_LAWFUL, and *stream stands for a stream of which no byte came; or

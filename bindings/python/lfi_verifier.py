@@ -23,7 +23,7 @@ import pathlib
 import threading
 from typing import List, NamedTuple, Optional, Tuple, Union
 
-VERSION = 6
+VERSION = 7
 MAX_WORDS, MODULES = 4_194_304, 16
 ROOM = 2_048  # the most bytes of a text
 MOST_MENDED = 8  # the most words of a mend
@@ -151,8 +151,8 @@ def _library() -> ctypes.CDLL:
         raise ImportError(f"{place} has interface {found.lfi_version()}, and this module is for {VERSION}")
     u32, size, there = ctypes.c_uint32, ctypes.c_size_t, ctypes.POINTER
     found.lfi_verify.argtypes = [ctypes.c_char_p, size, u32, there(_Fault)]
-    found.lfi_explain.argtypes = [u32, u32, u32, there(_Fault), u32, u32, ctypes.c_char_p, size, there(size)]
-    found.lfi_mend.argtypes = [u32, u32, there(_Fault), u32, u32, u32, there(u32), size, there(size)]
+    found.lfi_explain.argtypes = [u32, u32, u32, ctypes.c_char_p, size, there(_Fault), ctypes.c_char_p, size, there(size)]
+    found.lfi_mend.argtypes = [u32, ctypes.c_char_p, size, there(_Fault), there(u32), size, there(size)]
     found.lfi_stream_init.argtypes = [there(_Stream), u32]
     found.lfi_stream_next.argtypes = [there(_Stream), ctypes.c_void_p, size, there(_Event)]
     found.lfi_stream_end.argtypes = [there(_Stream), there(_Event)]
@@ -166,7 +166,7 @@ _LIBRARY = _library()
 
 
 def _number(value: int) -> int:
-    """A number that a C call takes: what doesn't fit is one that no profile, module or word has."""
+    """A number that a C call takes: what doesn't fit is one that no profile, module, count of words or word has."""
     return value if 0 <= value < 2**32 else 2**32 - 1
 
 
@@ -195,13 +195,12 @@ def explain(data: Buffer, fault: Fault, profile: int = 1, module: int = 0) -> st
 
     ValueError: the fault is none that the code can have, or there is no such profile or module.
     """
-    code, text, size = _bytes(data), ctypes.create_string_buffer(ROOM), ctypes.c_size_t()
-    words = [int.from_bytes(code[4 * at : 4 * at + 4], "little") if at >= 0 else 0 for at in (fault.word, fault.word - 1)]
-    status = Status(_LIBRARY.lfi_explain(_number(profile), _number(module), len(code) // 4, _Fault(_number(fault.word), _number(fault.rule)),
-                                         *words, text, ROOM, size))
+    code, text, count = _bytes(data), ctypes.create_string_buffer(ROOM), ctypes.c_size_t()
+    found = _Fault(_number(fault.word), _number(fault.rule))
+    status = Status(_LIBRARY.lfi_explain(_number(profile), _number(module), _number(len(code) // 4), code, len(code), found, text, ROOM, count))
     if status is not Status.LAWFUL:
         raise ValueError(status.name)
-    return text.raw[: size.value].decode("ascii")
+    return text.raw[: count.value].decode("ascii")
 
 
 def mend(data: Buffer, fault: Fault, profile: int = 1) -> Optional[List[int]]:
@@ -210,14 +209,14 @@ def mend(data: Buffer, fault: Fault, profile: int = 1) -> Optional[List[int]]:
     For a fault of rule 10 they stand before the word, which stays; or, at the code's end, after it.
     ValueError: the fault is none that the code can have, or there is no such profile.
     """
-    code, found, count = _bytes(data), (ctypes.c_uint32 * MOST_MENDED)(), ctypes.c_size_t()
-    words = [int.from_bytes(code[4 * at : 4 * at + 4], "little") if at >= 0 else 0 for at in (fault.word, fault.word - 1, fault.word + 1)]
-    status = Status(_LIBRARY.lfi_mend(_number(profile), len(code) // 4, _Fault(_number(fault.word), _number(fault.rule)), *words, found, MOST_MENDED, count))
+    code, words, count = _bytes(data), (ctypes.c_uint32 * MOST_MENDED)(), ctypes.c_size_t()
+    found = _Fault(_number(fault.word), _number(fault.rule))
+    status = Status(_LIBRARY.lfi_mend(_number(profile), code, len(code), found, words, MOST_MENDED, count))
     if status is Status.REFUSED:
         return None
     if status is not Status.LAWFUL:
         raise ValueError(status.name)
-    return list(found[: count.value])
+    return list(words[: count.value])
 
 
 def _told(event: _Event, data: bytes) -> Optional[Event]:

@@ -20,7 +20,8 @@ NOP, RET, SVC = 0xD503201F, 0xD65F03C0, 0xD4000001
 ACQUIRE, BASE_WRITTEN = 0xC8DFFE40, 0xAA0003F5  # ldar x0, [x18], an instruction of profile 2 alone; mov x21, x0, which breaks rule 3
 
 # A profile, a module, its words, its first fault, and the text that crates/tests_profile (explained/rules.rt) and
-# checks/runs/explain.runs have of the same words: by profile 2; of the word before; of the module's words, and of the last slot.
+# checks/runs/explain.runs have of the same words: by profile 2; of the word before; of the module's words, and of the last slot; of a word
+# two before.
 EXPLAINED = (
     (2, 3, (0xC8DFFC20, NOP), Fault(0, 2),
      "word 0 rule 2\n"
@@ -40,11 +41,21 @@ EXPLAINED = (
      "  a direct branch may go only to a word of the module; it has 2, and this one goes to word 2\n"
      "  mend: let it go to a word of the module; code outside is called by ldr x30, [x21, #8j], j being 0 to 511, with blr x30 right"
      " after it"),
+    (2, 0, (0xD10043FF, NOP, 0xF94006BE, 0xD63F03C0, 0xF90003E0, RET), Fault(2, 10),
+     "word 2 rule 10\n"
+     "  0x0000000100010000  d10043ff  sub sp, sp, #16\n"
+     "  0x0000000100010008  f94006be  ldr x30, [x21, #8]\n"
+     "  a move of sp by an immediate has to be followed by a load or store at [sp] within 4 words, with only calm words before it; this"
+     " word, with 3 of the 4 left, isn't that\n"
+     "  mend: put ldr xzr, [sp] right after the move, or let a pre- or post-indexed access move sp"),
 )
 # A profile, words, their first fault, and the mend that checks/c_callers/calls.c and crates/tests_mends (rows.rt) have of it.
 MENDED = (
     # sub sp, sp, #16; ldr x0, [x1]: ldr xzr, [sp]; ldr x0, [x21, w1, uxtw]
     (1, (0xD10043FF, 0xF9400020, RET), Fault(1, 2), [0xF94003FF, 0xF8614AA0]),
+    # sub sp, sp, #16; nop; ldpsw x2, x3, [x1]: ldr xzr, [sp]; add w22, w1, #0; ldrsw x2, [x21, w22, uxtw]; add w22, w22, #4;
+    # ldrsw x3, [x21, w22, uxtw]
+    (2, (0xD10043FF, NOP, 0x69400C22, RET), Fault(2, 1), [0xF94003FF, 0x11000036, 0xB8B64AA2, 0x110012D6, 0xB8B64AA3]),
     # ldr x30, [x18, #16]; nop: add x30, x21, w30, uxtw
     (1, (0xF9400A5E, NOP, RET), Fault(1, 10), [0x8B3E42BE]),
     # rbit x0, x1; clz x0, x0: neg x16, x1; and x16, x16, x1; mov x17, #0x8000000000000000; udiv x0, x17, x16
@@ -152,6 +163,10 @@ class Verifying(unittest.TestCase):
             with written_during("lfi_verify", data, code_of(SVC)):
                 self.assertIsNone(lfi_verifier.verify(data if view is bytearray else view(data)))
             self.assertEqual(verdict(data), "word 0 rule 1")
+            for call, (profile, *_, words, fault, wanted) in ((lfi_verifier.explain, EXPLAINED[3]), (lfi_verifier.mend, MENDED[1])):
+                data = bytearray(code_of(*words))
+                with written_during(f"lfi_{call.__name__}", data, bytes(len(data))):
+                    self.assertEqual(call(data if view is bytearray else view(data), fault, profile), wanted)
 
     def test_longest(self):
         longest = code_of(NOP) * lfi_verifier.MAX_WORDS
@@ -205,6 +220,9 @@ class Verifying(unittest.TestCase):
         self.assertIsNone(lfi_verifier.mend((0xAA0003F5).to_bytes(4, "little"), Fault(0, 3)))  # mov x21, x0
         for fault, module in (Fault(105, 1), 0), (Fault(16, 0), 0), (Fault(16, 2), 16), (Fault(-1, 2), 0), (Fault(16, 2 + 2**32), 0):
             self.assertRaises(ValueError, lfi_verifier.explain, code, fault, 1, module)
+        for data in b"", code[:-1], code[:64], bytes(16_777_220):
+            self.assertRaisesRegex(ValueError, "BAD_LENGTH", lfi_verifier.explain, data, Fault(16, 2))
+            self.assertRaisesRegex(ValueError, "BAD_LENGTH", lfi_verifier.mend, data, Fault(16, 2))
 
     def test_explanations(self):
         for profile, module, words, fault, wanted in EXPLAINED:

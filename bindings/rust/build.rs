@@ -3,7 +3,7 @@
 use std::{env, path::PathBuf, process::Command};
 
 /// The number of the interface that src/calls.rs declares: LFI_VERSION of the header.
-const INTERFACE: &str = "6";
+const INTERFACE: &str = "7";
 const NAME_IT: &str = "name the library's folder by LFI_VERIFIER_LIB";
 
 fn main() -> Result<(), String> {

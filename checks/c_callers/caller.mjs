@@ -58,4 +58,4 @@ for (const [words, wanted] of rows) {
 }
 const LDAR = 0xC8DFFE40;
 if (whole([LDAR]) !== '1 0 1' || whole([LDAR], 2) !== '0 0 0') process.exit(3);
-if (whole([RET], 3) !== '5 0 0' || whole([]) !== '2 0 0' || lfi.lfi_version() !== 6) process.exit(2);
+if (whole([RET], 3) !== '5 0 0' || whole([]) !== '2 0 0' || lfi.lfi_version() !== 7) process.exit(2);

@@ -29,7 +29,7 @@ fn main() {
     let code: Vec<u8> = [0xD65F03C0u32, 0xD4000001].iter().flat_map(|word| word.to_le_bytes()).collect();
     let (mut fault, mut state) = (Fault::default(), State::default());
     unsafe {
-        assert_eq!(lfi_version(), 6);
+        assert_eq!(lfi_version(), 7);
         assert_eq!(lfi_verify(code.as_ptr(), 4, 1, &mut fault), 0);
         assert_eq!(lfi_verify(code.as_ptr(), code.len(), 1, &mut fault), 1);
         assert_eq!(fault, Fault { word: 1, rule: 1 });

@@ -189,7 +189,8 @@ static int profile(void) {
     return 0;
 }
 
-/* The text of examples/checksums_unguarded.code's fault, as README.md has it, and one with the word before. */
+/* The text of examples/checksums_unguarded.code's fault, as README.md has it; one with the word before; and one with a word two before, as
+ * `lfiload check --explain` tells it (checks/runs/explain.runs). */
 static const char FIRST[] = "word 16 rule 2\n  0x0000000100010040  b8237880  str w0, [x4, x3, lsl #2]\n  a load or store may go only through x18, x21, "
     "x23, x24 or sp at an immediate offset, through sp and change it, or through x21 by a W register with uxtw and no shift; "
     "this one goes through x4 by x3, lsl, shifted\n"
@@ -198,76 +199,143 @@ static const char SECOND[] = "word 1024 rule 10\n  0x0000000700010ffc  f94006be 
     "  a load of a table entry into x30 has to be followed by blr x30; this word isn't that\n"
     "  mend: put blr x30 right after the load, and before the load what stood between them";
 
+static const char THIRD[] = "word 2 rule 10\n  0x0000000100010000  d10043ff  sub sp, sp, #16\n  0x0000000100010008  f94006be  ldr x30, [x21, #8]\n"
+    "  a move of sp by an immediate has to be followed by a load or store at [sp] within 4 words, with only calm words before it; "
+    "this word, with 3 of the 4 left, isn't that\n"
+    "  mend: put ldr xzr, [sp] right after the move, or let a pre- or post-indexed access move sp";
+
+/* SUB SP, SP, #16; NOP; LDR X30, [X21, #8]; BLR X30; STR X0, [SP]; RET */
+static const uint32_t LATE[] = {0xD10043FF, 0xD503201F, 0xF94006BE, 0xD63F03C0, 0xF90003E0, 0xD65F03C0};
+
+static uint8_t *put_all(uint8_t *at, const uint32_t *words, size_t count) {
+    for (size_t i = 0; i < count; i++) put(at + 4 * i, words[i]);
+    return at;
+}
+
+/* Code of NOPs. */
+static uint8_t *nops(uint8_t *at, size_t count) {
+    for (size_t i = 0; i < count; i++) put(at + 4 * i, 0xD503201F);
+    return at;
+}
+
 static int explanations(void) {
+    static uint8_t code[4 * 1025];
     uint8_t text[1024], other[1024];
-    size_t size = 7;
-    lfi_fault f = {16, 2}, seam = {1024, 10}, none = {0, 0}, wrong = {3, 11};
+    size_t size = 4 * 17, count = 7;
+    lfi_fault f = {16, 2}, seam = {1024, 10};
     memset(text, '#', sizeof text);
     memset(other, '#', sizeof other);
-    CHECK(90, lfi_explain(LFI_PROFILE_1, 0, 124, &f, 0xB8237880, 9, text, sizeof text, &size) == LFI_LAWFUL);
-    CHECK(91, size == sizeof FIRST - 1 && !memcmp(text, FIRST, size) && !memcmp(text + size, other, sizeof text - size));
+    put(nops(code, 1025) + 4 * 16, 0xB8237880);
+    CHECK(90, lfi_explain(LFI_PROFILE_1, 0, 124, code, size, &f, text, sizeof text, &count) == LFI_LAWFUL);
+    CHECK(91, count == sizeof FIRST - 1 && !memcmp(text, FIRST, count) && !memcmp(text + count, other, sizeof text - count));
     for (size_t room = 0; room < sizeof FIRST + 9; room++) {
         memset(text, '#', sizeof text);
-        size = 0;
-        CHECK(92, lfi_explain(LFI_PROFILE_1, 0, 124, &f, 0xB8237880, 9, text, room, &size) == LFI_LAWFUL);
-        size_t kept = room < size ? room : size;
-        CHECK(93, size == sizeof FIRST - 1 && !memcmp(text, FIRST, kept) && !memcmp(text + kept, other, sizeof text - kept));
+        count = 0;
+        CHECK(92, lfi_explain(LFI_PROFILE_1, 0, 124, code, size, &f, text, room, &count) == LFI_LAWFUL);
+        size_t kept = room < count ? room : count;
+        CHECK(93, count == sizeof FIRST - 1 && !memcmp(text, FIRST, kept) && !memcmp(text + kept, other, sizeof text - kept));
     }
-    CHECK(94, lfi_explain(LFI_PROFILE_1, 3, 2048, &seam, 0xD503201F, 0xF94006BE, text, sizeof text, &size) == LFI_LAWFUL);
-    CHECK(95, size == sizeof SECOND - 1 && !memcmp(text, SECOND, size));
-    memset(text, '#', sizeof text);
-    size = 7;
-    CHECK(96, lfi_explain(3, 0, 124, &f, 0, 0, text, sizeof text, &size) == LFI_UNKNOWN_PROFILE);
-    CHECK(97, lfi_explain(LFI_PROFILE_1, 16, 124, &f, 0, 0, text, sizeof text, &size) == LFI_UNKNOWN_MODULE);
-    CHECK(98, lfi_explain(LFI_PROFILE_1, 0, 0, &f, 0, 0, text, sizeof text, &size) == LFI_BAD_LENGTH);
-    CHECK(99, lfi_explain(LFI_PROFILE_1, 0, LFI_MAX_WORDS + 1, &f, 0, 0, text, sizeof text, &size) == LFI_BAD_LENGTH);
-    CHECK(100, lfi_explain(LFI_PROFILE_1, 0, 16, &f, 0, 0, text, sizeof text, &size) == LFI_BAD_LENGTH);
-    CHECK(101, lfi_explain(LFI_PROFILE_1, 0, 16, &none, 0, 0, text, sizeof text, &size) == LFI_BAD_STATE);
-    CHECK(102, lfi_explain(LFI_PROFILE_1, 0, 16, &wrong, 0, 0, text, sizeof text, &size) == LFI_BAD_STATE);
-    CHECK(103, size == 7 && !memcmp(text, other, sizeof text));
+    put(code + 4 * 1023, 0xF94006BE);
+    CHECK(94, lfi_explain(LFI_PROFILE_1, 3, 2048, code, sizeof code, &seam, text, sizeof text, &count) == LFI_LAWFUL);
+    CHECK(95, count == sizeof SECOND - 1 && !memcmp(text, SECOND, count));
     return 0;
 }
 
-/* Mends, with LLVM's words of the texts beside them; the fault is at word 1 of so many. */
-static const struct { uint32_t rule, words, word, before, after, status; size_t count; uint32_t mend[4]; } MENDS[] = {
-    {2, 9, 0xB8237880, 0, 0, LFI_LAWFUL, 2, {0x0B234896, 0xB8364AA0}},                         /* str w0, [x4, x3, lsl #2]: add w22, w4, w3, uxtw #2; str w0, [x21, w22, uxtw] */
-    {2, 9, 0xF8408FC0, 0, 0, LFI_LAWFUL, 3, {0x110023D6, 0x8B3642BE, 0xF87E4AA0}},             /* ldr x0, [x30, #8]!: add w22, w30, #8; add x30, x21, w22, uxtw; ldr x0, [x21, w30, uxtw] */
-    {2, 9, 0xF9400020, 0xD10043FF, 0, LFI_LAWFUL, 2, {0xF94003FF, 0xF8614AA0}},                /* ldr x0, [x1] after sub sp, sp, #16: ldr xzr, [sp]; ldr x0, [x21, w1, uxtw] */
-    {1, 9, 0xDAC00020, 0, 0xDAC01000, LFI_LAWFUL, 4, {0xCB0103F0, 0x8A010210, 0xD2F00011, 0x9AD00A20}}, /* rbit x0, x1 before clz x0, x0: neg x16, x1; and x16, x16, x1; mov x17, #0x8000000000000000; udiv x0, x17, x16 */
-    {1, 2, 0xDAC00020, 0, 0xDAC01000, LFI_REFUSED, 7, {0}},                                    /* the same at the last place */
-    {1, 9, 0xF9802020, 0, 0, LFI_LAWFUL, 0, {0}},                                              /* prfm pldl1keep, [x1, #64]: nothing */
-    {3, 9, 0xAA0003F5, 0, 0, LFI_REFUSED, 7, {0}},                                             /* mov x21, x0 */
-    {8, 9, 0x14000802, 0, 0, LFI_REFUSED, 7, {0}},                                             /* b .+8200 */
-    {10, 9, 0xD503201F, 0xF9400A5E, 0, LFI_LAWFUL, 1, {0x8B3E42BE}},                           /* nop after ldr x30, [x18, #16]: add x30, x21, w30, uxtw */
-    {10, 9, 0xD503201F, 0xF94006BE, 0, LFI_REFUSED, 7, {0}},                                   /* nop after ldr x30, [x21, #8] */
-    {10, 2, 0xD10043FF, 0, 0, LFI_LAWFUL, 1, {0xF94003FF}},                                    /* sub sp, sp, #16 at the last place: ldr xzr, [sp] */
+/* A need that a word two before asks for: by all the module, and by what came of it up to the fault. */
+static int late(void) {
+    uint8_t code[sizeof LATE], text[1024];
+    lfi_fault f;
+    size_t count = 0;
+    put_all(code, LATE, 6);
+    CHECK(104, lfi_verify(code, sizeof code, LFI_PROFILE_2, &f) == LFI_REFUSED && is(f, 2, 10));
+    for (size_t size = sizeof code; size >= 12; size -= 4) {
+        CHECK(105, lfi_explain(LFI_PROFILE_2, 0, 6, code, size, &f, text, sizeof text, &count) == LFI_LAWFUL);
+        CHECK(106, count == sizeof THIRD - 1 && !memcmp(text, THIRD, count));
+    }
+    return 0;
+}
+
+/* What isn't a fault of a beginning of a module is told, and nothing is written. */
+static int unexplained(void) {
+    uint8_t code[4 * 17], text[64], other[64];
+    size_t size = sizeof code, count = 7;
+    lfi_fault f = {16, 2}, none = {0, 0}, wrong = {3, 11}, past = {17, 2}, last = {0xFFFFFFFF, 2};
+    memset(text, '#', sizeof text);
+    memset(other, '#', sizeof other);
+    nops(code, 17);
+    CHECK(96, lfi_explain(3, 0, 124, code, size, &f, text, sizeof text, &count) == LFI_UNKNOWN_PROFILE);
+    CHECK(97, lfi_explain(LFI_PROFILE_1, 16, 124, code, size, &f, text, sizeof text, &count) == LFI_UNKNOWN_MODULE);
+    CHECK(98, lfi_explain(LFI_PROFILE_1, 0, 0, code, size, &f, text, sizeof text, &count) == LFI_BAD_LENGTH);
+    CHECK(99, lfi_explain(LFI_PROFILE_1, 0, LFI_MAX_WORDS + 1, code, size, &f, text, sizeof text, &count) == LFI_BAD_LENGTH);
+    CHECK(100, lfi_explain(LFI_PROFILE_1, 0, 16, code, size, &f, text, sizeof text, &count) == LFI_BAD_LENGTH);     /* more than the module's words */
+    for (size_t come = 0; come < size; come++)                                                                     /* cut off before the fault, or in it */
+        CHECK(101, lfi_explain(LFI_PROFILE_1, 0, 124, code, come, &f, text, sizeof text, &count) == LFI_BAD_LENGTH);
+    CHECK(102, lfi_explain(LFI_PROFILE_1, 0, 124, code, size - 1, &none, text, sizeof text, &count) == LFI_BAD_LENGTH); /* not whole words */
+    CHECK(103, lfi_explain(LFI_PROFILE_1, 0, 124, code, size, &past, text, sizeof text, &count) == LFI_BAD_LENGTH);
+    CHECK(107, lfi_explain(LFI_PROFILE_1, 0, LFI_MAX_WORDS, code, size, &last, text, sizeof text, &count) == LFI_BAD_LENGTH);
+    CHECK(108, lfi_explain(LFI_PROFILE_1, 0, 17, code, size, &none, text, sizeof text, &count) == LFI_BAD_STATE);
+    CHECK(109, lfi_explain(LFI_PROFILE_1, 0, 17, code, size, &wrong, text, sizeof text, &count) == LFI_BAD_STATE);
+    CHECK(114, count == 7 && !memcmp(text, other, sizeof text));
+    return 0;
+}
+
+/* Mends, with LLVM's words of the texts beside them: the words that came, and the place of the fault. */
+static const struct { uint32_t profile, rule, place, come, code[4], status; size_t count; uint32_t mend[5]; } MENDS[] = {
+    {1, 2, 0, 1, {0xB8237880}, LFI_LAWFUL, 2, {0x0B234896, 0xB8364AA0}},                         /* str w0, [x4, x3, lsl #2]: add w22, w4, w3, uxtw #2; str w0, [x21, w22, uxtw] */
+    {1, 2, 0, 1, {0xF8408FC0}, LFI_LAWFUL, 3, {0x110023D6, 0x8B3642BE, 0xF87E4AA0}},             /* ldr x0, [x30, #8]!: add w22, w30, #8; add x30, x21, w22, uxtw; ldr x0, [x21, w30, uxtw] */
+    {1, 2, 1, 2, {0xD10043FF, 0xF9400020}, LFI_LAWFUL, 2, {0xF94003FF, 0xF8614AA0}},             /* ldr x0, [x1] after sub sp, sp, #16: ldr xzr, [sp]; ldr x0, [x21, w1, uxtw] */
+    {1, 2, 0, 2, {0xF9400020, 0xD10043FF}, LFI_LAWFUL, 1, {0xF8614AA0}},                         /* the same before it */
+    {1, 2, 2, 3, {0xD10043FF, 0xD503201F, 0xF9400020}, LFI_LAWFUL, 1, {0xF8614AA0}},             /* a nop between them: in profile 1 nothing is open behind it */
+    {2, 2, 2, 3, {0xD10043FF, 0xD503201F, 0xF9400020}, LFI_LAWFUL, 2, {0xF94003FF, 0xF8614AA0}}, /* in profile 2 the probe is still to come */
+    {2, 1, 2, 4, {0xD10043FF, 0xD503201F, 0x69400C22, 0xD65F03C0}, LFI_LAWFUL, 5, {0xF94003FF, 0x11000036, 0xB8B64AA2, 0x110012D6, 0xB8B64AA3}}, /* ldpsw x2, x3, [x1]: ldr xzr, [sp]; add w22, w1, #0; ldrsw x2, [x21, w22, uxtw]; add w22, w22, #4; ldrsw x3, [x21, w22, uxtw] */
+    {1, 1, 1, 3, {0xD503201F, 0xDAC00020, 0xDAC01000}, LFI_LAWFUL, 4, {0xCB0103F0, 0x8A010210, 0xD2F00011, 0x9AD00A20}}, /* rbit x0, x1 before clz x0, x0: neg x16, x1; and x16, x16, x1; mov x17, #0x8000000000000000; udiv x0, x17, x16 */
+    {1, 1, 1, 2, {0xD503201F, 0xDAC00020, 0xDAC01000}, LFI_REFUSED, 7, {0}},                     /* the same, where clz didn't come */
+    {1, 1, 1, 3, {0xDAC01000, 0xDAC00020, 0xD503201F}, LFI_REFUSED, 7, {0}},                     /* clz before it */
+    {1, 1, 0, 1, {0xF9802020}, LFI_LAWFUL, 0, {0}},                                              /* prfm pldl1keep, [x1, #64]: nothing */
+    {1, 3, 0, 1, {0xAA0003F5}, LFI_REFUSED, 7, {0}},                                             /* mov x21, x0 */
+    {1, 8, 0, 1, {0x14000802}, LFI_REFUSED, 7, {0}},                                             /* b .+8200 */
+    {1, 10, 1, 2, {0xF9400A5E, 0xD503201F}, LFI_LAWFUL, 1, {0x8B3E42BE}},                        /* nop after ldr x30, [x18, #16]: add x30, x21, w30, uxtw */
+    {1, 10, 1, 2, {0xF94006BE, 0xD503201F}, LFI_REFUSED, 7, {0}},                                /* nop after ldr x30, [x21, #8] */
+    {1, 10, 1, 2, {0xD503201F, 0xD10043FF}, LFI_LAWFUL, 1, {0xF94003FF}},                        /* sub sp, sp, #16 at the last place: ldr xzr, [sp] */
+    {2, 10, 2, 4, {0xD10043FF, 0xD503201F, 0xF94006BE, 0xD63F03C0}, LFI_LAWFUL, 1, {0xF94003FF}}, /* ldr x30, [x21, #8], a nop behind sub sp, sp, #16: ldr xzr, [sp] */
 };
 
 static int mends(void) {
+    uint8_t code[16];
     uint32_t mend[LFI_MOST_MENDED + 1], rest[LFI_MOST_MENDED + 1];
     size_t count;
     memset(rest, '#', sizeof rest);
     for (size_t i = 0; i < sizeof MENDS / sizeof *MENDS; i++) {
-        lfi_fault f = {1, MENDS[i].rule};
+        lfi_fault f = {MENDS[i].place, MENDS[i].rule};
+        put_all(code, MENDS[i].code, 4);
         for (size_t room = 0; room <= LFI_MOST_MENDED; room++) {
             memset(mend, '#', sizeof mend);
             count = 7;
-            lfi_status status = lfi_mend(LFI_PROFILE_1, MENDS[i].words, &f, MENDS[i].word, MENDS[i].before, MENDS[i].after, mend, room, &count);
+            lfi_status status = lfi_mend(MENDS[i].profile, code, 4 * (size_t)MENDS[i].come, &f, mend, room, &count);
             int fits = MENDS[i].status == LFI_REFUSED || room >= MENDS[i].count;
             size_t wanted = fits && status == LFI_LAWFUL ? MENDS[i].count : 0;
             CHECK(120, status == (fits ? MENDS[i].status : LFI_NO_ROOM) && count == (status == LFI_LAWFUL ? MENDS[i].count : 7));
             CHECK(121, !memcmp(mend, MENDS[i].mend, 4 * wanted) && !memcmp(mend + wanted, rest, sizeof mend - 4 * wanted));
         }
     }
-    lfi_fault f = {1, 2}, none = {0, 0}, wrong = {1, 11};
-    count = 7;
+    return 0;
+}
+
+/* What isn't a fault of this code has no mend. */
+static int unmended(void) {
+    uint8_t code[8];
+    uint32_t mend[LFI_MOST_MENDED], rest[LFI_MOST_MENDED];
+    lfi_fault f = {1, 2}, none = {0, 0}, wrong = {1, 11}, past = {2, 2};
+    size_t count = 7;
     memset(mend, '#', sizeof mend);
-    CHECK(122, lfi_mend(3, 9, &f, 0xB8237880, 0, 0, mend, LFI_MOST_MENDED, &count) == LFI_UNKNOWN_PROFILE);
-    CHECK(123, lfi_mend(LFI_PROFILE_1, 0, &f, 0xB8237880, 0, 0, mend, LFI_MOST_MENDED, &count) == LFI_BAD_LENGTH);
-    CHECK(124, lfi_mend(LFI_PROFILE_1, LFI_MAX_WORDS + 1, &f, 0xB8237880, 0, 0, mend, LFI_MOST_MENDED, &count) == LFI_BAD_LENGTH);
-    CHECK(125, lfi_mend(LFI_PROFILE_1, 1, &f, 0xB8237880, 0, 0, mend, LFI_MOST_MENDED, &count) == LFI_BAD_LENGTH);
-    CHECK(126, lfi_mend(LFI_PROFILE_1, 9, &none, 0xB8237880, 0, 0, mend, LFI_MOST_MENDED, &count) == LFI_BAD_STATE);
-    CHECK(127, lfi_mend(LFI_PROFILE_1, 9, &wrong, 0xB8237880, 0, 0, mend, LFI_MOST_MENDED, &count) == LFI_BAD_STATE);
+    memset(rest, '#', sizeof rest);
+    put(nops(code, 2) + 4, 0xB8237880);
+    CHECK(122, lfi_mend(3, code, 8, &f, mend, LFI_MOST_MENDED, &count) == LFI_UNKNOWN_PROFILE);
+    for (size_t come = 0; come < 8; come++) CHECK(123, lfi_mend(LFI_PROFILE_1, code, come, &f, mend, LFI_MOST_MENDED, &count) == LFI_BAD_LENGTH);
+    CHECK(124, lfi_mend(LFI_PROFILE_1, code, 5, &none, mend, LFI_MOST_MENDED, &count) == LFI_BAD_LENGTH);
+    CHECK(125, lfi_mend(LFI_PROFILE_1, code, 8, &past, mend, LFI_MOST_MENDED, &count) == LFI_BAD_LENGTH);
+    CHECK(126, lfi_mend(LFI_PROFILE_1, code, 8, &none, mend, LFI_MOST_MENDED, &count) == LFI_BAD_STATE);
+    CHECK(127, lfi_mend(LFI_PROFILE_1, code, 8, &wrong, mend, LFI_MOST_MENDED, &count) == LFI_BAD_STATE);
     CHECK(128, count == 7 && !memcmp(mend, rest, sizeof mend));
     return 0;
 }
@@ -277,14 +345,19 @@ static int is_direct(uint32_t word) {
     return (word & 0x7C000000u) == 0x14000000u || (word & 0xFE000000u) == 0x54000000u || (word & 0x7C000000u) == 0x34000000u;
 }
 
-/* Any word has a mend that is lawful by itself and has no direct branch, or none. */
+/* Any words have a mend that is lawful by itself and has no direct branch, or none. */
 static int all_mended(void) {
+    static const uint32_t OPEN[] = {0xD10043FF, 0xF9400A5E, 0xF94006BE, 0xD503201F}; /* a move of sp, two loads into x30, and nop */
+    uint8_t code[16];
     uint32_t mend[LFI_MOST_MENDED];
     size_t count = 0, found = 0;
     for (uint32_t i = 0; i < 200000; i++) {
-        uint32_t word = i * 2654435761u, before = word * 40503u + i, profile = 1 + i / 16 % 2;
-        lfi_fault f = {1 + i % 3, 1 + i % 10}, told;
-        lfi_status status = lfi_mend(profile, 4, &f, word, before, before ^ i, mend, LFI_MOST_MENDED, &count);
+        uint32_t word = i * 2654435761u, before = i % 5 < 4 ? OPEN[i % 5] : word * 40503u + i, profile = 1 + i / 16 % 2;
+        lfi_fault f = {i % 4, 1 + i % 10}, told;
+        nops(code, 4);
+        if (f.word) put(code, before);
+        put(code + 4 * f.word, word);
+        lfi_status status = lfi_mend(profile, code, i % 3 ? 16 : 4 * (size_t)(f.word + 1), &f, mend, LFI_MOST_MENDED, &count);
         CHECK(130, status == LFI_LAWFUL || status == LFI_REFUSED);
         if (status == LFI_REFUSED) continue;
         found++;
@@ -298,54 +371,74 @@ static int all_mended(void) {
 
 /* Any word, at any place of a module of any number of words, for any rule, has a text that fits. */
 static int all_explained(void) {
-    uint8_t text[2048];
-    size_t size, longest = 0;
+    uint8_t text[2048], *code = calloc(LFI_MAX_WORDS, 4);
+    size_t count, longest = 0;
+    CHECK(115, code);
     for (uint32_t i = 0; i < 200000; i++) {
         uint32_t word = i * 2654435761u, before = word * 40503u + i;
         uint32_t words = i % 3 == 0 ? LFI_MAX_WORDS : i % 3 == 1 ? 1 + i / 3 : 1 + before % LFI_MAX_WORDS;
         lfi_fault f = {i % 7 == 0 ? words - 1 : (word >> 5) % words, 1 + i % 10};
-        CHECK(110, lfi_explain(1 + i / 16 % 2, i % 16, words, &f, word, before, text, sizeof text, &size) == LFI_LAWFUL);
-        if (size > longest) longest = size;
+        put(code + 4 * (size_t)f.word, word);
+        if (f.word) put(code + 4 * (size_t)(f.word - 1), before);
+        uint32_t come = i % 5 ? words : f.word + 1;
+        CHECK(110, lfi_explain(1 + i / 16 % 2, i % 16, words, code, 4 * (size_t)come, &f, text, sizeof text, &count) == LFI_LAWFUL);
+        if (count > longest) longest = count;
     }
     CHECK(111, longest < 1024);
     /* The longest: what stands in the place of reversed bytes and bits, behind a load that asks for a guard. */
+    put(code + LFI_MAX_BYTES - 8, 0xF9400A5E);
     for (uint32_t i = 0; i < 32768; i++) {
         uint32_t word = 0x5AC00000u | (i >> 14 & 1u) << 31 | (i & 3u) << 10 | (i >> 2 & 31u) << 5 | (i >> 7 & 31u);
         lfi_fault f = {LFI_MAX_WORDS - 1, i >> 13 & 1u ? 1 : 10};
-        CHECK(112, lfi_explain(1 + (i >> 12 & 1u), 15, LFI_MAX_WORDS, &f, word, 0xF9400A5E, text, sizeof text, &size) == LFI_LAWFUL);
-        if (size > longest) longest = size;
+        put(code + LFI_MAX_BYTES - 4, word);
+        CHECK(112, lfi_explain(1 + (i >> 12 & 1u), 15, LFI_MAX_WORDS, code, LFI_MAX_BYTES, &f, text, sizeof text, &count) == LFI_LAWFUL);
+        if (count > longest) longest = count;
     }
     CHECK(113, longest > 500 && longest < 1024);
+    free(code);
     return 0;
 }
 
 /* More room than a text takes changes nothing. */
 static int much_room(void) {
     static uint8_t text[200000];
+    uint8_t code[8];
     lfi_fault f = {1, 2};
-    size_t size = 0, length = 0;
-    CHECK(170, lfi_explain(LFI_PROFILE_1, 0, 9, &f, 0xF9400020, 0, text, 2048, &length) == LFI_LAWFUL && length);
+    size_t count = 0, length = 0;
+    put(nops(code, 2) + 4, 0xF9400020);
+    CHECK(170, lfi_explain(LFI_PROFILE_1, 0, 9, code, 8, &f, text, 2048, &length) == LFI_LAWFUL && length);
     for (size_t room = 2048; room <= sizeof text; room += room < 70000 ? 31 : 10007)
-        CHECK(171, lfi_explain(LFI_PROFILE_1, 0, 9, &f, 0xF9400020, 0, text, room, &size) == LFI_LAWFUL && size == length);
-    CHECK(172, lfi_explain(LFI_PROFILE_1, 0, 9, &f, 0xF9400020, 0, text, sizeof text, &size) == LFI_LAWFUL && size == length);
+        CHECK(171, lfi_explain(LFI_PROFILE_1, 0, 9, code, 8, &f, text, room, &count) == LFI_LAWFUL && count == length);
+    CHECK(172, lfi_explain(LFI_PROFILE_1, 0, 9, code, 8, &f, text, sizeof text, &count) == LFI_LAWFUL && count == length);
     return 0;
 }
 
-/* At place 0 there is no word before, whatever is passed for it. */
-static int none_before(void) {
-    static const uint32_t BEFORE[] = {0xF94006BE, 0xF9400A5E, 0xD10043FF, 0xA8C17BFD}, WORDS[] = {0xF9400020, 0xD503201F, 0xDAC00020, 0xD4000001};
-    uint8_t text[600], other[600];
-    uint32_t mend[LFI_MOST_MENDED], like[LFI_MOST_MENDED];
-    for (size_t i = 0; i < 4 * 4 * 10 * 2; i++) {
-        uint32_t word = WORDS[i & 3], before = BEFORE[i >> 2 & 3], profile = 1 + (i >> 4 & 1);
-        lfi_fault f = {0, 1 + (uint32_t)(i >> 5)};
-        size_t size = 0, length = 0, count = 0, number = 0;
-        memset(mend, 0, sizeof mend), memset(like, 0, sizeof like);
-        CHECK(160, lfi_explain(profile, 0, 1, &f, word, before, text, sizeof text, &size) == LFI_LAWFUL);
-        CHECK(161, lfi_explain(profile, 0, 1, &f, word, 0xD503201F, other, sizeof other, &length) == LFI_LAWFUL);
-        CHECK(162, size == length && !memcmp(text, other, size));
-        CHECK(163, lfi_mend(profile, 1, &f, word, before, 0, mend, LFI_MOST_MENDED, &count) == lfi_mend(profile, 1, &f, word, 0xD503201F, 0, like, LFI_MOST_MENDED, &number));
-        CHECK(164, count == number && !memcmp(mend, like, sizeof mend));
+/* At place 0, a word with others around it; else, behind a nop, a word with a nop and then others behind it. */
+static void put_around(uint8_t *at, uint32_t place, uint32_t word, uint32_t other) {
+    uint32_t words[4] = {other, word, other, other};
+    if (place) words[0] = words[2] = 0xD503201F;
+    put_all(at, words, 4);
+}
+
+/* What lies before the code, behind what came of it, and behind the word after the one at fault changes nothing. */
+static int only_the_code(void) {
+    static const uint32_t OTHER[] = {0xF94006BE, 0xF9400A5E, 0xD10043FF, 0xDAC01000}, WORDS[] = {0xF9400020, 0xD503201F, 0xDAC00020, 0xD4000001};
+    uint8_t here[16], there[16], text[1024], like[1024];
+    uint32_t mend[LFI_MOST_MENDED], same[LFI_MOST_MENDED];
+    for (uint32_t i = 0; i < 4 * 4 * 2 * 2 * 10; i++) {
+        uint32_t profile = 1 + (i >> 4 & 1), place = i >> 5 & 1;
+        size_t from = place ? 0 : 4, size = place ? 16 : 4, count = 0, number = 0;
+        lfi_fault f = {place, 1 + i / 64};
+        put_around(here, place, WORDS[i & 3], OTHER[i >> 2 & 3]);
+        put_around(there, place, WORDS[i & 3], 0xD503201F);
+        CHECK(160, lfi_explain(profile, 0, 9, here + from, size, &f, text, sizeof text, &count) == LFI_LAWFUL);
+        CHECK(161, lfi_explain(profile, 0, 9, there + from, size, &f, like, sizeof like, &number) == LFI_LAWFUL);
+        CHECK(162, count == number && !memcmp(text, like, count));
+        memset(mend, 0, sizeof mend), memset(same, 0, sizeof same);
+        count = number = 0;
+        lfi_status status = lfi_mend(profile, here + from, size, &f, mend, LFI_MOST_MENDED, &count);
+        CHECK(163, status == lfi_mend(profile, there + from, size, &f, same, LFI_MOST_MENDED, &number));
+        CHECK(164, count == number && !memcmp(mend, same, sizeof mend));
     }
     return 0;
 }
@@ -390,7 +483,8 @@ static int streams(void) {
 }
 
 int main(void) {
-    int (*const parts[])(void) = {whole_code, long_code, pieces, refused_pieces, other_states, profile, explanations, all_explained, much_room, none_before, mends, all_mended, streams};
+    int (*const parts[])(void) = {whole_code, long_code, pieces, refused_pieces, other_states, profile, explanations, late, unexplained, all_explained, much_room, only_the_code,
+                                 mends, unmended, all_mended, streams};
     for (size_t i = 0; i < sizeof parts / sizeof *parts; i++) {
         int failed = parts[i]();
         if (failed) return failed;

@@ -25,8 +25,6 @@ size_t next_piece(void *to) {
 
 uint8_t *code_of(uint32_t number) { return codes[number]; }
 
-uint32_t word_at(uint32_t place) { return place; }
-
 void reserve(uint32_t number, uint32_t count, uint32_t profile) {
     printf("open %u, %u words, profile %u\n", number, count, profile);
     words_of[number] = count;

@@ -10,7 +10,6 @@ extern lfi_status status;
 extern lfi_fault fault;
 size_t next_piece();
 uint8_t *code_of(uint32_t module);
-uint32_t word_at(uint32_t place);
 int tell_end(const lfi_event *event);
 void reserve(uint32_t module, uint32_t words, uint32_t profile);
 void finish(uint32_t module, lfi_status verdict, const lfi_fault *fault);

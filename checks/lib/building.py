@@ -59,7 +59,7 @@ def main(verb, *words):
 if __name__ == "__main__":
     sys.exit(main(*sys.argv[1:]))
 """
-VERSION = 'const VERSION: &str = "0.1.0, library interface 6";\n'
+VERSION = 'const VERSION: &str = "0.1.0, library interface 7";\n'
 
 
 def put_tree(room):
@@ -89,7 +89,7 @@ def try_building(room):
     top, found, commit = put_tree(room)
     build, archive = [top / "checks" / "build"], top / "out" / "x86_64-unknown-linux-gnu" / "liblfi_verifier.a"
     told = run(*build, env=found)
-    if f', commit {commit}, library interface 6"' not in told:
+    if f', commit {commit}, library interface 7"' not in told:
         fail(f"checks/build makes a program that tells no commit {commit}: {told}")
     library = [*build, "--library", "--target", "x86_64-unknown-linux-gnu"]
     run(*library, env=found)

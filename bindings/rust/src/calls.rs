@@ -147,20 +147,18 @@ extern "C" {
         profile: u32,
         module: u32,
         words: u32,
+        code: *const u8,
+        size: usize,
         fault: *const LfiFault,
-        word: u32,
-        before: u32,
         text: *mut u8,
         room: usize,
-        size: *mut usize,
+        count: *mut usize,
     ) -> u32;
     fn lfi_mend(
         profile: u32,
-        words: u32,
+        code: *const u8,
+        size: usize,
         fault: *const LfiFault,
-        word: u32,
-        before: u32,
-        after: u32,
         mend: *mut u32,
         room: usize,
         count: *mut usize,
@@ -198,7 +196,7 @@ pub fn verify_init(words: u32, profile: u32) -> (u32, LfiState) {
 }
 
 pub fn verify_update(state: &mut LfiState, piece: &[u8]) -> u32 {
-    // docs/C.md: A struct that a call writes overlaps nothing else that the call is handed.
+    // docs/C.md: What a call writes overlaps nothing else that the call is handed.
     unsafe { lfi_verify_update(state, piece.as_ptr(), piece.len()) }
 }
 
@@ -214,37 +212,34 @@ pub const MOST_MENDED: usize = 8;
 
 /// What `lfi_explain` is told of a refused word.
 #[derive(Clone, Copy, Debug)]
-pub struct Refused {
+pub struct Refused<'c> {
     pub profile: u32,
     pub module: u32,
     pub words: u32,
+    pub code: &'c [u8],
     pub fault: LfiFault,
-    pub word: u32,
-    pub before: u32,
 }
 
-pub fn explain(of: &Refused, text: &mut [u8]) -> (u32, usize) {
-    let mut size = 0;
+pub fn explain(of: &Refused<'_>, text: &mut [u8]) -> (u32, usize) {
+    let mut count = 0;
     if !is_of_this_interface() {
-        return (OTHER_INTERFACE, size);
+        return (OTHER_INTERFACE, count);
     }
+    let ((code, size), (text, room)) = ((of.code.as_ptr(), of.code.len()), (text.as_mut_ptr(), text.len()));
     // docs/C.md: so `room`, of bytes that can be written at `text`, or of words at `mend`.
-    let status = unsafe {
-        lfi_explain(of.profile, of.module, of.words, &of.fault, of.word, of.before, text.as_mut_ptr(), text.len(), &mut size)
-    };
-    (status, size)
+    let status = unsafe { lfi_explain(of.profile, of.module, of.words, code, size, &of.fault, text, room, &mut count) };
+    (status, count)
 }
 
-/// What `lfi_mend` tells of a refused word, by that and the word after it: the status, the words, and how many they are.
-pub fn mend(of: &Refused, after: u32) -> (u32, [u32; MOST_MENDED], usize) {
+/// What `lfi_mend` tells of a refused word: the status, the words, and how many they are.
+pub fn mend(of: &Refused<'_>) -> (u32, [u32; MOST_MENDED], usize) {
     let (mut mend, mut count) = ([0; MOST_MENDED], 0);
     if !is_of_this_interface() {
         return (OTHER_INTERFACE, mend, count);
     }
+    let (code, size) = (of.code.as_ptr(), of.code.len());
     // docs/C.md: so `room`, of bytes that can be written at `text`, or of words at `mend`.
-    let status = unsafe {
-        lfi_mend(of.profile, of.words, &of.fault, of.word, of.before, after, mend.as_mut_ptr(), mend.len(), &mut count)
-    };
+    let status = unsafe { lfi_mend(of.profile, code, size, &of.fault, mend.as_mut_ptr(), mend.len(), &mut count) };
     (status, mend, count)
 }
 
@@ -268,7 +263,7 @@ pub fn stream_next(stream: &mut LfiStream, bytes: &[u8]) -> (usize, LfiEvent) {
 
 pub fn stream_end(stream: &mut LfiStream) -> (u32, LfiEvent) {
     let mut event = LfiEvent::default();
-    // docs/C.md: A struct that a call writes overlaps nothing else that the call is handed.
+    // docs/C.md: What a call writes overlaps nothing else that the call is handed.
     let status = unsafe { lfi_stream_end(stream, &mut event) };
     (status, event)
 }

@@ -2,46 +2,36 @@
 
 use crate::{calls, Fault, ModuleNumber, Profile, Status};
 
-/// A refused word with what is needed to explain and mend it: no more of the code than three words.
+/// A refused word with what is needed to explain and mend it: the code, where it lies.
 #[derive(Clone, Copy, Debug)]
-pub struct RefusedWord {
+pub struct RefusedWord<'c> {
     /// The profile by which the code was judged.
     pub profile: Profile,
     /// The module, in whose slot the word's address lies.
     pub module: ModuleNumber,
     /// How many words the module has.
     pub words: u32,
-    /// The fault.
+    /// The first bytes of the module's code: all that came, or all.
+    pub code: &'c [u8],
+    /// The fault, at one of these words.
     pub fault: Fault,
-    /// The word at the fault's place.
-    pub word: u32,
-    /// The word before it; any number where the place is 0.
-    pub before: u32,
-    /// The word after it; any number at the module's last place.
-    pub after: u32,
 }
 
-impl RefusedWord {
-    /// The word at fault of code that is there as a whole; `None` where the code has no such word.
-    pub fn of(code: &[u8], module: ModuleNumber, profile: Profile, fault: Fault) -> Option<RefusedWord> {
-        let word_at = |place: u32| {
-            let at = usize::try_from(place).ok()?.checked_mul(4)?;
-            Some(u32::from_le_bytes(code.get(at..)?.first_chunk().copied()?))
-        };
-        let before = fault.word.checked_sub(1).and_then(word_at).unwrap_or(0);
-        let after = fault.word.checked_add(1).and_then(word_at).unwrap_or(0);
-        let words = u32::try_from(code.len() / 4).ok()?;
-        Some(RefusedWord { profile, module, words, fault, word: word_at(fault.word)?, before, after })
+impl<'c> RefusedWord<'c> {
+    /// The word at fault of code that is there as a whole.
+    pub fn of(code: &'c [u8], module: ModuleNumber, profile: Profile, fault: Fault) -> RefusedWord<'c> {
+        // More words than a u32 can number are more than any module has.
+        let words = u32::try_from(code.len() / 4).unwrap_or(u32::MAX);
+        RefusedWord { profile, module, words, code, fault }
     }
 
-    fn numbers(&self) -> calls::Refused {
+    fn numbers(&self) -> calls::Refused<'c> {
         calls::Refused {
             profile: self.profile.number(),
             module: self.module.number(),
             words: self.words,
+            code: self.code,
             fault: self.fault.numbers(),
-            word: self.word,
-            before: self.before,
         }
     }
 }
@@ -62,7 +52,7 @@ impl Mend {
 
 /// Tells the mend of a refused word, `None` where there is none. It keeps the rules wherever it stands.
 ///
-/// It fails where the fault is none that such a word can have.
+/// It fails where the fault is none that this code can have.
 ///
 /// ```
 /// use lfi_verifier::{mend, verify, ModuleNumber, Profile, RefusedWord, Violation};
@@ -70,12 +60,12 @@ impl Mend {
 /// let code = 0xB823_7880u32.to_le_bytes(); // str w0, [x4, x3, lsl #2]
 /// let Err(Violation::Refused(fault)) = verify(&code, Profile::One) else { panic!("it is refused") };
 /// let module = ModuleNumber::new(0).expect("there is a module 0");
-/// let refused = RefusedWord::of(&code, module, Profile::One, fault).expect("the code has the word");
+/// let refused = RefusedWord::of(&code, module, Profile::One, fault);
 /// let mend = mend(&refused).expect("the fault is one").expect("there is a mend");
 /// assert_eq!(mend.words(), [0x0B23_4896, 0xB836_4AA0]); // add w22, w4, w3, uxtw #2; str w0, [x21, w22, uxtw]
 /// ```
-pub fn mend(refused: &RefusedWord) -> Result<Option<Mend>, Status> {
-    let (status, words, count) = calls::mend(&refused.numbers(), refused.after);
+pub fn mend(refused: &RefusedWord<'_>) -> Result<Option<Mend>, Status> {
+    let (status, words, count) = calls::mend(&refused.numbers());
     match Status::of(status) {
         Status::Lawful => Ok(Some(Mend { words, count })),
         Status::Refused => Ok(None),
@@ -87,7 +77,7 @@ pub fn mend(refused: &RefusedWord) -> Result<Option<Mend>, Status> {
 /// assembly text, what the rule asks, and how the word is mended. It is cut where the room ends. None has more than 2,048
 /// bytes, and 1,024 were enough for all of 20,000 words at random.
 ///
-/// It fails where the fault is none that such a word can have.
+/// It fails where the fault is none that this code can have.
 ///
 /// ```
 /// use lfi_verifier::{explain, verify, ModuleNumber, Profile, RefusedWord, Violation};
@@ -95,15 +85,15 @@ pub fn mend(refused: &RefusedWord) -> Result<Option<Mend>, Status> {
 /// let code = 0xB823_7880u32.to_le_bytes(); // str w0, [x4, x3, lsl #2]
 /// let Err(Violation::Refused(fault)) = verify(&code, Profile::One) else { panic!("it is refused") };
 /// let module = ModuleNumber::new(0).expect("there is a module 0");
-/// let refused = RefusedWord::of(&code, module, Profile::One, fault).expect("the code has the word");
+/// let refused = RefusedWord::of(&code, module, Profile::One, fault);
 /// let mut text = [0; 1024];
 /// let told = explain(&refused, &mut text).expect("the fault is one");
 /// assert!(told.starts_with("word 0 rule 2\n  0x0000000100010000  b8237880  str w0, [x4, x3, lsl #2]\n"));
 /// ```
-pub fn explain<'t>(refused: &RefusedWord, text: &'t mut [u8]) -> Result<&'t str, Status> {
-    let (status, size) = calls::explain(&refused.numbers(), text);
+pub fn explain<'t>(refused: &RefusedWord<'_>, text: &'t mut [u8]) -> Result<&'t str, Status> {
+    let (status, count) = calls::explain(&refused.numbers(), text);
     Status::of(status).done()?;
-    let told = text.get(..size).unwrap_or(text);
+    let told = text.get(..count).unwrap_or(text);
     match core::str::from_utf8(told) {
         Ok(told) => Ok(told),
         Err(why) => Ok(core::str::from_utf8(told.get(..why.valid_up_to()).unwrap_or(&[])).unwrap_or("")),

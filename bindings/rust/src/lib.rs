@@ -46,7 +46,7 @@ pub use stream::{Ends, Event, Events, Reason, Stream};
 pub use verify::{verify, Profile, Verifier, MAX_BYTES, MAX_WORDS};
 
 /// The number of the interface for which this crate is written: `LFI_VERSION` of the header.
-pub const VERSION: u32 = 6;
+pub const VERSION: u32 = 7;
 
 /// The number of the interface of the library that is linked. Where it isn't [`VERSION`], all else fails.
 pub fn version() -> u32 {

@@ -1,8 +1,8 @@
 //! What a host relies on, with values of docs/PROFILE.md and the examples.
 
 use lfi_verifier::{
-    explain, mend, registers, verify, version, Event, Fault, ModuleNumber, Profile, Reason, RefusedWord, Rule, SlotMap, Stream,
-    StreamFault, Verifier, Violation, MAX_BYTES, MAX_WORDS, VERSION,
+    explain, mend, registers, verify, version, Event, Fault, ModuleNumber, Profile, Reason, RefusedWord, Rule, SlotMap, Status,
+    Stream, StreamFault, Verifier, Violation, MAX_BYTES, MAX_WORDS, VERSION,
 };
 use std::{fs, path::Path};
 
@@ -127,7 +127,7 @@ fn explanation() {
     let code = example("checksums_unguarded.code");
     let module = ModuleNumber::new(0).expect("there is a module 0");
     let fault = Fault { word: 16, rule: Rule::AccessConfined };
-    let word = RefusedWord::of(&code, module, Profile::One, fault).expect("the code has it");
+    let word = RefusedWord::of(&code, module, Profile::One, fault);
     let mut text = [0; 1024];
     let told = explain(&word, &mut text).expect("it is a fault");
     assert!(told.starts_with("word 16 rule 2\n  0x0000000100010040  b8237880  str w0, [x4, x3, lsl #2]\n"));
@@ -135,7 +135,7 @@ fn explanation() {
     assert_eq!(mend(&word).expect("it is a fault").expect("there is one").words(), [0x0B23_4896, 0xB836_4AA0]);
     assert_eq!(explain(&word, &mut [0; 14]), Ok("word 16 rule 2"));
     let past = Fault { word: 105, rule: Rule::Spelled };
-    assert!(RefusedWord::of(&code, module, Profile::One, past).is_none());
+    assert_eq!(explain(&RefusedWord::of(&code, module, Profile::One, past), &mut text), Err(Status::BadLength));
 }
 
 /// Each module of examples/hostile.stream as README.md of the examples tells it, in pieces of all sizes.
@@ -185,7 +185,7 @@ fn threads() {
     const fn goes<T: Send + Sync>() {}
     goes::<Stream>();
     goes::<Verifier>();
-    goes::<RefusedWord>();
+    goes::<RefusedWord<'_>>();
     goes::<Event<'_>>();
 }
 

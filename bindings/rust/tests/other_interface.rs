@@ -17,7 +17,7 @@ fn nothing_begins() {
     assert_eq!(SlotMap::of(Profile::One, module), Err(other));
     assert_eq!(registers(Profile::One), Err(other));
     let fault = Fault { word: 0, rule: Rule::Spelled };
-    let word = RefusedWord::of(&[0; 4], module, Profile::One, fault).expect("the code has the word");
+    let word = RefusedWord::of(&[0; 4], module, Profile::One, fault);
     assert_eq!(explain(&word, &mut [0; 1024]), Err(other));
     assert_eq!(mend(&word), Err(other));
 }

@@ -6,6 +6,8 @@ use lfi_verifier::{explain, mend, verify, Fault, ModuleNumber, Profile, RefusedW
 
 const NOP: u32 = 0xD503_201F;
 const RET: u32 = 0xD65F_03C0;
+/// `sub sp, sp, #16`.
+const MOVE: u32 = 0xD100_43FF;
 /// `ldar x0, [x1]`, which no mend of profile 1 has.
 const ACQUIRE: u32 = 0xC8DF_FC20;
 
@@ -16,16 +18,19 @@ const fn fault(word: u32, rule: Rule) -> Fault {
     Fault { word, rule }
 }
 
-/// The word at fault, after a look that the fault is the first one.
-fn refused_word(&(number, profile, words, fault): &Module) -> RefusedWord {
-    let code: Vec<u8> = words.iter().flat_map(|word| word.to_le_bytes()).collect();
-    assert_eq!(verify(&code, profile), Err(Violation::Refused(fault)));
-    let module = ModuleNumber::new(number).expect("there is such a module");
-    RefusedWord::of(&code, module, profile, fault).expect("the code has the word")
+fn code_of(words: &[u32]) -> Vec<u8> {
+    words.iter().flat_map(|word| word.to_le_bytes()).collect()
 }
 
-/// By profile 2; of the word before; of the module's words, and of the last slot.
-const EXPLAINED: [(Module, &str); 3] = [
+/// The word at fault, after a look that the fault is the first one.
+fn refused_word<'c>(&(number, profile, _, fault): &Module, code: &'c [u8]) -> RefusedWord<'c> {
+    assert_eq!(verify(code, profile), Err(Violation::Refused(fault)));
+    let module = ModuleNumber::new(number).expect("there is such a module");
+    RefusedWord::of(code, module, profile, fault)
+}
+
+/// By profile 2; of the word before; of the module's words, and of the last slot; of a word two before.
+const EXPLAINED: [(Module, &str); 4] = [
     (
         (3, Profile::Two, &[ACQUIRE, NOP], fault(0, Rule::AccessConfined)),
         concat!(
@@ -58,19 +63,36 @@ const EXPLAINED: [(Module, &str); 3] = [
             "to 511, with blr x30 right after it",
         ),
     ),
+    (
+        (0, Profile::Two, &[MOVE, NOP, 0xF940_06BE, 0xD63F_03C0, 0xF900_03E0, RET], fault(2, Rule::NeedMet)),
+        concat!(
+            "word 2 rule 10\n",
+            "  0x0000000100010000  d10043ff  sub sp, sp, #16\n",
+            "  0x0000000100010008  f94006be  ldr x30, [x21, #8]\n",
+            "  a move of sp by an immediate has to be followed by a load or store at [sp] within 4 words, with only calm words ",
+            "before it; this word, with 3 of the 4 left, isn't that\n",
+            "  mend: put ldr xzr, [sp] right after the move, or let a pre- or post-indexed access move sp",
+        ),
+    ),
 ];
 
 #[test]
 fn explanations() {
     for (module, wanted) in &EXPLAINED {
-        assert_eq!(explain(&refused_word(module), &mut [0; 1024]), Ok(*wanted));
+        assert_eq!(explain(&refused_word(module, &code_of(module.2)), &mut [0; 1024]), Ok(*wanted));
     }
 }
 
-/// Mends that rest on the word before, on the one after and on the profile; one without words; and none.
-const MENDED: [(Module, Option<&[u32]>); 6] = [
+/// Mends that rest on the words before, on the one after and on the profile; one without words; and none.
+const MENDED: [(Module, Option<&[u32]>); 7] = [
     // sub sp, sp, #16; ldr x0, [x1]: ldr xzr, [sp]; ldr x0, [x21, w1, uxtw]
-    ((0, Profile::One, &[0xD100_43FF, 0xF940_0020, RET], fault(1, Rule::AccessConfined)), Some(&[0xF940_03FF, 0xF861_4AA0])),
+    ((0, Profile::One, &[MOVE, 0xF940_0020, RET], fault(1, Rule::AccessConfined)), Some(&[0xF940_03FF, 0xF861_4AA0])),
+    // sub sp, sp, #16; nop; ldpsw x2, x3, [x1]: ldr xzr, [sp]; add w22, w1, #0; ldrsw x2, [x21, w22, uxtw]; add w22, w22, #4;
+    // ldrsw x3, [x21, w22, uxtw]
+    (
+        (0, Profile::Two, &[MOVE, NOP, 0x6940_0C22, RET], fault(2, Rule::Spelled)),
+        Some(&[0xF940_03FF, 0x1100_0036, 0xB8B6_4AA2, 0x1100_12D6, 0xB8B6_4AA3]),
+    ),
     // ldr x30, [x18, #16]; nop: add x30, x21, w30, uxtw
     ((0, Profile::One, &[0xF940_0A5E, NOP, RET], fault(1, Rule::NeedMet)), Some(&[0x8B3E_42BE])),
     // rbit x0, x1; clz x0, x0: neg x16, x1; and x16, x16, x1; mov x17, #0x8000000000000000; udiv x0, x17, x16
@@ -89,15 +111,35 @@ const MENDED: [(Module, Option<&[u32]>); 6] = [
 #[test]
 fn mends() {
     for (module, wanted) in &MENDED {
-        let told = mend(&refused_word(module)).expect("it is a fault");
+        let told = mend(&refused_word(module, &code_of(module.2))).expect("it is a fault");
         assert_eq!(told.as_ref().map(|it| it.words()), *wanted);
     }
 }
 
-/// A fault at a word that the module doesn't have.
+/// A fault at a word that didn't come, a word of which bytes are missing, and code of more words than the module has.
 #[test]
-fn a_fault_past_the_end() {
-    let word = RefusedWord { words: 1, ..refused_word(&EXPLAINED[1].0) };
-    assert_eq!(explain(&word, &mut [0; 1024]), Err(Status::BadLength));
-    assert_eq!(mend(&word), Err(Status::BadLength));
+fn lengths() {
+    let (module, _) = &EXPLAINED[1];
+    let code = code_of(module.2);
+    let word = refused_word(module, &code);
+    for size in [0, 4, 7, 11] {
+        let cut = RefusedWord { code: &code[..size], ..word };
+        assert_eq!(explain(&cut, &mut [0; 1024]), Err(Status::BadLength));
+        assert_eq!(mend(&cut), Err(Status::BadLength));
+    }
+    assert_eq!(explain(&RefusedWord { words: 2, ..word }, &mut [0; 1024]), Err(Status::BadLength));
+}
+
+/// Of code that goes on: where the fault's word came, the text is the same, but for what rests on the next word.
+#[test]
+fn a_beginning() {
+    let (module, wanted) = &EXPLAINED[3];
+    let code = code_of(module.2);
+    let cut = RefusedWord { code: &code[..12], ..refused_word(module, &code) };
+    assert_eq!(explain(&cut, &mut [0; 1024]), Ok(*wanted));
+    let code = code_of(&[NOP, 0xDAC0_0020, 0xDAC0_1000]); // rbit x0, x1; clz x0, x0
+    let place = ModuleNumber::new(0).expect("there is a module 0");
+    let word = RefusedWord::of(&code, place, Profile::One, fault(1, Rule::Spelled));
+    assert_eq!(mend(&word).expect("it is a fault").map(|it| it.words().len()), Some(4));
+    assert_eq!(mend(&RefusedWord { code: &code[..8], ..word }), Ok(None));
 }

@@ -17,7 +17,7 @@ use lfi_rules::map::{
 use lfi_rules::registers::{BASE, FIRST_ADDRESS, LINK, OFFSET, SECOND_ADDRESS, THIRD_ADDRESS};
 
 /// The number of this interface, which grows with each change of it.
-const VERSION: u32 = 6;
+const VERSION: u32 = 7;
 
 /// Where the parts of a module's slot lie, in addresses and bytes: docs/PROFILE.md.
 #[repr(C)]
@@ -126,7 +126,7 @@ pub extern "C" fn lfi_profile_registers(profile: u32, registers: &mut LfiRegiste
 /// The number of this interface.
 #[unsafe(no_mangle)]
 pub extern "C" fn lfi_version() -> u32
-    ensures { result ≡ 6 }
+    ensures { result ≡ 7 }
 {
     VERSION
 }

@@ -10,7 +10,7 @@ use std::{env, io};
 
 /// What `--version` tells: the program's version, the commit, where `checks/build` builds it from one, and the number of the C
 /// library's interface.
-const VERSION: &str = "0.1.0, library interface 6";
+const VERSION: &str = "0.1.0, library interface 7";
 
 /// What stands for a standard descriptor that is closed.
 const NOTHING: &str = "/dev/null";

@@ -18,8 +18,8 @@ returns-in-Ok-clause-told c = λ by found is_by is_fault lawful.
     let same_fault : c.in-Some-Some.found ≡ found = cc in
     let put = c.put.ensures.put lawful in (
       c.as_slice.result.now,
-      spell_mend c.in-Some.by by c.in-Some-Some.found found c.args.words c.args.word c.args.before c.args.after c.earlier-before.result c.later-after.result c.in-Ok.it c.instructions.result.now c.as_slice.result.now
-          same_profile same_fault c.earlier-before.ensures c.later-after.ensures c.in-Ok.ensures c.instructions.ensures (subst (λ ws. Spell c.in-Some.by c.instructions.result.now ws) (sym c.as_slice.ensures.value) c.words_of.ensures),
+      spell_mend c.in-Some.by by c.in-Some-Some.found found c.in-Some-code_with.come c.args.code.now c.in-Ok.it c.instructions.result.now c.as_slice.result.now
+          same_profile same_fault c.in-Some-code_with.ensures.some.1 c.in-Ok.ensures c.instructions.ensures (subst (λ ws. Spell c.in-Some.by c.instructions.result.now ws) (sym c.as_slice.ensures.value) c.words_of.ensures),
       put.0,
       put.1,
     )
@@ -34,8 +34,8 @@ returns-in-Ok-clause-short c = λ by found is_by is_fault unlawful unrefused.
       no_room,
       (
         c.as_slice.result.now,
-        spell_mend c.in-Some.by by c.in-Some-Some.found found c.args.words c.args.word c.args.before c.args.after c.earlier-before.result c.later-after.result c.in-Ok.it c.instructions.result.now c.as_slice.result.now
-            same_profile same_fault c.earlier-before.ensures c.later-after.ensures c.in-Ok.ensures c.instructions.ensures (subst (λ ws. Spell c.in-Some.by c.instructions.result.now ws) (sym c.as_slice.ensures.value) c.words_of.ensures),
+        spell_mend c.in-Some.by by c.in-Some-Some.found found c.in-Some-code_with.come c.args.code.now c.in-Ok.it c.instructions.result.now c.as_slice.result.now
+            same_profile same_fault c.in-Some-code_with.ensures.some.1 c.in-Ok.ensures c.instructions.ensures (subst (λ ws. Spell c.in-Some.by c.instructions.result.now ws) (sym c.as_slice.ensures.value) c.words_of.ensures),
         c.put.ensures.short no_room,
       ),
     )
