@@ -13,7 +13,16 @@ from lib import formats, tree
 from lib.serving import connected
 
 DOCUMENT = tree.TOP / "docs" / "COMMANDS.md"
-RET, SVC = 0xD65F03C0, 0xD4000001
+NOP, RET, SVC = 0xD503201F, 0xD65F03C0, 0xD4000001
+FILLED = [NOP] * (formats.PAGE // 4 - 1)
+RBIT, CLZ = 0xDAC00020, 0xDAC01000  # rbit x0, x1; clz x0, x0
+# Words near a page's end, where what is told of the first fault rests on a word before or behind.
+NEAR = {
+    "RBIT inside a page": FILLED[1:] + [RBIT, CLZ],
+    "a load behind a move of sp": FILLED + [0xD10043FF, 0xF9400020],  # sub sp, sp, #16; ldr x0, [x1]
+    "a word behind a load of a table entry": FILLED + [0xF94006BE, NOP],  # ldr x30, [x21, #8]
+    "a late probe": FILLED[2:] + [0xD10043FF, NOP, NOP, NOP],
+}
 
 
 class Room:
@@ -32,6 +41,13 @@ class Room:
         given = {"stdin": subprocess.DEVNULL, "stdout": subprocess.PIPE, "stderr": subprocess.PIPE, "cwd": self.folder, "timeout": 60, **more}
         done = subprocess.run([self.program, *words], **given)
         return done.returncode, done.stdout, done.stderr
+
+    def explained(self, words):
+        """What check and load tell of these words, but for what load tells of its streams."""
+        code, stream = formats.code_of(*words), formats.stream(0, formats.code_of(*words))
+        (self.folder / "it.code").write_bytes(code), (self.folder / "it.stream").write_bytes(stream)
+        checked, loaded = (self.run(name, "--explain", f"it.{kind}")[1] for name, kind in (("check", "code"), ("load", "stream")))
+        return checked, loaded.partition(b"\nmodule 0: ")[2].partition(b"module 0: from")[0]
 
 
 def visit(path):
@@ -52,6 +68,12 @@ def closed_pipe(room):
     found["run"] = room.run("run", "writes.img", "--steps", "9", stdout=out)[::2]
     os.close(out)
     return found == {words[0]: (3, b"") for words in others} | {"run": (0, b"halt 5 status 255 after 1 steps\n")}, found
+
+
+def looks_of_load(room):
+    told = {name: room.explained(words) for name, words in NEAR.items()}
+    checked, loaded = room.explained([*FILLED, RBIT, CLZ])
+    return all(one == other for one, other in told.values()) and b"mend: in its place" in checked and b"mend: none" in loaded, told
 
 
 def unread(room):
@@ -83,6 +105,7 @@ def all_explains(room):
 
 SENTENCES = {
     "ends a command but `run` with status 3 and no message": closed_pipe,
+    "`load` tells what `check` does, but of RBIT at a page's end:": looks_of_load,
     "After `cannot read PATH` `load`, `run`, `pack`, `unpack` and `disassemble` do nothing; `check` and `info` go on with the next file.": unread,
     "A file of this name is `./-`, and `-` can be named once.": named_once,
     "A limit on the size of files (`ulimit -f`) ends the program by the signal SIGXFSZ.": limited,

@@ -124,17 +124,16 @@ def shown_places(words, place, profile):
 
 
 class Refusal:
-    """What is told of a word at fault: the first line says which, the others are taken from the text. A load knows the word right before
-    it alone."""
+    """What is told of a word at fault: the first line says which, the others are taken from the text."""
 
-    def __init__(self, lines, words, place, rule, profile, module, prefix="", is_loaded=False):
+    def __init__(self, lines, words, place, rule, profile, module, prefix=""):
         lines.take(f"{prefix}word {place} rule {rule}", "the word at fault")
         block = lines.block()
         at = base(module) + FIRST_WORD
         located = [it for it in (re.fullmatch(r"  0x([0-9a-f]{16})  ([0-9a-f]{8})  (.+)", line) for line in block) if it]
         places = [(int(it[1], 16) - at) // 4 for it in located]
         shown = shown_places(words, place, profile) if rule == 10 else [place]
-        require(places, [it for it in shown if it >= place - 1] if is_loaded else shown, "the words that are shown")
+        require(places, shown, "the words that are shown")
         require([int(it[2], 16) for it in located], [words[it] for it in places], "the values of the words that are shown")
         self.explanation = "\n".join([f"word {place} rule {rule}", *block])
         self.mend = mend_of(block)
@@ -277,10 +276,12 @@ class Checks(Mode):
 
 
 def across_pages(source):
-    """A stream of a module in which the last word of a page may ask something of the first of the next."""
+    """A stream of a module in which one of the last words of a page may ask something of the first of the next."""
     large = source.random() < 0.5
     opens, meets = source.choice(RULES.MEETING), source.choice((*RULES.MEETING, RULES.NOP, 0xD4000001))
-    code = code_of(*[RULES.NOP] * (4095 if large else 1023), opens, meets, *[RULES.NOP] * source.randrange(4))
+    between, early = source.randrange(5), source.randrange(4)
+    before, after = (4095 if large else 1023) - early, source.randrange(4)
+    code = code_of(*[RULES.NOP] * before, opens, *[RULES.NOP] * between, meets, *[RULES.NOP] * after)
     return stream(source.randrange(MODULES), code, 2 if large else source.choice((1, 2)), large)
 
 
@@ -302,6 +303,9 @@ class Loads(Mode):
         lines = Lines(told.removeprefix(wanted[0][0]))
         objects = self.modules_of(lines, texts), self.connections_of(lines, files)
         require(lines.left, [""], "what follows the last connection")
+        for module, share in shares_of(texts).items():
+            if "rule" in objects[0][module] and len(share[1].pages) * share[1].size >= 4 * share[1].words:
+                require(objects[0][module]["explanation"], as_checked(program, folder, share[1], module), "the explanation, beside that of `check`")
         images = [{"path": f"./{name}"} for name in sorted(wanted[0][1])]
         strays = sum(it["strays"] for it in objects[1])
         came = run(program, folder, "load", "--explain", "--format", "json", "--out", ".", *named)
@@ -311,7 +315,7 @@ class Loads(Mode):
 
     def modules_of(self, lines, texts):
         """The objects of the modules, whose lines are taken."""
-        shares = {module: (number, share) for number, text in enumerate(texts) for module, share in connection(text, range(MODULES))[0].items()}
+        shares = shares_of(texts)
         found = [{"module": module, "outcome": "unused"} for module in range(MODULES)]
         for module in sorted(shares):
             number, share = shares[module]
@@ -319,7 +323,7 @@ class Loads(Mode):
             if "rule" in found[module]:
                 code = words_of(b"".join(share.pages))
                 fault = found[module]["word"], found[module]["rule"]
-                found[module] |= Refusal(lines, code, *fault, share.profile, module, f"module {module}: ", True).told()
+                found[module] |= Refusal(lines, code, *fault, share.profile, module, f"module {module}: ").told()
         for module in sorted(shares):
             lines.take(f"module {module}: from connection {shares[module][0]}", "where a module is from")
             found[module]["connection"] = shares[module][0]
@@ -341,6 +345,19 @@ class Loads(Mode):
             if strays:
                 lines.take(f"connection {number}: strays {strays}", "its strays")
         return found
+
+
+def shares_of(texts):
+    """By their modules: the connection that brings one, and what it brings."""
+    return {module: (number, share) for number, text in enumerate(texts) for module, share in connection(text, range(MODULES))[0].items()}
+
+
+def as_checked(program, folder, share, module):
+    """What `check --explain` tells of a module's code, at the addresses of its slot."""
+    pathlib.Path(folder, "checked.code").write_bytes(b"".join(share.pages))
+    told = run(program, folder, "check", "--explain", "--profile", str(share.profile), "checked.code").stdout
+    moved = re.sub(r"^  0x([0-9a-f]{16})(?=  )", lambda it: f"  0x{int(it[1], 16) - base(0) + base(module):016x}", told, flags=re.M)
+    return re.sub(r"^  file: .*\n", "", moved, flags=re.M).removesuffix("\n")
 
 
 class Serves(Mode):

@@ -4,3 +4,4 @@ pub mod Lengths
 pub mod Found
 pub mod Columns
 pub mod Lines
+pub mod Near

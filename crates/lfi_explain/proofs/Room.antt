@@ -37,7 +37,7 @@ use Rattle.lfi_explain.specs.Explanations.{FitsIn, opener_text}
 use Rattle.lfi_explain.specs.Groups.{group_text}
 use Rattle.lfi_explain.specs.Mendings as mendings
 use Rattle.lfi_explain.specs.Sentences as sentences
-use Rattle.lfi_explain.specs.Openers.{IsNextOpener, IsOpenerIf}
+use Rattle.lfi_explain.specs.Openers.{IsOpenerIf}
 use Rattle.lfi_explain.specs.Spellings.{IsSpelling, instruction_text, located_text, address_by, target_by, branch_register_by, written_address_by, opened_by, is_calm_by}
 use Rattle.lfi_explain.proofs.Lengths.{Short, exact, within, ◌⊕◌, either, digits_short, decimal_short, two_digits, signed_short}
 use Rattle.lfi_explain.proofs.Instructions.{text_short, letter_short, sp_short, index_extend_short}
@@ -290,12 +290,6 @@ explanation_short e at opener mend =
 -- ---- what is spelled
 pub spelled_of : (profile : Profile) (word : ℕ) (s : Spelling) → IsSpelling profile word s → IsSpelled s
 spelled_of profile word s h = (profile, subst (λ w. IfSome s.instruction (λ i. SpellsIn profile i w)) (sym h.same) h.found)
-
-pub next_spelled : (profile : Profile) (before : Option ℕ) (found : Option Opener) → IsNextOpener profile before found → IsOpenerSpelled found
-next_spelled profile None None h = tt
-next_spelled profile (Some word) (Some opener) h = spelled_of profile word opener.spelling h.1
-next_spelled profile None (Some opener) h = absurd h
-next_spelled profile (Some word) None h = absurd h
 
 pub opener_spelled : (profile : Profile) (ws : List ℕ) (k : ℕ) (found : Option Opener) → IsOpenerIf profile ws k found → IsOpenerSpelled found
 opener_spelled profile ws k None h = tt

@@ -12,9 +12,9 @@ use Rattle.lfi_explain.specs.declared.opener.Opener.{Opener}
 use Rattle.lfi_explain.specs.declared.explanation.Explanation.{Explanation}
 use Rattle.lfi_explain.specs.declared.explanation.KnownFault.{KnownFault}
 use Rattle.lfi_explain.specs.Spellings.{IsSpelling, located_text, is_nothing}
-use Rattle.lfi_explain.specs.Openers.{IsOpenerIf, IsNextOpener}
+use Rattle.lfi_explain.specs.Openers.{IsOpenerIf}
 use Rattle.lfi_explain.specs.Sentences.{unmet_in, sentence_text}
-use Rattle.lfi_explain.specs.Mendings.{MendsWord, IsMend, IsDecoded, need_of, is_mended, mending_text}
+use Rattle.lfi_explain.specs.Mendings.{IsMend, IsDecoded, need_of, is_mended, mending_text}
 
 -- it is rule 10
 abbrev pub is_need_met : Rule → Bool
@@ -47,27 +47,23 @@ explanation_text e = told_text e ++ codes "\n  mend: " ++ mending_text e
 pub record FitsIn (room : ℕ) (e : Explanation) : Type 0 where
   pub bytes : length (explanation_text e) ≤ room
 
--- It tells this fault of its module, by the word at the fault's place and the one before it.
-pub record ExplainsWord (known : KnownFault) (e : Explanation) : Type 0 where
+-- It tells this fault by words that stand one after another in its module, the one at place k of them at the fault's place: that word, the one that opens what
+-- is open there, and how it is mended.
+pub record ExplainsNear (ws : List ℕ) (k : ℕ) (known : KnownFault) (e : Explanation) : Type 0 where
   pub same_fault : e.fault ≡ known.fault
   pub same_slot : e.slot ≡ known.slot
   pub count : e.words ≡ known.words
-  pub at : IsSpelling known.profile known.word e.at
-  pub before : IsNextOpener known.profile known.before e.opener
-  pub mend : MendsWord known.profile known.fault.rule known.word known.before None e.mend
-
--- It tells this fault of the words of a module in a slot, and names the word that opens what is open at the fault's place.
-pub record Explains (profile : Profile) (ws : List ℕ) (slot : ℕ) (fault : Fault) (e : Explanation) : Type 0 where
-  pub same_fault : e.fault ≡ fault
-  pub same_slot : e.slot ≡ slot
-  pub count : e.words ≡ length ws
   pub word : ℕ
-  pub here : slice_get ws fault.word ≡ Some word
-  pub at : IsSpelling profile word e.at
-  pub opener : IsOpenerIf profile ws fault.word e.opener
+  pub here : slice_get ws k ≡ Some word
+  pub at : IsSpelling known.profile word e.at
+  pub opener : IsOpenerIf known.profile ws k e.opener
   pub next : Option Instruction
-  pub decoded : IsDecoded profile (slice_get ws (fault.word + 1)) next
-  pub mend : IsMend profile fault.rule word (need_of fault.rule e.at e.opener) next e.mend
+  pub decoded : IsDecoded known.profile (slice_get ws (k + 1)) next
+  pub mend : IsMend known.profile known.fault.rule word (need_of known.fault.rule e.at e.opener) next e.mend
+
+-- It tells this fault of the words of a module in a slot, by all of them.
+abbrev pub Explains : Profile → List ℕ → (slot : ℕ) → Fault → Explanation → Type 0
+Explains profile ws slot fault e = ExplainsNear ws fault.word (record { slot = slot; words = length ws; profile = profile; fault = fault }) e
 
 -- Of place k the least rule that its word breaks is told; nothing, where it breaks none.
 abbrev pub IsToldAt : Profile → List ℕ → (slot k : ℕ) → Option Explanation → Type 0

@@ -1,5 +1,5 @@
 -- How a word that breaks a rule is mended. Source: this project's profile, docs/PROFILE.md; the mends are those of lfi_mends.
-use Rattle.std.specs.Prelude.{◌≡◌, ◌≢◌, ℕ, ◌==◌, length, Bool, true, false, List, [], ◌++◌, codes, flat_map, Option, Some, None, Result, Ok, Err, IfOk, IfSome, IsTrue}
+use Rattle.std.specs.Prelude.{◌≡◌, ◌≢◌, ℕ, ◌+◌, ◌==◌, length, slice_get, Bool, true, false, List, [], ◌++◌, codes, flat_map, Option, Some, None, Result, Ok, Err, IfOk, IfSome, IsTrue}
 use Rattle.std.specs.List.{list_any}
 use Rattle.a64_word.specs.declared.instruction.Instruction.{Instruction}
 use Rattle.a64_word.specs.Profiles.{SpellsIn}
@@ -21,7 +21,7 @@ use Rattle.lfi_mends.specs.Texts.{reason_text}
 use Rattle.lfi_explain.specs.declared.explanation.Explanation.{Explanation}
 use Rattle.lfi_explain.specs.declared.opener.Opener.{Opener}
 use Rattle.lfi_explain.specs.declared.spelling.Spelling.{Spelling}
-use Rattle.lfi_explain.specs.Openers.{asked_if, IsNextOpener}
+use Rattle.lfi_explain.specs.Openers.{asked_if, IsOpenerIf}
 use Rattle.lfi_explain.specs.Spellings.{IsSpelling, opened_by}
 use Rattle.lfi_explain.specs.Sentences.{unmet_of}
 
@@ -52,14 +52,16 @@ pub record IsMend (profile : Profile) (rule : Rule) (word : ℕ) (need : Need) (
   pub bounded : (i : Instruction) → rule ≢ rules.NeedMet → SpellsIn profile i word → IsTrue (moves_bounded i) → IfOk mend (λ m. DoesTheSameBounded (meeting need) (mended m) i)
   pub told : IsReason profile rule word need next (refusal mend)
 
--- The same of a word that breaks a rule, by the words before it and after it, where there are any.
-pub record MendsWord (profile : Profile) (rule : Rule) (word : ℕ) (before after : Option ℕ) (mend : Result Mend Reason) : Type 0 where
+-- The same of the word at place k of some words, which breaks a rule: by what is open there, and the word after it, if there is one.
+pub record MendsNear (profile : Profile) (rule : Rule) (ws : List ℕ) (k : ℕ) (mend : Result Mend Reason) : Type 0 where
+  pub word : ℕ
+  pub here : slice_get ws k ≡ Some word
   pub at : Spelling
   pub spelled : IsSpelling profile word at
   pub opener : Option Opener
-  pub opens : IsNextOpener profile before opener
+  pub opens : IsOpenerIf profile ws k opener
   pub next : Option Instruction
-  pub decoded : IsDecoded profile after next
+  pub decoded : IsDecoded profile (slice_get ws (k + 1)) next
   pub mends : IsMend profile rule word (need_of rule at opener) next mend
 
 -- there is a mend

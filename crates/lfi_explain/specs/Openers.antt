@@ -30,9 +30,3 @@ pub record IsOpener (profile : Profile) (ws : List ℕ) (k : ℕ) (opener : Open
 abbrev pub IsOpenerIf : Profile → List ℕ → (k : ℕ) → Option Opener → Type 0
 IsOpenerIf profile ws k None = IsOpenAt profile ws k Nothing
 IsOpenerIf profile ws k (Some opener) = IsOpener profile ws k opener
-
--- it is this word, right before the one that has to meet what it opens, if there is a word
-abbrev pub IsNextOpener : Profile → Option ℕ → Option Opener → Type 0
-IsNextOpener profile None None = Unit {0}
-IsNextOpener profile (Some word) (Some opener) = (opener.gone ≡ 0) × IsSpelling profile word opener.spelling
-IsNextOpener profile _ _ = ⊥

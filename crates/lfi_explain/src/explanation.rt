@@ -1,24 +1,23 @@
 //! What is told of a fault.
 
-ghost use Rattle.std.specs.Prelude.{◌≡◌, ◌<◌, ◌≤◌, ◌+◌, length, slice_get, Some};
+ghost use Rattle.std.specs.Prelude.{◌≡◌, ◌<◌, ◌≤◌, length, Some};
 ghost use Rattle.lfi_module.specs.Numbers.{most_words};
 ghost use Rattle.lfi_explain.specs.Explanations as spec;
-ghost use Rattle.lfi_explain.specs.Mendings.{IsDecoded};
 ghost use Rattle.lfi_explain.specs.Sentences.{unmet_in, gone_before};
 
 use crate::located::Located;
-use crate::mend_of_word::{decoded, mend_at, mend_word, next_opener, unmet};
+use crate::mend_of_word::{instruction_after, mend_at, unmet};
 use crate::mending::Mending;
 use crate::opener::{Opener, opener_before};
 use crate::sentence::Sentence;
 use crate::spelling::Spelling;
-use a64_word::{Instruction, Words};
+use a64_word::Words;
 use lfi_mends::{Mend, Reason};
 use lfi_module::{ModuleNumber, Profile, WordCount};
 use lfi_rules::{Fault, Need, Rule};
 use std::fmt;
 
-/// A fault of a module of which two words are known: the one at the fault's place and the one before it.
+/// A fault of a module, of which some words are known.
 #[derive(Clone, Copy)]
 pub struct KnownFault {
     /// The slot in which the module lies.
@@ -29,10 +28,6 @@ pub struct KnownFault {
     pub profile: Profile,
     /// The place, and the rule that its word breaks.
     pub fault: Fault,
-    /// The word at the place.
-    pub word: u32,
-    /// The word before it; `None` at the module's first place.
-    pub before: Option<u32>,
 }
 
 /// A fault, with the words that it speaks of.
@@ -135,32 +130,24 @@ impl fmt::Display for Explanation {
     }
 }
 
-/// What is told of a fault of which this is known. A need that was opened before the two words is told without its word.
-pub fn explain_word(known: &KnownFault) -> Explanation
-    ensures explains { spec.ExplainsWord known.now result }
+/// What is told of a fault by words that stand one after another in its module, of which the one at `at` stands at the fault's
+/// place. What is open there is known where they begin the module, or four of them stand before that one.
+pub fn explain_near<W: Words>(words: &W, at: usize, known: &KnownFault) -> Explanation
+    requires { at < length (W.words words.now) }
+    ensures explains { spec.ExplainsNear (W.words words.now) at known.now result }
     ensures fits { spec.FitsIn 2048 result }
 {
     let profile = known.profile;
+    let spelling = Spelling::of(words.word(at), profile);
+    let opener = opener_before(words, at, profile);
+    let next = instruction_after(words, at, profile);
     Explanation {
         fault: known.fault,
         slot: known.slot,
         words: known.words.number(),
-        at: Spelling::of(known.word, profile),
-        opener: next_opener(known.before, profile),
-        mend: mend_word(profile, known.fault.rule, known.word, known.before, None),
-    }
-}
-
-/// The instruction after a place, if there is a word and one spells it.
-fn instruction_after<W: Words>(words: &W, place: usize, profile: Profile) -> Option<Instruction>
-    requires { place < length (W.words words.now) }
-    ensures { IsDecoded profile (slice_get (W.words words.now) (place + 1)) result }
-{
-    let count = words.count();
-    if place + 1 < count {
-        decoded(Some(words.word(place + 1)), profile)
-    } else {
-        None
+        at: spelling,
+        opener,
+        mend: mend_at(known.fault.rule, &spelling, &opener, &next),
     }
 }
 
@@ -184,16 +171,11 @@ pub fn explain<W: Words>(
     ensures explains { spec.Explains profile (W.words words.now) slot fault result }
     ensures fits { spec.FitsIn 2048 result }
 {
-    let place = fault.word as usize;
-    let at = Spelling::of(words.word(place), profile);
-    let opener = opener_before(words, place, profile);
-    let next = instruction_after(words, place, profile);
-    Explanation {
-        fault,
+    let known = KnownFault {
         slot,
-        words: words.count() as u32,
-        at,
-        opener,
-        mend: mend_at(fault.rule, &at, &opener, &next),
-    }
+        words: WordCount::of(words.count() as u32),
+        profile,
+        fault,
+    };
+    explain_near(words, fault.word as usize, &known)
 }

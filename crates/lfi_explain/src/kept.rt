@@ -1,19 +1,42 @@
 //! Lines that are kept until they are many, so that a writer is asked seldom.
 
-ghost use Rattle.std.specs.Prelude.{◌≡◌, [], IfOk, OnOk};
+ghost use Rattle.std.specs.Prelude.{◌≡◌, [], OnOk};
 ghost use Rattle.std.specs.Io.KnownBytes.{Keeps, append_known};
 
-use std::alloc::Global;
+use std::alloc::{AllocError, Global};
 use std::io::{self, Write};
 
 /// How many bytes of lines are many.
 const MANY_BYTES: usize = 8192;
 
-/// No lines, with room for many.
-pub(crate) fn no_lines(alloc: Global) -> io::Result<Vec<u8>>
-    ensures { IfOk result (λ kept. kept.items ≡ []) }
-{
-    Ok(Vec::with_capacity(alloc, MANY_BYTES)?)
+/// Room for one line more: an explanation has at most 2,048 bytes.
+const LINE_BYTES: usize = 4096;
+
+/// Memory for the lines that are kept until they are many, so that whoever writes lines needs none while it writes. No line is
+/// kept yet.
+#[derive(Drop)]
+pub struct LineRoom {
+    lines: Vec<u8>,
+    ghost none: { lines.items ≡ [] },
+}
+
+impl LineRoom {
+    /// Takes the memory.
+    ///
+    /// # Errors
+    ///
+    /// Where it is refused.
+    pub fn new(alloc: Global) -> Result<LineRoom, AllocError> {
+        let lines = Vec::with_capacity(alloc, MANY_BYTES + LINE_BYTES)?;
+        Ok(LineRoom { lines })
+    }
+
+    /// The lines that are kept: none.
+    pub(crate) fn into_lines(self) -> Vec<u8>
+        ensures { result.items ≡ [] }
+    {
+        self.lines
+    }
 }
 
 /// Writes the lines that are kept, and keeps none.

@@ -5,7 +5,7 @@
 //!
 //! `explain` takes a list of words and a fault to an `Explanation`, which keeps the decoded words and the mend that
 //! lfi_mends answers (mend_of_word); its `Display` is the text. `write_refusals` explains each place that breaks a rule,
-//! `write_listing` writes a line for each word. Both keep lines until they are 8,192 bytes, and then write.
+//! `write_listing` writes a line for each word. Both write lines by 8,192 bytes, in memory taken before (`LineRoom`).
 //!
 //! # What it may not know
 //!
@@ -23,12 +23,12 @@
 //! - **`mask_of` is a function beside the relation `IsMask`**, since what is printed has to be a function of the
 //!   instruction. `gives_mask` is its test.
 //! - **An `Explanation` keeps the decoded words** (`Spelling`) **and the mend**, so that its text is a function of its
-//!   fields: what `mend_of` answers is said by a relation. `explain_word` is for a fault of which two words are known
-//!   (`KnownFault`), as in a module that came in pages. Without the next word there is no mend of RBIT before CLZ.
+//!   fields: what `mend_of` answers is said by a relation.
+//! - **Six words explain a fault** (`explain_near`, the law `near_words_are_enough`): four before it, since no need waits
+//!   for longer, and the next one. So a module that came in pages needn't be kept.
 //! - **What a word breaks, by its place, is asked of lfi_rules** (`broken_at`), which has the order of the rules;
 //!   lfi_explain tells it. It decodes the words before anew at each place: explanations are asked for by hand.
-//! - **All refusals are told, not only the first of each cause**: a word after one that opens a need may be told for
-//!   that need alone.
+//! - **All refusals are told**, so a word after one that opens a need may be told for that need alone.
 //! - **A word that no instruction of the profile spells is told with its group** (`Group`), by the manual's own tables, so
 //!   that whoever meets it knows what to ask of a compiler. No group says that a word is an instruction.
 //! - **A listing marks broken rules where that is asked for**: it looks at each place as `write_refusals` does.
@@ -44,6 +44,7 @@ mod digits;
 mod explanation;
 mod group;
 mod kept;
+mod laws;
 mod listing;
 mod located;
 mod mend_of_word;
@@ -53,11 +54,13 @@ mod refusals;
 mod sentence;
 mod spelling;
 
-pub use explanation::{Explanation, KnownFault, explain, explain_word};
+pub use explanation::{Explanation, KnownFault, explain, explain_near};
 pub use group::Group;
+pub use kept::LineRoom;
+pub use laws::near_words_are_enough;
 pub use listing::{ListedWord, Marks, write_listing};
 pub use located::Located;
-pub use mend_of_word::mend_word;
+pub use mend_of_word::mend_near;
 pub use opener::Opener;
 pub use refusals::write_refusals;
 pub use spelling::Spelling;

@@ -6,14 +6,13 @@ ghost use Rattle.lfi_module.specs.Numbers.{most_words};
 ghost use Rattle.lfi_explain.specs.Listings as spec;
 
 use crate::digits::PlaceColumn;
-use crate::kept::{no_lines, write_kept, write_many};
+use crate::kept::{LineRoom, write_kept, write_many};
 use crate::located::Located;
 use crate::sentence::Meeting;
 use crate::spelling::Spelling;
 use a64_word::Words;
 use lfi_module::{ModuleNumber, Profile};
 use lfi_rules::{Need, Rule, broken_at};
-use std::alloc::Global;
 use std::fmt;
 use std::io::{self, Write};
 
@@ -174,9 +173,9 @@ fn write_listed<W: Write>(listed: ListedWord, out: &mut W) -> io::Result<()>
 ///
 /// # Errors
 ///
-/// Where a write fails, or there is no memory for some lines. Not all of them were written then.
+/// Where a write fails. Not all of the lines were written then.
 pub fn write_listing<L: Words, W: Write>(
-    alloc: Global,
+    room: LineRoom,
     words: &L,
     slot: ModuleNumber,
     marks: Marks,
@@ -186,7 +185,7 @@ pub fn write_listing<L: Words, W: Write>(
     requires most { length (L.words words.now) ≤ most_words }
     ensures { OnOk result (spec.WritesListing marks profile (L.words words.now) slot (W.contents out.old) (W.contents out.new)) }
 {
-    let mut kept = no_lines(alloc)?;
+    let mut kept = room.into_lines();
     for place in 0..words.count() {
         write_listed(listed_at(words, slot, place, marks, profile), &mut kept)?;
         write_many(&mut kept, out)?;

@@ -1,13 +1,13 @@
 //! The mend of a word that breaks a rule, by what stands around it.
 
-ghost use Rattle.std.specs.Prelude.{◌≡◌};
-ghost use Rattle.lfi_explain.specs.Mendings.{IsDecoded, IsMend, MendsWord, need_of, owed};
-ghost use Rattle.lfi_explain.specs.Openers.{IsNextOpener, asked_if};
+ghost use Rattle.std.specs.Prelude.{◌≡◌, ◌+◌, ◌<◌, length, slice_get};
+ghost use Rattle.lfi_explain.specs.Mendings.{IsDecoded, IsMend, MendsNear, need_of, owed};
+ghost use Rattle.lfi_explain.specs.Openers.{asked_if};
 ghost use Rattle.lfi_explain.specs.Sentences.{unmet_of};
 
-use crate::opener::Opener;
+use crate::opener::{Opener, opener_before};
 use crate::spelling::Spelling;
-use a64_word::{Instruction, decode};
+use a64_word::{Instruction, Words, decode};
 use lfi_mends::{Mend, Reason, mend_of};
 use lfi_module::Profile;
 use lfi_rules::{Need, Rule};
@@ -65,43 +65,47 @@ pub(crate) fn mend_at(
     mend_of(at.profile, rule, at.word, need, next)
 }
 
-/// The word before as the opener of what a word has to meet, if there is a word before.
-pub(crate) fn next_opener(before: Option<u32>, profile: Profile) -> Option<Opener>
-    ensures { IsNextOpener profile before result }
-{
-    match before {
-        Some(word) => Some(Opener {
-            gone: 0,
-            spelling: Spelling::of(word, profile),
-        }),
-        None => None,
-    }
-}
-
 /// Which instruction a word spells, if there is a word and one does.
-pub(crate) fn decoded(word: Option<u32>, profile: Profile) -> Option<Instruction>
+fn decoded(word: Option<u32>, profile: Profile) -> Option<Instruction>
     ensures { IsDecoded profile word result }
 {
     decode(word?, profile)
 }
 
-/// The mend of a word of a profile, by the least rule that it breaks and the words before it and after it, if there are
-/// any. A need that was opened before these isn't known.
+/// The instruction after a place, if there is a word and one spells it.
+pub(crate) fn instruction_after<W: Words>(
+    words: &W,
+    place: usize,
+    profile: Profile,
+) -> Option<Instruction>
+    requires { place < length (W.words words.now) }
+    ensures { IsDecoded profile (slice_get (W.words words.now) (place + 1)) result }
+{
+    let count = words.count();
+    if place + 1 < count {
+        decoded(Some(words.word(place + 1)), profile)
+    } else {
+        None
+    }
+}
+
+/// The mend of the word at `at` of words that stand one after another in a module of a profile, by the least rule that it
+/// breaks. What is open there is known where the words begin the module, or four of them stand before that one.
 ///
 /// # Errors
 ///
 /// The reason why there is no mend.
-pub fn mend_word(
-    profile: Profile,
+pub fn mend_near<W: Words>(
+    words: &W,
+    at: usize,
     rule: Rule,
-    word: u32,
-    before: Option<u32>,
-    after: Option<u32>,
+    profile: Profile,
 ) -> Result<Mend, Reason>
-    ensures { MendsWord profile rule word before after result }
+    requires { at < length (W.words words.now) }
+    ensures { MendsNear profile rule (W.words words.now) at result }
 {
-    let at = Spelling::of(word, profile);
-    let opener = next_opener(before, profile);
-    let next = decoded(after, profile);
-    mend_at(rule, &at, &opener, &next)
+    let spelling = Spelling::of(words.word(at), profile);
+    let opener = opener_before(words, at, profile);
+    let next = instruction_after(words, at, profile);
+    mend_at(rule, &spelling, &opener, &next)
 }

@@ -6,11 +6,10 @@ ghost use Rattle.lfi_module.specs.Numbers.{most_words};
 ghost use Rattle.lfi_explain.specs.Explanations as spec;
 
 use crate::explanation::{Explanation, explain};
-use crate::kept::{no_lines, write_kept, write_many};
+use crate::kept::{LineRoom, write_kept, write_many};
 use a64_word::Words;
 use lfi_module::{ModuleNumber, Profile};
 use lfi_rules::{Fault, broken_at};
-use std::alloc::Global;
 use std::io::{self, Write};
 
 /// What is told of the word at a place, where it breaks a rule: of those that it breaks, the one with the least number.
@@ -83,9 +82,9 @@ fn write_mended_count<W: Write>(mended: u32, out: &mut W) -> io::Result<()>
 ///
 /// # Errors
 ///
-/// Where a write fails, or there is no memory for some lines. Not all of them were written then.
+/// Where a write fails. Not all of the lines were written then.
 pub fn write_refusals<L: Words, W: Write>(
-    alloc: Global,
+    room: LineRoom,
     words: &L,
     slot: ModuleNumber,
     profile: Profile,
@@ -94,7 +93,7 @@ pub fn write_refusals<L: Words, W: Write>(
     requires most { length (L.words words.now) ≤ most_words }
     ensures { IfOk result (spec.WritesRefusals profile (L.words words.now) slot (W.contents out.old) (W.contents out.new)) }
 {
-    let mut kept = no_lines(alloc)?;
+    let mut kept = room.into_lines();
     let mut refused = 0;
     let mut mended = 0;
     for place in 0..words.count() {

@@ -2,18 +2,19 @@
 use Rattle.std.specs.Prelude.{◌≡◌, ℕ, List, [], ◌∷◌, ◌++◌, Option, Some, None, codes, decimal}
 use Rattle.lfi_sequence.specs.declared.report.ModuleReport.{ModuleReport}
 use Rattle.lfi_sequence.specs.declared.refused.RefusedModule.{RefusedModule}
+use Rattle.lfi_sequence.specs.Refused.{near_words}
 use Rattle.lfi_explain.specs.declared.explanation.Explanation.{Explanation}
 use Rattle.lfi_explain.specs.declared.explanation.KnownFault.{KnownFault}
-use Rattle.lfi_explain.specs.Explanations.{ExplainsWord, explanation_line}
+use Rattle.lfi_explain.specs.Explanations.{ExplainsNear, explanation_line}
 
 -- what a report knows of a refused module's fault
 abbrev pub known_of : RefusedModule → KnownFault
 known_of m =
-    record { slot = m.slot; words = m.extent.words; profile = m.extent.profile; fault = m.refusal.fault; word = m.refusal.word.word; before = m.refusal.word.before }
+    record { slot = m.slot; words = m.extent.words; profile = m.extent.profile; fault = m.refusal.fault }
 
--- A refused module's fault is explained by the refused word, in the module's own slot; of any other module nothing is told.
+-- A refused module's fault is explained by the words near it, in the module's own slot; of any other module nothing is told.
 abbrev pub IsRefusal : Option RefusedModule → Option Explanation → Type 0
-IsRefusal (Some refused) told = (e : Explanation) × (told ≡ Some e) × ExplainsWord (known_of refused) e
+IsRefusal (Some refused) told = (e : Explanation) × (told ≡ Some e) × ExplainsNear (near_words refused.refusal.near) refused.refusal.near.at (known_of refused) e
 IsRefusal None told = told ≡ None
 
 -- the lines of a refused module

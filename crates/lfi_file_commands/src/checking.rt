@@ -57,6 +57,13 @@ impl CommandFault {
             _ => CommandFault::NotRead(DeviceCause::of(error)),
         }
     }
+
+    /// That of a write.
+    pub(crate) fn of_write(error: &io::Error) -> CommandFault
+        ensures { is_of_a_write result ≡ true }
+    {
+        CommandFault::NotWritten(DeviceCause::of(error))
+    }
 }
 
 /// All the bytes that a reader has left.
@@ -176,7 +183,7 @@ pub(crate) fn write_verdict<W: Write>(
 {
     match write_line(alloc, writer, format_args!("{name}{verdict}")) {
         Ok(()) => Ok(()),
-        Err(error) => Err(CommandFault::NotWritten(DeviceCause::of(&error))),
+        Err(error) => Err(CommandFault::of_write(&error)),
     }
 }
 

@@ -17,7 +17,6 @@ ghost use Rattle.lfi_file_commands.specs.Listing.{WritesWords};
 ghost use Rattle.lfi_file_commands.specs.inner.Whole.{IsFoundOf, Lists};
 
 use crate::checking::{CommandFault, write_verdict};
-use crate::device_cause::DeviceCause;
 use crate::finding::Finding;
 use crate::kind::{FileKind, KindLine};
 use crate::listed::Listed;
@@ -27,10 +26,10 @@ use crate::texts::{write_line, write_text};
 use crate::whole::read_whole;
 use lfi_check::{Code, Verdict};
 use lfi_command_line::Explain;
-use lfi_explain::{Explanation, Marks, explain, write_listing, write_refusals};
+use lfi_explain::{Explanation, LineRoom, Marks, explain, write_listing, write_refusals};
 use lfi_module::{ModuleNumber, Profile};
 use lfi_rules::{Fault, check_all};
-use std::alloc::Global;
+use std::alloc::{AllocError, Global};
 use std::io::{self, Read, Write};
 
 /// What stands around what is told of code in a file: before it the file's name, after it what the file is; and the profile
@@ -79,8 +78,9 @@ fn write_explanation<W: Write>(
     write_explained(alloc, around, explanation, writer)
 }
 
-/// Writes what is told of each word of this code that breaks a rule, and how many these are.
-fn write_each_refusal<W: Write>(
+/// Writes what is told of each word of this code that breaks a rule, and how many these are, in this room.
+fn write_refusals_in<W: Write>(
+    room: LineRoom,
     alloc: Global,
     code: &Code<'_>,
     around: Around<'_>,
@@ -90,8 +90,29 @@ fn write_each_refusal<W: Write>(
     ensures { OnOk result (TellsRefusals (naming_text around.entry.name) around.entry.kind around.entry.profile code.now (W.contents writer.old) (W.contents writer.new)) }
 {
     write_text(alloc, writer, around.name)?;
-    write_refusals(alloc, code, slot(), around.profile, writer)?;
+    write_refusals(room, code, slot(), around.profile, writer)?;
     write_text(alloc, writer, KindLine(around.kind))
+}
+
+/// Writes the same, once there is room for its lines.
+fn write_each_refusal<W: Write>(
+    alloc: Global,
+    code: &Code<'_>,
+    around: Around<'_>,
+    writer: &mut W,
+) -> Result<(), CommandFault>
+    requires most { length (words_of code.now) ≤ most_words }
+    ensures written { OnOk result (TellsRefusals (naming_text around.entry.name) around.entry.kind around.entry.profile code.now (W.contents writer.old) (W.contents writer.new)) }
+    ensures unwritten { IfErr result (λ fault. is_of_a_write fault ≡ false → writer.new ≡ writer.old) }
+{
+    let room = match LineRoom::new(alloc) {
+        Ok(room) => room,
+        Err(AllocError) => return Err(CommandFault::NoMemory),
+    };
+    match write_refusals_in(room, alloc, code, around, writer) {
+        Ok(()) => Ok(()),
+        Err(error) => Err(CommandFault::of_write(&error)),
+    }
 }
 
 /// Writes the line of the first fault of code, behind the name.
@@ -114,14 +135,21 @@ fn write_fault<W: Write>(
     fault: Fault,
     how: Explain,
     writer: &mut W,
-) -> io::Result<()>
+) -> Result<(), CommandFault>
     requires fault { FirstFault around.profile (words_of code.now) (length (words_of code.now)) (Some fault) }
     requires most { length (words_of code.now) ≤ most_words }
-    ensures { OnOk result (WritesFault (naming_text around.entry.name) around.entry.kind around.entry.profile how code.now fault (W.contents writer.old) (W.contents writer.new)) }
+    ensures written { OnOk result (WritesFault (naming_text around.entry.name) around.entry.kind around.entry.profile how code.now fault (W.contents writer.old) (W.contents writer.new)) }
+    ensures unwritten { IfErr result (λ fault. is_of_a_write fault ≡ false → writer.new ≡ writer.old) }
 {
     match how {
-        Explain::Nothing => write_fault_line(alloc, around.name, fault, writer),
-        Explain::First => write_explanation(alloc, code, around, fault, writer),
+        Explain::Nothing => match write_fault_line(alloc, around.name, fault, writer) {
+            Ok(()) => Ok(()),
+            Err(error) => Err(CommandFault::of_write(&error)),
+        },
+        Explain::First => match write_explanation(alloc, code, around, fault, writer) {
+            Ok(()) => Ok(()),
+            Err(error) => Err(CommandFault::of_write(&error)),
+        },
         Explain::All => write_each_refusal(alloc, code, around, writer),
     }
 }
@@ -154,13 +182,13 @@ fn write_judged<W: Write>(
     requires kind { around.kind ≡ file_kind code.now }
     ensures found { IfOk result (IsFoundOf around.entry.profile code.now) }
     ensures written { IfOk result (λ finding. WritesFinding (naming_text around.entry.name) around.entry.profile how (Some code.now) finding (W.contents writer.old) (W.contents writer.new)) }
-    ensures fault { IfErr result (λ fault. is_of_a_write fault ≡ true) }
+    ensures unwritten { IfErr result (λ fault. is_of_a_write fault ≡ false → writer.new ≡ writer.old) }
 {
     match check_all(code, around.profile) {
         None => write_lawful(alloc, around.name, code.len_words() as u32, writer),
         Some(fault) => match write_fault(alloc, code, around, fault, how, writer) {
             Ok(()) => Ok(Finding::Refused(fault)),
-            Err(error) => Err(CommandFault::NotWritten(DeviceCause::of(&error))),
+            Err(fault) => Err(fault),
         },
     }
 }
@@ -179,7 +207,7 @@ fn write_kind<W: Write>(
     let kind = KindLine(no_code.kind);
     match write_text(alloc, writer, format_args!("{name}{verdict}\n{kind}")) {
         Ok(()) => Ok(()),
-        Err(error) => Err(CommandFault::NotWritten(DeviceCause::of(&error))),
+        Err(error) => Err(CommandFault::of_write(&error)),
     }
 }
 
@@ -211,7 +239,7 @@ fn write_found<W: Write>(
 ) -> Result<Finding, CommandFault>
     ensures found { IfOk result (IsFoundOf profile bytes.now) }
     ensures written { IfOk result (λ finding. WritesFinding (naming_text name.entry) profile how (Some bytes.now) finding (W.contents writer.old) (W.contents writer.new)) }
-    ensures fault { IfErr result (λ fault. is_of_a_write fault ≡ true) }
+    ensures unwritten { IfErr result (λ fault. is_of_a_write fault ≡ false → writer.new ≡ writer.old) }
 {
     match Code::new(bytes) {
         Some(code) => {
@@ -238,7 +266,7 @@ fn write_found<W: Write>(
 ///
 /// # Errors
 ///
-/// Where a read or the write fails, or there is no memory for the code.
+/// Where a read or the write fails, or there is no memory for the code or for lines.
 pub(crate) fn check_explained<R: Read + Drop, W: Write>(
     alloc: Global,
     reader: R,
@@ -269,11 +297,15 @@ fn write_words<W: Write>(
     requires code { IsCode code.now }
     requires kind { kind ≡ file_kind code.now }
     ensures listed { IfOk result (λ listed. Lists marks profile code.now listed (W.contents writer.old) (W.contents writer.new)) }
-    ensures fault { IfErr result (λ fault. is_of_a_write fault ≡ true) }
+    ensures unwritten { IfErr result (λ fault. is_of_a_write fault ≡ false → writer.new ≡ writer.old) }
 {
-    match write_listing(alloc, code, slot(), marks, profile, writer) {
+    let room = match LineRoom::new(alloc) {
+        Ok(room) => room,
+        Err(AllocError) => return Err(CommandFault::NoMemory),
+    };
+    match write_listing(room, code, slot(), marks, profile, writer) {
         Ok(()) => Ok(Listed::Words(kind)),
-        Err(error) => Err(CommandFault::NotWritten(DeviceCause::of(&error))),
+        Err(error) => Err(CommandFault::of_write(&error)),
     }
 }
 
@@ -288,7 +320,7 @@ fn write_bad_length<W: Write>(
 {
     match write_text(alloc, writer, "bad length\n") {
         Ok(()) => Ok(Listed::NoCode(no_code)),
-        Err(error) => Err(CommandFault::NotWritten(DeviceCause::of(&error))),
+        Err(error) => Err(CommandFault::of_write(&error)),
     }
 }
 
@@ -301,7 +333,7 @@ fn write_listed<W: Write>(
     writer: &mut W,
 ) -> Result<Listed, CommandFault>
     ensures listed { IfOk result (λ listed. Lists marks profile bytes.now listed (W.contents writer.old) (W.contents writer.new)) }
-    ensures fault { IfErr result (λ fault. is_of_a_write fault ≡ true) }
+    ensures unwritten { IfErr result (λ fault. is_of_a_write fault ≡ false → writer.new ≡ writer.old) }
 {
     match Code::new(bytes) {
         Some(code) => write_words(alloc, &code, FileKind::of(bytes), marks, profile, writer),
@@ -314,7 +346,7 @@ fn write_listed<W: Write>(
 ///
 /// # Errors
 ///
-/// Where a read or a write fails, or there is no memory for the code.
+/// Where a read or a write fails, or there is no memory for the code or for lines.
 pub fn disassemble<R: Read + Drop, W: Write>(
     alloc: Global,
     reader: R,

@@ -27,7 +27,7 @@
 //!   something is lost", and only a failed write of `Errors` makes it so. A line that is lost makes the run Failed.
 //! - **Contracts speak of all that a reader has left**, so a body that judges a part is refused. A file's length is a hint:
 //!   `check` reads all bytes whatever it says, up to one more than can be code.
-//! - **What is explained is read whole**, since an explanation has the word before. `check` without flags keeps no code.
+//! - **What is explained is read whole**, since an explanation has the words near it. `check` without flags keeps no code.
 //! - **Each byte that code prints is written at its call.** A write that fails ends the run there, with the status 255.
 //! - **A JSON object is put together as a text** (members, objects), and the text of each has a definition (Json.antt), which reads as
 //!   the object does. Strings are quoted by the kit's `serde_json`. A file's object is written whole, and no value is built of it.

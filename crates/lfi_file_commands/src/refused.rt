@@ -5,7 +5,7 @@ ghost use Rattle.std.specs.Io.KnownBytes.{Appends};
 ghost use Rattle.lfi_file_commands.specs.Refused.{IsRefusal, known_of, refusal_lines, TellRefused};
 
 use crate::texts::write_line;
-use lfi_explain::{Explanation, KnownFault, explain_word};
+use lfi_explain::{Explanation, KnownFault, explain_near};
 use lfi_sequence::{ModuleReport, RefusedModule};
 use std::alloc::Global;
 use std::io::{self, Write};
@@ -14,14 +14,11 @@ use std::io::{self, Write};
 fn known_of(refused: &RefusedModule) -> KnownFault
     ensures { result ≡ known_of refused.now }
 {
-    let refusal = refused.refusal;
     KnownFault {
         slot: refused.slot,
         words: refused.extent.words(),
         profile: refused.extent.profile(),
-        fault: refusal.fault,
-        word: refusal.word.word,
-        before: refusal.word.before,
+        fault: refused.refusal.fault,
     }
 }
 
@@ -30,7 +27,10 @@ pub fn refusal_of(refused: &Option<RefusedModule>) -> Option<Explanation>
     ensures { IsRefusal refused.now result }
 {
     match refused {
-        Some(refused) => Some(explain_word(&known_of(refused))),
+        Some(refused) => {
+            let near = &refused.refusal.near;
+            Some(explain_near(near, near.at(), &known_of(refused)))
+        }
         None => None,
     }
 }

@@ -23,8 +23,8 @@ use Rattle.lfi_rules.proofs.Following.{breaks_within, fault_stays}
 use Rattle.lfi_image.proofs.Building.{sized}
 use Rattle.lfi_model.proofs.Faults.{placed_to_fault, placed_whole, placed_on, all_words-append}
 use Rattle.lfi_model.proofs.Numbered.{end_snoc}
-use Rattle.lfi_sequence.specs.Refused.{IsRefusedWord, IsRefusedFor}
-use Rattle.lfi_sequence.proofs.Refusals.{refused_for_more}
+use Rattle.lfi_sequence.specs.Refused.{AreNear, IsRefusedFor, judged_words}
+use Rattle.lfi_sequence.proofs.Refusals.{judged_more, judged_next, not_all_placed}
 use Rattle.lfi_sequence.specs.declared.refused.Refusal.{Refusal}
 use Rattle.lfi_sequence.specs.declared.placing.Placing.{Placing}
 use Rattle.lfi_sequence.specs.declared.placing.Ended.{Ended}
@@ -191,7 +191,7 @@ module _ (m : ℕ) (p : Placing) (taken : List ItemView) (item : ItemView) (was 
           builder = h.builder ∙ sym (same_builder h.us);
           fault = subst (λ k. First (all_words (pages_of (taken ++ item ∷ []))) k (fault_of p)) (sym same_words)
               (subst (λ l. First (all_words l) n (fault_of p)) (sym pages) (subst (λ o. First (all_words (pages_of taken ++ words_of bytes ∷ [])) n (option_map (λ z. z.fault) o)) (sym found) on));
-          refused = subst (λ ws. IsRefusedFor ws p.refusal) (sym words_now) (refused_for_more (all_words (pages_of taken)) (words_of bytes) p.refusal h.refused);
+          refused = subst (λ ws. IsRefusedFor ws p.refusal) (sym (ap (λ l. judged_words h.us l) pages ∙ judged_more h.us (pages_of taken) (words_of bytes ∷ []) (not_all_placed n (pages_of taken) h.us fault h.placed first))) h.refused;
           whole = λ none. absurd (cc);
         })
 
@@ -266,7 +266,7 @@ module _ (m : ℕ) (p : Placing) (taken : List ItemView) (item : ItemView) (was 
           builder = as_built ∙ sym (same_builder us);
           fault = subst (λ k. First (all_words (pages_of (taken ++ item ∷ []))) k (fault_of q)) (sym same_words)
               (subst (λ l. First (all_words l) n (fault_of q)) (sym pages) (subst (λ o. First (all_words us) n (option_map (λ z. z.fault) o)) (sym lawful_now) whole_us));
-          refused = subst (λ o. IsRefusedFor (all_words (pages_of (taken ++ item ∷ []))) o) (sym lawful_now) tt;
+          refused = subst (λ o. IsRefusedFor (judged_words us (pages_of (taken ++ item ∷ []))) o) (sym lawful_now) tt;
           whole = λ _.
               whole_of n.pages n.words (length (pages_of taken)) (length (pages_of (taken ++ item ∷ []))) (length b.placed) (length (words_of bytes)) (length c.placed) (taken_size typed) before
               (long ∙ (λ i. words_due ((ap (λ z. z.extent.pages) h.builder) i) ((ap (λ z. z.extent.words) h.builder) i) (length b.placed))) split more
@@ -276,7 +276,7 @@ module _ (m : ℕ) (p : Placing) (taken : List ItemView) (item : ItemView) (was 
     -- it brings the first fault
     pub page_refused : (q : Placing) (refusal : Refusal) → q.builder.extent ≡ p.builder.extent → q.ended ≡ p.ended → p.refusal ≡ None → q.builder ≡ p.builder
         → q.refusal ≡ Some refusal → FirstFault p.builder.extent.profile (p.builder.placed ++ words_of bytes) p.builder.extent.words (Some refusal.fault)
-        → IsRefusedWord (p.builder.placed ++ words_of bytes) refusal.fault.word refusal.word → IsPlacing m q (taken ++ item ∷ [])
+        → AreNear (p.builder.placed ++ words_of bytes) refusal.fault.word refusal.near → IsPlacing m q (taken ++ item ∷ [])
     page_refused q refusal same_n same_ended none now found first is =
         let h = was.built in
         let fault : Fault = refusal.fault in
@@ -291,7 +291,9 @@ module _ (m : ℕ) (p : Placing) (taken : List ItemView) (item : ItemView) (was 
         let here : First (all_words (pages_of taken) ++ words_of bytes) n (Some fault) =
         subst (λ l. First (l ++ words_of bytes) n (Some fault)) b_words first_one in
         let on : First (all_words (pages_of taken ++ words_of bytes ∷ [])) n (Some fault) = subst (λ l. First l n (Some fault)) (sym (words_snoc (pages_of taken) (words_of bytes))) here in
-        let word : IsRefusedWord (all_words (pages_of (taken ++ item ∷ []))) fault.word refusal.word = subst (λ ws. IsRefusedWord ws fault.word refusal.word) (ap (λ l. l ++ words_of bytes) b_words ∙ sym words_now) is in
+        let judged : judged_words h.us (pages_of (taken ++ item ∷ [])) ≡ b.placed ++ words_of bytes =
+        ap (λ l. judged_words h.us l) pages ∙ judged_next h.us (pages_of taken) (words_of bytes) all ∙ words_snoc (pages_of taken) (words_of bytes) ∙ ap (λ l. l ++ words_of bytes) (sym b_words) in
+        let near : AreNear (judged_words h.us (pages_of (taken ++ item ∷ []))) fault.word refusal.near = subst (λ ws. AreNear ws fault.word refusal.near) (sym judged) is in
         let stays : Placed n (pages_of taken ++ words_of bytes ∷ []) h.us =
         subst (λ u. Placed n (pages_of taken ++ words_of bytes ∷ []) u) (sym all) (placed_to_fault n (pages_of taken) [] (words_of bytes) fault faultless here) in
         page_by q same_n same_ended (record {
@@ -300,7 +302,7 @@ module _ (m : ℕ) (p : Placing) (taken : List ItemView) (item : ItemView) (was 
           builder = now ∙ h.builder ∙ sym (same_builder h.us);
           fault = subst (λ k. First (all_words (pages_of (taken ++ item ∷ []))) k (fault_of q)) (sym same_words)
               (subst (λ l. First (all_words l) n (fault_of q)) (sym pages) (subst (λ o. First (all_words (pages_of taken ++ words_of bytes ∷ [])) n (option_map (λ z. z.fault) o)) (sym found) on));
-          refused = subst (λ o. IsRefusedFor (all_words (pages_of (taken ++ item ∷ []))) o) (sym found) word;
+          refused = subst (λ o. IsRefusedFor (judged_words h.us (pages_of (taken ++ item ∷ []))) o) (sym found) near;
           whole = λ none'. absurd (cc);
         })
 
@@ -330,7 +332,7 @@ module _ (m : ℕ) (p : Placing) (taken : List ItemView) (item : ItemView) (was 
         builder = same_b ∙ h.builder ∙ sym (same_builder h.us);
         fault = subst (λ k. First (all_words (pages_of (taken ++ item ∷ []))) k (fault_of q)) (sym same_words)
             (subst (λ l. First (all_words l) (extent_at taken) (fault_of q)) (sym pages) (subst (λ o. First (all_words (pages_of taken)) (extent_at taken) (option_map (λ z. z.fault) o)) (sym same) h.fault));
-        refused = subst (λ l. IsRefusedFor (all_words l) q.refusal) (sym pages) (subst (λ o. IsRefusedFor (all_words (pages_of taken)) o) (sym same) h.refused);
+        refused = subst (λ l. IsRefusedFor (judged_words h.us l) q.refusal) (sym pages) (subst (λ o. IsRefusedFor (judged_words h.us (pages_of taken)) o) (sym same) h.refused);
         whole = λ none. ap (λ z. length z.placed) same_b ∙ h.whole (sym same ∙ none) ∙ (λ i. min (sym same_words i).words ((sym same_words i).pages * length (sym pages i)));
       }
 
@@ -359,6 +361,6 @@ just_opened m q first extent is no_fault no_end new =
       placed = subst (λ l. Placed first.extent l []) (sym no_page) (placed_whole first.extent [] lawful);
       builder = new ∙ (λ i. builder_with m (sym extent i) []);
       fault = subst (λ o. First (all_words (pages_of (first ∷ []))) first.extent (option_map (λ z. z.fault) o)) (sym no_fault) (subst (λ l. First (all_words l) first.extent None) (sym no_page) lawful);
-      refused = subst (λ o. IsRefusedFor (all_words (pages_of (first ∷ []))) o) (sym no_fault) tt;
+      refused = subst (λ o. IsRefusedFor (judged_words [] (pages_of (first ∷ []))) o) (sym no_fault) tt;
       whole = λ none. ap (λ z. length z.placed) new ∙ none_placed first.extent.pages first.extent.words (length (pages_of (first ∷ []))) (ap length no_page);
     }

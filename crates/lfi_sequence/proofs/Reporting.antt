@@ -16,15 +16,17 @@ use Rattle.lfi_model.proofs.Faults.{placed_whole}
 use Rattle.lfi_sequence.specs.declared.placing.Placing.{Placing}
 use Rattle.lfi_sequence.specs.declared.placing.Ended.{Ended}
 use Rattle.lfi_sequence.specs.declared.report.ImageState.{ImageState}
-use Rattle.lfi_sequence.specs.declared.report.ImageState.TheVariants.{Absent, Whole}
+use Rattle.lfi_sequence.specs.declared.report.ImageState.TheVariants.{Absent, Part, Whole}
 use Rattle.lfi_sequence.specs.declared.report.ModuleReport.{ModuleReport}
 use Rattle.lfi_sequence.specs.Placed.{extent_at, builder_of, HasPlaced, HasEnded, IsPlacing}
+use Rattle.lfi_sequence.specs.Refused.{judged_words, IsRefusedFor}
+use Rattle.lfi_sequence.specs.declared.refused.Refusal.{Refusal}
 use Rattle.lfi_sequence.specs.Tells.{IsImageOf, IsRefusedAt, Tells, HasEnd}
 use Rattle.lfi_sequence.proofs.Placings.{placed_all, no_break}
 
 -- a module whose words have no fault, by its End
 pub told_by : (m : ℕ) (b : Module) (e : Ended) (items : List ItemView) (outcome : Outcome) (image : ImageState) → HasEnded m b e items → outcome ≡ by_end (extent_at items) items e.reason
-    → IsImageOf m items (pages_of items) outcome image → IsRefusedAt m (extent_at items) (all_words (pages_of items)) outcome None → Tells m (record { outcome = outcome; image = image; refused = None }) items
+    → IsImageOf m items (pages_of items) outcome image → IsRefusedAt m (extent_at items) (judged_words (pages_of items) (pages_of items)) outcome None → Tells m (record { outcome = outcome; image = image; refused = None }) items
 told_by m b e items outcome image ended is holds unrefused = record {
   outcome = loads items ended.opened;
   us = pages_of items;
@@ -99,3 +101,26 @@ told_nothing m items none = record {
 pub told_some : (m : ℕ) (p : Placing) (told : ModuleReport) (items : List ItemView) → IsPlacing m p items → HasEnd items → ((reason : Reason) → end_of items ≡ Some reason → Tells m told items) → Tells m told items
 told_some m p told items was (inl none) tells = absurd (let is = was.opened in cc)
 told_some m p told items was (inr e) tells = tells e.0 e.1
+
+-- what became of a module that was refused
+pub told_refused : (m : ℕ) (p : Placing) (refusal : Refusal) (items : List ItemView) → IsPlacing m p items → p.refusal ≡ Some refusal
+    → Tells m (record { outcome = outcome_kind.Refused refusal.fault; image = Part p.builder; refused = Some (record { slot = p.builder.slot; extent = p.builder.extent; refusal = refusal }) }) items
+told_refused m p refusal items was found =
+    let h = was.built in
+    let first : FirstFault (extent_at items).profile (all_words (pages_of items)) (extent_at items).words (Some refusal.fault) =
+    subst (λ o. FirstFault (extent_at items).profile (all_words (pages_of items)) (extent_at items).words (option_map (λ z. z.fault) o)) found h.fault in
+    record {
+      outcome = subst (λ z. Load (extent_at items) z (outcome_kind.Refused refusal.fault)) (sym was.opened) (
+        Some refusal.fault,
+        subst (λ z. FirstFault (extent_at items).profile (all_words (pages_of z)) (extent_at items).words (Some refusal.fault)) was.opened first,
+        refl,
+      );
+      us = h.us;
+      placed = h.placed;
+      image = (h.builder, λ n e. absurd (cc));
+      refused = (
+        refusal.near,
+        (λ i. Some (record { slot = (h.builder i).slot; extent = (h.builder i).extent; refusal = refusal })),
+        subst (λ o. IsRefusedFor (judged_words h.us (pages_of items)) o) found h.refused,
+      );
+    }

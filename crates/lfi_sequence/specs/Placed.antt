@@ -12,7 +12,7 @@ use Rattle.lfi_image.specs.Image.{Module}
 use Rattle.lfi_model.specs.Outcomes.{pages_of, end_of, Placed}
 use Rattle.lfi_sequence.specs.declared.placing.Placing.{Placing}
 use Rattle.lfi_sequence.specs.declared.placing.Ended.{Ended}
-use Rattle.lfi_sequence.specs.Refused.{IsRefusedFor}
+use Rattle.lfi_sequence.specs.Refused.{IsRefusedFor, judged_words}
 
 -- the extent of a module, by its Open; where there is none, that of no words, in small pages
 abbrev pub extent_at : List ItemView → ExtentView
@@ -31,13 +31,13 @@ builder_of m taken us = builder_with m (extent_at taken) (all_words us)
 abbrev pub fault_of : Placing → Option Fault
 fault_of p = option_map (λ refusal. refusal.fault) p.refusal
 
--- It has placed the longest lawful beginning of the pages, and knows their first fault with its word.
+-- It has placed the longest lawful beginning of the pages, and knows their first fault with the words near it.
 pub record HasPlaced (m : ℕ) (p : Placing) (b : Module) (taken : List ItemView) : Type 0 where
   pub us : List (List ℕ)
   pub placed : Placed (extent_at taken) (pages_of taken) us
   pub builder : b ≡ builder_of m taken us
   pub fault : FirstFault (extent_at taken).profile (all_words (pages_of taken)) (extent_at taken).words (fault_of p)
-  pub refused : IsRefusedFor (all_words (pages_of taken)) p.refusal
+  pub refused : IsRefusedFor (judged_words us (pages_of taken)) p.refusal
   pub whole : p.refusal ≡ None → length b.placed ≡ min (extent_at taken).words ((extent_at taken).pages * length (pages_of taken))
 
 -- Of module m these items were taken.

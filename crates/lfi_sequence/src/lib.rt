@@ -27,8 +27,9 @@
 //!   it is something it stays so (the law `told_stays`), so each module is refused or finished by one call.
 //! - **A gate is lent an item before it is judged, and the judged one after it**, so that a caller can watch or hold
 //!   verifiers. Their types keep the order; that it is called is in no clause.
-//! - **A refused module's report is one value** (`RefusedModule`): its slot, its extent, the first fault, and of all words
-//!   that came the one at its place and the one before it (`IsRefusedFor`). It stays so, and later pages are let go.
+//! - **A refused module's report is one value** (`RefusedModule`): its slot, its extent, the first fault, and of the words
+//!   that were judged those near its place (`NearbyWords`): four before it, since no need waits for more, and the next one.
+//!   It stays so, and later pages are let go.
 //! - **A small page that isn't placed goes back to the pool**, from which receivers take pages. A refused module so costs no
 //!   memory for its later pages. Private clauses say that its pages are offered (`Offers`), and rows show it.
 //! - **A module's number stands in its seat at the board alone**, which its `Sequence` holds: so what is placed and what is
@@ -39,6 +40,7 @@
 pub mod delivery;
 mod lanes;
 mod laws;
+mod near;
 mod placing;
 mod refused;
 mod report;
@@ -50,7 +52,7 @@ mod verifier;
 pub use lanes::Lanes;
 pub use laws::{all_placed, come_or_waits, lanes_stay, rows_of_lanes, told_stays};
 pub use placing::{Ended, Placing};
-pub use refused::{Refusal, RefusedModule, RefusedWord};
+pub use refused::{NearbyWords, Refusal, RefusedModule};
 pub use report::{ImageState, ModuleReport, report_of};
 pub use sequence::{BoardNotice, Sequence};
 pub use sequencer::{Sequencer, SequencerTurn};

@@ -8,11 +8,11 @@ ghost use Rattle.lfi_image.specs.Built.{with_placed};
 ghost use Rattle.lfi_model.specs.Item.{ItemView, IsItem};
 ghost use Rattle.lfi_model.specs.declared.item.ItemKind.TheVariants.{Open, Page, End};
 ghost use Rattle.lfi_model.specs.Modules.{IsModule};
-ghost use Rattle.lfi_sequence.specs.Refused.{IsRefusedWord};
+ghost use Rattle.lfi_sequence.specs.Refused.{AreNear};
 ghost use Rattle.lfi_sequence.specs.Sequenced.{is_same};
 ghost use Rattle.lfi_sequence.specs.inner.Pools.{Offers};
 
-use crate::refused::{Refusal, RefusedWord};
+use crate::refused::{NearbyWords, Refusal};
 use lfi_image::{Builder, JudgedPage, PageMemory};
 use lfi_model::{ItemKind, Judged, Reason};
 use lfi_module::{Extent, ModuleNumber};
@@ -54,24 +54,24 @@ pub(crate) fn pass_over(pool: &mut PoolMember, item: Judged)
     }
 }
 
-/// Places the page that is next. `Err` where it brings a fault: then it is the first, with its word,
-/// and the page goes back to the pool.
+/// Places the page that is next. `Err` where it brings a fault: then it is the first, with the words
+/// near it, and the page goes back to the pool.
 fn place(builder: &mut Builder, page: JudgedPage, pool: &mut PoolMember) -> Result<(), Refusal>
     requires module { page.extent ≡ builder.old.extent }
     requires next { page.first ≡ length builder.old.placed }
     ensures placed { IfOk result (λ _. builder.new ≡ with_placed builder.old (words_of page.page.bytes)) }
     ensures faultless { IfOk result (λ _. FirstFault builder.old.extent.profile (builder.old.placed ++ words_of page.page.bytes) builder.old.extent.words None) }
     ensures fault { IfErr result (λ found. FirstFault builder.old.extent.profile (builder.old.placed ++ words_of page.page.bytes) builder.old.extent.words (Some found.fault)) }
-    ensures word { IfErr result (λ found. IsRefusedWord (builder.old.placed ++ words_of page.page.bytes) found.fault.word found.word) }
+    ensures near { IfErr result (λ found. AreNear (builder.old.placed ++ words_of page.page.bytes) found.fault.word found.near) }
     ensures stays { OnErr result (builder.new ≡ builder.old) }
     ensures offers { OnErr result (Offers page.page.size pool.old pool.new) }
 {
     match builder.append(page) {
         Ok(()) => Ok(()),
         Err((fault, page)) => {
-            let word = RefusedWord::find(builder, &page, fault.word);
+            let near = NearbyWords::find(builder, &page, fault.word);
             let _ = pool.give(page);
-            Err(Refusal { fault, word })
+            Err(Refusal { fault, near })
         }
     }
 }
@@ -81,7 +81,7 @@ fn place(builder: &mut Builder, page: JudgedPage, pool: &mut PoolMember) -> Resu
 pub struct Placing {
     /// What is placed of it, with its extent.
     pub builder: Builder,
-    /// Its first fault, with its word.
+    /// Its first fault, with the words near it.
     pub refusal: Option<Refusal>,
     /// Its End, once that has come.
     pub ended: Option<Ended>,

@@ -30,7 +30,8 @@ pub struct ModuleReport {
     pub outcome: Outcome,
     /// What is there of its image.
     pub image: ImageState,
-    /// What is known of it as a refused one, where its outcome is Refused: its extent, its first fault, and the word there.
+    /// What is known of it as a refused one, where its outcome is Refused: its extent, its first fault, and the
+    /// words near that.
     pub refused: Option<RefusedModule>,
 }
 

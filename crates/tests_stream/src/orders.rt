@@ -1,12 +1,13 @@
 //! Sequences: the items of a module in every order, twice, past an End, and of other words.
 
 use crate::items::{NOP, Part, UNKNOWN, WORDS, extent_of, item_of, mark, module, pooled};
+use a64_word::Words;
 use lfi_board::Board;
 use lfi_image::CompleteImage;
 use lfi_model::{Outcome, Reason};
 use lfi_module::{Extent, PageSize, Profile, WordCount};
 use lfi_rules::{Fault, Rule};
-use lfi_sequence::{ImageState, ModuleReport, RefusedWord, Sequence};
+use lfi_sequence::{ImageState, ModuleReport, NearbyWords, Sequence};
 use page_buf::PoolMember;
 use std::process::Abort;
 
@@ -28,14 +29,35 @@ const UNLAWFUL: [Part; 5] = [
     Part::End(3, Reason::Close),
 ];
 
+/// The words near a fault, with zeros behind them, how many they are, and which of them is the one at its place.
+#[derive(Clone, Copy, PartialEq, Eq)]
+struct Near {
+    words: [u32; 6],
+    count: usize,
+    at: usize,
+}
+
+/// Those that a report has.
+fn near_of(near: &NearbyWords) -> Near {
+    let mut words = [0; 6];
+    for place in 0..near.count().min(6) {
+        words[place] = near.word(place);
+    }
+    Near {
+        words,
+        count: near.count(),
+        at: near.at(),
+    }
+}
+
 /// What became of a module.
 #[derive(Clone, Copy, PartialEq, Eq)]
 struct Seen {
     outcome: Outcome,
     /// How many words of its image are placed; none where it wasn't opened.
     placed: Option<u32>,
-    /// The word that it was refused for.
-    refused: Option<RefusedWord>,
+    /// The words near the one that it was refused for.
+    refused: Option<Near>,
     /// Where it is whole, the entry, and the words at 1,023, 2,047 and 2,048.
     whole: Option<[u32; 4]>,
 }
@@ -55,9 +77,10 @@ const UNSPELLED: Seen = Seen {
         rule: Rule::Spelled,
     }),
     placed: Some(1024),
-    refused: Some(RefusedWord {
-        word: UNKNOWN,
-        before: Some(NOP),
+    refused: Some(Near {
+        words: [NOP, NOP, NOP, NOP, UNKNOWN, 0],
+        count: 5,
+        at: 4,
     }),
     whole: None,
 };
@@ -77,14 +100,14 @@ fn ends_of(image: &CompleteImage) -> Option<[u32; 4]> {
     }
 }
 
-/// The word that a module was refused for; none where what is told beside it isn't that of this module.
-fn refused_for(report: &ModuleReport) -> Option<RefusedWord> {
+/// The words near the one that a module was refused for; none where what is told beside them isn't that of this module.
+fn refused_for(report: &ModuleReport) -> Option<Near> {
     match (&report.refused, &report.image) {
         (Some(told), ImageState::Part(builder))
             if told.slot == module()
                 && told.extent == builder.extent()
                 && report.outcome == Outcome::Refused(told.refusal.fault) => {
-            Some(told.refusal.word)
+            Some(near_of(&told.refusal.near))
         }
         _ => None,
     }
@@ -187,12 +210,12 @@ fn part(outcome: Outcome, placed: Option<u32>) -> Seen {
     }
 }
 
-/// What became of a module that this word is refused for, which breaks a rule behind the words that are placed.
-fn refused(rule: Rule, placed: u32, word: u32, before: Option<u32>) -> Seen {
+/// What became of a module whose word behind those that are placed breaks a rule, and these are near it.
+fn refused(rule: Rule, placed: u32, near: Near) -> Seen {
     Seen {
         outcome: Outcome::Refused(Fault { word: placed, rule }),
         placed: Some(placed),
-        refused: Some(RefusedWord { word, before }),
+        refused: Some(near),
         whole: None,
     }
 }
@@ -208,15 +231,21 @@ fn items_are_placed(rt: HostRuntime) {
     let alone = [open, Part::Page(0, UNKNOWN), Part::End(1, Reason::Close)];
     let early = Part::End(1, Reason::PageFault(2));
     let ended = part(Outcome::PageFault(2), Some(1024));
+    let across = Near {
+        words: [NOP, NOP, NOP, LOAD_LINK, NOP, NOP],
+        count: 6,
+        at: 4,
+    };
+    let lonely = Near {
+        words: [UNKNOWN, 0, 0, 0, 0, 0],
+        count: 1,
+        at: 0,
+    };
     let rows: [(Extents, &[Part], Seen); 5] = [
         // A need is unmet by the next page.
-        (
-            usual(),
-            &unmet,
-            refused(Rule::NeedMet, 1024, NOP, Some(LOAD_LINK)),
-        ),
-        // Nothing is before the first word.
-        ([one; 2], &alone, refused(Rule::Spelled, 0, UNKNOWN, None)),
+        (usual(), &unmet, refused(Rule::NeedMet, 1024, across)),
+        // Nothing is before the first word, or after the last.
+        ([one; 2], &alone, refused(Rule::Spelled, 0, lonely)),
         // Nothing follows an End.
         (usual(), &[open, first, early, third], ended),
         (usual(), &[third, early, first, open], ended),

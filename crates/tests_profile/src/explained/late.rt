@@ -3,7 +3,7 @@
 use crate::explained::listings::listed;
 use crate::explained::rules::refused;
 use crate::row::Row;
-use lfi_explain::{KnownFault, explain, explain_word};
+use lfi_explain::{KnownFault, explain, explain_near};
 use lfi_module::{ModuleNumber, Profile, WordCount};
 use lfi_rules::{Fault, Rule};
 use std::alloc::Global;
@@ -75,25 +75,36 @@ fn names_the_word_that_opens(rt: HostRuntime) -> Result<(), Fail> {
     Ok(())
 }
 
-/// Of the first row, where the word at the fault and the one before it are known alone.
-const ALONE: &str =
-    "word 2 rule 10\n  0x0000000100010008  f90007e0  str x0, [sp, #8]\n  a move of sp by an immediate has to be followed by a load or store at [sp] within 4 words, with only calm words before it; this word isn't that\n  mend: put ldr xzr, [sp] right after the move, or let a pre- or post-indexed access move sp";
+/// What is told of a row by the words near its place: at most four before it, and the one after it, if there is one.
+fn told_near(alloc: Global, row: &Told) -> Result<String, Fail> {
+    let place = row.place as usize;
+    let first = place.saturating_sub(4);
+    let end = (place + 2).min(row.words.len());
+    if first > place || place >= end || row.words.len() > 4_194_304 {
+        return Err(Fail::new("there is no such word"));
+    }
+    let known = KnownFault {
+        slot: ModuleNumber::at(0),
+        words: WordCount::of(row.words.len() as u32),
+        profile: Profile::Two,
+        fault: Fault {
+            word: row.place,
+            rule: Rule::NeedMet,
+        },
+    };
+    let near = Row(&row.words[first..end]);
+    Ok(explain_near(&near, place - first, &known).to_string(alloc)?)
+}
 
 #[test]
-fn of_a_late_word_alone(rt: HostRuntime) -> Result<(), Fail> {
-    let fault = Fault {
-        word: 2,
-        rule: Rule::NeedMet,
-    };
-    let told = explain_word(&KnownFault {
-        slot: ModuleNumber::at(0),
-        words: WordCount::of(4),
-        profile: Profile::Two,
-        fault,
-        word: 0xF90007E0,
-        before: Some(NOP),
-    });
-    assert!(rt; told.to_string(rt.alloc())?.as_str() == ALONE);
+fn tells_the_same_by_the_words_near(rt: HostRuntime) -> Result<(), Fail> {
+    for row in &ROWS {
+        assert!(rt;
+            told_near(rt.alloc(), row)?.as_str() == row.told,
+            "{}",
+            row.told
+        );
+    }
     Ok(())
 }
 

@@ -1,6 +1,6 @@
 //! Listings: the first words of the compiled example, and branches in and out of a module.
 use crate::row::Row;
-use lfi_explain::{Marks, write_listing};
+use lfi_explain::{LineRoom, Marks, write_listing};
 use lfi_module::{ModuleNumber, Profile};
 use std::alloc::Global;
 use std::test::Fail;
@@ -43,7 +43,7 @@ pub fn listed(alloc: Global, words: &[u32], profile: Profile) -> Result<Vec<u8>,
         return Err(Fail::new("the module is too long"));
     }
     write_listing(
-        alloc,
+        LineRoom::new(alloc)?,
         &Row(words),
         ModuleNumber::at(0),
         Marks::NoMarks,

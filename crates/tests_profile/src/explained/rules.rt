@@ -2,7 +2,7 @@
 ghost use Rattle.std.specs.Prelude.{◌<◌};
 
 use crate::row::Row;
-use lfi_explain::{KnownFault, explain, explain_word, write_refusals};
+use lfi_explain::{KnownFault, LineRoom, explain, explain_near, write_refusals};
 use lfi_module::{ModuleNumber, Profile, WordCount};
 use lfi_rules::{Fault, Rule};
 use std::alloc::{AllocError, Global};
@@ -296,22 +296,20 @@ fn of_words_alone(rt: HostRuntime) -> Result<(), Fail> {
         word: 0,
         rule: Rule::TargetInside,
     };
-    let seam = explain_word(&KnownFault {
+    let seam = KnownFault {
         slot: ModuleNumber::at(3),
         words,
         profile: Profile::One,
         fault: unmet,
-        word: 0xD503201F,
-        before: Some(0xF94006BE),
-    });
-    let start = explain_word(&KnownFault {
+    };
+    let start = KnownFault {
         slot: ModuleNumber::at(0),
         words,
         profile: Profile::Two,
         fault: outside,
-        word: 0x14000801,
-        before: None,
-    });
+    };
+    let seam = explain_near(&Row(&[0xF94006BE, 0xD503201F]), 1, &seam);
+    let start = explain_near(&Row(&[0x14000801]), 0, &start);
     assert!(rt; seam.to_string(rt.alloc())?.as_str() == AT_A_SEAM);
     assert!(rt; start.to_string(rt.alloc())?.as_str() == AT_THE_START);
     Ok(())
@@ -338,7 +336,7 @@ pub fn refused(
         return Err(Fail::new("the module is too long"));
     }
     let count = write_refusals(
-        alloc,
+        LineRoom::new(alloc)?,
         &Row(words),
         ModuleNumber::at(slot),
         profile,
@@ -402,14 +400,15 @@ impl Write for FullWriter {
 }
 
 #[test]
-fn refusals_that_fail(rt: HostRuntime) {
+fn refusals_that_fail(rt: HostRuntime) -> Result<(), Fail> {
     let slot = ModuleNumber::at(1);
     let written = write_refusals(
-        rt.alloc(),
+        LineRoom::new(rt.alloc())?,
         &Row(&THREE),
         slot,
         Profile::One,
         &mut FullWriter,
     );
     assert!(rt; written.is_err());
+    Ok(())
 }

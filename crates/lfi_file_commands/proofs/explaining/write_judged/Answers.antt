@@ -23,4 +23,4 @@ returns-in-Ok-clause-written g c =
     let old = g.W.Write.contents c.args.writer.now in
     let new = g.W.Write.contents c.write_fault.new.writer in
     refused_now name profile c.args.how code fault old new (c.requires.code, c.in-Some.ensures)
-    (subst (λ kind. WritesFault name kind profile c.args.how code fault old new) c.requires.kind c.in-Ok.ensures)
+    (subst (λ kind. WritesFault name kind profile c.args.how code fault old new) c.requires.kind c.in-Ok.ensures.written)

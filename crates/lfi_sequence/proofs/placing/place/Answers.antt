@@ -2,7 +2,7 @@ use Rattle.std.proofs.Common.{◌≡◌, ◌<◌, ◌++◌, List, ℕ, length, s
 use Rattle.a64_word.specs.Words.{words_of}
 use Rattle.page_buf.specs.Page.{PageView}
 use Rattle.lfi_image.specs.Image.{Module}
-use Rattle.lfi_sequence.specs.Refused.{IsRefusedWord}
+use Rattle.lfi_sequence.specs.Refused.{AreNear}
 use Rattle.lfi_sequence.specs.inner.Pools.{Offers}
 use Rattle.lfi_sequence.proofs.Offered.{offered}
 use Rattle.lfi_sequence.proofs.Refusals.{fault_within}
@@ -18,8 +18,8 @@ append-requires-clause-module c = c.requires.«module»
 pub append-requires-clause-place : goal.append-requires-clause-place
 append-requires-clause-place c = c.requires.next
 
-pub find-word-requires : goal.find-word-requires
-find-word-requires c =
+pub find-near-requires : goal.find-near-requires
+find-near-requires c =
     subst (λ (l : List ℕ). c.in-Err.fault.word < length l) (sym (words_back c.append.new.self c.args.builder.now c.in-Err.page c.args.page.page c.in-Err.ensures.stays c.in-Err.ensures.back))
     (fault_within c.args.builder.now.extent.profile (c.args.builder.now.placed ++ words_of c.args.page.page.bytes) c.args.builder.now.extent.words c.in-Err.fault c.in-Err.ensures.fault)
 
@@ -32,10 +32,10 @@ returns-in-Ok-clause-faultless c = c.in-Ok.ensures.faultless
 pub returns-in-Err-clause-fault : goal.returns-in-Err-clause-fault
 returns-in-Err-clause-fault c = c.in-Err.ensures.fault
 
-pub returns-in-Err-clause-word : goal.returns-in-Err-clause-word
-returns-in-Err-clause-word c =
-    subst (λ (l : List ℕ). IsRefusedWord l c.in-Err.fault.word c.find-word.result) (words_back c.append.new.self c.args.builder.now c.in-Err.page c.args.page.page c.in-Err.ensures.stays c.in-Err.ensures.back)
-    c.find-word.ensures
+pub returns-in-Err-clause-near : goal.returns-in-Err-clause-near
+returns-in-Err-clause-near c =
+    subst (λ (l : List ℕ). AreNear l c.in-Err.fault.word c.find-near.result) (words_back c.append.new.self c.args.builder.now c.in-Err.page c.args.page.page c.in-Err.ensures.stays c.in-Err.ensures.back)
+    c.find-near.ensures
 
 pub returns-in-Err-clause-stays : goal.returns-in-Err-clause-stays
 returns-in-Err-clause-stays c = c.in-Err.ensures.stays

@@ -32,7 +32,7 @@ pub returns-in-Err-clause-placing : goal.returns-in-Err-clause-placing
 returns-in-Err-clause-placing c = λ m taken item was numbered typed at same is.
     let none : c.args.self.now.refusal ≡ None = none_is c.args.self.now.refusal (sym c.is_some.ensures ∙ c.if-is_some.false) in
     subst (λ q. IsPlacing m q (taken ++ item ∷ [])) (sym c.refuse.ensures)
-    (page_refused m c.args.self.now taken item was numbered c.args.page.page.bytes is _ c.in-Err.refusal (ap (λ z. z.extent) c.in-Err.ensures.stays) refl none c.in-Err.ensures.stays refl c.in-Err.ensures.fault c.in-Err.ensures.word)
+    (page_refused m c.args.self.now taken item was numbered c.args.page.page.bytes is _ c.in-Err.refusal (ap (λ z. z.extent) c.in-Err.ensures.stays) refl none c.in-Err.ensures.stays refl c.in-Err.ensures.fault c.in-Err.ensures.near)
 
 pub place-requires-clause-module : goal.place-requires-clause-module
 place-requires-clause-module c =

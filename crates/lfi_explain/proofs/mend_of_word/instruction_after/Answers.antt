@@ -3,7 +3,7 @@ use Rattle.std.specs.Prelude.{slice_get}
 use Rattle.std.proofs.lemmas.Option.{slice_get_past}
 use Rattle.lfi_rules.proofs.Before.{stands_at}
 use Rattle.lfi_explain.specs.Mendings.{IsDecoded}
-use Rattle.lfi_explain.proofs.explanation.instruction_after.Goals as goal
+use Rattle.lfi_explain.proofs.mend_of_word.instruction_after.Goals as goal
 
 pub returns-then-place-count : goal.returns-then-place-count
 returns-then-place-count g c =
