@@ -14,6 +14,11 @@ pub const PROGRAM: &str = "Exit status:
 `lfiload COMMAND --help` has each line that a command prints, and an example. Wherever a file is
 read, `-` is the standard input.
 
+Any command may print one of these as well, on the standard error:
+  lfiload: - can be named once           The standard input is named twice (status 2).
+  lfiload: cannot read the command line  A word of it is no text in UTF-8 (status 2).
+  lfiload: cannot write standard output  What it prints can't be written (status 3).
+
 Example: lfiload check --explain module.code";
 
 /// Of a file with code.
@@ -191,6 +196,8 @@ On the standard error:
   lfiload: connection C: cannot read
                               A read of stream C failed (status 3).
   lfiload: at most 8 streams  More were named (status 2).
+  lfiload: --out names no folder
+                              DIR is an empty text (status 2).
   lfiload: --format is text or json
                               F is another word (status 2).
   lfiload: no memory          There was no memory to load them or for the object, or a thread could
@@ -228,6 +235,10 @@ On the standard error:
   lfiload: time is over: connection C had not ended
                               It was cut off (status 1 or 3).
   lfiload: cannot write PATH  An image can't be written (status 3).
+  lfiload: --socket names no path
+                              P is an empty text (status 2).
+  lfiload: --out names no folder
+                              DIR is an empty text (status 2).
   lfiload: --format is text or json
                               F is another word (status 2).
   lfiload: no memory          There was no memory, or a thread could not be started (status 3).
@@ -274,6 +285,8 @@ After the text may stand:
   -> word K             Where a direct branch goes.
   -> outside, word K    The same; the code has no word K.
   ; opens: next is X    Rule 10 asks this of the next word.
+  ; opens: one of the next N is X
+                        Rule 10 asks this of one of the next N words.
   ; rule R              With --check: the word breaks rule R, and none with a smaller number.
 Without --check the code isn't judged; with it the status is the same. A word that no instruction
 of the profile spells stands as `.inst`. Where the file is empty, no multiple of 4 bytes, or above
@@ -333,6 +346,7 @@ pub const INFO: &str = "Prints for each file what it is, and what it holds:
   image refused, fault F  As run tells it (status 1).
   stream                  A line for each message follows, by the byte at which it begins:
     byte B: module M open, N words, entry W, profile P, small pages
+    byte B: module M open, N words, entry W, profile P, large pages
     byte B: module M page I, L bytes
     byte B: module M close
     byte B: fault F, TEXT  The stream's fault (status 1).
