@@ -6,7 +6,6 @@ import pathlib
 import re
 import shlex
 import subprocess
-import sys
 import tempfile
 import threading
 
@@ -30,10 +29,6 @@ UNSEEN = {
 NOP, RET, BRK = (formats.code_of(word) for word in (0xD503201F, 0xD65F03C0, 0xD4200000))
 
 
-def fail(command, why):
-    sys.exit(f"program: lfiload {command} --help: {why}")
-
-
 # ---- the keys of objects
 
 def texts_of(command, runs):
@@ -53,18 +48,20 @@ def compare_keys(helps, runs):
         keys, values = (set(re.findall(pattern, printed)) for pattern in (r'"([a-z_ ]+)":', r':"([a-z_ ]+)"'))
         untold, unseen = keys - named, quoted[command] - keys - values - REFUSED
         if untold or unseen or not keys:
-            fail(command, f"keys that it doesn't name: {sorted(untold)}, words that no object has: {sorted(unseen)}")
+            numbered.fail(command, f"keys that it doesn't name: {sorted(untold)}, words that no object has: {sorted(unseen)}")
 
 
 # ---- statuses
 
 def entries(text):
-    """The lines that a help says are printed, as patterns and in its words, each with the statuses that it gives."""
+    """The lines that a help says are printed, as patterns and in its words, each with the statuses that it gives. Those that begin with
+    `->` or `;` stand at the end of a line."""
     found = []
     for line in re.sub(r"\n {12,}", "  ", text).splitlines():
-        entry = re.match(r" {2,}([a-z]\S.*?\S)(?:  +|$)", line)
+        entry = re.match(r" {2,}((-> |; )?[a-z]\S.*?\S)(?:  +|$)", line)
         if entry:
-            pattern = ".+".join(re.escape(part) for part in re.split(PLACES, entry[1])) + "$"
+            before = ".*  " if entry[2] else ""
+            pattern = before + ".+".join(re.escape(part) for part in re.split(PLACES, entry[1])) + "$"
             statuses = re.findall(r"\(status +(\d)(?:,? or (\d)\b[^()]*)?\)", line)
             found.append((re.compile(pattern), entry[1], tuple(sorted(int(it) for both in statuses for it in both if it))))
     return found
@@ -72,33 +69,50 @@ def entries(text):
 
 def told_lines(run):
     """The lines that a run prints, as far as they are compared, without spaces before them, and without a file's path and colon. None of a
-    run whose output fails, nor of what no help tells."""
-    if run.out is None or run.err is None or b"--help" in run.words or b"lfiload: cannot read the command line" in run.err:
+    run whose errors can't be told, nor of a help."""
+    if run.err is None or b"--help" in run.words:
         return []
-    texts = [run.out, run.err, *run.holds.get("out", []), *run.holds.get("err", [])]
+    texts = [run.out or b"", run.err, *run.holds.get("out", []), *run.holds.get("err", [])]
     lines = [line.strip() for line in b"\n".join(texts).decode("latin-1").splitlines()]
     files = [word.decode("latin-1") + ": " for word in run.words]
     return [next((line.removeprefix(it) for it in files if line.startswith(it)), line) for line in lines]
 
 
-def compare_statuses(helps, runs):
-    """A run that prints lines of those that its help gives statuses has the worst of these. Each line is printed by a run, but for those of
-    UNSEEN. Returns how many runs were compared."""
-    count = 0
-    for command in COMMANDS:
-        known, seen = entries(helps[command]), set()
-        for run in (it for it in runs if it.words[:1] == [command.encode()]):
-            told = {(name, statuses) for pattern, name, statuses in known for line in told_lines(run) if pattern.match(line)}
-            given = [statuses for _, statuses in told if statuses]
-            seen |= told
-            count += bool(given)
-            if given and run.status not in map(max, itertools.product(*given)):
-                fail(command, f"it gives {sorted(told)}, and {run.words} has status {run.status}")
-        left = {(name, statuses) for _, name, statuses in known} - seen
-        wanted = {(name, statuses) for (commands, name), statuses in UNSEEN.items() if command in commands}
-        if left != wanted:
-            fail(command, f"lines that no run prints: {sorted(left - wanted)}, and those of UNSEEN that it doesn't have so: {sorted(wanted - left)}")
-    return count
+def entries_of(run, common, own):
+    """What a run prints, of the lines that the program's help tells, and else of those of its command's help."""
+    found = set()
+    for line in told_lines(run):
+        matching = [[(name, statuses) for pattern, name, statuses in known if pattern.match(line)] for known in (common, own)]
+        found |= set(matching[0] or matching[1])
+    return found
+
+
+def compare_command(command, known, common, runs):
+    """Those of its runs that print lines to which its help, or the program's, gives statuses have the worst of these. Each line of its help
+    is printed by a run, but for those of UNSEEN. Returns how many runs were compared, and what was printed."""
+    count, seen = 0, set()
+    for run in (it for it in runs if it.words[:1] == [command.encode()]):
+        told = entries_of(run, common, known)
+        given = [statuses for _, statuses in told if statuses]
+        seen |= told
+        count += bool(given)
+        if given and run.status not in map(max, itertools.product(*given)):
+            numbered.fail(command, f"it gives {sorted(told)}, and {run.words} has status {run.status}")
+    left = {(name, statuses) for _, name, statuses in known} - seen
+    wanted = {(name, statuses) for (commands, name), statuses in UNSEEN.items() if command in commands}
+    if left != wanted:
+        numbered.fail(command, f"lines that no run prints: {sorted(left - wanted)}, and those of UNSEEN that it doesn't have so: {sorted(wanted - left)}")
+    return count, seen
+
+
+def compare_statuses(program, helps, runs):
+    """Each line of a help has the status that it tells, and is printed. Returns how many runs were compared."""
+    common = entries(tree.help_of(program).partition("Any command may print")[2])
+    compared = [compare_command(command, entries(helps[command]), common, runs) for command in COMMANDS]
+    left = {(name, statuses) for _, name, statuses in common} - set().union(*(seen for _, seen in compared))
+    if left or not common:
+        numbered.fail("", f"lines that no run prints: {sorted(left)}")
+    return sum(count for count, _ in compared)
 
 
 # ---- examples
@@ -133,7 +147,7 @@ def try_examples(program, helps):
             for client in clients:
                 client.join()
         if words[0] != command or done.returncode:
-            fail(command, f"its example ends with status {done.returncode}, {done.stdout!r:.200}, {done.stderr!r:.200}")
+            numbered.fail(command, f"its example ends with status {done.returncode}, {done.stdout!r:.200}, {done.stderr!r:.200}")
 
 
 # ---- how code lies in a file
@@ -145,7 +159,7 @@ def compare_order(program, helps):
             pathlib.Path(folder, "it.code").write_bytes(content)
             is_lawful = subprocess.run([program, "check", "it.code"], cwd=folder, stdout=subprocess.DEVNULL).returncode == 0
             if is_lawful != (f"the {order} byte first" in " ".join(helps["check"].split())):
-                fail("check", f"code with the {order} byte first is lawful: {is_lawful}")
+                numbered.fail("check", f"code with the {order} byte first is lawful: {is_lawful}")
 
 
 # ---- mends
@@ -157,7 +171,7 @@ def compare_registers(helps):
     written = re.search(r"They may change (.*?), and, where told, (.*?)\.", (tree.TOP / "docs" / "COMMANDS.md").read_text())
     whole = [set(re.findall(r"\b[wx]\d+", it)) for it in written.groups()]
     if named != [{"w22", "x18", "x30"}] * 2 or whole != [named[0], {"x16", "x17"}]:
-        fail("check", f"mends may change {named}, and by docs/COMMANDS.md {whole}")
+        numbered.fail("check", f"mends may change {named}, and by docs/COMMANDS.md {whole}")
 
 
 def compare(program, runs):
@@ -168,4 +182,4 @@ def compare(program, runs):
     compare_registers(helps)
     numbered.compare(program, helps)
     try_examples(program, helps)
-    return compare_statuses(helps, runs)
+    return compare_statuses(program, helps, runs)
