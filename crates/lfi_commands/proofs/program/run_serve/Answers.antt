@@ -3,8 +3,8 @@ use Rattle.std.proofs.lemmas.Result.{IfErr-weaker, IfOk-weaker}
 use Rattle.lfi_loader.specs.Served.{HasServed}
 use Rattle.lfi_commands.specs.Serving.{HasServedAll, IsLimit, TellsServed}
 use Rattle.lfi_file_commands.proofs.Failing.{is_no_other}
-use Rattle.lfi_file_commands.specs.Failures.{failure_of_load, is_of_output, FailsServing}
-use Rattle.lfi_commands.proofs.Failing.{fails_serving_load, is_of_load, refused}
+use Rattle.lfi_file_commands.specs.Failures.{is_of_output, FailsServing}
+use Rattle.lfi_commands.proofs.Failing.{fails_serving_load, is_of_load}
 use Rattle.lfi_commands.proofs.program.run_serve.Goals as goal
 
 pub serve_on-requires-clause-connections : goal.serve_on-requires-clause-connections
@@ -18,17 +18,6 @@ end_serve-requires g c = c.requires.connections.1
 
 pub returns-in-Err : goal.returns-in-Err
 returns-in-Err g c = record { found = tt; failure = refl; output = λ other. refl; untold = (refl, (refl, refl)) }
-
-pub returns : goal.returns
-returns g c =
-    let socket = c.args.asked.now.socket.now in
-    let error = c.in-Err-serve_on.error in
-    record {
-      found = tt;
-      failure = subst (FailsServing socket) (sym c.from.ensures) (fails_serving_load socket (failure_of_load error) (refused error));
-      output = λ other. refl;
-      untold = (refl, (refl, refl));
-    }
 
 pub returns-in-Ok-serve_on : goal.returns-in-Ok-serve_on
 returns-in-Ok-serve_on g c =
