@@ -1,5 +1,6 @@
 """Where things stand in this repository, what crates.txt says, and the built program: for the scripts of checks/."""
 
+import hashlib
 import importlib.machinery
 import importlib.util
 import pathlib
@@ -37,6 +38,11 @@ def definition_files(crate):
     lines = (folder / "Lib.antt").read_text(encoding="utf-8").splitlines()
     names = [line.split()[2] for line in lines if line.startswith("pub mod ")]
     return [folder / f"{name}.antt" for name in names if name != "inner" and (folder / f"{name}.antt").is_file()]
+
+
+def digest(texts):
+    """Eight digits that are others where one of these texts is, and not where only their order is."""
+    return hashlib.sha256("\0".join(sorted(texts)).encode()).hexdigest()[:8]
 
 
 def script(name, checks=CHECKS):

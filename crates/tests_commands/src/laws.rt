@@ -1,7 +1,7 @@
 //! What the commands promise, read from the records of their contracts: where one of these fields is dropped, a law here isn't
 //! proved any more.
 
-ghost use Rattle.std.specs.Prelude.{◌≡◌, ◌≤◌, ℕ, true, false, nat_lt, List, [], ◌++◌, Option, Some, None, codes, map, length};
+ghost use Rattle.std.specs.Prelude.{◌≡◌, ◌≢◌, ◌≤◌, ◌↔◌, ℕ, true, false, nat_lt, List, [], ◌++◌, Option, Some, None, codes, map, length};
 ghost use Rattle.std.specs.Io.KnownBytes.{Appends, Keeps};
 ghost use Rattle.a64_word.specs.Words.{words_of};
 ghost use Rattle.a64_semantics.specs.declared.registers.Registers.{Registers};
@@ -46,6 +46,7 @@ ghost use Rattle.lfi_file_commands.specs.Left.{Left};
 ghost use Rattle.lfi_file_commands.specs.Listing.{listed_text, marks_by, HasListed};
 ghost use Rattle.lfi_file_commands.specs.Packing.{HasPacked};
 ghost use Rattle.lfi_file_commands.specs.Running.{told_of_run, HasRun};
+ghost use Rattle.lfi_file_commands.specs.Unpacking.{HasUnpacked};
 ghost use Rattle.lfi_commands.specs.Clients.{fate_lines, read_lines};
 ghost use Rattle.lfi_commands.specs.Explained.{TellsExplained};
 ghost use Rattle.lfi_commands.specs.Loading.{folder_of, streams_of, AreKnown, HasLoaded, TellsObject, TellsReport};
@@ -55,7 +56,7 @@ ghost use Rattle.lfi_commands.specs.Serving.{HasServedAll, TellsServed};
 /// Of an image that `run` ran no run from its start escapes, in any number of steps and whatever the runtime answers. Its words stay.
 pub fn runs_are_confined()
     ensures confined { (bytes : List ℕ) (steps : ℕ) (format : Format) (old new : Left) (ending : Ending) → (is : HasRun (Some bytes) steps format old new ending) → (halt : Halt) (count : ℕ) → is.run ≡ Ended halt count → (image : Image) × FileOf image bytes × (start : Config) × (start.registers ≡ start_of image) × (start.owned.image ≡ image) × ((at : ℕ) → byte_at start.owned.kept at ≡ 0) × ((n : ℕ) → Reach start.owned.image (state start) n Escaped → ⊥) }
-    ensures ran { (bytes : List ℕ) (steps : ℕ) (format : Format) (old new : Left) (ending : Ending) → (is : HasRun (Some bytes) steps format old new ending) → (halt : Halt) (count : ℕ) → is.run ≡ Ended halt count → (image : Image) × FileOf image bytes × (start last : Config) × (start.registers ≡ start_of image) × RanThenHalts serves start old.out halt count last new.out × (last.owned.image ≡ image) × (count ≤ steps) × (halt ≡ StepsUsed → count ≡ steps) }
+    ensures ran { (bytes : List ℕ) (steps : ℕ) (format : Format) (old new : Left) (ending : Ending) → (is : HasRun (Some bytes) steps format old new ending) → (halt : Halt) (count : ℕ) → is.run ≡ Ended halt count → (image : Image) × FileOf image bytes × (start last : Config) × (start.registers ≡ start_of image) × RanThenHalts serves start old.out halt count last new.out × (last.owned.image ≡ image) × (count ≤ steps) × ((halt ≡ StepsUsed) ↔ (count ≡ steps)) }
     ensures refused { (bytes : List ℕ) (steps : ℕ) (format : Format) (old new : Left) (ending : Ending) → (is : HasRun (Some bytes) steps format old new ending) → (fault : ImageFault) → is.run ≡ Refused fault → IsFault bytes fault × (new.out ≡ old.out) }
     ensures told { (bytes : List ℕ) (steps : ℕ) (format : Format) (old new : Left) (ending : Ending) → (is : HasRun (Some bytes) steps format old new ending) → new.is_lost ≡ false → Appends old.errors new.errors (told_of_run format is.run) × (new.put ≡ old.put) }
 {}
@@ -94,6 +95,11 @@ pub fn no_file_is_put()
     ensures told { (asked : DisassembleOptions) (bytes : List ℕ) (old new : Left) (ending : Ending) → (is : HasListed asked (Some bytes) old new ending) → new.is_lost ≡ false → Appends old.errors new.errors (listed_text asked.file.now is.listed) }
     ensures packed { (asked : PackOptions) (file_at : List ℕ → Option (List ℕ)) (old new : Left) (ending : Ending) → HasPacked asked file_at old new ending → new.put ≡ old.put }
     ensures informed { (bytes : List ℕ) (old new : Left) (ending : Ending) → (is : HasTold [] (Some bytes) old new ending) → IsShortInfo (nat_lt most_told (length bytes)) bytes is.text ending × Appends old.out new.out is.text × (new.put ≡ old.put) × (new.errors ≡ old.errors) }
+{}
+
+/// Where `unpack` doesn't end well of a file, the file has a fault, and nothing was written or put.
+pub fn no_image_is_unpacked()
+    ensures { (bytes : List ℕ) (old new : Left) (ending : Ending) → ending ≢ Well → HasUnpacked (Some bytes) old new ending → (fault : ImageFault) × IsFault bytes fault × (new.out ≡ old.out) × (new.put ≡ old.put) }
 {}
 
 /// Where the runtime ends a run that wants to print, the byte could not be written: the status is 255, and the output as it was.

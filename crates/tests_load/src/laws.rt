@@ -1,9 +1,16 @@
 //! What `load_all`, `serve_on` and `Stage::new` promise, read from the records of their contracts: where one of these fields is
 //! dropped, a law here isn't proved any more.
 
-ghost use Rattle.std.specs.Prelude.{◌≡◌, ◌≢◌, ◌<◌, ℕ, List, [], ◌∷◌, Option, Some, None, true, get_or, slice_get};
+ghost use Rattle.std.specs.Prelude.{◌≡◌, ◌≢◌, ◌<◌, ◌-◌, ◌^◌, ℕ, List, [], ◌∷◌, ◌++◌, Option, Some, None, true, get_or, slice_get, slice_index, length, min, sum};
+ghost use Rattle.std.specs.Io.KnownBytes.{Appends};
 ghost use Rattle.std.specs.declared.time.Duration.{Duration};
+ghost use Rattle.lfi_module.specs.Extents.{ExtentView};
 ghost use Rattle.lfi_module.specs.Numbers.{module_count};
+ghost use Rattle.lfi_board.specs.Calls.{Changed, number_of};
+ghost use Rattle.lfi_board.specs.Known.{known_by_sequencer, module_of};
+ghost use Rattle.lfi_board.specs.declared.seats.Change.{Change};
+ghost use Rattle.lfi_board.specs.declared.seats.Phase.TheVariants as phase;
+ghost use Rattle.lfi_board.specs.declared.seats.SequencerSeat.{SequencerSeat};
 ghost use Rattle.lfi_frame.specs.Streams.{Message, Cut};
 ghost use Rattle.a64_word.specs.Words.{words_of};
 ghost use Rattle.lfi_rules.specs.Verdicts.{all_words};
@@ -12,11 +19,13 @@ ghost use Rattle.lfi_model.specs.Items.{item_of};
 ghost use Rattle.lfi_model.specs.Outcomes.{end_of, pages_of};
 ghost use Rattle.lfi_model.specs.declared.item.ItemKind.TheVariants.{Open};
 ghost use Rattle.lfi_model.specs.declared.item.Reason.TheVariants.{Close};
-ghost use Rattle.lfi_model.specs.declared.connection.EndCause.TheVariants.{End, Starved};
+ghost use Rattle.lfi_model.specs.declared.connection.EndCause.TheVariants.{End, Starved, Failed};
 ghost use Rattle.lfi_pack.specs.Heard.{IsHeard, PackedView};
+ghost use Rattle.lfi_pack.specs.Packs.{PacksPart};
 ghost use Rattle.lfi_receive.specs.declared.receiver.Receiver.{Receiver};
 ghost use Rattle.lfi_receive.specs.Claims.{is_opened};
 ghost use Rattle.lfi_receive.specs.Receivers.{member_of, AsksMemory};
+ghost use Rattle.lfi_sequence.specs.declared.sequence.BoardNotice.TheVariants as notice;
 ghost use Rattle.lfi_sequence.specs.declared.sequencer.Sequencer.{Sequencer};
 ghost use Rattle.lfi_sequence.specs.declared.verifier.Verifier.{Verifier};
 ghost use Rattle.lfi_sequence.specs.Handed.{take_pass_of};
@@ -44,11 +53,29 @@ pub fn absent_clients_have_no_module()
 {}
 
 /// A module that the text of an input opens is some connection's, where the input came to its end. Where an input ended for want
-/// of memory, what was heard of it ends with the header of a page.
+/// of memory, what was heard of it ends with the header of a page; where a read failed, it is what had come before.
 pub fn opened_modules_are_loaded()
     ensures opened { (connections verifiers : ℕ) (texts : ℕ → List ℕ) (report : Report) → (is : IsLoaded connections verifiers texts report) → (c m : ℕ) (messages : List Message) (rest : List ℕ) → c < connections → m < module_count → is.causes c ≡ End → Cut (texts c) messages rest → is_opened messages m ≡ true → get_or report.holders m None ≢ None }
     ensures starved { (connections verifiers : ℕ) (texts : ℕ → List ℕ) (report : Report) → (is : IsLoaded connections verifiers texts report) → (c : ℕ) → c < connections → is.causes c ≡ Starved → AsksMemory (is.claims c) (is.heard c) }
+    ensures failed { (connections verifiers : ℕ) (texts : ℕ → List ℕ) (report : Report) → (is : IsLoaded connections verifiers texts report) → (c : ℕ) → c < connections → is.causes c ≡ Failed → (rest : List ℕ) × (texts c ≡ is.heard c ++ rest) }
     ensures judged { (connections verifiers : ℕ) (texts : ℕ → List ℕ) (report : Report) → IsLoaded connections verifiers texts report → verifiers_of report ≡ verifiers }
+{}
+
+/// Strays are told up to 2^64 - 1, of each connection and of all together.
+pub fn strays_are_counted()
+    ensures each { (connections verifiers : ℕ) (texts : ℕ → List ℕ) (report : Report) → (is : IsLoaded connections verifiers texts report) → (c : ℕ) → c < connections → slice_index report.connection_strays c ≡ min (slice_index is.reports.strays c) (2 ^ 64 - 1) }
+    ensures all { (connections verifiers : ℕ) (texts : ℕ → List ℕ) (report : Report) → (is : IsLoaded connections verifiers texts report) → report.strays ≡ min (sum is.reports.strays) (2 ^ 64 - 1) }
+{}
+
+/// A sequencer that finds its module refused, or at its end, tells the board so by one call.
+pub fn ends_are_told_to_the_board()
+    ensures refused { (old new : SequencerSeat) → turns.TellsBoard notice.Nothing notice.Refused old new → (answer : Change) × Changed (known_by_sequencer old) (known_by_sequencer new) (module_of old) (number_of phase.Refused) answer }
+    ensures finished { (old new : SequencerSeat) → turns.TellsBoard notice.Nothing notice.Finished old new → (answer : Change) × Changed (known_by_sequencer old) (known_by_sequencer new) (module_of old) (number_of phase.Done) answer }
+{}
+
+/// Where a module isn't packed to its end, what was written of it isn't the whole.
+pub fn packed_parts_are_not_whole()
+    ensures { (number : ℕ) (extent : ExtentView) (old new : Option (List ℕ)) → (part : PacksPart number extent old new) → (front rest : List ℕ) × (part.text ≡ front ++ rest) × (0 < length rest) × Appends old new front }
 {}
 
 /// What a receiver hears of a packed module begins with its Open, has the words of its code, and ends by its Close.

@@ -6,6 +6,7 @@
 mod carries;
 #[cfg(test)]
 mod drawn;
+mod laws;
 #[cfg(test)]
 mod machine;
 #[cfg(test)]

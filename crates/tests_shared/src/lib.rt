@@ -7,6 +7,7 @@ mod board_alone;
 mod board_rows;
 #[cfg(test)]
 mod intake_rows;
+mod laws;
 #[cfg(test)]
 mod passes;
 #[cfg(test)]

@@ -9,6 +9,7 @@ mod growths;
 mod images;
 #[cfg(test)]
 mod items;
+mod laws;
 #[cfg(test)]
 mod orders;
 #[cfg(test)]

@@ -23,7 +23,7 @@ returns-clause-ran a bytes steps format old new ending is halt count ended =
       runs.ran,
       image_stays halt count runs.start runs.last old.out new.out runs.ran ∙ runs.placed,
       runs.within,
-      runs.used.0,
+      runs.used,
     )
 
 pub returns-clause-refused : goal.returns-clause-refused

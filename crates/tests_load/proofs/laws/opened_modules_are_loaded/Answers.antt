@@ -12,3 +12,6 @@ returns-clause-opened a connections verifiers texts report is c m messages rest 
 pub returns-clause-starved : goal.returns-clause-starved
 returns-clause-starved a connections verifiers texts report is c within starved =
     (subst (λ cause. IsHeard (is.claims c) cause (is.heard c) (texts c)) starved (is.hears c within)).0
+
+pub returns-clause-failed : goal.returns-clause-failed
+returns-clause-failed a connections verifiers texts report is c within failed = subst (λ cause. IsHeard (is.claims c) cause (is.heard c) (texts c)) failed (is.hears c within)
