@@ -22,8 +22,9 @@
 //!   found nothing sets its bit, turns once more, and then sleeps. Whoever has put or taken something reads the bits, takes
 //!   one away and wakes its thread. Each step is SeqCst: where the second turn doesn't see what was put, the bit was
 //!   set before the put, and whoever put sees it. A bit that another one took away meanwhile is as good. While nobody waits
-//!   a wait set costs one load. A change of `Lifecycle`'s word calls those to whom it tells something, which ask it before
-//!   they sleep: the start receivers, the end of all verifiers the sequencers' thread, and that all are to stop all.
+//!   a wait set costs one load. A change of the word calls those to whom it tells something, which ask it before they sleep:
+//!   the start receivers, the end of all verifiers the sequencers' thread, and that all are to stop all. To call them takes
+//!   a `Said`, which the change gives: a call that comes before it doesn't compile.
 //! - **Streams of clients lie in places that are written once and lent** (`Streams`): no descriptor is doubled, and whoever
 //!   accepts can shut them all down while their threads read. A connection is shut down where its reader is dropped.
 //! - **The path is removed and the listener closed where the acceptor is dropped**, the path only where it still is the
@@ -48,6 +49,7 @@ mod lane_set;
 mod lifecycle;
 mod reading;
 mod refusal;
+mod state_word;
 mod wait_sets;
 
 pub use acceptor::{Acceptor, Closed};

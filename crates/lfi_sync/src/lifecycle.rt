@@ -9,6 +9,7 @@ use crate::deadline::Span;
 use crate::fate::{Unheard, flag_of};
 use crate::lane_set::LaneSet;
 use crate::refusal::LoadError;
+use crate::state_word::StateWord;
 use crate::wait_sets::WaitSets;
 use lfi_module::ModuleNumber;
 use std::rt::Clock;
@@ -139,7 +140,7 @@ impl<'a> Going<'a> {
 /// haven't ended, which lanes have items, and where the threads wait for one another.
 #[derive(Drop)]
 pub struct Lifecycle {
-    word: AtomicU64,
+    word: StateWord,
     /// How many verifiers there are.
     verifiers: u64,
     /// How many verifiers' threads haven't ended.
@@ -157,7 +158,7 @@ impl Lifecycle {
         ensures { judging_of result ≡ verifiers }
     {
         Lifecycle {
-            word: AtomicU64::new(State::Starting.number()),
+            word: StateWord::new(State::Starting.number()),
             verifiers: verifiers as u64,
             verifying: AtomicU64::new(verifiers as u64),
             heard: AtomicU64::new(0),
@@ -180,14 +181,14 @@ impl Lifecycle {
 
     /// All threads have been started. Those of receivers alone wait for that.
     pub fn go(&self) {
-        self.say(State::Running);
+        self.word.say(State::Running.number());
     }
 
     /// The thread of a verifier has nothing more to put. Each tells it once, and the last calls the sequencers' thread.
     pub fn tell_verified(&self) {
         if self.verifying.fetch_sub(1, Ordering::SeqCst) == 1 {
-            self.say(State::Verified);
-            self.wait_sets.judged.call_all();
+            let said = self.word.say(State::Verified.number());
+            self.wait_sets.call_sequencers(said);
         }
     }
 
@@ -196,8 +197,8 @@ impl Lifecycle {
     pub fn stop(&self, why: LoadError) -> LoadError
         ensures { result ≡ why }
     {
-        self.say(State::stopping(why));
-        self.wait_sets.call_all();
+        let said = self.word.say(State::stopping(why).number());
+        self.wait_sets.call_all(said);
         why
     }
 
@@ -207,7 +208,7 @@ impl Lifecycle {
             if self.state() != State::Starting {
                 break;
             }
-            self.word.park(rt, State::Starting.number() as u32);
+            self.word.park(rt, State::Starting.number());
         }
         Going { lifecycle: self }
     }
@@ -272,20 +273,11 @@ impl Lifecycle {
 
     /// Sleeps for this time, unless the word changes.
     pub fn sleep<S: Wait>(&self, rt: &S, time: Duration) {
-        let Ok(seen) = u32::try_from(self.word.load(Ordering::SeqCst)) else {
-            return;
-        };
-        self.word.park_timeout(rt, seen, time);
+        self.word.sleep(rt, time);
     }
 
     /// What the word says.
     fn state(&self) -> State {
-        State::of(self.word.load(Ordering::SeqCst))
-    }
-
-    /// The word says this from now on, unless it says more, and all that wait for it are called.
-    fn say(&self, state: State) {
-        self.word.fetch_max(state.number(), Ordering::SeqCst);
-        self.word.wake_all();
+        State::of(self.word.number())
     }
 }

@@ -1,5 +1,6 @@
 //! Wait sets: how threads wait for what others bring, and how those call them.
 
+use crate::state_word::Said;
 use lfi_module::{CONNECTIONS, VERIFIERS};
 use std::array;
 use std::sync::Wait;
@@ -127,8 +128,15 @@ impl WaitSets {
         }
     }
 
-    /// Calls all threads that wait for anything.
-    pub(crate) fn call_all(&self) {
+    /// Calls the sequencers' thread, for what was said.
+    pub(crate) fn call_sequencers(&self, said: Said) {
+        drop(said);
+        self.judged.call_all();
+    }
+
+    /// Calls all threads that wait for anything, for what was said.
+    pub(crate) fn call_all(&self, said: Said) {
+        drop(said);
         self.items.call_all();
         self.intake_room.call_all();
         self.judged.call_all();
