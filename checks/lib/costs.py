@@ -48,13 +48,16 @@ def try_reads(program):
 
 
 def try_most(program):
-    """All modules of the most words from one connection."""
-    with tempfile.TemporaryDirectory() as folder:
-        with open(os.path.join(folder, "most.stream"), "wb") as file:
-            for module in range(formats.MODULES):
-                file.write(formats.stream(module, WHOLE))
-        done = run(program, folder, ["load", "most.stream"])
-    wanted = "".join(f"module {module}: complete, {formats.MOST_WORDS} words\n" for module in range(formats.MODULES)) + "strays 0\n"
-    if (done.stdout, done.stderr, done.returncode) != (wanted, "", 0):
-        wrong("most", "sixteen modules of the most words", (done.stdout, done.stderr, done.returncode), wanted)
-    print(f"most: {formats.MODULES} modules of {formats.MOST_WORDS} words from one connection")
+    """All modules of the most words from one connection; and so with the last one refused at its first word, so that its pages are given again."""
+    whole = "".join(f"module {module}: complete, {formats.MOST_WORDS} words\n" for module in range(formats.MODULES - 1))
+    refused = bytes(4) + WHOLE[4:]
+    for code, told, status in (WHOLE, f"complete, {formats.MOST_WORDS} words", 0), (refused, "refused, word 0 rule 1", 1):
+        with tempfile.TemporaryDirectory() as folder:
+            with open(os.path.join(folder, "most.stream"), "wb") as file:
+                for module in range(formats.MODULES - 1):
+                    file.write(formats.stream(module, WHOLE))
+                file.write(formats.stream(formats.MODULES - 1, code))
+            done = run(program, folder, ["load", "most.stream"])
+        if (done.stdout, done.returncode) != (f"{whole}module 15: {told}\nstrays 0\n", status):
+            wrong("most", "sixteen modules of the most words", (done.stdout, done.returncode), told)
+    print(f"most: {formats.MODULES} modules of {formats.MOST_WORDS} words from one connection, also with the last one refused")
