@@ -12,7 +12,7 @@ from lib import formats
 from lib.cases import NOP, RET, wrong
 from lib.serving import connected
 
-LOADS, SERVES, SECONDS = 200, 100, 20
+LOADS, SERVES, SECONDS, TOGETHER = 200, 100, 20, 300
 
 
 # ---- core
@@ -64,6 +64,30 @@ def try_core(program):
         for number in range(SERVES):
             serve_once(program, folder, number)
     print(f"core: {LOADS} loads and {SERVES} clients of `serve` on one core")
+
+
+# ---- together
+
+
+def end_together(program, folder, number):
+    path = os.path.join(folder, f"s{number}")
+    words = [program, "serve", "--socket", path, "--connections", "8", "--seconds", "30"]
+    serving = start(words, folder)
+    clients = []
+    for module in range(8):
+        clients.append(connected(path))
+        clients[-1].sendall(formats.stream(module, RET))
+    for client in clients:
+        client.close()
+    ended("together", words, serving, "".join(f"module {module}: complete, 1 words\n" for module in range(8)) + "strays 0\n")
+
+
+def try_together(program):
+    """Threads that end at once each have their end told."""
+    with tempfile.TemporaryDirectory() as folder:
+        for number in range(TOGETHER):
+            end_together(program, folder, number)
+    print(f"together: {TOGETHER} times eight clients of `serve` that end at once")
 
 
 # ---- late

@@ -7,7 +7,7 @@ use lfi_sync::{Lifecycle, LoadError, Notifier, WaitSet, Waiter};
 use std::process::Abort;
 use std::sync::Wait;
 use std::sync::atomic::{AtomicU64, Ordering};
-use std::thread::{Scope, Threads, scope, scope_env, yield_now};
+use std::thread::{Scope, Threads, join, scope, scope_env, yield_now};
 use std::time::Duration;
 
 /// How many threads tell of filled lanes, each of one.
@@ -103,6 +103,35 @@ fn each_lane_is_seen<R: Threads + Wait + Abort>(rt: &R) -> bool {
 #[test]
 fn a_lane_that_is_told_of_is_seen(rt: HostRuntime) {
     assert!(rt; each_lane_is_seen(&rt));
+}
+
+/// Tells that a verifier's thread has nothing more to put, once two threads are there.
+fn verify_together(lifecycle: &Lifecycle, there: &AtomicU64) {
+    there.fetch_add(1, Ordering::SeqCst);
+    comes_to(there, 2);
+    lifecycle.tell_verified();
+}
+
+/// How often two verifiers' threads end at the same time.
+const MEETINGS: u64 = 20_000;
+
+/// Whether all verifiers are told of as ended, where two end at the same time.
+fn both_are_counted<R: Threads>(rt: &R) -> bool {
+    let lifecycle = Lifecycle::new(2);
+    let there = AtomicU64::new(0);
+    join(
+        rt,
+        || verify_together(&lifecycle, &there),
+        || verify_together(&lifecycle, &there),
+    );
+    lifecycle.are_verified().is_some()
+}
+
+#[test]
+fn two_verifiers_that_end_at_once_are_counted(rt: HostRuntime) {
+    for _ in 0..MEETINGS {
+        assert!(rt; both_are_counted(&rt));
+    }
 }
 
 /// Waits at a wait set until all threads are to stop.
