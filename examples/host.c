@@ -51,12 +51,18 @@ static void tell(const uint8_t *code, uint32_t module, const lfi_state *state, c
     printf("%.*s\n", (int)(count < sizeof text ? count : sizeof text), (const char *)text);
 }
 
+/* A number of the command line, or one above all that are asked for. */
+static uint32_t number(const char *text) {
+    unsigned long it = strtoul(text, NULL, 10);
+    return it < UINT32_MAX ? (uint32_t)it : UINT32_MAX;
+}
+
 int main(int count, char **given) {
     lfi_map map;
     lfi_state state;
     lfi_fault fault;
-    uint32_t module = count > 2 ? (uint32_t)atol(given[1]) : LFI_MODULES, words = count > 2 ? (uint32_t)atol(given[2]) : 0;
-    uint32_t profile = count > 3 ? (uint32_t)atol(given[3]) : LFI_PROFILE_1;
+    uint32_t module = count > 2 ? number(given[1]) : LFI_MODULES, words = count > 2 ? number(given[2]) : 0;
+    uint32_t profile = count > 3 ? number(given[3]) : LFI_PROFILE_1;
     if (words == 0 || words > LFI_MAX_WORDS || lfi_profile_map(profile, module, &map)) return 2;
     size_t end = (map.code + 4 * (size_t)words + 4095) / 4096 * 4096;
     uint8_t *slot = reserve(&map);

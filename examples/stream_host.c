@@ -1,5 +1,6 @@
 /* A host that takes a stream of modules from standard input: copies their code straight into their slots, hears of each module
- * what becomes of it, and prints the report that `lfiload load` prints. docs/C.md says what each call promises.
+ * what becomes of it, and prints the report that `lfiload load` prints; where a read fails, nothing, and its status is 3.
+ * docs/C.md says what each call promises.
  *
  *   cc -I include examples/stream_host.c out/TARGET/liblfi_verifier.a -o stream_host
  *   ./stream_host < examples/two_modules.stream */
@@ -67,12 +68,14 @@ int main(void) {
     lfi_stream stream;
     static lfi_event event; /* of kind LFI_NOTHING */
     int well = 1;
+    ssize_t got = 0;
     if (lfi_stream_init(&stream, LFI_PROFILE_1)) return 3;
-    for (ssize_t got; event.kind < LFI_FAULT && (got = read(0, piece, sizeof piece)) > 0;)
+    while (event.kind < LFI_FAULT && (got = read(0, piece, sizeof piece)) > 0)
         for (size_t at = 0, used; at < (size_t)got && event.kind < LFI_FAULT; at += used) {
             used = lfi_stream_next(&stream, piece + at, (size_t)got - at, &event);
             if (!follow(&event, piece + at, used)) return 3;
         }
+    if (got < 0) return 3;
     do {
         if (lfi_stream_end(&stream, &event) || !follow(&event, piece, 0)) return 3;
     } while (event.kind != LFI_NOTHING);

@@ -38,12 +38,12 @@ static int read_code(FILE *file, uint8_t *code, const slot *it, lfi_fault *fault
     if (lfi_verify_init(&state, it->words, it->profile)) die("profile");
     for (size_t come = 0; come < due; come += part) {
         part = due - come < PAGE ? due - come : PAGE;
-        if (fread(code + come, 1, part, file) < part) return 5;
+        if (fread(code + come, 1, part, file) < part) return ferror(file) ? 9 : 5;
         /* HOST: Judge these very bytes */
         if (lfi_verify_update(&state, code + come, part)) break;
     }
     if (lfi_verify_final(&state, fault)) return 7;
-    return getc(file) == EOF ? 0 : 6;
+    return getc(file) != EOF ? 6 : ferror(file) ? 9 : 0;
 }
 
 static int take_image(const char *name, FILE *file) {
@@ -52,7 +52,7 @@ static int take_image(const char *name, FILE *file) {
     char line[64];
     uint32_t number = 0;
     int wrong = 0;
-    if (fread(&head, 1, sizeof head, file) < sizeof head) wrong = 5;
+    if (fread(&head, 1, sizeof head, file) < sizeof head) wrong = ferror(file) ? 9 : 5;
     else if (memcmp(&head.magic, "LFI1", 4)) wrong = 1;
     else if (head.profile != LFI_PROFILE_1 && head.profile != LFI_PROFILE_2) wrong = 2;
     else if (head.words == 0 || head.words > LFI_MAX_WORDS || head.entry >= head.words) wrong = 3;
@@ -90,6 +90,7 @@ static int take_stream(const char *name, FILE *file) {
             used = lfi_stream_next(&stream, piece + at, got - at, &event);
             follow(&event, piece + at, used, ends);
         }
+    if (ferror(file)) die(name);
     do lfi_stream_end(&stream, &event), follow(&event, piece, 0, ends); while (event.kind != LFI_NOTHING);
     for (uint32_t m = 0; m < LFI_MODULES; m++)
         if (ends[m].kind == LFI_END && ends[m].verdict == LFI_LAWFUL) status |= run_module(name, m);
