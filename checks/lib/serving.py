@@ -436,10 +436,29 @@ def try_one_slow(program, verifiers):
         wrong("slow", f"a page, and then nothing, with {verifiers} verifiers", came, wanted)
 
 
+def try_many_slow(program, verifiers, count):
+    """So many pages at once, of which the last has a fault, and then nothing: none of them waits for a thread that sleeps."""
+    with tempfile.TemporaryDirectory() as folder:
+        path = os.path.join(folder, "s")
+        words = [program, "serve", "--socket", path, "--connections", "2", "--verifiers", str(verifiers)]
+        serve = subprocess.Popen(words, stdout=subprocess.PIPE, stderr=subprocess.PIPE, text=True)
+        with connected(path) as first, connected(path) as second:
+            pages = formats.pages(2, 7, NOP * (1024 * (count - 1)) + bytes(4096))
+            first.sendall(formats.header(1, 0, 7, 1024 * (count + 1), 0) + b"".join(pages))
+            told = told_while(second, serve)
+        out, err = serve.communicate(timeout=60)
+        came = told, out.splitlines()[:2], err, serve.returncode
+    wanted = "module 7 refused\n", [f"module 7: refused, word {1024 * (count - 1)} rule 1", "connection 0: fault 9"], "", 1
+    if came != wanted:
+        wrong("slow", f"{count} pages, and then nothing, with {verifiers} verifiers", came, wanted)
+
+
 def try_slow(program):
     for verifiers in (1, 2, 8):
         try_one_slow(program, verifiers)
-    print("slow: one page that is refused is judged and told while its client sends nothing more, by 1, 2 and 8 verifiers")
+        for count in (33, 64, 65, 129, 200) * 3:
+            try_many_slow(program, verifiers, count)
+    print("slow: the last of 1 to 200 pages, which is refused, is judged and told while its client sends nothing more, by 1, 2 and 8 verifiers")
 
 
 # ---- path

@@ -101,8 +101,7 @@ static int take_stream(const char *name, FILE *file) {
 static int take_file(const char *name) {
     FILE *file = fopen(name, "rb");
     if (!file) die(name);
-    int first = ungetc(getc(file), file);
-    int status = first == 'L' ? take_image(name, file) : take_stream(name, file);
+    int status = ungetc(getc(file), file) == 'L' ? take_image(name, file) : take_stream(name, file);
     return fclose(file), status;
 }
 
