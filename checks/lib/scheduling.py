@@ -12,7 +12,7 @@ from lib import formats
 from lib.cases import NOP, RET, wrong
 from lib.serving import connected
 
-LOADS, SERVES, SECONDS, TOGETHER = 200, 100, 20, 300
+LOADS, SERVES, SECONDS, TOGETHER, LARGE = 200, 100, 20, 300, 50
 
 
 # ---- core
@@ -82,12 +82,21 @@ def end_together(program, folder, number):
     ended("together", words, serving, "".join(f"module {module}: complete, 1 words\n" for module in range(8)) + "strays 0\n")
 
 
+def load_many(program, folder, verifiers):
+    """More pages than a lane holds, by so many verifiers that some wait for room in it."""
+    words = [program, "load", "--verifiers", str(verifiers), "large.stream"]
+    ended("together", words, start(words, folder), "module 0: complete, 200001 words\nstrays 0\n")
+
+
 def try_together(program):
-    """Threads that end at once each have their end told."""
+    """Threads that end at once each have their end told; and those that wait for room in one lane are called."""
     with tempfile.TemporaryDirectory() as folder:
         for number in range(TOGETHER):
             end_together(program, folder, number)
-    print(f"together: {TOGETHER} times eight clients of `serve` that end at once")
+        pathlib.Path(folder, "large.stream").write_bytes(formats.stream(0, NOP * 200_000 + RET))
+        for verifiers in (2, 3, 4, 8) * LARGE:
+            load_many(program, folder, verifiers)
+    print(f"together: {TOGETHER} times eight clients of `serve` that end at once, {4 * LARGE} loads by many verifiers")
 
 
 # ---- late
