@@ -243,9 +243,10 @@ impl Lifecycle {
         ensures { (c : ℕ) → count ≤ c → is_unheard result c ≡ false }
     {
         for _ in rt.forever() {
+            // Before it looks: whoever ended in time is told so.
+            let left = span.left(rt);
             let heard = u32::try_from(self.heard.load(Ordering::SeqCst)).unwrap_or(u32::MAX);
             let unheard = Unheard::of(heard, count);
-            let left = span.left(rt);
             if unheard.is_none() || left.is_zero() {
                 return unheard;
             }
