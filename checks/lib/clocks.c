@@ -1,0 +1,54 @@
+/* Loaded before the C library (LD_PRELOAD): what CLOCK names goes wrong, or is slow. For checks/lib/clocks.py, on Linux.
+ *   fails  the clock can't be read
+ *   look   the first look for a client that finds none is followed by a pause of two seconds
+ *   read   the first reading of the clock after a client was taken is preceded by such a pause
+ *   write  each write to the standard output is interrupted 20 times */
+#define _GNU_SOURCE
+#include <errno.h>
+#include <stdatomic.h>
+#include <stdlib.h>
+#include <string.h>
+#include <sys/socket.h>
+#include <sys/syscall.h>
+#include <time.h>
+#include <unistd.h>
+
+static atomic_int taken, paused;
+
+static int is(const char *what) {
+    const char *how = getenv("CLOCK");
+    return how && !strcmp(how, what);
+}
+
+/* Two seconds, once. */
+static void pause_once(void) {
+    struct timespec time = {2, 0};
+    if (!atomic_fetch_add(&paused, 1)) syscall(SYS_nanosleep, &time, NULL);
+}
+
+int clock_gettime(clockid_t clock, struct timespec *now) {
+    if (is("fails")) {
+        errno = EINVAL;
+        return -1;
+    }
+    if (is("read") && taken) pause_once();
+    return (int)syscall(SYS_clock_gettime, clock, now);
+}
+
+int accept4(int at, struct sockaddr *address, socklen_t *length, int flags) {
+    int client = (int)syscall(SYS_accept4, at, address, length, flags), error = errno;
+    if (client >= 0) taken = 1;
+    else if (is("look")) pause_once();
+    errno = error;
+    return client;
+}
+
+ssize_t write(int at, const void *bytes, size_t count) {
+    static int left = 20;
+    if (at == 1 && is("write") && left-- > 0) {
+        errno = EINTR;
+        return -1;
+    }
+    left = 20;
+    return syscall(SYS_write, at, bytes, count);
+}

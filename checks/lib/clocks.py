@@ -1,0 +1,70 @@
+"""The part of checks/hostile on a clock that fails, and on pauses and interruptions by the system where they matter most."""
+
+import os
+import pathlib
+import shutil
+import socket
+import subprocess
+import tempfile
+import time
+
+from lib import formats
+from lib.cases import RET, wrong
+from lib.serving import connected
+
+# Entry 1 with `A`; entry 0 with 7.
+PRINTS = formats.code_of(0xD2800820, 0xF94006BE, 0xD63F03C0, 0xD28000E0, 0xF94002BE, 0xD63F03C0)
+LOADED = "module 0: complete, 1 words\nstrays 0\n", "", 0
+
+
+def compiled(folder):
+    """What is to be loaded before the C library; nothing where it can't be compiled."""
+    made = os.path.join(folder, "clocks.so")
+    words = ["cc", "-O2", "-shared", "-fPIC", "-o", made, pathlib.Path(__file__).with_name("clocks.c")]
+    return made if shutil.which("cc") and subprocess.run(words).returncode == 0 else None
+
+
+def compare(how, running, wanted):
+    try:
+        out, err = running.communicate(timeout=20)
+    except subprocess.TimeoutExpired:
+        running.kill()
+        wrong("clocks", how, "no end", wanted)
+    if (out, err, running.returncode) != wanted:
+        wrong("clocks", how, (out, err, running.returncode), wanted)
+
+
+def started(library, how, words, folder):
+    loaded = {**os.environ, "LD_PRELOAD": library, "CLOCK": how}
+    return subprocess.Popen(words, cwd=folder, stdout=subprocess.PIPE, stderr=subprocess.PIPE, text=True, env=loaded)
+
+
+def serve_one(program, library, how, delay, folder):
+    """`serve` for a second, and one client that comes after a delay, sends a module and ends at once."""
+    path = os.path.join(folder, how)
+    serving = started(library, how, [program, "serve", "--socket", path, "--connections", "1", "--seconds", "1"], folder)
+    while serving.poll() is None and not os.path.exists(path):
+        time.sleep(0.01)
+    time.sleep(delay)
+    with connected(path) as client:
+        client.sendall(formats.stream(0, RET))
+        client.shutdown(socket.SHUT_WR)
+        compare(how, serving, LOADED)
+
+
+def try_clocks(program):
+    """Who came or ended in time is told so, however late the thread looks that keeps the time; and where the clock can't be read the time is
+    over. A write that is interrupted is tried again."""
+    with tempfile.TemporaryDirectory() as folder:
+        library = compiled(folder)
+        if not library:
+            print("clocks: left out, since cc isn't here")
+            return
+        pathlib.Path(folder, "it.img").write_bytes(formats.image(0, 0, PRINTS))
+        compare("write", started(library, "write", [program, "run", "it.img", "--steps", "100"], folder), ("A", "halt 5 status 7 after 5 steps\n", 0))
+        words = [program, "serve", "--socket", os.path.join(folder, "s"), "--connections", "1", "--seconds", "30"]
+        none = "strays 0\n", "lfiload: time is over: connection 0 had not come\n", 3
+        compare("fails", started(library, "fails", words, folder), none)
+        serve_one(program, library, "look", 0.5, folder)
+        serve_one(program, library, "read", 0.2, folder)
+    print("clocks: one that can't be read, pauses before and after a look, a write that is interrupted")
