@@ -1,4 +1,4 @@
-use Rattle.std.proofs.Common.{rules, ap, sym, ◌∙◌, arith}
+use Rattle.std.proofs.Common.{rules, ap, ◌∙◌, arith}
 use Rattle.lfi_board.specs.Known.{sequencer_board}
 use Rattle.tests_stream.proofs.Given.{brought}
 use Rattle.tests_stream.proofs.Seats.{seat_on}
