@@ -15,14 +15,22 @@ WHOLE = NOP * formats.MOST_WORDS
 # ---- reads
 
 
+def reads_of(process):
+    """How many reads a process asked for that has ended; 0 where the system doesn't tell that here."""
+    try:
+        return int(re.search(r"syscr: (\d+)", pathlib.Path("/proc", str(process), "io").read_text())[1])
+    except OSError:
+        return 0
+
+
 def cost_of(program, folder, words):
     """How many reads a run asked for, and how many pages of memory it touched first, and what it wrote."""
     with open(os.path.join(folder, "told"), "wb") as told:
         running = subprocess.Popen([program, *words], cwd=folder, stdin=subprocess.DEVNULL, stdout=told, stderr=told)
         os.waitid(os.P_PID, running.pid, os.WEXITED | os.WNOWAIT)
-        reads = re.search(r"syscr: (\d+)", pathlib.Path("/proc", str(running.pid), "io").read_text())[1]
+        reads = reads_of(running.pid)
         _, _, used = os.wait4(running.pid, 0)
-    return int(reads), used.ru_minflt, pathlib.Path(folder, "told").read_text()
+    return reads, used.ru_minflt, pathlib.Path(folder, "told").read_text()
 
 
 def try_reads(program):
