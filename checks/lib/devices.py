@@ -26,8 +26,11 @@ def may_mount():
         return True
     if libc.unshare(NEW_USER | NEW_MOUNTS):
         return False
-    for name, text in ("setgroups", "deny"), ("uid_map", f"0 {user} 1"), ("gid_map", f"0 {group} 1"):
-        pathlib.Path("/proc/self", name).write_text(text)
+    try:
+        for name, text in ("setgroups", "deny"), ("uid_map", f"0 {user} 1"), ("gid_map", f"0 {group} 1"):
+            pathlib.Path("/proc/self", name).write_text(text)
+    except OSError:
+        return False
     return True
 
 
