@@ -418,33 +418,18 @@ def told_while(client, serve):
     return ""
 
 
-def try_one_slow(program, verifiers):
+def try_pages(program, verifiers, count, pieces):
+    """So many pages in pieces, each once what came before has been judged, of which the last has a fault, and then nothing: it is judged and
+    told, and none waits for a thread that sleeps."""
     with tempfile.TemporaryDirectory() as folder:
         path = os.path.join(folder, "s")
         words = [program, "serve", "--socket", path, "--connections", "2", "--verifiers", str(verifiers)]
         serve = subprocess.Popen(words, stdout=subprocess.PIPE, stderr=subprocess.PIPE, text=True)
         with connected(path) as first, connected(path) as second:
-            first.sendall(formats.header(1, 0, 7, 3072, 0) + formats.header(2, 0, 7, 0, 4096) + NOP * 1024)
-            # What came before has been judged by then.
-            time.sleep(0.5)
-            first.sendall(formats.header(2, 0, 7, 1, 4096) + bytes(4096))
-            told = told_while(second, serve)
-        out, err = serve.communicate(timeout=60)
-        came = told, out.splitlines()[:2], err, serve.returncode
-    wanted = "module 7 refused\n", ["module 7: refused, word 1024 rule 1", "connection 0: fault 9"], "", 1
-    if came != wanted:
-        wrong("slow", f"a page, and then nothing, with {verifiers} verifiers", came, wanted)
-
-
-def try_many_slow(program, verifiers, count):
-    """So many pages at once, of which the last has a fault, and then nothing: none of them waits for a thread that sleeps."""
-    with tempfile.TemporaryDirectory() as folder:
-        path = os.path.join(folder, "s")
-        words = [program, "serve", "--socket", path, "--connections", "2", "--verifiers", str(verifiers)]
-        serve = subprocess.Popen(words, stdout=subprocess.PIPE, stderr=subprocess.PIPE, text=True)
-        with connected(path) as first, connected(path) as second:
-            pages = formats.pages(2, 7, NOP * (1024 * (count - 1)) + bytes(4096))
-            first.sendall(formats.header(1, 0, 7, 1024 * (count + 1), 0) + b"".join(pages))
+            first.sendall(formats.header(1, 0, 7, 1024 * (count + 1), 0))
+            for piece in pieces:
+                first.sendall(piece)
+                time.sleep(0.5 if piece is not pieces[-1] else 0)
             told = told_while(second, serve)
         out, err = serve.communicate(timeout=60)
         came = told, out.splitlines()[:2], err, serve.returncode
@@ -453,12 +438,17 @@ def try_many_slow(program, verifiers, count):
         wrong("slow", f"{count} pages, and then nothing, with {verifiers} verifiers", came, wanted)
 
 
+def refused_last(count):
+    """The messages of so many pages, of which the last is refused."""
+    return formats.pages(2, 7, NOP * (1024 * (count - 1)) + bytes(4096))
+
+
 def try_slow(program):
     for verifiers in (1, 2, 8):
-        try_one_slow(program, verifiers)
+        try_pages(program, verifiers, 2, refused_last(2))
         for count in (33, 64, 65, 129, 200) * 3:
-            try_many_slow(program, verifiers, count)
-    print("slow: the last of 1 to 200 pages, which is refused, is judged and told while its client sends nothing more, by 1, 2 and 8 verifiers")
+            try_pages(program, verifiers, count, [b"".join(refused_last(count))])
+    print("slow: the last of 2 to 200 pages, which is refused, is judged and told while its client sends nothing more, by 1, 2 and 8 verifiers")
 
 
 # ---- path
