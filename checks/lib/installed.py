@@ -229,6 +229,32 @@ def try_oldest_python(prefix):
         run(python, TOP / "install", "--prefix", prefix, *more)
 
 
+def try_stops(room, archive):
+    """What can't be installed is told, and an install that stands there stays as it is; where the prefix is told from here, it is there."""
+    prefix, missing = room / "stops" / "prefix", room / "missing.a"
+    (room / "stops").mkdir()
+    run(TOP / "install", "--prefix", "stops/prefix", cwd=room)
+    before = {it: (it.stat().st_mtime_ns, it.read_bytes()) for it in files_in(prefix)}
+    library = ["--library", "--archive", archive]
+    stops = (
+        (["--no-program"], {}, "nothing to install: --no-program goes with --library"),
+        (["--library", "--archive", missing], {}, f"{missing} isn't there: checks/build --library proves and builds it"),
+        (library, {"CC": "no-compiler"}, "no shared library: no-compiler: No such file or directory; name a C compiler by CC"),
+        (library, {"CC": "false"}, "no shared library: false "),
+        (["--check", "--prefix", "none"], {}, f"nothing is installed in {room / 'none'}"),
+        (["--uninstall", "--prefix", "none"], {}, f"nothing is installed in {room / 'none'}"),
+    )
+    for words, more, why in stops:
+        told = subprocess.run([TOP / "install", "--prefix", "stops/prefix", *words], cwd=room, capture_output=True, text=True, env={**os.environ, **more})
+        if (told.returncode, told.stdout) != (1, "") or not told.stderr.startswith(f"install: {why}"):
+            fail(f"install {' '.join(map(str, words))}: status {told.returncode}, {told.stdout}{told.stderr}, and not {why}")
+        if {it: (it.stat().st_mtime_ns, it.read_bytes()) for it in files_in(prefix)} != before:
+            fail(f"install {' '.join(map(str, words))} stops, and changes what is installed")
+    run(TOP / "install", "--uninstall", "--prefix", "prefix", cwd=room / "stops")
+    if list((room / "stops").iterdir()):
+        fail(f"left after --uninstall of a prefix that is told from here: {list((room / 'stops').iterdir())}")
+
+
 # ---- other archives and trees
 
 def try_other_tree(room, prefix):
@@ -274,6 +300,30 @@ def tell_by_stamps(stub, prefix, stamp):
     for sum_, wanted in (others, {}), (sources, {"wanted": "proved and built from this tree's sources"}):
         stub.with_name("liblfi_verifier.stamp").write_text(sum_ + own)
         tell_sources(stub, prefix, **wanted)
+
+
+def try_program_alone(room):
+    """A program is of these sources where its stamp has their sum and its own, as an archive is. Where it isn't there, that is told."""
+    top, missing = room / "program", "install: crates/lfiload/out/lfiload isn't there: checks/build proves and builds it\n"
+    shutil.copytree(TOP, top, ignore=shutil.ignore_patterns(".git", "out"), symlinks=True)
+    told = subprocess.run([top / "install", "--prefix", room / "none"], capture_output=True, text=True)
+    if (told.returncode, told.stdout, told.stderr) != (1, "", missing) or (room / "none").exists():
+        fail(f"an install of a tree without a program: status {told.returncode}, {told.stdout}{told.stderr}")
+    program = top / "crates" / "lfiload" / "out" / "lfiload"
+    program.parent.mkdir()
+    program.write_text("#!/bin/sh\n")
+    program.chmod(0o755)
+    stamp, own = TOP / "crates" / "lfiload" / "out" / "lfiload.stamp", hashlib.sha256(program.read_bytes()).hexdigest()
+    texts = {stamp.read_text(): False} if stamp.exists() else {}
+    if has("rt"):
+        sources = script("build").stamps_of("lfiload")[0]
+        texts |= {("0" if sources[0] != "0" else "1") + sources[1:] + own: False, sources + own: True}
+    for text, is_of in texts.items():
+        program.with_name("lfiload.stamp").write_text(text)
+        last = run(top / "install", "--prefix", room / "alone").splitlines()[-1]
+        wanted = "proved and built from this tree's sources" if is_of else "no stamp tells that it was built from this tree's sources"
+        if last != f"crates/lfiload/out/lfiload: {wanted}":
+            fail(f"an install of a program of which is wanted {wanted!r} tells {last}")
 
 
 def try_library_alone(room, version, archive):

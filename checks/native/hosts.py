@@ -5,6 +5,7 @@ import os
 import pathlib
 import platform
 import re
+import resource
 import struct
 import subprocess
 import sys
@@ -281,7 +282,8 @@ def cases(room, corpus):
     spoiled = {"short.img": loop[:-1], "more.img": ends + b"\0"}
     faults = {f"head-{number}.img": (head[0], struct.pack("<4sIIIQ", *head[1:]) + ends[24:]) for number, head in enumerate(heads())}
     spoiled |= {name: file for name, (_, file) in faults.items()}
-    for name, file in {"loop.img": loop, "crossing.img": crossing, **spoiled}.items():
+    plain = image(0, 0, formats.code_of(0xC8DFFE40))  # by profile 1, which doesn't have it
+    for name, file in {"loop.img": loop, "crossing.img": crossing, "plain.img": plain, **spoiled}.items():
         (room / name).write_bytes(file)
     usage = "usage: native_host [--emulate] [--seconds N] [--batch] FILE..\n"
     sums, halted = b"a10a5abb\nc324e8c9\n", "halt 5 status 59\n"
@@ -300,11 +302,13 @@ def cases(room, corpus):
         yield [name], 1, b"", f"image refused, fault {fault}\n"
     yield ["short.img"], 1, b"", "image refused, fault 5\n"
     yield ["more.img"], 1, b"", "image refused, fault 6\n"
+    yield ["plain.img"], 1, b"", "image refused, fault 7, word 0 rule 1\n"
     yield ["crossing.img"], 1, b"", "bus at 0x000000010002000f\n"
     yield ["--emulate", "crossing.img"], 0, b"", f"halt 4 at 0x{BASE + 0x10010:016x}\n"
     for seconds in ("0.05", "0.0000001"):
         yield ["--seconds", seconds, "loop.img"], 0, b"", "halt 1\n"
     yield ["missing.img"], 3, b"", "native_host: missing.img: No such file or directory\n"
+    yield [room], 3, b"", f"native_host: {room}: Is a directory\n"
     for wrong in ([], ["--batch"], ["--seconds"], ["--other", "loop.img"], *(["--seconds", it, "loop.img"] for it in NO_SECONDS)):
         yield wrong, 2, b"", usage
 
@@ -316,9 +320,18 @@ def check_told(host, room, corpus):
         done, count = run(host, *words, cwd=room), count + 1
         if (done.returncode, done.stdout, done.stderr.decode()) != (status, out, line):
             fail(f"native_host {' '.join(map(str, words))}: {done}, and not status {status}, {out}, {line}")
+    if not takes_many(host, room):
+        fail("native_host --batch, with more files than it may have open: not all were run")
     if not is_full_told(host):
         fail("native_host checksums.stream, to a device that is full: no `halt 5 status 255`, or not status 0")
-    return count + 1
+    return count + 2
+
+
+def takes_many(host, room):
+    """Whether it runs more files than a process may have open at once."""
+    (room / "ends.img").write_bytes(formats.image(0, 0, formats.code_of(programs.BRK)))
+    done = run(host, "--batch", *["ends.img"] * 100, cwd=room, preexec_fn=lambda: resource.setrlimit(resource.RLIMIT_NOFILE, (50, 50)))
+    return (done.returncode, done.stdout) == (0, f"ends.img 0  halt 4 at 0x{BASE + 0x10000:016x}\n".encode() * 100)
 
 
 def is_full_told(host):

@@ -129,7 +129,7 @@ unless_lost false told ends not_told = not_told (sym ends)
 by_each : (One : ℕ → List ℕ → Left → Left → Ending → Type 0) (paths : List (List ℕ)) → ((k : ℕ) (path : List ℕ) (old new : Left) (ending : Ending) → One k path old new ending → ending ≡ WrongWords → ⊥)
     → (old new : Left) → DoesEach One paths old new WrongWords → ⊥
 by_each One paths one old new (inl all) = unless_lost new.is_lost all.0 all.2 (by_done One paths one (length paths) old new all.0 all.1)
-by_each One paths one old new (inr stops) = failed_ends stops.7
+by_each One paths one old new (inr stops) = failed_ends stops.1.6
 
 by_object : (asked : CheckOptions) (file_at : List ℕ → Option (List ℕ)) (before : ℕ) (path : List ℕ) (old new : Left) (ending : Ending) → ChecksObject asked file_at before path old new ending
     → ending ≡ WrongWords → ⊥
@@ -142,7 +142,7 @@ by_checks Text asked file_at old new did =
 by_checks Json asked file_at old new (inl ends) =
     unless_lost new.is_lost ends.1 ends.5
     (by_done (ChecksObject asked file_at) (paths_of asked) (λ k path was now ending one is. by_object asked file_at k path was now ending one is) (length (paths_of asked)) old ends.0 ends.1 ends.2)
-by_checks Json asked file_at old new (inr stops) = failed_ends stops.7
+by_checks Json asked file_at old new (inr stops) = failed_ends stops.2.6
 
 by_info : (kind : FileKind) (bytes text : List ℕ) (ending : Ending) → IsInfo kind bytes text ending → ending ≡ WrongWords → ⊥
 by_info kinds.Elf bytes text ending info is = not_well_ends (sym is ∙ info.1)

@@ -1,6 +1,6 @@
 -- What is written of code that is judged, with what is explained of it. Source: this project's profile,
 -- docs/COMMANDS.md.
-use Rattle.std.specs.Prelude.{◌≡◌, ◌⊎◌, ℕ, List, ◌++◌, length, map, Option, IfSome, codes}
+use Rattle.std.specs.Prelude.{◌≡◌, ◌⊎◌, ℕ, List, [], ◌++◌, length, map, Option, IfSome, codes}
 use Rattle.std.specs.Io.KnownBytes.{Appends}
 use Rattle.a64_word.specs.Words.{words_of}
 use Rattle.lfi_module.specs.declared.profile.Profile.{Profile}
@@ -23,11 +23,11 @@ use Rattle.lfi_file_commands.specs.declared.finding.Finding.TheVariants as findi
 use Rattle.lfi_file_commands.specs.declared.kind.FileKind.{FileKind}
 use Rattle.lfi_file_commands.specs.Checking.{IsFound, TellsOf, ending_of, name_before, other_of, verdict_of}
 use Rattle.lfi_file_commands.specs.Endings.{EndsUnlessLost}
-use Rattle.lfi_file_commands.specs.Failures.{IsOfReading, Told, failure_line}
+use Rattle.lfi_file_commands.specs.Failures.{FailsOn, IsOfReading, Told, failure_line}
 use Rattle.lfi_file_commands.specs.Kinds.{file_kind, kind_line}
 use Rattle.lfi_file_commands.specs.Json.{file_object, unread_object, IsFindingText}
 use Rattle.lfi_file_commands.specs.Left.{Left, OnlyOutput}
-use Rattle.lfi_file_commands.specs.Several.{AreDone, DoesEach, StopsAtOutput}
+use Rattle.lfi_file_commands.specs.Several.{AreDone, DoesEach, StopsBy}
 
 -- The explanation of a fault of this code, told as that of module 0, was written behind a name, and then the line of the file's kind.
 abbrev pub ExplainsFault : (name : List ℕ) → FileKind → Profile → (code : List ℕ) → Fault → (old new : Option (List ℕ)) → Type 0
@@ -117,9 +117,10 @@ EndsObjects asked file_at old new ending =
     (mid : Left) × (all : Ending) × AreDone (ChecksObject asked file_at) (paths_of asked) (length (paths_of asked)) old mid all × Appends mid.out new.out (codes "]}\n") × OnlyOutput mid new
     × EndsUnlessLost new.is_lost all ending
 
--- one object was written with that of each file, or its beginning, of which the output failed
+-- one object was written with that of each file, or its beginning: the output failed, or there was no memory
 abbrev pub WritesObjects : CheckOptions → (List ℕ → Option (List ℕ)) → (old new : Left) → Ending → Type 0
-WritesObjects asked file_at old new ending = EndsObjects asked file_at old new ending ⊎ StopsAtOutput (ChecksObject asked file_at) (paths_of asked) old new ending
+WritesObjects asked file_at old new ending =
+    EndsObjects asked file_at old new ending ⊎ ((failure : Failure) × FailsOn [] failure × StopsBy failure (ChecksObject asked file_at) (paths_of asked) old new ending)
 
 -- in lines of text, or as one object
 abbrev pub ChecksAs : Format → CheckOptions → (List ℕ → Option (List ℕ)) → (old new : Left) → Ending → Type 0

@@ -3,6 +3,7 @@ use Rattle.std.specs.Prelude.{◌≡◌, ◌⊎◌, ℕ, zero, suc, List, length
 use Rattle.lfi_file_commands.specs.declared.device_cause.DeviceCause.{DeviceCause}
 use Rattle.lfi_file_commands.specs.declared.ending.Ending.{Ending}
 use Rattle.lfi_file_commands.specs.declared.ending.Ending.TheVariants.{Well, Failed}
+use Rattle.lfi_file_commands.specs.declared.failure.Failure.{Failure}
 use Rattle.lfi_file_commands.specs.declared.failure.Failure.TheVariants.{CannotWrite}
 use Rattle.lfi_file_commands.specs.declared.failure.Target.TheVariants.{StandardOutput}
 use Rattle.lfi_file_commands.specs.Checking.{worst}
@@ -21,11 +22,14 @@ AreDone One paths (suc k) old new ending =
 abbrev pub DoesAll : (One : ℕ → List ℕ → Left → Left → Ending → Type 0) → (paths : List (List ℕ)) → (old new : Left) → Ending → Type 0
 DoesAll One paths old new ending = (all : Ending) × AreDone One paths (length paths) old new all × EndsUnlessLost new.is_lost all ending
 
--- those before one were, of which the output failed; that was told, unless it is lost, and the run has failed
+-- those before one were, at which the run failed for this; that was told, unless it is lost
+abbrev pub StopsBy : Failure → (One : ℕ → List ℕ → Left → Left → Ending → Type 0) → (paths : List (List ℕ)) → (old new : Left) → Ending → Type 0
+StopsBy failure One paths old new ending =
+    (k : ℕ) × (mid : Left) × (before : Ending) × AreDone One paths k old mid before × Told new.is_lost mid.errors new.errors (failure_line failure) × (new.put ≡ mid.put) × (ending ≡ Failed)
+
+-- the output failed
 abbrev pub StopsAtOutput : (One : ℕ → List ℕ → Left → Left → Ending → Type 0) → (paths : List (List ℕ)) → (old new : Left) → Ending → Type 0
-StopsAtOutput One paths old new ending =
-    (k : ℕ) × (mid : Left) × (before : Ending) × (cause : DeviceCause) × AreDone One paths k old mid before
-    × Told new.is_lost mid.errors new.errors (failure_line (CannotWrite StandardOutput cause)) × (new.put ≡ mid.put) × (ending ≡ Failed)
+StopsAtOutput One paths old new ending = (cause : DeviceCause) × StopsBy (CannotWrite StandardOutput cause) One paths old new ending
 
 -- all were done, or all before one
 abbrev pub DoesEach : (One : ℕ → List ℕ → Left → Left → Ending → Type 0) → (paths : List (List ℕ)) → (old new : Left) → Ending → Type 0

@@ -1,13 +1,13 @@
 //! `check --format json`, from the paths to the ending.
 
-ghost use Rattle.std.specs.Prelude.{◌≡◌, ◌≤◌, ◌++◌, ℕ, List, Some, false, length, IfOk, IfErr, OnOk, OnErr, codes, decimal, string_bytes};
+ghost use Rattle.std.specs.Prelude.{◌≡◌, ◌≤◌, ◌++◌, ℕ, List, [], Some, false, length, IfOk, IfErr, OnOk, OnErr, codes, decimal, string_bytes};
 ghost use Rattle.std.specs.Io.KnownBytes.{Appends};
 ghost use Rattle.a64_word.specs.Words.{words_of};
 ghost use Rattle.lfi_module.specs.Numbers.{most_words};
 ghost use Rattle.lfi_rules.specs.Faults.{FirstFault};
 ghost use Rattle.lfi_check.specs.Checking.{IsCode};
 ghost use Rattle.lfi_file_commands.specs.Explaining.{ChecksObject, IsObjectOf, WritesObjects, paths_of};
-ghost use Rattle.lfi_file_commands.specs.Failures.{is_of_a_write, IsOfReading};
+ghost use Rattle.lfi_file_commands.specs.Failures.{is_of_a_write, FailsOn, IsOfReading};
 ghost use Rattle.lfi_file_commands.specs.Json as spec;
 ghost use Rattle.lfi_file_commands.specs.Left.{Left, OnlyOutput};
 ghost use Rattle.lfi_file_commands.specs.Several.{AreDone};
@@ -19,7 +19,7 @@ use crate::disk::{Disk, ImageStore};
 use crate::ending::Ending;
 use crate::errors::{ended, tell_failure};
 use crate::explaining::slot;
-use crate::failure::{Failure, Target};
+use crate::failure::Failure;
 use crate::finding::Finding;
 use crate::kind::FileKind;
 use crate::members::{push_explanation, push_fault, push_plain, push_quoted, push_refused};
@@ -302,18 +302,30 @@ fn unread_object(
     }
 }
 
+/// Writes a text that is part of the object of all files.
+fn write_part<W: Write>(text: &str, out: &mut W) -> Result<(), Failure<'static>>
+    ensures written { OnOk result (Appends (W.contents out.old) (W.contents out.new) text.now) }
+    ensures failure { IfErr result (FailsOn []) }
+{
+    match write_object(text, out) {
+        Ok(()) => Ok(()),
+        Err(cause) => Err(Failure::of_output(cause)),
+    }
+}
+
 /// Writes the object of a file that can't be read.
 fn write_unread<W: Write>(
     alloc: Global,
     file: NamedFile<'_>,
     failure: &Failure<'_>,
     out: &mut W,
-) -> Result<(), DeviceCause>
-    ensures { OnOk result (Appends (W.contents out.old) (W.contents out.new) (spec.unread_object file.entry.before file.entry.path.now failure.now)) }
+) -> Result<(), Failure<'static>>
+    ensures written { OnOk result (Appends (W.contents out.old) (W.contents out.new) (spec.unread_object file.entry.before file.entry.path.now failure.now)) }
+    ensures failure { IfErr result (FailsOn []) }
 {
     match unread_object(alloc, file, failure) {
-        Ok(text) => write_object(text.as_str(), out),
-        Err(AllocError) => Err(DeviceCause::Other),
+        Ok(text) => write_part(text.as_str(), out),
+        Err(AllocError) => Err(Failure::NoMemory),
     }
 }
 
@@ -322,29 +334,29 @@ fn write_unread<W: Write>(
 ///
 /// # Errors
 ///
-/// Where the object can't be written, for this cause, or there is no memory for one that says that a file can't be read. Nothing was
-/// told then.
+/// Where the object can't be written, or there is no memory for one that says that a file can't be read. Nothing was told then.
 fn check_object<D: Disk, P: ImageStore, O: Write, E: Write>(
     alloc: Global,
     disk: &D,
     file: NamedFile<'_>,
     asked: &CheckOptions<'_>,
     outputs: &mut Outputs<P, O, E>,
-) -> Result<Ending, DeviceCause>
+) -> Result<Ending, Failure<'static>>
     ensures found { IfOk result (ChecksObject asked.now (D.file_at disk.now) file.entry.before file.entry.path.now outputs.old outputs.new) }
+    ensures failure { IfErr result (FailsOn []) }
     ensures untold { OnErr result (OnlyOutput outputs.old outputs.new) }
 {
     match judged_at(alloc, disk, file, asked) {
-        Ok(judged) => match write_object(judged.text.as_str(), &mut outputs.out) {
+        Ok(judged) => match write_part(judged.text.as_str(), &mut outputs.out) {
             Ok(()) => {
                 tell_other(file.path, judged.finding.other(), &mut outputs.errors);
                 Ok(Ending::of_verdict(&judged.finding.verdict()))
             }
-            Err(cause) => Err(cause),
+            Err(unwritten) => Err(unwritten),
         },
         Err(failure) => match write_unread(alloc, file, &failure, &mut outputs.out) {
             Ok(()) => Ok(tell_failure(failure, &mut outputs.errors)),
-            Err(cause) => Err(cause),
+            Err(unwritten) => Err(unwritten),
         },
     }
 }
@@ -353,13 +365,14 @@ fn check_object<D: Disk, P: ImageStore, O: Write, E: Write>(
 ///
 /// # Errors
 ///
-/// Where the object of one file can't be written, for this cause. The others before it are.
+/// Where the object of one file can't be written. The others before it are.
 fn check_objects<D: Disk, P: ImageStore, O: Write, E: Write>(
     alloc: Global,
     disk: &D,
     asked: &CheckOptions<'_>,
     outputs: &mut Outputs<P, O, E>,
-) -> Result<Ending, DeviceCause>
+) -> Result<Ending, Failure<'static>>
+    ensures failure { IfErr result (FailsOn []) }
     ensures all { IfOk result (AreDone (ChecksObject asked.now (D.file_at disk.now)) (paths_of asked.now) (length asked.now.files.items) outputs.old outputs.new) }
     ensures part { OnErr result ((k : ℕ) × (mid : Left) × (before : Ending) × AreDone (ChecksObject asked.now (D.file_at disk.now)) (paths_of asked.now) k outputs.old mid before × OnlyOutput mid outputs.new) }
 {
@@ -372,7 +385,7 @@ fn check_objects<D: Disk, P: ImageStore, O: Write, E: Write>(
         };
         let here = match check_object(alloc, disk, file, asked, outputs) {
             Ok(here) => here,
-            Err(cause) => return Err(cause),
+            Err(failure) => return Err(failure),
         };
         worst = worst.worse(here);
     }
@@ -380,7 +393,7 @@ fn check_objects<D: Disk, P: ImageStore, O: Write, E: Write>(
 }
 
 /// Judges the code in the files, and writes one object with that of each. A file that can't be read is told of there too, and
-/// the others are judged. It ends where the output fails.
+/// the others are judged. It ends where the output fails, or there is no memory for what is told of such a file.
 pub(crate) fn run_check_objects<D: Disk, P: ImageStore, O: Write, E: Write>(
     alloc: Global,
     disk: &D,
@@ -391,13 +404,10 @@ pub(crate) fn run_check_objects<D: Disk, P: ImageStore, O: Write, E: Write>(
 {
     let worst = match check_objects(alloc, disk, asked, outputs) {
         Ok(worst) => worst,
-        Err(cause) => return tell_failure(Failure::of_output(cause), &mut outputs.errors),
+        Err(failure) => return tell_failure(failure, &mut outputs.errors),
     };
-    match write_object("]}\n", &mut outputs.out) {
+    match write_part("]}\n", &mut outputs.out) {
         Ok(()) => outputs.errors.unless_lost(worst),
-        Err(cause) => {
-            let failure = Failure::CannotWrite(Target::StandardOutput, cause);
-            ended(Err(failure), outputs)
-        }
+        Err(failure) => ended(Err(failure), outputs),
     }
 }

@@ -1,7 +1,7 @@
 //! What the commands promise, read from the records of their contracts: where one of these fields is dropped, a law here isn't
 //! proved any more.
 
-ghost use Rattle.std.specs.Prelude.{◌≡◌, ◌≢◌, ◌≤◌, ◌↔◌, ℕ, true, false, nat_lt, List, [], ◌++◌, Option, Some, None, codes, map, length};
+ghost use Rattle.std.specs.Prelude.{◌≡◌, ◌≢◌, ◌≤◌, ◌↔◌, ℕ, true, false, nat_lt, List, [], ◌∷◌, ◌++◌, Option, Some, None, codes, map, length};
 ghost use Rattle.std.specs.Io.KnownBytes.{Appends, Keeps};
 ghost use Rattle.a64_word.specs.Words.{words_of};
 ghost use Rattle.a64_semantics.specs.declared.registers.Registers.{Registers};
@@ -42,9 +42,10 @@ ghost use Rattle.lfi_file_commands.specs.Explaining.{HasJudged, HasJudgedObject}
 ghost use Rattle.lfi_file_commands.specs.Images.{asked_images, folder_or_none, image_file, WritesImages};
 ghost use Rattle.lfi_file_commands.specs.Info.{most_told, HasTold, IsShortInfo};
 ghost use Rattle.lfi_file_commands.specs.Json.{file_object, IsFindingText};
+ghost use Rattle.lfi_file_commands.specs.Kinds.{file_kind, kind_note};
 ghost use Rattle.lfi_file_commands.specs.Left.{Left};
 ghost use Rattle.lfi_file_commands.specs.Listing.{listed_text, marks_by, HasListed};
-ghost use Rattle.lfi_file_commands.specs.Packing.{HasPacked};
+ghost use Rattle.lfi_file_commands.specs.Packing.{codes_of, HasPacked, WritesStream};
 ghost use Rattle.lfi_file_commands.specs.Running.{told_of_run, HasRun};
 ghost use Rattle.lfi_file_commands.specs.Unpacking.{HasUnpacked};
 ghost use Rattle.lfi_commands.specs.Clients.{fate_lines, read_lines};
@@ -95,6 +96,11 @@ pub fn no_file_is_put()
     ensures told { (asked : DisassembleOptions) (bytes : List ℕ) (old new : Left) (ending : Ending) → (is : HasListed asked (Some bytes) old new ending) → new.is_lost ≡ false → Appends old.errors new.errors (listed_text asked.file.now is.listed) }
     ensures packed { (asked : PackOptions) (file_at : List ℕ → Option (List ℕ)) (old new : Left) (ending : Ending) → HasPacked asked file_at old new ending → new.put ≡ old.put }
     ensures informed { (bytes : List ℕ) (old new : Left) (ending : Ending) → (is : HasTold [] (Some bytes) old new ending) → IsShortInfo (nat_lt most_told (length bytes)) bytes is.text ending × Appends old.out new.out is.text × (new.put ≡ old.put) × (new.errors ≡ old.errors) }
+{}
+
+/// `pack` of one file, where it ends well, wrote a stream of its code alone, and told what kind of file it begins as.
+pub fn one_file_is_packed()
+    ensures { (asked : PackOptions) (path code : List ℕ) (file_at : List ℕ → Option (List ℕ)) (old new : Left) → codes_of asked ≡ path ∷ [] → file_at path ≡ Some code → HasPacked asked file_at old new Well → WritesStream asked (code ∷ []) old.out new.out × Appends old.errors new.errors (kind_note path (file_kind code)) }
 {}
 
 /// Where `unpack` doesn't end well of a file, the file has a fault, and nothing was written or put.

@@ -27,4 +27,4 @@ returns-in-Err g c =
     let is = c.outputs.view_is in
     let tells = subst (λ failure. Told lost (g.E.Write.contents (writer_of c.outputs.inside.errors)) told (failure_line failure)) c.of_output.ensures c.tell_failure.ensures.told in
     let same = ap (λ (left : _). left.errors) is ∙ part.4.1.0 in
-    inr (part.0, part.1, part.2, c.in-Err.cause, part.3, subst (λ before. Told lost before told line) same tells, ap (λ (left : _). left.put) is ∙ part.4.0, c.tell_failure.ensures.failed)
+    inr (c.in-Err.cause, (part.0, part.1, part.2, part.3, subst (λ before. Told lost before told line) same tells, ap (λ (left : _). left.put) is ∙ part.4.0, c.tell_failure.ensures.failed))
