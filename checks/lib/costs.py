@@ -1,4 +1,4 @@
-"""The parts of checks/hostile on how much a run asks of the system, and on the most that one client can send."""
+"""The parts of checks/hostile on how much a run asks of the system, and on the most that one client or one command takes."""
 
 import os
 import pathlib
@@ -8,6 +8,7 @@ import tempfile
 
 from lib import formats
 from lib.cases import NOP, RET, run, wrong
+from lib.serving import connected
 
 WHOLE = NOP * formats.MOST_WORDS
 
@@ -55,6 +56,20 @@ def try_reads(program):
 # ---- most
 
 
+def try_strays(program):
+    """A client of `serve` that sends more bytes than all modules have: each message is counted."""
+    part, times = formats.header(formats.CLOSE, 0, 5, 0, 0) * 1_000_000, 30
+    with tempfile.TemporaryDirectory() as folder:
+        path = os.path.join(folder, "s")
+        serve = subprocess.Popen([program, "serve", "--socket", path, "--connections", "1"], stdout=subprocess.PIPE, text=True)
+        with connected(path) as client:
+            for _ in range(times):
+                client.sendall(part)
+        told = serve.communicate(timeout=60)[0], serve.returncode
+    if told != (f"strays {times}000000\n", 0):
+        wrong("most", f"{times} million messages of a module that isn't open", told, f"strays {times}000000")
+
+
 def try_most(program):
     """All modules of the most words from one connection; and so with the last one refused at its first word, so that its pages are given again."""
     whole = "".join(f"module {module}: complete, {formats.MOST_WORDS} words\n" for module in range(formats.MODULES - 1))
@@ -68,4 +83,91 @@ def try_most(program):
             done = run(program, folder, ["load", "most.stream"])
         if (done.stdout, done.returncode) != (f"{whole}module 15: {told}\nstrays 0\n", status):
             wrong("most", "sixteen modules of the most words", (done.stdout, done.returncode), told)
-    print(f"most: {formats.MODULES} modules of {formats.MOST_WORDS} words from one connection, also with the last one refused")
+    try_strays(program)
+    print(f"most: {formats.MODULES} modules of {formats.MOST_WORDS} words from one connection, also with the last one refused; 30 million other messages")
+
+
+# ---- large
+
+TOO_LONG = "lfiload: bad length long.code\n  more than 16777216 bytes; code has a multiple of 4, from 4 to 16777216\n"
+# LDR X30, [X21, #8]; BLR X30, which writes the low byte of X0; B to the first of them.
+PRINTS = formats.code_of(0xF94006BE, 0xD63F03C0, 0x17FFFFFE)
+
+
+def expect(program, folder, words, wanted):
+    """A command whose status and outputs are these."""
+    done = run(program, folder, words)
+    if (done.returncode, done.stdout, done.stderr) != wanted:
+        told = (done.returncode, done.stdout[:300], len(done.stdout), done.stderr[:300])
+        wrong("large", " ".join(words)[:100], told, (wanted[0], wanted[1][:300], len(wanted[1]), wanted[2][:300]))
+
+
+def try_lengths(program, folder):
+    """Code of the most words and of one more."""
+    for name, code in ("most", WHOLE), ("long", WHOLE + NOP):
+        pathlib.Path(folder, f"{name}.code").write_bytes(code)
+    whole = f"lawful, {formats.MOST_WORDS} words"
+    begin = '{"files":[{"path":"%s.code","profile":1,"verdict":'
+    for more in [], ["--explain"], ["--explain", "--all"]:
+        expect(program, folder, ["check", *more, "most.code"], (0, f"{whole}\n", ""))
+        expect(program, folder, ["check", *more, "long.code"], (1, "bad length\n", TOO_LONG))
+    expect(program, folder, ["check", "--format", "json", "most.code"], (0, f'{begin % "most"}"lawful","words":{formats.MOST_WORDS}}}]}}\n', ""))
+    expect(program, folder, ["check", "--format", "json", "long.code"], (1, f'{begin % "long"}"bad length","bytes":16777217}}]}}\n', TOO_LONG))
+
+
+def try_messages(program, folder):
+    """`info` of four modules of the most words, and of 50,000 messages of modules that aren't open."""
+    at, lines = 0, ["stream"]
+    with open(os.path.join(folder, "pages.stream"), "wb") as file:
+        for module in range(4):
+            for message in formats.messages(module, WHOLE):
+                kind, index, size = message[0], int.from_bytes(message[4:8], "little"), len(message) - 12
+                told = {1: f"open, {formats.MOST_WORDS} words, entry 0, profile 1, small pages", 2: f"page {index}, {size} bytes", 3: "close"}[kind]
+                lines.append(f"  byte {at}: module {module} {told}")
+                at += len(message)
+                file.write(message)
+    expect(program, folder, ["info", "pages.stream"], (0, "".join(f"{line}\n" for line in lines), ""))
+    count = 50_000
+    pathlib.Path(folder, "strays.stream").write_bytes(formats.header(formats.CLOSE, 0, 5, 0, 0) * count)
+    expect(program, folder, ["load", "strays.stream"], (0, f"strays {count}\n", ""))
+
+
+def try_names(program, folder):
+    """Folders and files with the longest names: images are written there, and what is told names them whole."""
+    deep = os.path.join(*["f" * 255] * 15)
+    os.makedirs(os.path.join(folder, deep))
+    for name in "one.stream", os.path.join(deep, "one.stream"):
+        pathlib.Path(folder, name).write_bytes(formats.stream(0, RET))
+    expect(program, folder, ["load", "--out", deep, "one.stream"], (0, "module 0: complete, 1 words\nstrays 0\n", ""))
+    if pathlib.Path(folder, deep, "module-00.img").read_bytes() != formats.image(0, 0, RET):
+        wrong("large", "an image in a folder with a long name", "other bytes", "the image")
+    for words in ["load", "--explain"], ["load", "--format", "json"], ["info"], ["check"], ["check", "--format", "json"], ["disassemble"]:
+        short, long = (run(program, folder, [*words, name]) for name in ("one.stream", os.path.join(deep, "one.stream")))
+        told = [it.replace("one.stream", os.path.join(deep, "one.stream")) for it in (short.stdout, short.stderr)]
+        if (long.returncode, long.stdout, long.stderr) != (short.returncode, *told):
+            wrong("large", f"{' '.join(words)} of a file with a long name", (long.returncode, long.stdout, long.stderr), told)
+
+
+def try_counts(program, folder):
+    """As many files as a stream has modules, packed; many refused words; a run that prints many bytes."""
+    codes = [NOP * (1_000 * number) + RET for number in range(formats.MODULES)]
+    for number, code in enumerate(codes):
+        pathlib.Path(folder, f"{number}.code").write_bytes(code)
+    packed = subprocess.run([program, "pack", *(f"{number}.code" for number in range(formats.MODULES))], cwd=folder, capture_output=True)
+    if (packed.returncode, packed.stdout, packed.stderr) != (0, b"".join(map(formats.stream, range(formats.MODULES), codes)), b""):
+        wrong("large", "sixteen files, packed", (packed.returncode, packed.stdout[:100], packed.stderr), "the streams of all")
+    pathlib.Path(folder, "refused.code").write_bytes(bytes(4 * 20_000))
+    done = run(program, folder, ["check", "--explain", "--all", "refused.code"])
+    lines = [line for line in done.stdout.splitlines() if line.startswith("word")]
+    if lines != [*(f"word {place} rule 1" for place in range(20_000)), "words refused: 20000", "words with a mend: 0"]:
+        wrong("large", "20,000 refused words", (len(lines), lines[-3:]), "all of them, and their count")
+    pathlib.Path(folder, "prints.img").write_bytes(formats.image(0, 0, PRINTS))
+    expect(program, folder, ["run", "prints.img", "--steps", "600000"], (0, "\0" * 200_000, "halt 1 after 600000 steps\n"))
+
+
+def try_large(program):
+    """Each command on the most that it takes, or on much."""
+    for part in try_lengths, try_messages, try_names, try_counts:
+        with tempfile.TemporaryDirectory() as folder:
+            part(program, folder)
+    print("large: code of the most words and of one more, 16,392 messages, names of 3,839 bytes, sixteen files packed, 20,000 refused words, 200,000 printed bytes")

@@ -361,6 +361,29 @@ def try_hours(program):
     return "two hours and a day were waited for" if library else "no hours were waited for, since cc isn't here"
 
 
+def try_no_limit(program):
+    """`serve` without a limit waits for a client as long as that takes: what waits with a limit of its own has waited long after a second,
+    since no wait takes any time."""
+    with tempfile.TemporaryDirectory() as folder:
+        library, path = hurried(folder), os.path.join(folder, "s")
+        if not library:
+            return
+        for count in 1, 2:
+            words = [program, "serve", "--socket", path, "--connections", str(count)]
+            pipes = {"stdout": subprocess.PIPE, "stderr": subprocess.PIPE}
+            serve = subprocess.Popen(words, text=True, env={**os.environ, "LD_PRELOAD": library}, **pipes)
+            with connected(path) as client:
+                time.sleep(1)
+                is_over = serve.poll() is not None or select.select([client], [], [], 0)[0]
+                with contextlib.suppress(OSError):
+                    client.sendall(formats.stream(0, RET))
+            if count == 2:
+                connected(path).close()
+            told, wanted = (*serve.communicate(timeout=60), serve.returncode), ("module 0: complete, 1 words\nstrays 0\n", "", 0)
+            if is_over or told != wanted:
+                wrong("limit", f"no limit, hurried, and the first of {count} clients that is silent", (is_over, told), (False, wanted))
+
+
 def try_limit(program):
     try_one_limit(program, 2, None)
     try_one_limit(program, 2, 2)
@@ -369,6 +392,7 @@ def try_limit(program):
     try_sent_in_time(program)
     try_one_after_another(program)
     hours = try_hours(program)
+    try_no_limit(program)
     print(
         "limit: `serve --seconds 4` without a client, and with one that comes after two, of two and of one: it ends after four seconds "
         "and before 4.8, and tells of each connection in one write; with a long limit one that comes after three is heard at once; what was sent in time is read; "

@@ -44,12 +44,14 @@ OVER = {
     "mapped": (),
     "refused": (),
     "timer": (),
+    "reads": (),
     "steps": (),
 }
 LINKED = {
     "steps": ["-Wl,--wrap=mprotect,--wrap=syscall,--wrap=__clear_cache"],
     "registers": ["-Wl,--wrap=lfi_enter"],
     "timer": ["-Wl,--wrap=setitimer"],
+    "reads": ["-Wl,--wrap=fread"],
 }
 MOST_LINES, BASE, SLOT, GUARD = 500, 0x100000000, 1 << 32, 65_536
 # What --seconds doesn't take, by the host's README.
@@ -234,6 +236,18 @@ def check_timer(timer):
         told = re.findall(r"^timer: (.*)$", done.stderr.decode(), re.M)
         if done.returncode or told != [seconds, "0.000000"]:
             fail(f"native_host {' '.join(words)}: it sets its timer to {told}, and not to {seconds} and then to 0")
+
+
+def check_reads(reads, room):
+    """A read that fails is told, and never as the end: of an image as fault 9 (docs/PROFILE.md, "Image files"), of a stream as the system says."""
+    words = formats.code_of(*[0xD503201F] * 2_000, programs.BRK)
+    files = {"end.img": formats.image(0, 0, words[-4:]), "page.img": formats.image(0, 0, words), "head.img": b"LFI1", "page.stream": formats.stream(0, words)}
+    for name, file in files.items():
+        (room / name).write_bytes(file)
+        done = run(reads, name, cwd=room)
+        wanted = (1, "image refused, fault 9\n") if name.endswith(".img") else (3, f"native_host: {name}: Bad file descriptor\n")
+        if (done.returncode, done.stdout, done.stderr.decode()) != (wanted[0], b"", wanted[1]):
+            fail(f"a read of {name} fails: {done}, and not {wanted}")
 
 
 def check_steps(steps):
