@@ -1,5 +1,6 @@
 """The parts of checks/hostile on how much a run asks of the system, and on the most that one client or one command takes."""
 
+import contextlib
 import os
 import pathlib
 import re
@@ -62,7 +63,7 @@ def try_strays(program):
     with tempfile.TemporaryDirectory() as folder:
         path = os.path.join(folder, "s")
         serve = subprocess.Popen([program, "serve", "--socket", path, "--connections", "1"], stdout=subprocess.PIPE, text=True)
-        with connected(path) as client:
+        with connected(path) as client, contextlib.suppress(OSError):
             for _ in range(times):
                 client.sendall(part)
         told = serve.communicate(timeout=60)[0], serve.returncode
@@ -141,11 +142,55 @@ def try_names(program, folder):
     expect(program, folder, ["load", "--out", deep, "one.stream"], (0, "module 0: complete, 1 words\nstrays 0\n", ""))
     if pathlib.Path(folder, deep, "module-00.img").read_bytes() != formats.image(0, 0, RET):
         wrong("large", "an image in a folder with a long name", "other bytes", "the image")
+    for module in range(formats.MODULES):
+        with open(os.path.join(folder, "all.stream"), "ab") as file:
+            file.write(formats.stream(module, RET))
+    os.mkdir(os.path.join(folder, "shortname"))
+    for form in "text", "json":
+        short, long = (run(program, folder, ["load", "--out", it, "--format", form, "all.stream"]) for it in ("shortname", deep))
+        told = short.returncode, short.stdout.replace("shortname", deep), ""
+        if (long.returncode, long.stdout, long.stderr) != told or told[0] or form == "json" and told[1].count(deep) != formats.MODULES:
+            wrong("large", f"sixteen images in a folder with a long name, told as {form}", (long.returncode, long.stdout, long.stderr), told)
     for words in ["load", "--explain"], ["load", "--format", "json"], ["info"], ["check"], ["check", "--format", "json"], ["disassemble"]:
         short, long = (run(program, folder, [*words, name]) for name in ("one.stream", os.path.join(deep, "one.stream")))
         told = [it.replace("one.stream", os.path.join(deep, "one.stream")) for it in (short.stdout, short.stderr)]
         if (long.returncode, long.stdout, long.stderr) != (short.returncode, *told):
             wrong("large", f"{' '.join(words)} of a file with a long name", (long.returncode, long.stdout, long.stderr), told)
+
+
+def try_images(program, folder):
+    """The image of the most words, as `load` writes it and `unpack` gives its code back; a listing that is long."""
+    pathlib.Path(folder, "most.stream").write_bytes(formats.stream(3, WHOLE))
+    expect(program, folder, ["load", "--out", ".", "most.stream"], (0, f"module 3: complete, {formats.MOST_WORDS} words\nstrays 0\n", ""))
+    if pathlib.Path(folder, "module-03.img").read_bytes() != formats.image(3, 0, WHOLE):
+        wrong("large", "an image of the most words", "other bytes", "the image")
+    done = subprocess.run([program, "unpack", "module-03.img"], cwd=folder, capture_output=True, timeout=60)
+    if (done.returncode, done.stdout, done.stderr) != (0, WHOLE, b""):
+        wrong("large", "unpack of an image of the most words", (done.returncode, len(done.stdout), done.stderr), "its code")
+    count, begin = 400_000, formats.base(0) + 65_536
+    pathlib.Path(folder, "listed.code").write_bytes(WHOLE[: 4 * count])
+    lines = "".join(f"{place:7}  {begin + 4 * place:#018x}  d503201f  nop\n" for place in range(count))
+    expect(program, folder, ["disassemble", "listed.code"], (0, lines, ""))
+
+
+def memory_left():
+    """How many bytes of memory the system says that it has left; 0 where it doesn't say so."""
+    try:
+        return 1024 * int(re.search(r"MemAvailable: *(\d+)", pathlib.Path("/proc/meminfo").read_text())[1])
+    except (OSError, TypeError):
+        return 0
+
+
+def try_whole_slot(program, folder):
+    """A run that stores in each 65,536 bytes of its data has memory for all of them, which is 4 GiB."""
+    if memory_left() < 6 << 30:
+        print("large: left out is a run that stores in its whole slot, since there are no 6 GiB of memory")
+        return
+    # MOVZ W1, #2, LSL #16; STR X0, [X21, W1, UXTW]; ADD W1, W1, #16, LSL #12; B to the store.
+    code = formats.code_of(0x52A00041, 0xF8214AA0, 0x11404021, 0x17FFFFFE)
+    pathlib.Path(folder, "stores.img").write_bytes(formats.image(0, 0, code))
+    told = f"halt 2 at {formats.base(0):#018x} after {1 + 3 * 65_534} steps\n"  # past 2^32 - 65,536 comes the table
+    expect(program, folder, ["run", "stores.img", "--steps", "1000000"], (1, "", told))
 
 
 def try_counts(program, folder):
@@ -167,7 +212,7 @@ def try_counts(program, folder):
 
 def try_large(program):
     """Each command on the most that it takes, or on much."""
-    for part in try_lengths, try_messages, try_names, try_counts:
+    for part in try_lengths, try_messages, try_names, try_images, try_counts, try_whole_slot:
         with tempfile.TemporaryDirectory() as folder:
             part(program, folder)
-    print("large: code of the most words and of one more, 16,392 messages, names of 3,839 bytes, sixteen files packed, 20,000 refused words, 200,000 printed bytes")
+    print("large: code of the most words and of one more, 16,392 messages, names of 3,839 bytes, sixteen files packed, an image of the most words, 400,000 listed and 20,000 refused words, 200,000 printed bytes")

@@ -331,7 +331,25 @@ pub const PAIRS: [Row; 10] = [
 ];
 
 /// Branches through registers, and needs.
-pub const OTHERS: [Row; 10] = [
+pub const OTHERS: [Row; 12] = [
+    // add x18, sp, #0, which copies the stack pointer and not zero: add w22, wsp, #0; add x18, x21, w22, uxtw
+    Row {
+        profile: Profile::One,
+        rule: Rule::AddressGuarded,
+        unmet: Need::Nothing,
+        word: 0x910003F2,
+        next: NOP,
+        mend: &[0x110003F6, 0x8B3642B2],
+    },
+    // sub x30, sp, #0: sub w22, wsp, #0; add x30, x21, w22, uxtw
+    Row {
+        profile: Profile::One,
+        rule: Rule::LinkGuarded,
+        unmet: Need::Nothing,
+        word: 0xD10003FE,
+        next: NOP,
+        mend: &[0x510003F6, 0x8B3642BE],
+    },
     // br x0: add x18, x21, w0, uxtw; br x18
     Row {
         profile: Profile::One,
