@@ -143,7 +143,7 @@ typedef struct lfi_event {
  *    writes them during the call: bytes that another thread or process may still write are to be copied first;
  *  - what is written overlaps nothing else that the call is handed, and no other thread uses it during the call;
  *  - nobody writes bytes that lfi_stream_next told as code, until the host has its own copy of them: they were judged there.
- * A state needs no more than that: numbers that no call made are answered, by LFI_BAD_STATE where they can't be a state's.
+ * A state needs no more than that: numbers that no call made are answered, by LFI_BAD_STATE where one is out of its range.
  */
 
 /* Judges whole code by a profile. Ensures:

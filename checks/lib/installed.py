@@ -182,13 +182,15 @@ def try_installs(prefix, words):
         fail(f"left after several installs: {sorted(map(str, prefix.rglob('*')))}, where {program.parent} was before")
 
 
+def up_to_64_kib():
+    """Lets no file of the process that is to be started grow above so much."""
+    resource.setrlimit(resource.RLIMIT_FSIZE, (65536, 65536))
+
+
 def try_full_disk(prefix):
     """A first install that can write no more than 64 KiB of a file names the file, and is on record: --uninstall leaves nothing."""
-    def limited():
-        resource.setrlimit(resource.RLIMIT_FSIZE, (65536, 65536))
-
     words, program = [TOP / "install", "--prefix", prefix], prefix / "bin" / "lfiload"
-    told = subprocess.run(words, capture_output=True, text=True, preexec_fn=limited)
+    told = subprocess.run(words, capture_output=True, text=True, preexec_fn=up_to_64_kib)
     if told.returncode != 1 or told.stderr != f"install: {program}: File too large\n":
         fail(f"a first install that can't write the program: status {told.returncode}, {told.stderr}")
     run(*words, "--uninstall")
@@ -324,6 +326,31 @@ def try_program_alone(room):
         wanted = "proved and built from this tree's sources" if is_of else "no stamp tells that it was built from this tree's sources"
         if last != f"crates/lfiload/out/lfiload: {wanted}":
             fail(f"an install of a program of which is wanted {wanted!r} tells {last}")
+    try_upgrade(top, room / "upgrade")
+
+
+def try_upgrade(top, prefix):
+    """An install in the place of another that fails midway is on record with both: --check tells what is of the one before, and --uninstall
+    leaves nothing; so where it is done again."""
+    program, page = top / "crates" / "lfiload" / "out" / "lfiload", top / "docs" / "lfiload.1"
+    words = [top / "install", "--prefix", prefix]
+    for again in False, True:
+        program.write_text("#!/bin/sh\n")
+        run(*words)
+        page.write_text(page.read_text() + f"{again}\n")
+        program.write_bytes(b"#!/bin/sh\n" + bytes(100_000))
+        told = subprocess.run(words, capture_output=True, text=True, preexec_fn=up_to_64_kib)
+        if told.returncode != 1 or told.stderr != f"install: {prefix / 'bin' / 'lfiload'}: File too large\n":
+            fail(f"an install in the place of another that can't write the program: status {told.returncode}, {told.stderr}")
+        told = run(*words, "--check", status=1)
+        if any(f"{name}: of an install before\n" not in told for name in ("bin/lfiload", PAGE)) or "changed" in told:
+            fail(f"--check of an install that failed in the place of another tells {told}")
+        if again:
+            run(*words)
+            run(*words, "--check")
+        run(*words, "--uninstall")
+        if prefix.exists():
+            fail(f"left of an install that failed in the place of another: {sorted(map(str, prefix.rglob('*')))}")
 
 
 def try_library_alone(room, version, archive):

@@ -295,7 +295,11 @@ def cases(room, corpus):
     ends = image(0, 0, formats.code_of(words.BRK))
     spoiled = {"short.img": loop[:-1], "more.img": ends + b"\0"}
     faults = {f"head-{number}.img": (head[0], struct.pack("<4sIIIQ", *head[1:]) + ends[24:]) for number, head in enumerate(heads())}
-    spoiled |= {name: file for name, (_, file) in faults.items()}
+    spoiled |= {name: file for name, (_, file) in faults.items()} | {"first.img": b"L", "begin.img": ends[:23]}
+    # Of the most words; and of several pages, the last one not full.
+    far, nop = formats.code_of(*[0xD503201F] * 2_000, words.BRK), formats.code_of(0xD503201F)
+    spoiled |= {"most.img": image(0, 0, formats.code_of(words.BRK) + nop * (formats.MOST_WORDS - 1))}
+    spoiled |= {"far.img": image(15, 0, far), "far.stream": formats.stream(14, far)}
     plain = image(0, 0, formats.code_of(0xC8DFFE40))  # by profile 1, which doesn't have it
     for name, file in {"loop.img": loop, "crossing.img": crossing, "plain.img": plain, **spoiled}.items():
         (room / name).write_bytes(file)
@@ -314,7 +318,12 @@ def cases(room, corpus):
     yield ["--batch", EXAMPLES / "hostile.stream"], 1, b"".join(b"%s %d  not run\n" % (bytes(EXAMPLES / "hostile.stream"), m) for m in (2, 3, 4)), ""
     for name, (fault, _) in faults.items():
         yield [name], 1, b"", f"image refused, fault {fault}\n"
-    yield ["short.img"], 1, b"", "image refused, fault 5\n"
+    yield ["--batch", "head-1.img"], 1, b"head-1.img 0  image refused, fault 1\n", ""
+    for name in "short.img", "first.img", "begin.img":
+        yield [name], 1, b"", "image refused, fault 5\n"
+    for name, line in ("most.img", f"halt 4 at 0x{BASE + 0x10000:016x}\n"), ("far.img", f"halt 4 at 0x{formats.base(15) + 0x10000 + 8000:016x}\n"):
+        yield [name], 0, b"", line
+    yield ["far.stream"], 0, b"", f"halt 4 at 0x{formats.base(14) + 0x10000 + 8000:016x}\n"
     yield ["more.img"], 1, b"", "image refused, fault 6\n"
     yield ["plain.img"], 1, b"", "image refused, fault 7, word 0 rule 1\n"
     yield ["crossing.img"], 1, b"", "bus at 0x000000010002000f\n"
@@ -336,9 +345,8 @@ def check_told(host, room, corpus):
             fail(f"native_host {' '.join(map(str, words))}: {done}, and not status {status}, {out}, {line}")
     if not takes_many(host, room):
         fail("native_host --batch, with more files than it may have open: not all were run")
-    if not is_full_told(host):
-        fail("native_host checksums.stream, to a device that is full: no `halt 5 status 255`, or not status 0")
-    return count + 2
+    tell_full(host, room)
+    return count + 4
 
 
 def takes_many(host, room):
@@ -348,11 +356,15 @@ def takes_many(host, room):
     return (done.returncode, done.stdout) == (0, f"ends.img 0  halt 4 at 0x{BASE + 0x10000:016x}\n".encode() * 100)
 
 
-def is_full_told(host):
-    """Code whose output can't be written ends with 255, as `lfiload run --help` says."""
-    with open("/dev/full", "wb") as full:
-        done = subprocess.run([*RUNNER, host, EXAMPLES / "checksums.stream"], stdout=full, stderr=subprocess.PIPE, timeout=60)
-    return (done.returncode, done.stderr) == (0, b"halt 5 status 255\n")
+def tell_full(host, room):
+    """Code whose byte can't be written ends there with 255, as `lfiload run --help` says; a batch that can't be told has the status 3."""
+    (room / "prints.img").write_bytes(formats.image(0, 0, formats.code_of(*programs.call(1), programs.BRK)))
+    ended, untold = (0, b"halt 5 status 255\n"), (3, b"native_host: standard output: No space left on device\n")
+    for words, wanted in ([EXAMPLES / "checksums.stream"], ended), (["prints.img"], ended), (["--batch", "prints.img"], untold):
+        with open("/dev/full", "wb") as full:
+            done = subprocess.run([*RUNNER, host, *words], cwd=room, stdout=full, stderr=subprocess.PIPE, timeout=60)
+        if (done.returncode, done.stderr) != wanted:
+            fail(f"native_host {' '.join(map(str, words))}, to a device that is full: {done}, and not {wanted}")
 
 
 def check_escapes(hosts, room):

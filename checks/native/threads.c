@@ -12,8 +12,9 @@ static stack_t stacks[LFI_MODULES];
 static __thread char text[4096];
 static __thread size_t length;
 
-static void put(uint8_t byte) {
+static int put(uint8_t byte) {
     if (length < sizeof text - 1) text[length++] = (char)byte;
+    return 1;
 }
 
 /* Puts code of profile 1 into a slot, and judges it there. */

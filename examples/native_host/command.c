@@ -1,10 +1,10 @@
 /* The command: takes images and streams in, judges them, and runs what is lawful. README.md has the words of the command line. */
 #include "native_host.h"
 
-static int batch; /* what the command line asks for */
-static double seconds = 60;
+static int batch; static double seconds = 60; /* what the command line asks for */
 
-static void put(uint8_t byte) { printf(batch ? "%02x" : "%c", byte); }
+/* Writes a byte at once; in a batch, with the line that it is of. Answers whether it is written. */
+static int put(uint8_t byte) { return printf(batch ? "%02x" : "%c", byte) > 0 && (batch || !fflush(stdout)); }
 
 /* What is told of a module begins and ends so: in a batch its name, number, output and line, in one line. */
 static void begin(const char *name, uint32_t number) { if (batch) printf("%s %u ", name, number); }
@@ -25,7 +25,6 @@ static int run_module(const char *name, uint32_t number) {
     seal_slot(&slots[number]);
     ending how = run_slot(&slots[number], seconds, put);
     close_slot(&slots[number]);
-    if ((fflush(stdout) || ferror(stdout)) && how.halt == HALT_ENDED) how.status = 255;
     tell(&how);
     return how.halt == HALT_ESCAPE ? 9 : how.halt == HALT_ACCESS || how.halt == HALT_FETCH || how.halt == HALT_BUS;
 }
@@ -116,5 +115,6 @@ int main(int count, char **given) {
     if (k == count || given[k][0] == '-') return fprintf(stderr, "usage: native_host [--emulate] [--seconds N] [--batch] FILE..\n"), 2;
     prepare_process();
     while (k < count) status |= take_file(given[k++]);
+    if (batch && (fflush(stdout) || ferror(stdout))) die("standard output");
     return status;
 }

@@ -43,7 +43,7 @@ int is_near(const slot *it, uint64_t address);
 /* run.c: what happens while code runs */
 extern int carries_out_ordered; /* LDAR and STLR at any address, as the definitions have them: ordered.c */
 void prepare_process(void), prepare_thread(void);
-ending run_slot(const slot *it, double seconds, void (*put)(uint8_t));
+ending run_slot(const slot *it, double seconds, int (*put)(uint8_t));
 enum ordered { ORDERED_DONE, ORDERED_DENIED, ORDERED_NOT };
 enum ordered carry_out_ordered(const slot *it, mcontext_t *registers, uint64_t *at); /* ordered.c */
 extern __thread frame lfi_frame;

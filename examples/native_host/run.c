@@ -7,7 +7,7 @@ int carries_out_ordered;
 /* The run that goes on in this thread: what its runtime and its handler find. No slot: the thread is in none. */
 static __thread struct {
     const slot *slot;
-    void (*put)(uint8_t); /* where its output goes */
+    int (*put)(uint8_t); /* writes a byte of its output */
     ending ending;
     volatile sig_atomic_t late;
 } now;
@@ -23,7 +23,7 @@ static int are_lawful(const frame *it, const lfi_map *map) {
 int lfi_runtime(frame *registers, uint32_t number) {
     if (!are_lawful(registers, &now.slot->map)) now.ending = (ending){.halt = HALT_ESCAPE, .at = registers->x[30]};
     else if (number == 0) now.ending = (ending){.halt = HALT_ENDED, .status = registers->x[0] & 255};
-    else if (number == 1) now.put((uint8_t)registers->x[0]);
+    else if (number == 1) now.ending = now.put((uint8_t)registers->x[0]) ? now.ending : (ending){.halt = HALT_ENDED, .status = 255};
     else registers->x[0] = ~(uint64_t)0;
     if (now.ending.halt == HALT_NONE && now.late) now.ending.halt = HALT_TIME;
     return now.ending.halt == HALT_NONE;
@@ -92,7 +92,7 @@ static void limit(double seconds) {
 }
 
 /* Runs a sealed module from its entry, for so many seconds at most; 0: without a limit. */
-ending run_slot(const slot *it, double seconds, void (*put)(uint8_t)) {
+ending run_slot(const slot *it, double seconds, int (*put)(uint8_t)) {
     uint64_t base = it->map.base;
     memset(&lfi_frame, 0, sizeof lfi_frame);
     memset(&now, 0, sizeof now);
