@@ -131,7 +131,9 @@ def try_files_of_others(prefix, words):
         fail("an install over a link writes to what the link names")
     page.write_text("kept\n")
     os.link(page, kept)
-    run(*words)
+    told = run(*words)
+    if any(not line.endswith(": installed") for line in told.splitlines()[:-2]):
+        fail(f"an install over a changed page, of which nothing is left, tells {told}")
     if kept.read_text() != "kept\n":
         fail("an install writes to a file that has another name, too")
 
@@ -222,6 +224,22 @@ def try_failures(prefix):
             told = subprocess.run([*words, word], capture_output=True, text=True)
             if told.returncode != 1 or not told.stderr.startswith(f"install: {record}: ") or told.stderr.count("\n") != 1:
                 fail(f"{word} with a record of {text}: status {told.returncode}, {told.stderr}")
+
+
+def try_locked(room):
+    """Where a file can't be removed, --uninstall says so, and what is left is on record; in a folder whose name is no text, too."""
+    prefix, library = room / os.fsdecode(b"n\xe4me\n") / "prefix", room / "locked.so"
+    words = [TOP / "install", "--prefix", prefix]
+    if not has("cc"):
+        return
+    run("cc", "-O2", "-shared", "-fPIC", "-o", library, pathlib.Path(__file__).with_name("locked.c"))
+    run(*words)
+    told = subprocess.run([*words, "--uninstall"], capture_output=True, env={**os.environ, "LD_PRELOAD": str(library)})
+    if told.returncode != 1 or not told.stderr.endswith(b"/prefix/bin/lfiload: Permission denied\n"):
+        fail(f"--uninstall where the program can't be removed: status {told.returncode}, {told.stderr}")
+    run(*words, "--uninstall")
+    if prefix.parent.exists():
+        fail(f"left after a second --uninstall: {sorted(map(str, prefix.rglob('*')))}")
 
 
 def try_oldest_python(prefix):
@@ -342,6 +360,8 @@ def try_upgrade(top, prefix):
         told = subprocess.run(words, capture_output=True, text=True, preexec_fn=up_to_64_kib)
         if told.returncode != 1 or told.stderr != f"install: {prefix / 'bin' / 'lfiload'}: File too large\n":
             fail(f"an install in the place of another that can't write the program: status {told.returncode}, {told.stderr}")
+        if (prefix / "bin" / "lfiload").read_text() != "#!/bin/sh\n":
+            fail("an install that fails in the place of another takes its program away")
         told = run(*words, "--check", status=1)
         if any(f"{name}: of an install before\n" not in told for name in ("bin/lfiload", PAGE)) or "changed" in told:
             fail(f"--check of an install that failed in the place of another tells {told}")

@@ -83,7 +83,11 @@ def build(room, archive, name, *flags):
         sources = [*files, HERE / f"{name}.c", archive]
         told = subprocess.run([COMPILER, *words, *sources, *LINKED.get(name, []), "-o", made], capture_output=True, text=True)
     else:
-        told = subprocess.run([HOST / "make", *flags, made, archive], capture_output=True, text=True, env={**os.environ, "CC": COMPILER})
+        # A checkout may lie below a folder with a space.
+        spaced = room / "an archive.a"
+        spaced.unlink(missing_ok=True)
+        spaced.symlink_to(archive)
+        told = subprocess.run([HOST / "make", *flags, made, spaced], capture_output=True, text=True, env={**os.environ, "CC": COMPILER})
     if told.returncode or told.stderr:
         fail(f"{name} isn't built: {told.stdout}{told.stderr}")
     return made
@@ -220,18 +224,24 @@ def check_mapped(mapped):
 
 
 def check_refused(refused, room):
-    """Of a slot whose code was refused, or didn't come whole, the table alone may be read afterwards (docs/HOST.md, "Writing the code", 5)."""
+    """Of a slot whose code was refused, or didn't come whole, the table alone may be read afterwards (docs/HOST.md, "Writing the code", 5);
+    so of one whose module has run."""
     (room / "refused.img").write_bytes(formats.image(0, 0, formats.code_of(0xD503201F, 0xD4000001)))  # NOP, SVC #0
     for file, modules in ((room / "refused.img", [0]), (EXAMPLES / "hostile.stream", [2, 3, 4])):
         done = run(refused, file)
         tables = [f"{formats.base(m):x} {formats.base(m) + 4_096:x} r--p" for m in modules]
         if done.returncode != 1 or done.stdout.decode().splitlines() != tables:
             fail(f"after {file.name}, of which nothing is run, more may be accessed than the tables: {done}")
+    done = run(refused, EXAMPLES / "checksums.stream")
+    start, table = formats.base(1) - GUARD - 4_096, formats.base(1)
+    if done.stdout.decode().splitlines()[2:] != [f"{start:x} {start + 4_096:x} r-xp", f"{table:x} {table + 4_096:x} r--p"]:
+        fail(f"after a module that has run more may be accessed than its table and the host's start: {done}")
 
 
 def check_timer(timer):
     """A run has the time that the host's README says, and then no timer is left."""
-    for words, seconds in (([], "60.000000"), (["--seconds", "2.5"], "2.500000"), (["--seconds", "1000000"], "1000000.000000")):
+    rows = ([], "60.000000"), (["--seconds", "2.5"], "2.500000"), (["--seconds", "9.9999999"], "9.999999"), (["--seconds", "1000000"], "1000000.000000")
+    for words, seconds in rows:
         done = run(timer, *words, EXAMPLES / "checksums.stream")
         told = re.findall(r"^timer: (.*)$", done.stderr.decode(), re.M)
         if done.returncode or told != [seconds, "0.000000"]:
@@ -283,6 +293,8 @@ def heads():
     yield from ((3, first, words, entry, 1, BASE) for words, entry in ((0, 0), (most + 1, 0), (1, 1), (1, 0xFFFFFFFF)))
     yield from ((4, first, 1, 0, 1, formats.base(it)) for it in (16, 17, 99, 1 << 16, (1 << 31) - 1))
     yield from ((4, first, 1, 0, 1, it) for it in (0, 2 << 32, 32 << 32, BASE - 1, BASE + 4096, BASE + (1 << 31)))
+    # Of several faults the first is told.
+    yield from ((1, b"LFI0", 0, 0, 3, 0), (2, first, 0, 0, 3, 0), (3, first, 0, 0, 1, 0))
 
 
 def cases(room, corpus):
@@ -300,6 +312,13 @@ def cases(room, corpus):
     far, nop = formats.code_of(*[0xD503201F] * 2_000, words.BRK), formats.code_of(0xD503201F)
     spoiled |= {"most.img": image(0, 0, formats.code_of(words.BRK) + nop * (formats.MOST_WORDS - 1))}
     spoiled |= {"far.img": image(15, 0, far), "far.stream": formats.stream(14, far)}
+    # NOP; MOV X8, #93; MOV X0, #42; SVC #0: what is refused isn't there any more behind what comes next.
+    spoiled |= {"exit.img": image(0, 0, formats.code_of(0xD503201F, 0xD2800BA8, 0xD2800540, 0xD4000001)), "falls.img": image(0, 0, nop)}
+    # MOVN X0, #0; LDAR W0 or LDARH W0, [X18]; LSR X0, X0, #32 or #16; it prints the low byte.
+    for name, load, shift in ("word.img", 0x88DFFE40, 0xD360FC00), ("half.img", 0x48DFFE40, 0xD350FC00):
+        code = [0x92800000, *words.move(9, 0x2000F), words.guard(18, 9), load, shift, *words.call(1), words.BRK]
+        spoiled |= {name: image(0, 0, formats.code_of(*code), 2)}
+    carried = f"halt 4 at 0x{BASE + 0x10000 + 4 * len(code) - 4:016x}\n"
     plain = image(0, 0, formats.code_of(0xC8DFFE40))  # by profile 1, which doesn't have it
     for name, file in {"loop.img": loop, "crossing.img": crossing, "plain.img": plain, **spoiled}.items():
         (room / name).write_bytes(file)
@@ -323,6 +342,12 @@ def cases(room, corpus):
         yield [name], 1, b"", "image refused, fault 5\n"
     for name, line in ("most.img", f"halt 4 at 0x{BASE + 0x10000:016x}\n"), ("far.img", f"halt 4 at 0x{formats.base(15) + 0x10000 + 8000:016x}\n"):
         yield [name], 0, b"", line
+    lines = ["exit.img 0  image refused, fault 7, word 3 rule 1", f"falls.img 0  halt 3 at 0x{BASE + 0x10004:016x}"]
+    yield ["--batch", "exit.img", "falls.img"], 1, "".join(f"{line}\n" for line in lines).encode(), ""
+    for name in "word.img", "half.img":
+        yield ["--emulate", name], 0, b"\0", carried
+    sums_line = f"{EXAMPLES / 'checksums.stream'} 1 {sums.hex()} {halted}"
+    yield ["--batch", "--seconds", "0.2", "loop.img", EXAMPLES / "checksums.stream"], 0, f"loop.img 0  halt 1\n{sums_line}".encode(), ""
     yield ["far.stream"], 0, b"", f"halt 4 at 0x{formats.base(14) + 0x10000 + 8000:016x}\n"
     yield ["more.img"], 1, b"", "image refused, fault 6\n"
     yield ["plain.img"], 1, b"", "image refused, fault 7, word 0 rule 1\n"
