@@ -386,15 +386,15 @@ def try_no_limit(program):
 
 def try_limit(program):
     try_one_limit(program, 2, None)
-    try_one_limit(program, 2, 2)
-    try_one_limit(program, 1, 2)
+    try_one_limit(program, 2, 2.9)
+    try_one_limit(program, 1, 2.9)
     try_client_in_time(program)
     try_sent_in_time(program)
     try_one_after_another(program)
     hours = try_hours(program)
     try_no_limit(program)
     print(
-        "limit: `serve --seconds 4` without a client, and with one that comes after two, of two and of one: it ends after four seconds "
+        "limit: `serve --seconds 4` without a client, and with one that comes after 2.9, of two and of one: it ends after four seconds "
         "and before 4.8, and tells of each connection in one write; with a long limit one that comes after three is heard at once; what was sent in time is read; "
         f"of eight that end one after another all are heard; {hours}"
     )
