@@ -270,6 +270,15 @@ class Verifying(unittest.TestCase):
         for fault, profile in (Fault(1, 1), 1), (Fault(0, 0), 1), (Fault(-1, 1), 1), (Fault(0, 1 + 2**32), 1), (Fault(0, 1), 3):
             self.assertRaises(ValueError, lfi_verifier.mend, code_of(SVC), fault, profile)
 
+    def test_what_is_not_named(self):
+        """LDAR W0, [X18] is none of profile 1, which is the one by default; it lies in slot 0."""
+        code = code_of(0x88DFFE40)
+        self.assertEqual(verdict(code), "word 0 rule 1")
+        self.assertIn("\n  0x0000000100010000  88dffe40  ", lfi_verifier.explain(code, Fault(0, 1)))
+        self.assertIn("ldar is an instruction of profile 2\n", lfi_verifier.explain(code, Fault(0, 1)))
+        # LDAR W0, [X1] has a mend by profile 2.
+        self.assertIsNone(lfi_verifier.mend(code_of(0x88DFFC20), Fault(0, 2)))
+
 
 # Modules of both profiles and of both page sizes, whose messages are mixed. Beside each stands its first byte's place. Each word of the
 # full large page is another one: movz w0, #0; movz w0, #1; and so on.

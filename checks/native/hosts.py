@@ -318,6 +318,8 @@ def cases(room, corpus):
     for name, load, shift in ("word.img", 0x88DFFE40, 0xD360FC00), ("half.img", 0x48DFFE40, 0xD350FC00):
         code = [0x92800000, *words.move(9, 0x2000F), words.guard(18, 9), load, shift, *words.call(1), words.BRK]
         spoiled |= {name: image(0, 0, formats.code_of(*code), 2)}
+    # LDAR X0, [X18] at the table's last byte, by which it leaves it.
+    spoiled |= {"table.img": image(0, 0, formats.code_of(*words.move(9, 0xFFF), words.guard(18, 9), 0xC8DFFE40, words.BRK), 2)}
     carried = f"halt 4 at 0x{BASE + 0x10000 + 4 * len(code) - 4:016x}\n"
     plain = image(0, 0, formats.code_of(0xC8DFFE40))  # by profile 1, which doesn't have it
     for name, file in {"loop.img": loop, "crossing.img": crossing, "plain.img": plain, **spoiled}.items():
@@ -344,6 +346,7 @@ def cases(room, corpus):
         yield [name], 0, b"", line
     lines = ["exit.img 0  image refused, fault 7, word 3 rule 1", f"falls.img 0  halt 3 at 0x{BASE + 0x10004:016x}"]
     yield ["--batch", "exit.img", "falls.img"], 1, "".join(f"{line}\n" for line in lines).encode(), ""
+    yield ["--emulate", "table.img"], 1, b"", f"halt 2 at 0x{BASE + 0x1000:016x}\n"
     for name in "word.img", "half.img":
         yield ["--emulate", name], 0, b"\0", carried
     sums_line = f"{EXAMPLES / 'checksums.stream'} 1 {sums.hex()} {halted}"
