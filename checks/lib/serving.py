@@ -509,6 +509,21 @@ def try_other_socket(program, kind):
                 wrong("path", "where another socket stands", (came, path.is_socket()), wanted)
 
 
+def try_standing(program):
+    """Where something else stands at the path, also a link to nothing, it is told and left."""
+    with tempfile.TemporaryDirectory() as folder:
+        for name in "file", "folder", "link", "dangling":
+            path = pathlib.Path(folder, name)
+            {"file": path.touch, "folder": path.mkdir, "link": lambda: path.symlink_to("file"), "dangling": lambda: path.symlink_to("none")}[name]()
+            before = path.lstat()
+            words = [program, "serve", "--socket", path, "--connections", "1", "--seconds", "1"]
+            came = subprocess.run(words, capture_output=True, text=True, timeout=60)
+            stays = os.path.lexists(path) and path.lstat()[:4] == before[:4] and not os.path.lexists(os.path.join(folder, "none"))
+            wanted = 3, "", f"lfiload: cannot listen\n  {path}: Address already in use\n", True
+            if (came.returncode, came.stdout, came.stderr, stays) != wanted:
+                wrong("path", f"a {name} stands there", (came, stays), wanted)
+
+
 def try_one_path(program, kind):
     """What stands at the path of `serve` once its socket was moved: a file or a socket of another one's, or a link to the socket."""
     with tempfile.TemporaryDirectory() as folder, socket.socket(socket.AF_UNIX) as other:
@@ -549,6 +564,7 @@ def try_changed_socket(program):
 
 def try_path(program):
     try_changed_socket(program)
+    try_standing(program)
     for kind in ("file", "link", "socket"):
         try_one_path(program, kind)
     try_taken_path(program)
@@ -556,7 +572,7 @@ def try_path(program):
         try_other_socket(program, kind)
     print(
         "path: a socket whose rights, times and owner were changed is gone; a file, a link and a socket that came to stand at the path of `serve` are still there, and so are the sockets of somebody "
-        "who listens there, who takes messages there, and who went"
+        "who listens there, who takes messages there, and who went, and a file, a folder and links that stood there before"
     )
 
 

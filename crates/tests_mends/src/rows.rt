@@ -331,7 +331,25 @@ pub const PAIRS: [Row; 10] = [
 ];
 
 /// Branches through registers, and needs.
-pub const OTHERS: [Row; 12] = [
+pub const OTHERS: [Row; 14] = [
+    // extr x16, x1, x2, #8: orr x16, xzr, x2, lsr #8; orr x16, x16, x1, lsl #56
+    Row {
+        profile: Profile::One,
+        rule: Rule::Spelled,
+        unmet: Need::Nothing,
+        word: 0x93C22030,
+        next: NOP,
+        mend: &[0xAA4223F0, 0xAA01E210],
+    },
+    // extr x17, x1, x2, #8: orr x16, xzr, x2, lsr #8; orr x17, x16, x1, lsl #56
+    Row {
+        profile: Profile::One,
+        rule: Rule::Spelled,
+        unmet: Need::Nothing,
+        word: 0x93C22031,
+        next: NOP,
+        mend: &[0xAA4223F0, 0xAA01E211],
+    },
     // add x18, sp, #0, which copies the stack pointer and not zero: add w22, wsp, #0; add x18, x21, w22, uxtw
     Row {
         profile: Profile::One,
