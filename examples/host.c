@@ -51,10 +51,11 @@ static void tell(const uint8_t *code, uint32_t module, const lfi_state *state, c
     printf("%.*s\n", (int)(count < sizeof text ? count : sizeof text), (const char *)text);
 }
 
-/* A number of the command line, or one above all that are asked for. */
+/* A number of the command line; of other words, one above all that are asked for. */
 static uint32_t number(const char *text) {
-    unsigned long it = strtoul(text, NULL, 10);
-    return it < UINT32_MAX ? (uint32_t)it : UINT32_MAX;
+    char *end;
+    unsigned long it = strtoul(text, &end, 10);
+    return end != text && *end == 0 && it < UINT32_MAX ? (uint32_t)it : UINT32_MAX;
 }
 
 int main(int count, char **given) {

@@ -210,7 +210,11 @@ def try_failures(prefix):
     run(*words, status=1)
     if list(prefix.rglob(".*")):
         fail(f"an install that fails leaves {list(prefix.rglob('.*'))}")
+    told = run(*words, "--uninstall", status=1)
+    if told != f"{PAGE}: changed since it was installed, and left\n":
+        fail(f"--uninstall where a folder stands in place of the page tells {told}")
     page.rmdir()
+    run(*words)
     unread, out = os.pipe()
     os.close(unread)
     for unbuffered in "", "1":

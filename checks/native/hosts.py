@@ -314,6 +314,7 @@ def cases(room, corpus):
     spoiled |= {"far.img": image(15, 0, far), "far.stream": formats.stream(14, far)}
     # NOP; MOV X8, #93; MOV X0, #42; SVC #0: what is refused isn't there any more behind what comes next.
     spoiled |= {"exit.img": image(0, 0, formats.code_of(0xD503201F, 0xD2800BA8, 0xD2800540, 0xD4000001)), "falls.img": image(0, 0, nop)}
+    spoiled["exit.stream"] = formats.stream(0, spoiled["exit.img"][24:])
     # MOVN X0, #0; LDAR W0 or LDARH W0, [X18]; LSR X0, X0, #32 or #16; it prints the low byte.
     for name, load, shift in ("word.img", 0x88DFFE40, 0xD360FC00), ("half.img", 0x48DFFE40, 0xD350FC00):
         code = [0x92800000, *words.move(9, 0x2000F), words.guard(18, 9), load, shift, *words.call(1), words.BRK]
@@ -346,6 +347,7 @@ def cases(room, corpus):
         yield [name], 0, b"", line
     lines = ["exit.img 0  image refused, fault 7, word 3 rule 1", f"falls.img 0  halt 3 at 0x{BASE + 0x10004:016x}"]
     yield ["--batch", "exit.img", "falls.img"], 1, "".join(f"{line}\n" for line in lines).encode(), ""
+    yield ["--batch", "exit.stream", "falls.img"], 1, f"exit.stream 0  not run\n{lines[1]}\n".encode(), ""
     yield ["--emulate", "table.img"], 1, b"", f"halt 2 at 0x{BASE + 0x1000:016x}\n"
     for name in "word.img", "half.img":
         yield ["--emulate", name], 0, b"\0", carried

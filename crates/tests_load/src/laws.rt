@@ -24,7 +24,8 @@ ghost use Rattle.lfi_pack.specs.Heard.{IsHeard, PackedView};
 ghost use Rattle.lfi_pack.specs.Packs.{PacksPart};
 ghost use Rattle.lfi_receive.specs.declared.receiver.Receiver.{Receiver};
 ghost use Rattle.lfi_receive.specs.Claims.{is_opened};
-ghost use Rattle.lfi_receive.specs.Receivers.{member_of, AsksMemory};
+ghost use Rattle.lfi_receive.specs.Receivers.{due_of, member_of, AfterEnd, AsksMemory};
+ghost use Rattle.lfi_receive.specs.declared.receiver.ReceiverTurn.TheVariants as receiver_turn;
 ghost use Rattle.lfi_sequence.specs.declared.sequence.BoardNotice.TheVariants as notice;
 ghost use Rattle.lfi_sequence.specs.declared.sequencer.Sequencer.{Sequencer};
 ghost use Rattle.lfi_sequence.specs.declared.verifier.Verifier.{Verifier};
@@ -34,6 +35,10 @@ ghost use Rattle.lfi_stage.specs.declared.settlement.Report.{Report};
 ghost use Rattle.lfi_stage.specs.declared.stage.Stage.{Stage};
 ghost use Rattle.lfi_stage.specs.Reports.{verifiers_of};
 ghost use Rattle.lfi_stage.specs.Stages.{IsNew};
+ghost use Rattle.lfi_stage_model.specs.declared.shared.Parts.{Parts};
+ghost use Rattle.lfi_stage_model.specs.declared.shared.Shared.{Shared};
+ghost use Rattle.lfi_thread_loops.specs.Running.{AreBack};
+ghost use Rattle.lfi_thread_loops.specs.Seated.{HasEnded};
 ghost use Rattle.lfi_sync.specs.declared.fate.ClientFate.TheVariants.{Absent, CutOff};
 ghost use Rattle.lfi_sync.specs.declared.fate.Absence.TheVariants.{NotCome};
 ghost use Rattle.lfi_sync.specs.Fates.{fate_at, is_absent};
@@ -90,4 +95,11 @@ pub fn new_parts_share_a_pool()
     ensures shared { (receivers verifiers : ℕ) (stage : Stage) → IsNew receivers verifiers stage → (c m : ℕ) (r : Receiver) (s : Sequencer) → slice_get stage.parts.receivers.items c ≡ Some r → slice_get stage.parts.sequencers.items m ≡ Some s → (member_of r).pool ≡ (turns.member_of s).pool }
     ensures judging { (receivers verifiers : ℕ) (stage : Stage) → IsNew receivers verifiers stage → (k : ℕ) (v : Verifier) → slice_get stage.parts.verifiers.items k ≡ Some v → (take_pass_of v).items ≡ [] }
     ensures placing { (receivers verifiers : ℕ) (stage : Stage) → IsNew receivers verifiers stage → (m : ℕ) (s : Sequencer) → slice_get stage.parts.sequencers.items m ≡ Some s → (turns.lane_pass_of s).items ≡ [] }
+{}
+
+/// What is due of a connection after its end becomes less by each put, so it comes to its end. All verifiers that come back have ended after all
+/// receivers had.
+pub fn threads_come_to_their_end()
+    ensures less { (old new : Receiver) (used : ℕ) → AfterEnd old new used receiver_turn.Put → due_of new < due_of old }
+    ensures ended { (shared : Shared) (count verifiers : ℕ) (had : ℕ → Option (List ℕ)) (parts : Parts) → AreBack shared count verifiers had parts → (k : ℕ) (v : Verifier) → slice_get parts.verifiers.items k ≡ Some v → HasEnded shared v }
 {}
