@@ -321,6 +321,10 @@ def cases(room, corpus):
         spoiled |= {name: image(0, 0, formats.code_of(*code), 2)}
     # LDAR X0, [X18] at the table's last byte, by which it leaves it.
     spoiled |= {"table.img": image(0, 0, formats.code_of(*words.move(9, 0xFFF), words.guard(18, 9), 0xC8DFFE40, words.BRK), 2)}
+    # MOVZ W0, #0x8000; ADD SP, X21, W0, UXTW: a signal comes where nothing may be written at sp. And a run's registers aren't the next one's.
+    spoiled |= {"nowhere.img": image(0, 0, formats.code_of(0x52900000, 0x8B2042BF, words.BRK))}
+    spoiled |= {"sets.img": image(0, 0, formats.code_of(*words.move(5, 65), *words.call(0)))}
+    spoiled |= {"shows.img": image(0, 0, formats.code_of(0xAA0503E0, *words.call(1), words.BRK))}
     carried = f"halt 4 at 0x{BASE + 0x10000 + 4 * len(code) - 4:016x}\n"
     plain = image(0, 0, formats.code_of(0xC8DFFE40))  # by profile 1, which doesn't have it
     for name, file in {"loop.img": loop, "crossing.img": crossing, "plain.img": plain, **spoiled}.items():
@@ -348,6 +352,9 @@ def cases(room, corpus):
     lines = ["exit.img 0  image refused, fault 7, word 3 rule 1", f"falls.img 0  halt 3 at 0x{BASE + 0x10004:016x}"]
     yield ["--batch", "exit.img", "falls.img"], 1, "".join(f"{line}\n" for line in lines).encode(), ""
     yield ["--batch", "exit.stream", "falls.img"], 1, f"exit.stream 0  not run\n{lines[1]}\n".encode(), ""
+    yield ["nowhere.img"], 0, b"", f"halt 4 at 0x{BASE + 0x10008:016x}\n"
+    shown = f"sets.img 0  halt 5 status 0\nshows.img 0 00 halt 4 at 0x{BASE + 0x1000C:016x}\n"
+    yield ["--batch", "sets.img", "shows.img"], 0, shown.encode(), ""
     yield ["--emulate", "table.img"], 1, b"", f"halt 2 at 0x{BASE + 0x1000:016x}\n"
     for name in "word.img", "half.img":
         yield ["--emulate", name], 0, b"\0", carried
