@@ -173,10 +173,22 @@ def try_images(program, folder):
     expect(program, folder, ["disassemble", "listed.code"], (0, lines, ""))
 
 
+def left_in_groups():
+    """How many bytes of memory are left in each control group of this process that has a limit."""
+    top = pathlib.Path("/sys/fs/cgroup")
+    for line in pathlib.Path("/proc/self/cgroup").read_text().splitlines():
+        _, kinds, path = line.split(":", 2)
+        root, limit, used = (top, "memory.max", "memory.current") if not kinds else (top / "memory", "memory.limit_in_bytes", "memory.usage_in_bytes")
+        for place in [root / path.lstrip("/"), *(root / path.lstrip("/")).parents] if kinds in ("", "memory") else ():
+            with contextlib.suppress(OSError, ValueError):
+                yield int((place / limit).read_text()) - int((place / used).read_text())
+
+
 def memory_left():
-    """How many bytes of memory the system says that it has left; 0 where it doesn't say so."""
+    """How many bytes of memory this process may still take, by what the system says; 0 where it doesn't say so."""
     try:
-        return 1024 * int(re.search(r"MemAvailable: *(\d+)", pathlib.Path("/proc/meminfo").read_text())[1])
+        whole = 1024 * int(re.search(r"MemAvailable: *(\d+)", pathlib.Path("/proc/meminfo").read_text())[1])
+        return min([whole, *left_in_groups()])
     except (OSError, TypeError):
         return 0
 
