@@ -294,7 +294,7 @@ def try_other_tree(room, prefix):
         written = index.stat().st_mtime_ns
         os.utime(top / "install", (1, 1))
         told = run(top / "install", "--check", "--prefix", prefix, status=1).splitlines()
-        if not told[0].endswith(f"; this one is {this}") or "bin/lfiload: this tree has none built" not in told:
+        if not re.fullmatch(rf"installed from the tree ([0-9a-f]{{40}}(-dirty)?|without a commit); this one is {this}", told[0]) or "bin/lfiload: this tree has none built" not in told:
             fail(f"--check by a tree at {this} in which nothing is built tells {told}")
         if index.stat().st_mtime_ns != written:
             fail("--check writes git's index")
@@ -370,8 +370,13 @@ def try_upgrade(top, prefix):
         if any(f"{name}: of an install before\n" not in told for name in ("bin/lfiload", PAGE)) or "changed" in told:
             fail(f"--check of an install that failed in the place of another tells {told}")
         if again:
-            run(*words)
-            run(*words, "--check")
+            told, record = run(*words), prefix / "share" / "lfiload" / "installed"
+            wanted = {f"{it.relative_to(prefix)}: installed" for it in files_in(prefix) if it != record}
+            if set(told.splitlines()[:-1]) != wanted or "was " in record.read_text():
+                fail(f"an install after one that failed tells {told} and records {record.read_text()}")
+            lines = run(*words, "--check").splitlines()
+            if set(lines[1:-1]) != {it.replace(": installed", ": of this tree") for it in wanted} or not lines[-1].startswith("crates/lfiload/out/lfiload: "):
+                fail(f"--check of an install after one that failed tells {lines}")
         run(*words, "--uninstall")
         if prefix.exists():
             fail(f"left of an install that failed in the place of another: {sorted(map(str, prefix.rglob('*')))}")
