@@ -359,7 +359,7 @@ def cases(room, corpus):
     for name in "word.img", "half.img":
         yield ["--emulate", name], 0, b"\0", carried
     sums_line = f"{EXAMPLES / 'checksums.stream'} 1 {sums.hex()} {halted}"
-    yield ["--batch", "--seconds", "0.2", "loop.img", EXAMPLES / "checksums.stream"], 0, f"loop.img 0  halt 1\n{sums_line}".encode(), ""
+    yield ["--batch", "--seconds", "2", "loop.img", EXAMPLES / "checksums.stream"], 0, f"loop.img 0  halt 1\n{sums_line}".encode(), ""
     yield ["far.stream"], 0, b"", f"halt 4 at 0x{formats.base(14) + 0x10000 + 8000:016x}\n"
     yield ["more.img"], 1, b"", "image refused, fault 6\n"
     yield ["plain.img"], 1, b"", "image refused, fault 7, word 0 rule 1\n"
