@@ -83,9 +83,8 @@ def build(room, archive, name, *flags):
         sources = [*files, HERE / f"{name}.c", archive]
         told = subprocess.run([COMPILER, *words, *sources, *LINKED.get(name, []), "-o", made], capture_output=True, text=True)
     else:
-        # A checkout may lie below a folder with a space.
-        spaced = room / "an archive.a"
-        spaced.unlink(missing_ok=True)
+        # A checkout may lie below a folder with a space. Hosts are built side by side, so each has a link of its own.
+        spaced = room / f"archive of {name}.a"
         spaced.symlink_to(archive)
         told = subprocess.run([HOST / "make", *flags, made, spaced], capture_output=True, text=True, env={**os.environ, "CC": COMPILER})
     if told.returncode or told.stderr:
