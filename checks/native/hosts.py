@@ -296,40 +296,96 @@ def heads():
     yield from ((1, b"LFI0", 0, 0, 3, 0), (2, first, 0, 0, 3, 0), (3, first, 0, 0, 1, 0))
 
 
+SUMS, HALTED, NOP = b"a10a5abb\nc324e8c9\n", "halt 5 status 59\n", 0xD503201F
+
+
+def write_all(room, files):
+    for name, file in files.items():
+        (room / name).write_bytes(file)
+
+
+def broken(module, word):
+    """The line of a run that BRK ends, which is this word of the module's."""
+    return f"halt 4 at 0x{formats.base(module) + 0x10000 + 4 * word:016x}\n"
+
+
+def of_spoiled(room):
+    """Files that are no image, or no lawful one: the same of each as in `cases`."""
+    ends = formats.image(0, 0, formats.code_of(programs.BRK))
+    cut = {"short.img": ends[:-1], "first.img": b"L", "begin.img": ends[:23]}
+    # LDAR X0, [X18] by profile 1, which doesn't have it
+    plain = formats.image(0, 0, formats.code_of(0xC8DFFE40))
+    faults = {f"head-{number}.img": (head[0], struct.pack("<4sIIIQ", *head[1:]) + ends[24:]) for number, head in enumerate(heads())}
+    write_all(room, {**cut, "more.img": ends + b"\0", "plain.img": plain, **{name: file for name, (_, file) in faults.items()}})
+    for name, fault in {**{name: fault for name, (fault, _) in faults.items()}, **dict.fromkeys(cut, 5), "more.img": 6}.items():
+        yield [name], 1, b"", f"image refused, fault {fault}\n"
+    yield ["--batch", "head-1.img"], 1, b"head-1.img 0  image refused, fault 1\n", ""
+    yield ["plain.img"], 1, b"", "image refused, fault 7, word 0 rule 1\n"
+
+
+def of_ordered(room):
+    """LDAR at addresses that are no multiples of its size, carried out and not."""
+    # LDAR X0, [X18]: 15 bytes past a multiple of 16; and at the table's last byte, by which it leaves it
+    for name, place in ("crossing.img", 0x2000F), ("table.img", 0xFFF):
+        code = [*programs.move(9, place), programs.guard(18, 9), 0xC8DFFE40, programs.BRK]
+        write_all(room, {name: formats.image(0, 0, formats.code_of(*code), 2)})
+    yield ["crossing.img"], 1, b"", "bus at 0x000000010002000f\n"
+    yield ["--emulate", "crossing.img"], 0, b"", broken(0, 4)
+    yield ["--emulate", "table.img"], 1, b"", f"halt 2 at 0x{BASE + 0x1000:016x}\n"
+    # MOVN X0, #0; LDAR W0 or LDARH W0, [X18]; LSR X0, X0, #32 or #16; it prints the low byte.
+    for name, load, shift in ("word.img", 0x88DFFE40, 0xD360FC00), ("half.img", 0x48DFFE40, 0xD350FC00):
+        code = [0x92800000, *programs.move(9, 0x2000F), programs.guard(18, 9), load, shift, *programs.call(1), programs.BRK]
+        write_all(room, {name: formats.image(0, 0, formats.code_of(*code), 2)})
+        yield ["--emulate", name], 0, b"\0", broken(0, len(code) - 1)
+
+
+def of_several(room):
+    """What comes behind another one in the same process finds nothing of it: no bytes that were refused, no registers, no time that is over."""
+    codes = {
+        "exit.img": (NOP, 0xD2800BA8, 0xD2800540, 0xD4000001),  # NOP; MOV X8, #93; MOV X0, #42; SVC #0
+        "falls.img": (NOP,),
+        "sets.img": (*programs.move(5, 65), *programs.call(0)),
+        "shows.img": (0xAA0503E0, *programs.call(1), programs.BRK),  # MOV X0, X5
+        "loop.img": (programs.branch(0),),
+    }
+    write_all(room, {name: formats.image(0, 0, formats.code_of(*code)) for name, code in codes.items()})
+    write_all(room, {"exit.stream": formats.stream(0, formats.code_of(*codes["exit.img"]))})
+    falls, sums = f"falls.img 0  halt 3 at 0x{BASE + 0x10004:016x}\n", EXAMPLES / "checksums.stream"
+    for (first, second), status, lines in (
+        (("exit.img", "falls.img"), 1, f"exit.img 0  image refused, fault 7, word 3 rule 1\n{falls}"),
+        (("exit.stream", "falls.img"), 1, f"exit.stream 0  not run\n{falls}"),
+        (("sets.img", "shows.img"), 0, f"sets.img 0  halt 5 status 0\nshows.img 0 00 {broken(0, 3)}"),
+        (("loop.img", sums), 0, f"loop.img 0  halt 1\n{sums} 1 {SUMS.hex()} {HALTED}"),
+    ):
+        yield ["--batch", "--seconds", "2", first, second], status, lines.encode(), ""
+
+
+def of_places(room):
+    """Code of the most words, of several pages, of which the last isn't full, in far slots; and a signal where nothing may be written at sp."""
+    far = formats.code_of(*[NOP] * 2_000, programs.BRK)
+    most = formats.code_of(programs.BRK) + formats.code_of(NOP) * (formats.MOST_WORDS - 1)
+    nowhere = formats.code_of(0x52900000, 0x8B2042BF, programs.BRK)  # MOVZ W0, #0x8000; ADD SP, X21, W0, UXTW
+    images = {"most.img": formats.image(0, 0, most), "far.img": formats.image(15, 0, far), "nowhere.img": formats.image(0, 0, nowhere)}
+    write_all(room, {**images, "far.stream": formats.stream(14, far)})
+    for name, module, word in ("most.img", 0, 0), ("far.img", 15, 2_000), ("far.stream", 14, 2_000), ("nowhere.img", 0, 2):
+        yield [name], 0, b"", broken(module, word)
+
+
+def of_words(room):
+    """Words of the command line, and files that can't be read."""
+    usage = "usage: native_host [--emulate] [--seconds N] [--batch] FILE..\n"
+    write_all(room, {"loop.img": formats.image(0, 0, formats.code_of(programs.branch(0)))})
+    for seconds in ("0.05", "0.0000001"):
+        yield ["--seconds", seconds, "loop.img"], 0, b"", "halt 1\n"
+    yield ["missing.img"], 3, b"", "native_host: missing.img: No such file or directory\n"
+    yield [room], 3, b"", f"native_host: {room}: Is a directory\n"
+    for wrong in ([], ["--batch"], ["--seconds"], ["--other", "loop.img"], *(["--seconds", it, "loop.img"] for it in NO_SECONDS)):
+        yield wrong, 2, b"", usage
+
+
 def cases(room, corpus):
     """What the host tells, by its README: words of the command line, the status, both outputs. `corpus` has images with what they print and
     their last lines."""
-    image, words = formats.image, programs
-    loop = image(0, 0, formats.code_of(words.branch(0)))
-    # LDAR X0, [X18], 15 bytes past a multiple of 16
-    crossing = image(0, 0, formats.code_of(*words.move(9, 0x2000F), words.guard(18, 9), 0xC8DFFE40, words.BRK), 2)
-    ends = image(0, 0, formats.code_of(words.BRK))
-    spoiled = {"short.img": loop[:-1], "more.img": ends + b"\0"}
-    faults = {f"head-{number}.img": (head[0], struct.pack("<4sIIIQ", *head[1:]) + ends[24:]) for number, head in enumerate(heads())}
-    spoiled |= {name: file for name, (_, file) in faults.items()} | {"first.img": b"L", "begin.img": ends[:23]}
-    # Of the most words; and of several pages, the last one not full.
-    far, nop = formats.code_of(*[0xD503201F] * 2_000, words.BRK), formats.code_of(0xD503201F)
-    spoiled |= {"most.img": image(0, 0, formats.code_of(words.BRK) + nop * (formats.MOST_WORDS - 1))}
-    spoiled |= {"far.img": image(15, 0, far), "far.stream": formats.stream(14, far)}
-    # NOP; MOV X8, #93; MOV X0, #42; SVC #0: what is refused isn't there any more behind what comes next.
-    spoiled |= {"exit.img": image(0, 0, formats.code_of(0xD503201F, 0xD2800BA8, 0xD2800540, 0xD4000001)), "falls.img": image(0, 0, nop)}
-    spoiled["exit.stream"] = formats.stream(0, spoiled["exit.img"][24:])
-    # MOVN X0, #0; LDAR W0 or LDARH W0, [X18]; LSR X0, X0, #32 or #16; it prints the low byte.
-    for name, load, shift in ("word.img", 0x88DFFE40, 0xD360FC00), ("half.img", 0x48DFFE40, 0xD350FC00):
-        code = [0x92800000, *words.move(9, 0x2000F), words.guard(18, 9), load, shift, *words.call(1), words.BRK]
-        spoiled |= {name: image(0, 0, formats.code_of(*code), 2)}
-    # LDAR X0, [X18] at the table's last byte, by which it leaves it.
-    spoiled |= {"table.img": image(0, 0, formats.code_of(*words.move(9, 0xFFF), words.guard(18, 9), 0xC8DFFE40, words.BRK), 2)}
-    # MOVZ W0, #0x8000; ADD SP, X21, W0, UXTW: a signal comes where nothing may be written at sp. And a run's registers aren't the next one's.
-    spoiled |= {"nowhere.img": image(0, 0, formats.code_of(0x52900000, 0x8B2042BF, words.BRK))}
-    spoiled |= {"sets.img": image(0, 0, formats.code_of(*words.move(5, 65), *words.call(0)))}
-    spoiled |= {"shows.img": image(0, 0, formats.code_of(0xAA0503E0, *words.call(1), words.BRK))}
-    carried = f"halt 4 at 0x{BASE + 0x10000 + 4 * len(code) - 4:016x}\n"
-    plain = image(0, 0, formats.code_of(0xC8DFFE40))  # by profile 1, which doesn't have it
-    for name, file in {"loop.img": loop, "crossing.img": crossing, "plain.img": plain, **spoiled}.items():
-        (room / name).write_bytes(file)
-    usage = "usage: native_host [--emulate] [--seconds N] [--batch] FILE..\n"
-    sums, halted = b"a10a5abb\nc324e8c9\n", "halt 5 status 59\n"
     for case in corpus:
         out, line = case.written
         yield ["--emulate", case.name], int(line.startswith(("halt 2", "halt 3"))), out, f"{line}\n"
@@ -337,39 +393,12 @@ def cases(room, corpus):
     for first, second in ((stack, flags), (flags, stack)):
         lines = [f"{name} 0 {out.hex()} {line}\n" for name, (out, line) in (first, second)]
         yield ["--batch", first[0], second[0]], 1, "".join(lines).encode(), ""
-    yield [EXAMPLES / "checksums.stream"], 0, sums, halted
-    yield [EXAMPLES / "two_modules.stream"], 1, sums, f"halt 3 at 0x{BASE:016x}\n{halted}"  # RET at the start goes to B, the table
+    yield [EXAMPLES / "checksums.stream"], 0, SUMS, HALTED
+    yield [EXAMPLES / "two_modules.stream"], 1, SUMS, f"halt 3 at 0x{BASE:016x}\n{HALTED}"  # RET at the start goes to B, the table
     yield [EXAMPLES / "hostile.stream"], 1, b"", "not run\n" * 3
     yield ["--batch", EXAMPLES / "hostile.stream"], 1, b"".join(b"%s %d  not run\n" % (bytes(EXAMPLES / "hostile.stream"), m) for m in (2, 3, 4)), ""
-    for name, (fault, _) in faults.items():
-        yield [name], 1, b"", f"image refused, fault {fault}\n"
-    yield ["--batch", "head-1.img"], 1, b"head-1.img 0  image refused, fault 1\n", ""
-    for name in "short.img", "first.img", "begin.img":
-        yield [name], 1, b"", "image refused, fault 5\n"
-    for name, line in ("most.img", f"halt 4 at 0x{BASE + 0x10000:016x}\n"), ("far.img", f"halt 4 at 0x{formats.base(15) + 0x10000 + 8000:016x}\n"):
-        yield [name], 0, b"", line
-    lines = ["exit.img 0  image refused, fault 7, word 3 rule 1", f"falls.img 0  halt 3 at 0x{BASE + 0x10004:016x}"]
-    yield ["--batch", "exit.img", "falls.img"], 1, "".join(f"{line}\n" for line in lines).encode(), ""
-    yield ["--batch", "exit.stream", "falls.img"], 1, f"exit.stream 0  not run\n{lines[1]}\n".encode(), ""
-    yield ["nowhere.img"], 0, b"", f"halt 4 at 0x{BASE + 0x10008:016x}\n"
-    shown = f"sets.img 0  halt 5 status 0\nshows.img 0 00 halt 4 at 0x{BASE + 0x1000C:016x}\n"
-    yield ["--batch", "sets.img", "shows.img"], 0, shown.encode(), ""
-    yield ["--emulate", "table.img"], 1, b"", f"halt 2 at 0x{BASE + 0x1000:016x}\n"
-    for name in "word.img", "half.img":
-        yield ["--emulate", name], 0, b"\0", carried
-    sums_line = f"{EXAMPLES / 'checksums.stream'} 1 {sums.hex()} {halted}"
-    yield ["--batch", "--seconds", "2", "loop.img", EXAMPLES / "checksums.stream"], 0, f"loop.img 0  halt 1\n{sums_line}".encode(), ""
-    yield ["far.stream"], 0, b"", f"halt 4 at 0x{formats.base(14) + 0x10000 + 8000:016x}\n"
-    yield ["more.img"], 1, b"", "image refused, fault 6\n"
-    yield ["plain.img"], 1, b"", "image refused, fault 7, word 0 rule 1\n"
-    yield ["crossing.img"], 1, b"", "bus at 0x000000010002000f\n"
-    yield ["--emulate", "crossing.img"], 0, b"", f"halt 4 at 0x{BASE + 0x10010:016x}\n"
-    for seconds in ("0.05", "0.0000001"):
-        yield ["--seconds", seconds, "loop.img"], 0, b"", "halt 1\n"
-    yield ["missing.img"], 3, b"", "native_host: missing.img: No such file or directory\n"
-    yield [room], 3, b"", f"native_host: {room}: Is a directory\n"
-    for wrong in ([], ["--batch"], ["--seconds"], ["--other", "loop.img"], *(["--seconds", it, "loop.img"] for it in NO_SECONDS)):
-        yield wrong, 2, b"", usage
+    for part in of_spoiled, of_ordered, of_several, of_places, of_words:
+        yield from part(room)
 
 
 def check_told(host, room, corpus):
