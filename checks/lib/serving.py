@@ -403,8 +403,14 @@ def try_limit(program):
 # ---- waits
 
 
+def seconds_of_processor(process):
+    """How many seconds of a processor a process that runs has taken."""
+    fields = pathlib.Path(f"/proc/{process.pid}/stat").read_text().rpartition(")")[2].split()
+    return (int(fields[11]) + int(fields[12])) / os.sysconf("SC_CLK_TCK")
+
+
 class Waiting:
-    """`serve` of two clients without a limit of time: the first sends the beginning of its stream, the second hasn't come."""
+    """`serve` of two clients without a limit of time: the first sends 70 pages and the beginning of one more, the second hasn't come."""
 
     def __init__(self, program):
         self.room, self.begin = tempfile.TemporaryDirectory(), time.monotonic()
@@ -412,18 +418,20 @@ class Waiting:
         self.serve = subprocess.Popen([program, "serve", "--socket", self.path, "--connections", "2"], stdout=subprocess.PIPE, text=True)
         # Where another part fails, it would wait for ever.
         atexit.register(self.serve.kill)
-        self.first, self.text = connected(self.path), formats.stream(0, RET)
-        self.first.sendall(self.text[:20])
+        self.first, self.text = connected(self.path), formats.stream(0, NOP * (1024 * 70) + RET)
+        self.first.sendall(self.text[:-16])
 
     def end(self):
-        """At least 75 seconds later the first sends the rest, and the second comes."""
+        """At least 75 seconds later the first sends the rest, and the second comes. Until then all threads sleep, once the pages are placed."""
         time.sleep(max(0, self.begin + 75 - time.monotonic()))
-        waited = int(time.monotonic() - self.begin)
+        waited, spent = int(time.monotonic() - self.begin), seconds_of_processor(self.serve)
+        if spent > 3:
+            wrong("waits", f"a client that is silent after 70 pages, for {waited} seconds", f"{spent} seconds of a processor", "at most 3")
         # Where `serve` has ended by then, what it told is compared.
         with self.first, contextlib.suppress(OSError), connected(self.path) as second:
-            self.first.sendall(self.text[20:])
+            self.first.sendall(self.text[-16:])
             second.sendall(formats.stream(1, RET))
-        came, wanted = (self.serve.communicate(timeout=60)[0], self.serve.returncode), ("module 0: complete, 1 words\nmodule 1: complete, 1 words\nstrays 0\n", 0)
+        came, wanted = (self.serve.communicate(timeout=60)[0], self.serve.returncode), ("module 0: complete, 71681 words\nmodule 1: complete, 1 words\nstrays 0\n", 0)
         if came != wanted:
             wrong("waits", f"a client that is silent, and one that comes late, for {waited} seconds", came, wanted)
         print(f"waits: a client that is silent within a message, and one that comes late, for {waited} seconds")
