@@ -23,4 +23,6 @@ mod texts;
 #[cfg(test)]
 mod whole_slot;
 
-pub use laws::no_word_keeps_no_page;
+pub use laws::{
+    accesses_escape_from_the_last_slot, branches_escape_from_the_last_slot, no_word_keeps_no_page,
+};
