@@ -2,13 +2,16 @@
  *   fails  the clock can't be read
  *   look   the first look for a client that finds none is followed by a pause of two seconds
  *   read   the first reading of the clock after a client was taken is preceded by such a pause
- *   write  each write to the standard output is interrupted 20 times */
+ *   write  each write to the standard output is interrupted 5,000 times
+ *   lost   the first write to the standard error fails
+ *   stat   nothing is told of the first file that is asked for by its name */
 #define _GNU_SOURCE
 #include <errno.h>
 #include <stdatomic.h>
 #include <stdlib.h>
 #include <string.h>
 #include <sys/socket.h>
+#include <sys/stat.h>
 #include <sys/syscall.h>
 #include <time.h>
 #include <unistd.h>
@@ -44,11 +47,24 @@ int accept4(int at, struct sockaddr *address, socklen_t *length, int flags) {
 }
 
 ssize_t write(int at, const void *bytes, size_t count) {
-    static int left = 20;
+    static int left = 5000, lost;
     if (at == 1 && is("write") && left-- > 0) {
         errno = EINTR;
         return -1;
     }
-    left = 20;
+    left = 5000;
+    if (at == 2 && is("lost") && !lost++) {
+        errno = ENOSPC;
+        return -1;
+    }
     return syscall(SYS_write, at, bytes, count);
+}
+
+int statx(int folder, const char *path, int flags, unsigned mask, struct statx *told) {
+    static int asked;
+    if (*path && is("stat") && !asked++) {
+        errno = EIO;
+        return -1;
+    }
+    return (int)syscall(SYS_statx, folder, path, flags, mask, told);
 }

@@ -54,6 +54,34 @@ def serve_one(program, library, how, delay, folder, *wanted):
         compare(how, serving, *wanted)
 
 
+def lose_one(program, library, folder):
+    """Of two files that aren't there the line of the first is lost: that of the second is written all the same."""
+    second = "lfiload: cannot read second\n  No such file or directory\n"
+    # A line on the errors and its reason are one write.
+    for command in ["check", "first", "second"], ["info", "first", "second"], ["check", "--format", "json", "first", "second"]:
+        running = started(library, "lost", [program, *command], folder)
+        out, err = running.communicate(timeout=20)
+        if (err, running.returncode) != (second, 3):
+            wrong("clocks", f"{command}, of which the first line is lost", (out, err, running.returncode), (second, 3))
+
+
+def keep_other(program, library, folder):
+    """Where the system told nothing of the socket, what stands at its path in the end isn't removed."""
+    path = pathlib.Path(folder, "untold")
+    serving = started(library, "stat", [program, "serve", "--socket", path, "--connections", "1"], folder)
+    while serving.poll() is None and not path.exists():
+        time.sleep(0.01)
+    with connected(str(path)) as client:
+        time.sleep(0.3)
+        path.unlink()
+        path.write_text("kept")
+        client.sendall(formats.stream(0, RET))
+        client.shutdown(socket.SHUT_WR)
+        compare("stat", serving, LOADED)
+    if path.read_text() != "kept":
+        wrong("clocks", "a file at the path of a socket of which the system told nothing", "is gone", "stays")
+
+
 def try_clocks(program):
     """Who came or ended in time is told so, however late the thread looks that keeps the time; and where the clock can't be read the time is
     over. A write that is interrupted is tried again."""
@@ -69,4 +97,6 @@ def try_clocks(program):
         compare("fails", started(library, "fails", words, folder), none)
         serve_one(program, library, "look", 0.5, folder, LOADED, TAKEN_LATE)
         serve_one(program, library, "read", 0.2, folder, LOADED)
-    print("clocks: one that can't be read, pauses before and after a look, a write that is interrupted")
+        lose_one(program, library, folder)
+        keep_other(program, library, folder)
+    print("clocks: one that can't be read, pauses before and after a look, a write that is interrupted, one line that is lost, a socket of which nothing is told")

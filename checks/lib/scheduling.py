@@ -88,6 +88,16 @@ def load_many(program, folder, verifiers):
     ended("together", words, start(words, folder), "module 0: complete, 200001 words\nstrays 0\n")
 
 
+def load_each_way(program, folder):
+    """Each number of streams, by each number of verifiers."""
+    for count in range(1, 9):
+        streams = [f"{module}.small" for module in range(count)]
+        wanted = "".join(f"module {module}: complete, {module + 2} words\n" for module in range(count)) + "strays 0\n"
+        for verifiers in range(1, 9):
+            words = [program, "load", "--verifiers", str(verifiers), *streams]
+            ended("together", words, start(words, folder), wanted)
+
+
 def try_together(program):
     """Threads that end at once each have their end told; and those that wait for room in one lane are called."""
     with tempfile.TemporaryDirectory() as folder:
@@ -96,7 +106,10 @@ def try_together(program):
         pathlib.Path(folder, "large.stream").write_bytes(formats.stream(0, NOP * 200_000 + RET))
         for verifiers in (2, 3, 4, 8) * LARGE:
             load_many(program, folder, verifiers)
-    print(f"together: {TOGETHER} times eight clients of `serve` that end at once, {4 * LARGE} loads by many verifiers")
+        for module in range(8):
+            pathlib.Path(folder, f"{module}.small").write_bytes(formats.stream(module, NOP * (module + 1) + RET))
+        load_each_way(program, folder)
+    print(f"together: {TOGETHER} times eight clients of `serve` that end at once, {4 * LARGE} loads by many verifiers, one to eight streams by one to eight")
 
 
 # ---- late

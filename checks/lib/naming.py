@@ -1,0 +1,66 @@
+"""The part of checks/hostile on names: of files, folders and sockets, with any letters in them."""
+
+import json
+import os
+import pathlib
+import subprocess
+import tempfile
+
+from lib import formats
+from lib.cases import RET, run, wrong
+from lib.serving import connected
+
+# Names that a file may have as well as any other.
+ODD_NAMES = ("s ", " s", "s\t", "s\n", "a b", "s.", ".s", "--", "-s", "ß", "'s'", '"s"', "a\\b", "s:1", "%s", "{}", "*", "S")
+
+
+def try_file(program, folder, name):
+    """A file of this name is read, and told by it."""
+    path, text = os.path.join(folder, name), formats.stream(3, RET)
+    for content, command, wanted in (
+        (RET, ["check", path], (0, b"lawful, 1 words\n", b"")),
+        (RET, ["check", path, path], (0, 2 * f"{path}: lawful, 1 words\n".encode(), b"")),
+        (RET, ["pack", "--module", "3", path], (0, text, b"")),
+        (formats.image(3, 0, RET), ["unpack", path], (0, RET, b"")),
+        (formats.image(3, 0, RET), ["run", path, "--steps", "0"], (0, b"", b"halt 1 after 0 steps\n")),
+        (text, ["load", path], (0, b"module 3: complete, 1 words\nstrays 0\n", b"")),
+    ):
+        pathlib.Path(path).write_bytes(content)
+        done = subprocess.run([program, *command], capture_output=True, timeout=60)
+        if (done.returncode, done.stdout, done.stderr) != wanted:
+            wrong("odd", command, (done.returncode, done.stdout, done.stderr), wanted)
+
+
+def try_folder(program, folder, name):
+    """Images are written to a folder of this name, and told by it; so is a file that isn't there."""
+    path, stream = os.path.join(folder, "out", name), os.path.join(folder, "stream")
+    os.makedirs(path)
+    pathlib.Path(stream).write_bytes(formats.stream(3, RET))
+    told = run(program, folder, ["load", "--format", "json", "--out", path, stream])
+    images = [it["path"] for it in json.loads(told.stdout)["images"]]
+    if images != [f"{path}/module-03.img"] or not pathlib.Path(path, "module-03.img").is_file():
+        wrong("odd", f"--out of a folder {name!r}", (told.returncode, told.stdout, told.stderr), f"an image at {path}/module-03.img")
+    missing = run(program, folder, ["check", os.path.join(path, name)]).stderr
+    if missing != f"lfiload: cannot read {path}/{name}\n  No such file or directory\n":
+        wrong("odd", f"a file {name!r} that isn't there", missing, "its name")
+
+
+def try_socket(program, folder, name):
+    """A socket of this name stands there, and is gone in the end."""
+    path = os.path.join(folder, "sockets", name)
+    os.mkdir(os.path.dirname(path))
+    serving = subprocess.Popen([program, "serve", "--socket", path, "--connections", "1"], stdout=subprocess.PIPE, stderr=subprocess.PIPE, text=True)
+    with connected(path) as client:
+        client.sendall(formats.stream(0, RET))
+    came = *serving.communicate(timeout=60), serving.returncode, os.listdir(os.path.dirname(path))
+    wanted = "module 0: complete, 1 words\nstrays 0\n", "", 0, []
+    if came != wanted:
+        wrong("odd", f"a path that ends with {name!r}", came, wanted)
+
+
+def try_odd(program):
+    for name in ODD_NAMES:
+        with tempfile.TemporaryDirectory() as folder:
+            for part in try_file, try_folder, try_socket:
+                part(program, folder, name)
+    print(f"odd: {len(ODD_NAMES)} names of files, folders and sockets")
