@@ -71,7 +71,7 @@ def try_strays(program):
         wrong("most", f"{times} million messages of a module that isn't open", told, f"strays {times}000000")
 
 
-def try_most(program):
+def try_modules(program, profile, large):
     """All modules of the most words from one connection; and so with the last one refused at its first word, so that its pages are given again."""
     whole = "".join(f"module {module}: complete, {formats.MOST_WORDS} words\n" for module in range(formats.MODULES - 1))
     refused = bytes(4) + WHOLE[4:]
@@ -79,13 +79,19 @@ def try_most(program):
         with tempfile.TemporaryDirectory() as folder:
             with open(os.path.join(folder, "most.stream"), "wb") as file:
                 for module in range(formats.MODULES - 1):
-                    file.write(formats.stream(module, WHOLE))
-                file.write(formats.stream(formats.MODULES - 1, code))
+                    file.write(formats.stream(module, WHOLE, profile, large))
+                file.write(formats.stream(formats.MODULES - 1, code, profile, large))
             done = run(program, folder, ["load", "most.stream"])
         if (done.stdout, done.returncode) != (f"{whole}module 15: {told}\nstrays 0\n", status):
-            wrong("most", "sixteen modules of the most words", (done.stdout, done.returncode), told)
+            wrong("most", f"sixteen modules of the most words, profile {profile}, large pages {large}", (done.stdout, done.returncode), told)
+
+
+def try_most(program):
+    """All modules of the most words, in small and in large pages; many messages that belong to none."""
+    for profile, large in (1, False), (2, True):
+        try_modules(program, profile, large)
     try_strays(program)
-    print(f"most: {formats.MODULES} modules of {formats.MOST_WORDS} words from one connection, also with the last one refused; 30 million other messages")
+    print(f"most: {formats.MODULES} modules of {formats.MOST_WORDS} words from one connection, in small and large pages, also with the last one refused; 30 million other messages")
 
 
 # ---- large
@@ -194,15 +200,19 @@ def memory_left():
 
 
 def try_whole_slot(program, folder):
-    """A run that stores in each 65,536 bytes of its data has memory for all of them, which is 4 GiB."""
+    """A run that stores in each 65,536 bytes of its data, upwards or downwards, has memory for all of them, which is 4 GiB."""
     if memory_left() < 6 << 30:
         print("large: left out is a run that stores in its whole slot, since there are no 6 GiB of memory")
         return
     # MOVZ W1, #2, LSL #16; STR X0, [X21, W1, UXTW]; ADD W1, W1, #16, LSL #12; B to the store.
-    code = formats.code_of(0x52A00041, 0xF8214AA0, 0x11404021, 0x17FFFFFE)
-    pathlib.Path(folder, "stores.img").write_bytes(formats.image(0, 0, code))
-    told = f"halt 2 at {formats.base(0):#018x} after {1 + 3 * 65_534} steps\n"  # past 2^32 - 65,536 comes the table
-    expect(program, folder, ["run", "stores.img", "--steps", "1000000"], (1, "", told))
+    up = formats.code_of(0x52A00041, 0xF8214AA0, 0x11404021, 0x17FFFFFE)
+    # MOVN W1, #7; STR X0, [X21, W1, UXTW]; SUB W1, W1, #16, LSL #12; B to the store.
+    down = formats.code_of(0x128000E1, 0xF8214AA0, 0x51404021, 0x17FFFFFE)
+    for name, code, first, stores in ("up.img", up, 0, 65_534), ("down.img", down, 65_528, 65_535):
+        pathlib.Path(folder, name).write_bytes(formats.image(0, 0, code))
+        # Past the slot comes the table, and before 65,536 there is nothing.
+        told = f"halt 2 at {formats.base(0) + first:#018x} after {1 + 3 * stores} steps\n"
+        expect(program, folder, ["run", name, "--steps", "1000000"], (1, "", told))
 
 
 def try_counts(program, folder):
