@@ -228,11 +228,13 @@ static int explanations(void) {
     put(nops(code, 1025) + 4 * 16, 0xB8237880);
     CHECK(90, lfi_explain(LFI_PROFILE_1, 0, 124, code, size, &f, text, sizeof text, &count) == LFI_LAWFUL);
     CHECK(91, count == sizeof FIRST - 1 && !memcmp(text, FIRST, count) && !memcmp(text + count, other, sizeof text - count));
-    for (size_t room = 0; room < sizeof FIRST + 9; room++) {
+    /* All the module, a word less than all, and a part of it. */
+    static const uint32_t words[] = {17, 18, 124, 4194304};
+    for (size_t room = 0; room < 4 * (sizeof FIRST + 9); room++) {
         memset(text, '#', sizeof text);
         count = 0;
-        CHECK(92, lfi_explain(LFI_PROFILE_1, 0, 124, code, size, &f, text, room, &count) == LFI_LAWFUL);
-        size_t kept = room < count ? room : count;
+        CHECK(92, lfi_explain(LFI_PROFILE_1, 0, words[room % 4], code, size, &f, text, room / 4, &count) == LFI_LAWFUL);
+        size_t kept = room / 4 < count ? room / 4 : count;
         CHECK(93, count == sizeof FIRST - 1 && !memcmp(text, FIRST, kept) && !memcmp(text + kept, other, sizeof text - kept));
     }
     put(code + 4 * 1023, 0xF94006BE);

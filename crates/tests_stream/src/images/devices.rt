@@ -169,8 +169,8 @@ fn long_files_are_written(rt: HostRuntime) {
     }
 }
 
-/// The long file in small pieces, and with an I/O error: at the ends of the header and of pages, and beside them.
-const LONG: [Reading; 14] = [
+/// The long file in small pieces, with an I/O error, and cut: at the ends of the header and of pages, and beside them.
+const LONG: [Reading; 19] = [
     (LONG_FILE, ALL, 1, None),
     (LONG_FILE, ALL, 7, None),
     (LONG_FILE, ALL, 4095, None),
@@ -185,6 +185,11 @@ const LONG: [Reading; 14] = [
     (LONG_FILE, 65_560, 5000, Some(ImageFault::Device)),
     (LONG_FILE, 65_561, 5000, Some(ImageFault::Device)),
     (LONG_FILE, 69_659, 5000, Some(ImageFault::Device)),
+    (24, ALL, ALL, Some(ImageFault::Truncated)),
+    (4120, ALL, ALL, Some(ImageFault::Truncated)),
+    (8216, ALL, ALL, Some(ImageFault::Truncated)),
+    (65_560, ALL, ALL, Some(ImageFault::Truncated)),
+    (69_656, ALL, ALL, Some(ImageFault::Truncated)),
 ];
 
 #[test]
