@@ -1,7 +1,7 @@
 //! What `load_all`, `serve_on` and `Stage::new` promise, read from the records of their contracts: where one of these fields is
 //! dropped, a law here isn't proved any more.
 
-ghost use Rattle.std.specs.Prelude.{◌≡◌, ◌≢◌, ◌<◌, ◌-◌, ◌^◌, ℕ, List, [], ◌∷◌, ◌++◌, Option, Some, None, true, get_or, slice_get, slice_index, length, min, sum};
+ghost use Rattle.std.specs.Prelude.{◌≡◌, ◌≢◌, ◌<◌, ◌-◌, ◌^◌, ℕ, Bool, List, [], ◌∷◌, ◌++◌, Option, Some, None, true, get_or, slice_get, slice_index, length, min, sum};
 ghost use Rattle.std.specs.Io.KnownBytes.{Appends};
 ghost use Rattle.std.specs.declared.time.Duration.{Duration};
 ghost use Rattle.lfi_module.specs.Extents.{ExtentView};
@@ -24,6 +24,7 @@ ghost use Rattle.lfi_pack.specs.Heard.{IsHeard, PackedView};
 ghost use Rattle.lfi_pack.specs.Packs.{PacksPart};
 ghost use Rattle.lfi_receive.specs.declared.receiver.Receiver.{Receiver};
 ghost use Rattle.lfi_receive.specs.Claims.{is_opened};
+ghost use Rattle.lfi_receive.specs.Pulls.{FailsAs};
 ghost use Rattle.lfi_receive.specs.Receivers.{due_of, member_of, AfterEnd, AsksMemory};
 ghost use Rattle.lfi_receive.specs.declared.receiver.ReceiverTurn.TheVariants as receiver_turn;
 ghost use Rattle.lfi_sequence.specs.declared.sequence.BoardNotice.TheVariants as notice;
@@ -102,4 +103,12 @@ pub fn new_parts_share_a_pool()
 pub fn threads_come_to_their_end()
     ensures less { (old new : Receiver) (used : ℕ) → AfterEnd old new used receiver_turn.Put → due_of new < due_of old }
     ensures ended { (shared : Shared) (count verifiers : ℕ) (had : ℕ → Option (List ℕ)) (parts : Parts) → AreBack shared count verifiers had parts → (k : ℕ) (v : Verifier) → slice_get parts.verifiers.items k ≡ Some v → HasEnded shared v }
+{}
+
+/// A read is told as failed only where the reader has answered an error; where no read is, it has answered none since.
+pub fn failed_reads_have_failed()
+    ensures failed { (before after : Bool) → FailsAs (Some Failed) before after → after ≡ true }
+    ensures none { (before after : Bool) → FailsAs None before after → after ≡ before }
+    ensures ended { (before after : Bool) → FailsAs (Some End) before after → after ≡ before }
+    ensures starved { (before after : Bool) → FailsAs (Some Starved) before after → after ≡ before }
 {}

@@ -26,6 +26,6 @@ mod reports;
 mod workers;
 
 pub use laws::{
-    absent_clients_have_no_module, new_parts_share_a_pool, opened_modules_are_loaded,
-    packed_modules_are_heard_whole,
+    absent_clients_have_no_module, failed_reads_have_failed, new_parts_share_a_pool,
+    opened_modules_are_loaded, packed_modules_are_heard_whole,
 };
