@@ -68,17 +68,14 @@ def lose_one(program, library, folder):
 def keep_other(program, library, folder):
     """Where the system told nothing of the socket, what stands at its path in the end isn't removed."""
     path = pathlib.Path(folder, "untold")
-    serving = started(library, "stat", [program, "serve", "--socket", path, "--connections", "1"], folder)
+    serving = started(library, "stat", [program, "serve", "--socket", path, "--connections", "1", "--seconds", "1"], folder)
     while serving.poll() is None and not path.exists():
         time.sleep(0.01)
-    with connected(str(path)) as client:
-        time.sleep(0.3)
-        path.unlink()
-        path.write_text("kept")
-        client.sendall(formats.stream(0, RET))
-        client.shutdown(socket.SHUT_WR)
-        compare("stat", serving, LOADED)
-    if path.read_text() != "kept":
+    time.sleep(0.3)
+    path.unlink()
+    path.write_text("kept")
+    compare("stat", serving, ("strays 0\n", "lfiload: time is over: connection 0 had not come\n", 3))
+    if not path.exists() or path.read_text() != "kept":
         wrong("clocks", "a file at the path of a socket of which the system told nothing", "is gone", "stays")
 
 
