@@ -1,6 +1,7 @@
 """The parts of checks/hostile on how much a run asks of the system, and on the most that one client or one command takes."""
 
 import contextlib
+import json
 import os
 import pathlib
 import re
@@ -123,7 +124,7 @@ def try_lengths(program, folder):
 
 
 def try_messages(program, folder):
-    """`info` of four modules of the most words, and of 50,000 messages of modules that aren't open."""
+    """`info` of four modules of the most words, and of 70,000 messages of modules that aren't open."""
     at, lines = 0, ["stream"]
     with open(os.path.join(folder, "pages.stream"), "wb") as file:
         for module in range(4):
@@ -134,9 +135,12 @@ def try_messages(program, folder):
                 at += len(message)
                 file.write(message)
     expect(program, folder, ["info", "pages.stream"], (0, "".join(f"{line}\n" for line in lines), ""))
-    count = 50_000
+    count = 70_000
     pathlib.Path(folder, "strays.stream").write_bytes(formats.header(formats.CLOSE, 0, 5, 0, 0) * count)
     expect(program, folder, ["load", "strays.stream"], (0, f"strays {count}\n", ""))
+    unused = [{"module": module, "outcome": "unused"} for module in range(formats.MODULES)]
+    told = {"modules": unused, "connections": [{"connection": 0, "path": "strays.stream", "strays": count}], "strays": count, "images": []}
+    expect(program, folder, ["load", "--format", "json", "strays.stream"], (0, json.dumps(told, separators=(",", ":")) + "\n", ""))
 
 
 def try_names(program, folder):
@@ -215,6 +219,22 @@ def try_whole_slot(program, folder):
         expect(program, folder, ["run", name, "--steps", "1000000"], (1, "", told))
 
 
+def try_refused(program, folder, count):
+    """So many refused words, explained, in an object, and marked in a listing."""
+    pathlib.Path(folder, "refused.code").write_bytes(bytes(4 * count))
+    done = run(program, folder, ["check", "--explain", "--all", "refused.code"])
+    lines = [line for line in done.stdout.splitlines() if line.startswith("word")]
+    if lines != [*(f"word {place} rule 1" for place in range(count)), f"words refused: {count}", "words with a mend: 0"]:
+        wrong("large", f"{count} refused words", (len(lines), lines[-3:], done.stderr), "all of them, and their count")
+    done = run(program, folder, ["check", "--format", "json", "--all", "refused.code"])
+    words = [it["word"] for it in json.loads(done.stdout or '{"files":[{}]}')["files"][0].get("refused", [])]
+    if (done.returncode, words) != (1, list(range(count))):
+        wrong("large", f"{count} refused words in an object", (done.returncode, len(words), done.stderr), "all of them")
+    done = run(program, folder, ["disassemble", "--check", "refused.code"])
+    if (done.returncode, done.stdout.count("; rule 1\n")) != (0, count):
+        wrong("large", f"{count} marked words", (done.returncode, done.stdout.count("; rule 1"), done.stderr), "all of them")
+
+
 def try_counts(program, folder):
     """As many files as a stream has modules, packed; many refused words; a run that prints many bytes."""
     codes = [NOP * (1_000 * number) + RET for number in range(formats.MODULES)]
@@ -223,11 +243,15 @@ def try_counts(program, folder):
     packed = subprocess.run([program, "pack", *(f"{number}.code" for number in range(formats.MODULES))], cwd=folder, capture_output=True)
     if (packed.returncode, packed.stdout, packed.stderr) != (0, b"".join(map(formats.stream, range(formats.MODULES), codes)), b""):
         wrong("large", "sixteen files, packed", (packed.returncode, packed.stdout[:100], packed.stderr), "the streams of all")
-    pathlib.Path(folder, "refused.code").write_bytes(bytes(4 * 20_000))
-    done = run(program, folder, ["check", "--explain", "--all", "refused.code"])
-    lines = [line for line in done.stdout.splitlines() if line.startswith("word")]
-    if lines != [*(f"word {place} rule 1" for place in range(20_000)), "words refused: 20000", "words with a mend: 0"]:
-        wrong("large", "20,000 refused words", (len(lines), lines[-3:]), "all of them, and their count")
+    try_refused(program, folder, 70_000)
+    pathlib.Path(folder, "one.code").write_bytes(RET)
+    for command, line in ("check", "lawful, 1 words"), ("info", "code, 1 words"):
+        expect(program, folder, [command, *["one.code"] * 300], (0, f"one.code: {line}\n" * 300, ""))
+    entry = formats.MOST_WORDS - 1
+    pathlib.Path(folder, "most.code").write_bytes(WHOLE)
+    packed = subprocess.run([program, "pack", "--entry", str(entry), "most.code"], cwd=folder, capture_output=True)
+    if (packed.returncode, packed.stdout == formats.stream(0, WHOLE, entry=entry), packed.stderr) != (0, True, b""):
+        wrong("large", "code that is entered at its last word, packed", (packed.returncode, packed.stdout[:100], packed.stderr), "its stream")
     pathlib.Path(folder, "prints.img").write_bytes(formats.image(0, 0, PRINTS))
     expect(program, folder, ["run", "prints.img", "--steps", "600000"], (0, "\0" * 200_000, "halt 1 after 600000 steps\n"))
 
@@ -237,4 +261,4 @@ def try_large(program):
     for part in try_lengths, try_messages, try_names, try_images, try_counts, try_whole_slot:
         with tempfile.TemporaryDirectory() as folder:
             part(program, folder)
-    print("large: code of the most words and of one more, 16,392 messages, names of 3,839 bytes, sixteen files packed, an image of the most words, 400,000 listed and 20,000 refused words, 200,000 printed bytes")
+    print("large: code of the most words and of one more, 16,392 messages, names of 3,839 bytes, sixteen files packed, an image of the most words, 400,000 listed and 70,000 refused words, 300 files, 200,000 printed bytes")

@@ -40,6 +40,11 @@ def try_folder(program, folder, name):
     images = [it["path"] for it in json.loads(told.stdout)["images"]]
     if images != [f"{path}/module-03.img"] or not pathlib.Path(path, "module-03.img").is_file():
         wrong("odd", f"--out of a folder {name!r}", (told.returncode, told.stdout, told.stderr), f"an image at {path}/module-03.img")
+    link = os.path.join(folder, "out", "link" + name)
+    os.symlink(name, link)
+    told = run(program, folder, ["load", "--out", link, stream])
+    if told.returncode or not os.path.islink(link) or not pathlib.Path(link, "module-03.img").is_file():
+        wrong("odd", f"--out of a link to a folder {name!r}", (told.returncode, told.stdout, told.stderr), "an image there, and the link")
     missing = run(program, folder, ["check", os.path.join(path, name)]).stderr
     if missing != f"lfiload: cannot read {path}/{name}\n  No such file or directory\n":
         wrong("odd", f"a file {name!r} that isn't there", missing, "its name")
