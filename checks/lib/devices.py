@@ -13,7 +13,7 @@ from lib import formats
 from lib.cases import NOP, RET, wrong
 from lib.serving import connected
 
-NEW_MOUNTS, NEW_USER, PRIVATE = 0x00020000, 0x10000000, 0x44000
+NEW_MOUNTS, NEW_USER, PRIVATE, READ_ONLY, REMOUNTED = 0x00020000, 0x10000000, 0x44000, 1, 32
 SECONDS = 60
 
 libc = ctypes.CDLL("libc.so.6", use_errno=True)
@@ -88,8 +88,21 @@ def is_turned(program, link, one, other):
     return same and status == 3
 
 
+def try_read_only(program):
+    """An image on a file system that may only be read, and on one that is full: each is told by its reason."""
+    libc.mount(b"none", b"one", b"tmpfs", REMOUNTED | READ_ONLY, None)
+    libc.mount(b"none", b"other", b"tmpfs", REMOUNTED, b"size=4096")
+    pathlib.Path("small.stream").write_bytes(formats.stream(0, RET))
+    pathlib.Path("other", "filling").write_bytes(bytes(4096))
+    for place, why in ("one", "Read-only file system"), ("other", "No space left on device"):
+        load = subprocess.run([program, "load", "--out", place, "small.stream"], capture_output=True, text=True, timeout=60)
+        wanted = 3, f"lfiload: cannot write {place}/module-00.img\n  {why}\n"
+        if (load.returncode, load.stderr) != wanted:
+            wrong("devices", f"an image on such a file system: {place}", (load.returncode, load.stderr), wanted)
+
+
 def carry_out(program, folder):
-    """Both, where the system lets a process mount."""
+    """All, where the system lets a process mount."""
     one, other, link = (os.path.join(folder, it) for it in ("one", "other", "link"))
     if not mounted(one, other):
         print("devices: left out, since the system lets nobody mount here", flush=True)
@@ -102,7 +115,11 @@ def carry_out(program, folder):
         if time.monotonic() > until:
             wrong("devices", "another device's image", f"never told in {tried} loads", "told once")
         tried += 1
-    print(f"devices: a file of another device at the socket's path stays; one at an image's name is told, at load {tried}", flush=True)
+    for place in one, other:
+        for it in os.listdir(place):
+            os.unlink(os.path.join(place, it))
+    try_read_only(program)
+    print(f"devices: a file of another device at the socket's path stays; one at an image's name is told, at load {tried}; so is one on a device that is full or only read", flush=True)
 
 
 def try_devices(program):
