@@ -256,9 +256,18 @@ def try_counts(program, folder):
     expect(program, folder, ["run", "prints.img", "--steps", "600000"], (0, "\0" * 200_000, "halt 1 after 600000 steps\n"))
 
 
+def try_services(program, folder):
+    """Each entry from 2 on does nothing but set all bits of x0."""
+    for entry in range(2, 512):
+        # MOVZ X0, #72; LDR X30, [X21, #8 * entry]; BLR X30; LSR X0, X0, #32; LDR X30, [X21]; BLR X30
+        code = formats.code_of(0xD2800900, 0xF94002BE | entry << 10, 0xD63F03C0, 0xD360FC00, 0xF94002BE, 0xD63F03C0)
+        pathlib.Path(folder, "calls.img").write_bytes(formats.image(entry % 16, 0, code))
+        expect(program, folder, ["run", "calls.img", "--steps", "100"], (0, "", "halt 5 status 255 after 5 steps\n"))
+
+
 def try_large(program):
     """Each command on the most that it takes, or on much."""
-    for part in try_lengths, try_messages, try_names, try_images, try_counts, try_whole_slot:
+    for part in try_lengths, try_messages, try_names, try_images, try_counts, try_services, try_whole_slot:
         with tempfile.TemporaryDirectory() as folder:
             part(program, folder)
-    print("large: code of the most words and of one more, 16,392 messages, names of 3,839 bytes, sixteen files packed, an image of the most words, 400,000 listed and 70,000 refused words, 300 files, 200,000 printed bytes")
+    print("large: code of the most words and of one more, 16,392 messages, names of 3,839 bytes, sixteen files packed, an image of the most words, 400,000 listed and 70,000 refused words, 300 files, 200,000 printed bytes, calls of 510 entries")

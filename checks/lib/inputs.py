@@ -184,6 +184,21 @@ def try_standard_inputs(program, folder, command):
 # ---- far
 
 
+def try_entries(program, folder):
+    """Code of several lengths, entered at several words: it is loaded, and a run begins there."""
+    entered = [(count, entry) for count in (100_000, 1_234_567, MOST_WORDS) for entry in (1, count // 3, count // 2, count - 2)]
+    for count, entry in entered:
+        code = NOP * entry + bytes.fromhex("000020d4") + NOP * (count - entry - 1)
+        pathlib.Path(folder, "entered.stream").write_bytes(formats.stream(7, code, entry=entry))
+        told = run(program, folder, ["load", "--out", ".", "entered.stream"])
+        if (told.returncode, told.stdout, told.stderr) != (0, f"module 7: complete, {count} words\nstrays 0\n", ""):
+            wrong("far", f"{count} words, entered at word {entry}", (told.returncode, told.stdout, told.stderr), "complete")
+        came, at = run(program, folder, ["run", "module-07.img", "--steps", "3"]), formats.base(7) + 65_536 + 4 * entry
+        if (came.returncode, came.stderr) != (0, f"halt 4 at {at:#018x} after 0 steps\n"):
+            wrong("far", f"an image of {count} words, entered at word {entry}", (came.returncode, came.stderr), "a run that begins there")
+    return len(entered)
+
+
 def try_far(program):
     """Code of the most words: what is told of the last of them, of branches between both ends, of its pages, and of a run that begins there."""
     most, last = MOST_WORDS, MOST_WORDS - 1
@@ -214,4 +229,5 @@ def try_far(program):
         wanted = f"      0  0x{at - 4 * last:016x}  {0x14000000 | last:08x}  b .+{4 * last}  -> word {last}\n", f"{last:7}  0x{at:016x}  {0x14000000 | -last & 0x3FFFFFF:08x}  b .-{4 * last}  -> word 0\n"
         if not listed.startswith(wanted[0]) or not listed.endswith(wanted[1]):
             wrong("far", "a listing", (listed[:100], listed[-100:]), wanted)
-    print(f"far: {len(rows) + 2} rows on the last of {most} words")
+        entries = try_entries(program, folder)
+    print(f"far: {len(rows) + 2} rows on the last of {most} words, {entries} lengths and entries")
