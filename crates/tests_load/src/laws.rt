@@ -48,7 +48,7 @@ ghost use Rattle.lfi_loader.specs.Loaded.{IsLoaded};
 ghost use Rattle.lfi_loader.specs.Served.{HasServed};
 
 /// A connection without a client has sent nothing, so it has no module, and is one of those that were asked for. A module that a
-/// text opens is some connection's. Without a limit of time no client is cut off, and none comes too late.
+/// text opens is some connection's. Without a limit of time no client is cut off, and none comes too late. The limit that is told is the one that was asked for.
 pub fn absent_clients_have_no_module()
     ensures absent { (connections verifiers : ℕ) (limit : Option Duration) (served : Served) → HasServed connections verifiers limit served → (c m : ℕ) → c < connections → m < module_count → is_absent (fate_at served.clients.fates c) ≡ true → get_or served.report.holders m None ≢ Some c }
     ensures asked_for { (connections verifiers : ℕ) (limit : Option Duration) (served : Served) → HasServed connections verifiers limit served → (c : ℕ) → is_absent (fate_at served.clients.fates c) ≡ true → c < connections }
@@ -56,6 +56,7 @@ pub fn absent_clients_have_no_module()
     ensures endless { (connections verifiers : ℕ) (served : Served) → HasServed connections verifiers None served → (c : ℕ) → fate_at served.clients.fates c ≢ CutOff }
     ensures waited { (connections verifiers : ℕ) (served : Served) → HasServed connections verifiers None served → (c : ℕ) → fate_at served.clients.fates c ≢ Absent NotCome }
     ensures judged { (connections verifiers : ℕ) (limit : Option Duration) (served : Served) → HasServed connections verifiers limit served → verifiers_of served.report ≡ verifiers }
+    ensures limited { (connections verifiers : ℕ) (limit : Option Duration) (served : Served) → HasServed connections verifiers limit served → served.clients.limit ≡ limit }
 {}
 
 /// A module that the text of an input opens is some connection's, where the input came to its end. Where an input ended for want

@@ -1,11 +1,11 @@
 //! What a step promises, read from the records of its contract: where one of these fields is dropped, a law here isn't proved any
 //! more. And what an escape is in the last slot.
 
-ghost use Rattle.std.specs.Prelude.{◌≡◌, ℕ, ◌+◌, ◌-◌, ◌*◌, ◌^◌, pos, negsuc, ◌∷◌, map, replicate, Some, None};
+ghost use Rattle.std.specs.Prelude.{◌≡◌, ℕ, ◌+◌, ◌-◌, ◌*◌, ◌/◌, ◌^◌, ◌⊎◌, pos, negsuc, ◌∷◌, map, replicate, Some, None};
 ghost use Rattle.a64_word.specs.declared.instruction.Instruction.TheVariants.{Nop};
 ghost use Rattle.a64_word.specs.declared.operands.Size.TheVariants.{Byte, Double};
 ghost use Rattle.a64_word.specs.declared.operands.BranchKind.TheVariants.{Br};
-ghost use Rattle.sparse_memory.specs.Kept.{SamePages};
+ghost use Rattle.sparse_memory.specs.Kept.{Kept, IsKept, KeepsOnly, SamePages};
 ghost use Rattle.a64_semantics.specs.declared.registers.Registers.{Registers};
 ghost use Rattle.lfi_confinement.specs.Moves.{word_at, performed, stop, escape};
 ghost use Rattle.lfi_confinement.specs.Edges.{loads_at_x0, stores_at_x0, branches_by, goes_to, goes_on_at};
@@ -17,6 +17,12 @@ ghost use Rattle.tests_machine.specs.LastSlot.{last_image, at_last};
 /// A step at whose pc no word of the code stands keeps no page.
 pub fn no_word_keeps_no_page()
     ensures { (r : Registers) (old new : Owned) → word_at old.image r.pc ≡ None → KeepsByStep r old new → SamePages old.kept new.kept }
+{}
+
+/// What stores bytes keeps their pages and no others; where none is stored no page is.
+pub fn stores_keep_their_pages_alone()
+    ensures none { (old new : Kept) (offset other : ℕ) → KeepsOnly old new offset 0 → IsKept new other → IsKept old other }
+    ensures one { (old new : Kept) (other : ℕ) → KeepsOnly old new 65535 1 → IsKept new other → IsKept old other ⊎ (other / 65536 ≡ 0) }
 {}
 
 /// In the last slot an access escapes just outside of the guards, and stops in them.

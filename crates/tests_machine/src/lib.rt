@@ -25,4 +25,5 @@ mod whole_slot;
 
 pub use laws::{
     accesses_escape_from_the_last_slot, branches_escape_from_the_last_slot, no_word_keeps_no_page,
+    stores_keep_their_pages_alone,
 };
