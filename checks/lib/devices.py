@@ -90,8 +90,8 @@ def is_turned(program, link, one, other):
 
 def try_read_only(program):
     """An image on a file system that may only be read, and on one that is full: each is told by its reason."""
-    libc.mount(b"none", b"one", b"tmpfs", REMOUNTED | READ_ONLY, None)
-    libc.mount(b"none", b"other", b"tmpfs", REMOUNTED, b"size=4096")
+    if libc.mount(b"none", b"one", b"tmpfs", REMOUNTED | READ_ONLY, None) or libc.mount(b"none", b"other", b"tmpfs", REMOUNTED, b"size=4096"):
+        return "; left out are those that are full or only read, since the system changes no mount here"
     pathlib.Path("small.stream").write_bytes(formats.stream(0, RET))
     pathlib.Path("other", "filling").write_bytes(bytes(4096))
     for place, why in ("one", "Read-only file system"), ("other", "No space left on device"):
@@ -99,6 +99,7 @@ def try_read_only(program):
         wanted = 3, f"lfiload: cannot write {place}/module-00.img\n  {why}\n"
         if (load.returncode, load.stderr) != wanted:
             wrong("devices", f"an image on such a file system: {place}", (load.returncode, load.stderr), wanted)
+    return "; so is one on a device that is full or only read"
 
 
 def carry_out(program, folder):
@@ -118,8 +119,8 @@ def carry_out(program, folder):
     for place in one, other:
         for it in os.listdir(place):
             os.unlink(os.path.join(place, it))
-    try_read_only(program)
-    print(f"devices: a file of another device at the socket's path stays; one at an image's name is told, at load {tried}; so is one on a device that is full or only read", flush=True)
+    others = try_read_only(program)
+    print(f"devices: a file of another device at the socket's path stays; one at an image's name is told, at load {tried}{others}", flush=True)
 
 
 def try_devices(program):
