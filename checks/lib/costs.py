@@ -1,5 +1,6 @@
 """The parts of checks/hostile on how much a run asks of the system, and on the most that one client or one command takes."""
 
+import concurrent.futures
 import contextlib
 import json
 import os
@@ -8,7 +9,7 @@ import re
 import subprocess
 import tempfile
 
-from lib import formats
+from lib import formats, steps
 from lib.cases import NOP, RET, run, wrong
 from lib.serving import connected
 
@@ -18,41 +19,94 @@ WHOLE = NOP * formats.MOST_WORDS
 # ---- reads
 
 
-def reads_of(process):
-    """How many reads a process asked for that has ended; 0 where the system doesn't tell that here."""
+def calls_of(process):
+    """How many reads and writes a process asked for that has ended; 0 where the system doesn't tell that here."""
     try:
-        return int(re.search(r"syscr: (\d+)", pathlib.Path("/proc", str(process), "io").read_text())[1])
+        told = pathlib.Path("/proc", str(process), "io").read_text()
     except OSError:
-        return 0
+        return 0, 0
+    return tuple(int(re.search(rf"{key}: (\d+)", told)[1]) for key in ("syscr", "syscw"))
 
 
 def cost_of(program, folder, words):
-    """How many reads a run asked for, and how many pages of memory it touched first, and what it wrote."""
+    """How many reads and writes a run asked for, and how many pages of memory it touched first; and what it wrote."""
     with open(os.path.join(folder, "told"), "wb") as told:
         running = subprocess.Popen([program, *words], cwd=folder, stdin=subprocess.DEVNULL, stdout=told, stderr=told)
         os.waitid(os.P_PID, running.pid, os.WEXITED | os.WNOWAIT)
-        reads = reads_of(running.pid)
+        calls = calls_of(running.pid)
         _, _, used = os.wait4(running.pid, 0)
-    return reads, used.ru_minflt, pathlib.Path(folder, "told").read_text()
+    return (*calls, used.ru_minflt), pathlib.Path(folder, "told").read_bytes()
+
+
+# Words, the beginning of what is written, and the most reads, writes and pages of memory. An image and a packed stream have 4,096 pages.
+COSTS = (
+    (["load", "small.stream"], b"module 0: complete, 1 words\nstrays 0\n", 20, 4, 300),
+    (["load", "large.stream"], b"module 0: complete, 2097152 words\nstrays 0\n", 100, 4, 2_700),
+    (["load", "--out", "out", "long.stream"], b"module 0: complete, 4194304 words\nstrays 0\n", 200, 4_200, 5_000),
+    (["check", "long.code"], b"lawful, 4194304 words\n", 300, 4, 250),
+    (["check", "--explain", "long.code"], b"lawful, 4194304 words\n", 200, 4, 4_500),
+    (["check", "--format", "json", "long.code"], b'{"files":[', 200, 10, 4_500),
+    (["check", "--all", "half.code"], b"word 1 rule 1\n", 30, 60, 250),
+    (["disassemble", "half.code"], b"      0  0x0000000100010000  d65f03c0  ret x30\n", 30, 30, 250),
+    (["info", "long.img"], b"image\n", 200, 4, 8_700),
+    (["info", "long.stream"], b"stream\n", 200, 10, 4_700),
+    (["run", "long.img", "--steps", "0"], b"halt 1 after 0 steps\n", 4_200, 4, 4_600),
+    (["run", "long.img", "--steps", "4194304"], b"halt 1 after 4194304 steps\n", 4_200, 4, 21_500),
+    (["unpack", "long.img"], WHOLE, 4_200, 4_200, 4_500),
+    (["pack", "long.code"], b"\x01", 200, 8_300, 4_500),
+)
 
 
 def try_reads(program):
-    """A file is read in pieces that are neither small nor large, and no memory is touched that isn't needed."""
-    seen = []
+    """A file is read in pieces that are neither small nor large, what is written is, and no memory is touched that isn't needed."""
     with tempfile.TemporaryDirectory() as folder:
-        pathlib.Path(folder, "small.stream").write_bytes(formats.stream(0, RET))
-        pathlib.Path(folder, "large.stream").write_bytes(formats.stream(0, NOP * 2_097_152))
-        pathlib.Path(folder, "long.code").write_bytes(WHOLE)
-        for words, wanted, reads, pages in (
-            (["load", "small.stream"], "module 0: complete, 1 words\nstrays 0\n", 20, 300),
-            (["load", "large.stream"], "module 0: complete, 2097152 words\nstrays 0\n", 100, 2_700),
-            (["check", "long.code"], "lawful, 4194304 words\n", 300, 250),
+        os.mkdir(os.path.join(folder, "out"))
+        for name, content in (
+            ("small.stream", formats.stream(0, RET)), ("large.stream", formats.stream(0, NOP * 2_097_152)), ("long.stream", formats.stream(0, WHOLE)),
+            ("long.code", WHOLE), ("half.code", (RET + bytes(4)) * 1_000), ("long.img", formats.image(0, 0, WHOLE)),
         ):
-            *came, told = cost_of(program, folder, words)
-            if told != wanted or came[0] > reads or came[1] > pages:
-                wrong("reads", words, (*came, told), f"at most {reads} reads and {pages} pages of memory, and {wanted!r}")
-            seen.append(f"{' '.join(words)} {came[0]} and {came[1]}")
-    print("reads: and pages of memory: " + ", ".join(seen))
+            pathlib.Path(folder, name).write_bytes(content)
+        for words, wanted, *most in COSTS:
+            cost, told = cost_of(program, folder, words)
+            if not told.startswith(wanted) or any(came > limit for came, limit in zip(cost, most)):
+                wrong("reads", words, (*cost, told[:100]), f"at most {most[0]} reads, {most[1]} writes and {most[2]} pages of memory, and {wanted[:100]!r}")
+    print(f"reads: {len(COSTS)} commands on the most words ask for few reads, writes and pages of memory")
+
+
+# ---- work
+
+# Words, and the most instructions that they may execute, of which some 290,000 begin and end the program.
+WORK = (
+    (["check", "mixed.code"], 0, 700_000),
+    (["check", "--explain", "mixed.code"], 0, 720_000),
+    (["check", "--all", "refused.code"], 1, 740_000),
+    (["disassemble", "refused.code"], 0, 640_000),
+    (["info", "mixed.img"], 0, 820_000),
+    (["info", "mixed.stream"], 0, 480_000),
+    (["run", "straight.img", "--steps", "4096"], 0, 1_500_000),
+    (["unpack", "mixed.img"], 0, 700_000),
+    (["pack", "mixed.code"], 0, 640_000),
+)
+
+
+def try_work(program):
+    """How many instructions a command executes on 8,192 words, or on fewer where one costs more: no clause says how much work a body is."""
+    with tempfile.TemporaryDirectory() as folder:
+        for name, content in (
+            ("mixed.code", steps.MIXED * 1_024), ("mixed.img", formats.image(0, 0, steps.MIXED * 1_024)), ("mixed.stream", formats.stream(0, steps.MIXED * 1_024)),
+            ("refused.code", (RET + bytes(4)) * 50), ("straight.img", formats.image(0, 0, NOP * 4_096)),
+        ):
+            pathlib.Path(folder, name).write_bytes(content)
+        steps.build(folder)
+        with concurrent.futures.ThreadPoolExecutor(os.cpu_count()) as pool:
+            found = [*pool.map(lambda row: steps.steps_of(folder, [program, *row[0]]), WORK)]
+    if any(count is None for _, count in found):
+        print("work: left out, since the system lets nobody trace here")
+        return
+    for (words, wanted, most), (status, count) in zip(WORK, found):
+        if status != wanted or count > most:
+            wrong("work", words, (status, count), f"status {wanted} and at most {most} instructions")
+    print(f"work: instructions of {len(WORK)} commands: {', '.join(f'{words[0]} {count}' for (words, _, _), (_, count) in zip(WORK, found))}")
 
 
 # ---- most

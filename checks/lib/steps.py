@@ -1,0 +1,25 @@
+"""How many instructions a program of one thread executes: a measure of work that is alike on every machine, and no time."""
+
+import os
+import pathlib
+import subprocess
+import threading
+
+from lib import formats
+
+# x18 guarded, a load and a store through it, a number, a comparison, two branches to the next word, and a return.
+MIXED = formats.code_of(0x8B2142B2, 0xF9400240, 0xF9000240, 0xD2800900, 0xF101201F, 0x54000020, 0x14000001, 0xD65F03C0)
+SOURCE = pathlib.Path(__file__).resolve().parent / "steps.c"
+UNTRACED = 125
+
+
+def build(folder):
+    """Builds what counts, in a folder."""
+    subprocess.run(["cc", "-O2", "-o", "steps", SOURCE], cwd=folder, check=True)
+
+
+def steps_of(folder, words):
+    """The status of a run in the folder, and how many instructions it executed; `None` where the system lets nobody trace here."""
+    told = pathlib.Path(folder, f"steps-{threading.get_ident()}")
+    done = subprocess.run([os.path.join(folder, "steps"), told, *words], cwd=folder, stdin=subprocess.DEVNULL, capture_output=True, timeout=300)
+    return done.returncode, None if done.returncode == UNTRACED else int(told.read_text())
