@@ -300,7 +300,7 @@ def try_counts(program, folder):
     try_refused(program, folder, 70_000)
     pathlib.Path(folder, "one.code").write_bytes(RET)
     for command, line in ("check", "lawful, 1 words"), ("info", "code, 1 words"):
-        expect(program, folder, [command, *["one.code"] * 300], (0, f"one.code: {line}\n" * 300, ""))
+        expect(program, folder, [command, *["one.code"] * 70_000], (0, f"one.code: {line}\n" * 70_000, ""))
     entry = formats.MOST_WORDS - 1
     pathlib.Path(folder, "most.code").write_bytes(WHOLE)
     packed = subprocess.run([program, "pack", "--entry", str(entry), "most.code"], cwd=folder, capture_output=True)
@@ -324,4 +324,4 @@ def try_large(program):
     for part in try_lengths, try_messages, try_names, try_images, try_counts, try_services, try_whole_slot:
         with tempfile.TemporaryDirectory() as folder:
             part(program, folder)
-    print("large: code of the most words and of one more, 16,392 messages, names of 3,839 bytes, sixteen files packed, an image of the most words, 400,000 listed and 70,000 refused words, 300 files, 200,000 printed bytes, calls of 510 entries")
+    print("large: code of the most words and of one more, 16,392 messages, names of 3,839 bytes, sixteen files packed, an image of the most words, 400,000 listed and 70,000 refused words, 70,000 files, 200,000 printed bytes, calls of 510 entries")

@@ -115,11 +115,33 @@ def compare_statuses(program, helps, runs):
     return sum(count for count, _ in compared)
 
 
+# What a help says of statuses in a sentence, and a run for each number in it.
+STATED = (
+    ("load", r"The status is (\d) where each module is complete and no connection has a fault, (\d) where a read failed, else (\d)\.",
+        (["a.stream"], ["a.stream", "images"], ["module-00.img"])),
+    ("disassemble", r"a line for each word, in order \(status (\d)\)", (["module.code"],)),
+    ("pack", r"The code isn't judged: its receiver does that \(status (\d)\)", (["zeros.code"],)),
+    ("unpack", r"the 4 bytes of each of its words, and nothing else \(status (\d)\)", (["module-00.img"],)),
+    ("unpack", r"Nothing was written \(status (\d), or (\d) for the faults 8 and 9\)", (["module.code"], ["images"])),
+)
+
+
+def compare_sentences(program, helps):
+    """The statuses that the helps tell in sentences are those of runs."""
+    with tempfile.TemporaryDirectory() as folder:
+        fill(folder)
+        for command, sentence, runs in STATED:
+            stated = re.search(sentence, " ".join(helps[command].split()))
+            found = tuple(str(subprocess.run([program, command, *words], cwd=folder, capture_output=True, timeout=60).returncode) for words in runs)
+            if not stated or stated.groups() != found:
+                numbered.fail(command, f"it says {stated and stated[0]!r}, and runs have the statuses {found}")
+
+
 # ---- examples
 
 def fill(folder):
     """The files that the examples name."""
-    files = {"module.code": RET, "first.code": NOP * 16 + RET, "second.code": NOP * 16 + RET, "module-00.img": formats.image(0, 0, BRK)}
+    files = {"module.code": RET, "zeros.code": bytes(4), "first.code": NOP * 16 + RET, "second.code": NOP * 16 + RET, "module-00.img": formats.image(0, 0, BRK)}
     files |= {f"{name}.stream": formats.stream(module, RET) for module, name in enumerate(("a", "b", "both"))}
     for name, content in files.items():
         pathlib.Path(folder, name).write_bytes(content)
@@ -181,5 +203,6 @@ def compare(program, runs):
     compare_order(program, helps)
     compare_registers(helps)
     numbered.compare(program, helps)
+    compare_sentences(program, helps)
     try_examples(program, helps)
     return compare_statuses(program, helps, runs)

@@ -121,10 +121,11 @@ def send_all(client, streams):
             client.sendall(stream)
 
 
-def of_four_threads(user):
-    """Lets the process that is to be started belong to a user who may have four threads."""
+def of_four_threads(user, cores):
+    """Lets the process that is to be started run on these cores, and belong to a user who may have four threads."""
 
     def become():
+        os.sched_setaffinity(0, cores)
         resource.setrlimit(resource.RLIMIT_NPROC, (4, 4))
         os.setgroups([])
         os.setgid(user)
@@ -133,13 +134,13 @@ def of_four_threads(user):
     return become
 
 
-def refused_while_judged(program, folder, streams, delay):
-    """What comes of `serve` of two clients, of which the first sends whole modules, and the second is refused a thread so many seconds later.
-    None where it has one."""
-    path = os.path.join(folder, f"s{delay}")
+def refused_while_judged(program, folder, streams, delay, cores):
+    """What comes of `serve` of two clients on these cores, of which the first sends whole modules, and the second is refused a thread so many
+    seconds later. None where it has one."""
+    path = tempfile.mktemp(dir=folder)
     words = [os.path.join(folder, program.name), "serve", "--socket", path, "--connections", "2", "--verifiers", "1"]
     # A user whom nobody else is: threads are counted by user.
-    few = of_four_threads(64_000 + os.getpid() % 1000)
+    few = of_four_threads(64_000 + os.getpid() % 1000, cores)
     serve = subprocess.Popen(words, stdout=subprocess.PIPE, stderr=subprocess.PIPE, text=True, preexec_fn=few)
     with connected(path) as first:
         threading.Thread(target=send_all, args=(first, streams), daemon=True).start()
@@ -156,27 +157,36 @@ def refused_while_judged(program, folder, streams, delay):
                 return f"not ended after 20 seconds, with {threads} threads" if threads <= 4 else None
 
 
+def refused_at_times(program, folder, code, cores, delays):
+    """A second client is refused a thread so many seconds after the first one has sent modules of this code. Why it can't be tried, if so."""
+    streams = [formats.stream(module, code) for module in range(formats.MODULES)]
+    for delay in delays:
+        try:
+            came = refused_while_judged(program, folder, streams, delay, cores)
+        except (PermissionError, subprocess.SubprocessError):
+            return "none while modules are judged, since another user can't come to the folder"
+        if came is None:
+            return "none while modules are judged, since threads aren't counted by user here"
+        if came != ("", "lfiload: no memory\n", 3):
+            wrong("taken", f"a thread refused while modules are judged, on {len(cores)} cores", came, "no memory")
+    return None
+
+
 def try_refused_while_judged(program):
-    """The same, while the first one's thread waits for the verifier, which judges slower than the modules come: the second comes at several
-    times. Answers what is told of it."""
+    """The same, while the first one's thread waits for the verifier, which judges slower than the modules come; and while the verifier waits for
+    the sequencers, which is so on one core: the second comes at several times. Answers what is told of it."""
     if os.geteuid() != 0:
         return "none while modules are judged, since only root can be another user"
+    cores = os.sched_getaffinity(0)
     # add x18, x21, w0, uxtw; ldr x0, [x18].
-    streams = [formats.stream(module, formats.code_of(0x8B2042B2, 0xF9400240) * 1_000_000) for module in range(16)]
+    guarded = formats.code_of(0x8B2042B2, 0xF9400240) * 1_000_000
     with tempfile.TemporaryDirectory() as folder:
         os.chmod(folder, 0o777)
         # For another user to carry out, whatever the mode of the program is.
         os.chmod(shutil.copy(program, folder), 0o755)
-        for number in range(16):
-            try:
-                came = refused_while_judged(program, folder, streams, (20 + 10 * (number * 7 % 15)) / 1000)
-            except (PermissionError, subprocess.SubprocessError):
-                return "none while modules are judged, since another user can't come to the folder"
-            if came is None:
-                return "none while modules are judged, since threads aren't counted by user here"
-            if came != ("", "lfiload: no memory\n", 3):
-                wrong("taken", "a thread refused while modules are judged", came, "no memory")
-    return "and 16 times while modules are judged"
+        left_out = refused_at_times(program, folder, guarded, cores, [(20 + 10 * (number * 7 % 15)) / 1000 for number in range(16)])
+        left_out = left_out or refused_at_times(program, folder, NOP * 4_000_000, {min(cores)}, [(5 + 7 * (number % 20)) / 1000 for number in range(100)])
+    return left_out or "and 116 times while modules are judged"
 
 
 def size_of_serve(program):
