@@ -18,4 +18,4 @@ mod stream;
 mod verdicts;
 mod whole;
 
-pub use laws::one_answer;
+pub use laws::{one_answer, told_numbers};
