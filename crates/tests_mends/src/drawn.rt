@@ -29,7 +29,7 @@ const STATES: u32 = 4;
 const REGISTERS: [u8; 16] = [0, 1, 3, 3, 16, 17, 18, 21, 22, 22, 23, 24, 29, 30, 31, 31];
 
 /// Words that write a reserved register, one of each instruction that computes: as GNU's assembler makes them of the text beside them.
-const RESULTS: [u32; 48] = [
+const RESULTS: [u32; 65] = [
     0x91004036, // add x22, x1, #16
     0xF1004036, // subs x22, x1, #16
     0x8B420C36, // add x22, x1, x2, lsr #3
@@ -78,6 +78,23 @@ const RESULTS: [u32; 48] = [
     0xAA2103F8, // mvn x24, x1
     0x9100043E, // add x30, x1, #1
     0x8B020035, // add x21, x1, x2
+    0xF1000036, // subs x22, x1, #0
+    0xB1000032, // adds x18, x1, #0
+    0x91000036, // add x22, x1, #0
+    0xD1000037, // sub x23, x1, #0
+    0x71000032, // subs w18, w1, #0
+    0xEA010032, // ands x18, x1, x1
+    0x331C1C36, // bfi w22, w1, #4, #8
+    0x33042E16, // bfxil w22, w16, #4, #8
+    0xB36C4E12, // bfi x18, x16, #20, #20
+    0x728000F6, // movk w22, #7
+    0x72A000F2, // movk w18, #7, lsl #16
+    0x1B024036, // madd w22, w1, w2, w16
+    0x1A828432, // csinc w18, w1, w2, hi
+    0x33001C37, // bfxil w23, w1, #0, #8
+    0x33001E17, // bfxil w23, w16, #0, #8
+    0x53037C32, // lsr w18, w1, #3
+    0x13003C32, // sxth w18, w1
 ];
 
 /// How many words were looked at, and how many had a mend.
