@@ -75,17 +75,17 @@ def try_reads(program):
 
 # ---- work
 
-# Words, and the most instructions that they may execute, of which some 290,000 begin and end the program.
+# Words, their status, and the most instructions that they may execute, less those of `--version`.
 WORK = (
-    (["check", "mixed.code"], 0, 700_000),
-    (["check", "--explain", "mixed.code"], 0, 720_000),
-    (["check", "--all", "refused.code"], 1, 740_000),
-    (["disassemble", "refused.code"], 0, 640_000),
-    (["info", "mixed.img"], 0, 820_000),
-    (["info", "mixed.stream"], 0, 480_000),
-    (["run", "straight.img", "--steps", "4096"], 0, 1_500_000),
-    (["unpack", "mixed.img"], 0, 700_000),
-    (["pack", "mixed.code"], 0, 640_000),
+    (["check", "mixed.code"], 0, 300_000),
+    (["check", "--explain", "mixed.code"], 0, 310_000),
+    (["check", "--all", "refused.code"], 1, 430_000),
+    (["disassemble", "refused.code"], 0, 330_000),
+    (["info", "mixed.img"], 0, 330_000),
+    (["info", "mixed.stream"], 0, 80_000),
+    (["run", "straight.img", "--steps", "4096"], 0, 930_000),
+    (["unpack", "mixed.img"], 0, 310_000),
+    (["pack", "mixed.code"], 0, 90_000),
 )
 
 
@@ -99,14 +99,15 @@ def try_work(program):
             pathlib.Path(folder, name).write_bytes(content)
         steps.build(folder)
         with concurrent.futures.ThreadPoolExecutor(os.cpu_count()) as pool:
-            found = [*pool.map(lambda row: steps.steps_of(folder, [program, *row[0]]), WORK)]
-    if any(count is None for _, count in found):
+            (_, least), *found = pool.map(lambda words: steps.steps_of(folder, [program, *words]), [["--version"], *(words for words, _, _ in WORK)])
+    if least is None:
         print("work: left out, since the system lets nobody trace here")
         return
     for (words, wanted, most), (status, count) in zip(WORK, found):
-        if status != wanted or count > most:
-            wrong("work", words, (status, count), f"status {wanted} and at most {most} instructions")
-    print(f"work: instructions of {len(WORK)} commands: {', '.join(f'{words[0]} {count}' for (words, _, _), (_, count) in zip(WORK, found))}")
+        if status != wanted or count - least > most:
+            wrong("work", words, (status, count - least), f"status {wanted} and at most {most} instructions")
+    counts = ", ".join(f"{words[0]} {count - least}" for (words, _, _), (_, count) in zip(WORK, found))
+    print(f"work: instructions of {len(WORK)} commands beyond the {least} of `--version`: {counts}")
 
 
 # ---- most

@@ -1,4 +1,4 @@
-"""How many instructions a program of one thread executes: a measure of work that is alike on every machine, and no time."""
+"""How many instructions a program of one thread executes: a measure of work that is nearly alike on every machine, and no time."""
 
 import os
 import pathlib
@@ -11,6 +11,8 @@ from lib import formats
 MIXED = formats.code_of(0x8B2142B2, 0xF9400240, 0xF9000240, 0xD2800900, 0xF101201F, 0x54000020, 0x14000001, 0xD65F03C0)
 SOURCE = pathlib.Path(__file__).resolve().parent / "steps.c"
 UNTRACED = 125
+# glibc copies and sets long pieces by one instruction where the processor does that fast, and then each byte is a step.
+TUNABLES = ":".join(f"glibc.cpu.x86_rep_{name}_threshold={1 << 30}" for name in ("movsb", "stosb"))
 
 
 def build(folder):
@@ -21,5 +23,6 @@ def build(folder):
 def steps_of(folder, words):
     """The status of a run in the folder, and how many instructions it executed; `None` where the system lets nobody trace here."""
     told = pathlib.Path(folder, f"steps-{threading.get_ident()}")
-    done = subprocess.run([os.path.join(folder, "steps"), told, *words], cwd=folder, stdin=subprocess.DEVNULL, capture_output=True, timeout=300)
+    given = {"cwd": folder, "env": {**os.environ, "GLIBC_TUNABLES": TUNABLES}, "stdin": subprocess.DEVNULL, "capture_output": True, "timeout": 300}
+    done = subprocess.run([os.path.join(folder, "steps"), told, *words], **given)
     return done.returncode, None if done.returncode == UNTRACED else int(told.read_text())
