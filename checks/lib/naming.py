@@ -1,4 +1,4 @@
-"""The part of checks/hostile on names: of files, folders and sockets, with any letters in them."""
+"""The part of checks/hostile on names: of files, folders and sockets, with any letters in them; and on files that tell more bytes than they have."""
 
 import json
 import os
@@ -12,6 +12,8 @@ from lib.serving import connected
 
 # Names that a file may have as well as any other.
 ODD_NAMES = ("s ", " s", "s\t", "s\n", "a b", "s.", ".s", "--", "-s", "ß", "'s'", '"s"', "a\\b", "s:1", "%s", "{}", "*", "S")
+# Files that the system makes when they are read: 4,096 bytes by what it tells of them.
+MADE = ("/sys/devices/system/cpu/online", "/sys/class/net/lo/address", "/sys/kernel/mm/transparent_hugepage/enabled")
 
 
 def try_file(program, folder, name):
@@ -63,9 +65,24 @@ def try_socket(program, folder, name):
         wrong("odd", f"a path that ends with {name!r}", came, wanted)
 
 
+def try_made(program):
+    """A file that tells more bytes than it has is judged by those that it has. How many there are."""
+    tried = 0
+    for path in MADE:
+        if not os.path.exists(path) or os.path.getsize(path) <= len(content := pathlib.Path(path).read_bytes()):
+            continue
+        named = subprocess.run([program, "check", path], capture_output=True, timeout=60)
+        given = subprocess.run([program, "check", "-"], input=content, capture_output=True, timeout=60)
+        wanted = given.returncode, given.stdout, given.stderr.replace(b" -\n", f" {path}\n".encode())
+        if (named.returncode, named.stdout, named.stderr) != wanted:
+            wrong("odd", f"check {path}", (named.returncode, named.stdout, named.stderr), wanted)
+        tried += 1
+    return tried
+
+
 def try_odd(program):
     for name in ODD_NAMES:
         with tempfile.TemporaryDirectory() as folder:
             for part in try_file, try_folder, try_socket:
                 part(program, folder, name)
-    print(f"odd: {len(ODD_NAMES)} names of files, folders and sockets")
+    print(f"odd: {len(ODD_NAMES)} names of files, folders and sockets, {try_made(program)} files that tell more bytes than they have")

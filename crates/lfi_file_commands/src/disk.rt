@@ -134,10 +134,11 @@ impl<R: Files<File = File>> ImageStore for SystemStore<'_, R> {
     }
 }
 
-/// How many bytes a regular file has.
+/// How many bytes a regular file has. One that takes no room, as those that the system makes when they are read, may have others
+/// in number than it tells.
 fn length_of(file: &File) -> Option<u64> {
     match file.metadata() {
-        Ok(metadata) if metadata.is_file() => Some(metadata.len()),
+        Ok(metadata) if metadata.is_file() && metadata.blocks() != 0 => Some(metadata.len()),
         _ => None,
     }
 }

@@ -18,8 +18,9 @@
 //!   byte may change the pointer to the frames, which is then read anew.
 //! - **The index is a table of 2^16 numbers of 32 bits**, written at `new`: 256 KiB. Of pages of 4,096 bytes it would be 4 MiB, most
 //!   of what a short run takes; an index of two levels has one more load an access. Frames are one `Vec`, which grows by doubling.
-//! - **A refusal can't be made up**: only the calls that ask the allocator make a [`MemoryRefused`], and `keep` has a clause that
-//!   one comes only where a page wasn't kept. The number of a frame always fits, since each frame belongs to a page (`counted`).
+//! - **A refusal can't be made up elsewhere**: the two calls of refused.rt, which ask the allocator, make each [`MemoryRefused`], and
+//!   `keep` has a clause that one comes only where a page wasn't kept. The number of a frame always fits, since each frame belongs
+//!   to a page (`counted`).
 #![tactic(auto)]
 
 mod memory;
