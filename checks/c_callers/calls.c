@@ -204,6 +204,10 @@ static const char THIRD[] = "word 2 rule 10\n  0x0000000100010000  d10043ff  sub
     "this word, with 3 of the 4 left, isn't that\n"
     "  mend: put ldr xzr, [sp] right after the move, or let a pre- or post-indexed access move sp";
 
+static const char FOURTH[] = "word 2 rule 8\n  0x0000000100010008  14000008  b .+32\n"
+    "  a direct branch may go only to a word of the module; it has 6, and this one goes to word 10\n"
+    "  mend: let it go to a word of the module; code outside is called by ldr x30, [x21, #8j], j being 0 to 511, with blr x30 right after it";
+
 /* SUB SP, SP, #16; NOP; LDR X30, [X21, #8]; BLR X30; STR X0, [SP]; RET */
 static const uint32_t LATE[] = {0xD10043FF, 0xD503201F, 0xF94006BE, 0xD63F03C0, 0xF90003E0, 0xD65F03C0};
 
@@ -253,6 +257,20 @@ static int late(void) {
     for (size_t size = sizeof code; size >= 12; size -= 4) {
         CHECK(105, lfi_explain(LFI_PROFILE_2, 0, 6, code, size, &f, text, sizeof text, &count) == LFI_LAWFUL);
         CHECK(106, count == sizeof THIRD - 1 && !memcmp(text, THIRD, count));
+    }
+    return 0;
+}
+
+/* A branch past the module's end: its explanation has the number of the module's words, whatever came of it. */
+static int outside(void) {
+    uint8_t code[4 * 6], text[1024];
+    lfi_fault f;
+    size_t count = 0;
+    put(nops(code, 6) + 8, 0x14000008);
+    CHECK(173, lfi_verify(code, sizeof code, LFI_PROFILE_1, &f) == LFI_REFUSED && is(f, 2, 8));
+    for (size_t size = sizeof code; size >= 12; size -= 4) {
+        CHECK(174, lfi_explain(LFI_PROFILE_1, 0, 6, code, size, &f, text, sizeof text, &count) == LFI_LAWFUL);
+        CHECK(175, count == sizeof FOURTH - 1 && !memcmp(text, FOURTH, count));
     }
     return 0;
 }
@@ -485,7 +503,7 @@ static int streams(void) {
 }
 
 int main(void) {
-    int (*const parts[])(void) = {whole_code, long_code, pieces, refused_pieces, other_states, profile, explanations, late, unexplained, all_explained, much_room, only_the_code,
+    int (*const parts[])(void) = {whole_code, long_code, pieces, refused_pieces, other_states, profile, explanations, late, outside, unexplained, all_explained, much_room, only_the_code,
                                  mends, unmended, all_mended, streams};
     for (size_t i = 0; i < sizeof parts / sizeof *parts; i++) {
         int failed = parts[i]();

@@ -43,11 +43,13 @@ COSTS = (
     (["load", "small.stream"], b"module 0: complete, 1 words\nstrays 0\n", 20, 4, 300),
     (["load", "large.stream"], b"module 0: complete, 2097152 words\nstrays 0\n", 100, 4, 2_700),
     (["load", "--out", "out", "long.stream"], b"module 0: complete, 4194304 words\nstrays 0\n", 200, 4_200, 5_000),
-    (["check", "long.code"], b"lawful, 4194304 words\n", 300, 4, 250),
+    (["check", "long.code"], b"lawful, 4194304 words\n", 300, 4, 150),
     (["check", "--explain", "long.code"], b"lawful, 4194304 words\n", 200, 4, 4_500),
     (["check", "--format", "json", "long.code"], b'{"files":[', 200, 10, 4_500),
-    (["check", "--all", "half.code"], b"word 1 rule 1\n", 30, 60, 250),
-    (["disassemble", "half.code"], b"      0  0x0000000100010000  d65f03c0  ret x30\n", 30, 30, 250),
+    (["check", "--all", "half.code"], b"word 1 rule 1\n", 30, 60, 130),
+    (["check", "--all", "zeros.code"], b"word 0 rule 1\n", 30, 2_500, 260),
+    (["disassemble", "zeros.code"], b"      0  0x0000000100010000  00000000  .inst 0x00000000\n", 30, 600, 260),
+    (["disassemble", "half.code"], b"      0  0x0000000100010000  d65f03c0  ret x30\n", 30, 30, 130),
     (["info", "long.img"], b"image\n", 200, 4, 8_700),
     (["info", "long.stream"], b"stream\n", 200, 10, 4_700),
     (["run", "long.img", "--steps", "0"], b"halt 1 after 0 steps\n", 4_200, 4, 4_600),
@@ -63,7 +65,7 @@ def try_reads(program):
         os.mkdir(os.path.join(folder, "out"))
         for name, content in (
             ("small.stream", formats.stream(0, RET)), ("large.stream", formats.stream(0, NOP * 2_097_152)), ("long.stream", formats.stream(0, WHOLE)),
-            ("long.code", WHOLE), ("half.code", (RET + bytes(4)) * 1_000), ("long.img", formats.image(0, 0, WHOLE)),
+            ("long.code", WHOLE), ("half.code", (RET + bytes(4)) * 1_000), ("zeros.code", bytes(4 * 65_536)), ("long.img", formats.image(0, 0, WHOLE)),
         ):
             pathlib.Path(folder, name).write_bytes(content)
         for words, wanted, *most in COSTS:
