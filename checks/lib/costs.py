@@ -38,6 +38,8 @@ def cost_of(program, folder, words):
     return (*calls, used.ru_minflt), pathlib.Path(folder, "told").read_bytes()
 
 
+# add x18, x21, w1, uxtw; ldp x2, x3, [x18]; ldr x4, [x18, #8]; add w1, w1, #16, lsl #12; b to the first: it loads from each 65,536 bytes of the slot.
+LOADS = formats.code_of(0x8B2142B2, 0xA9400E42, 0xF9400644, 0x11404021, 0x17FFFFFC)
 # Words, the beginning of what is written, and the most reads, writes and pages of memory. An image and a packed stream have 4,096 pages.
 COSTS = (
     (["load", "small.stream"], b"module 0: complete, 1 words\nstrays 0\n", 20, 4, 300),
@@ -54,6 +56,7 @@ COSTS = (
     (["info", "long.stream"], b"stream\n", 200, 10, 4_700),
     (["run", "long.img", "--steps", "0"], b"halt 1 after 0 steps\n", 4_200, 4, 4_600),
     (["run", "long.img", "--steps", "4194304"], b"halt 1 after 4194304 steps\n", 4_200, 4, 21_500),
+    (["run", "loads.img", "--steps", "50000"], b"halt 1 after 50000 steps\n", 30, 4, 300),
     (["unpack", "long.img"], WHOLE, 4_200, 4_200, 4_500),
     (["pack", "long.code"], b"\x01", 200, 8_300, 4_500),
 )
@@ -65,7 +68,7 @@ def try_reads(program):
         os.mkdir(os.path.join(folder, "out"))
         for name, content in (
             ("small.stream", formats.stream(0, RET)), ("large.stream", formats.stream(0, NOP * 2_097_152)), ("long.stream", formats.stream(0, WHOLE)),
-            ("long.code", WHOLE), ("half.code", (RET + bytes(4)) * 1_000), ("zeros.code", bytes(4 * 65_536)), ("long.img", formats.image(0, 0, WHOLE)),
+            ("long.code", WHOLE), ("loads.img", formats.image(0, 0, LOADS)), ("half.code", (RET + bytes(4)) * 1_000), ("zeros.code", bytes(4 * 65_536)), ("long.img", formats.image(0, 0, WHOLE)),
         ):
             pathlib.Path(folder, name).write_bytes(content)
         for words, wanted, *most in COSTS:
