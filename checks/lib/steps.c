@@ -16,9 +16,9 @@ int main(int count, char **given) {
     }
     int status = 0;
     unsigned long long steps = 0;
-    for (int pending = 0; waitpid(child, &status, 0) == child && WIFSTOPPED(status); steps++) {
-        pending = WSTOPSIG(status) == SIGTRAP ? 0 : WSTOPSIG(status);
-        if (ptrace(PTRACE_SINGLESTEP, child, 0, pending)) return 125;
+    for (; waitpid(child, &status, 0) == child && WIFSTOPPED(status); steps++) {
+        int signal = WSTOPSIG(status) == SIGTRAP ? 0 : WSTOPSIG(status);
+        if (ptrace(PTRACE_SINGLESTEP, child, 0, signal)) return 125;
     }
     FILE *told = fopen(given[1], "w");
     if (!told || fprintf(told, "%llu\n", steps) < 0 || fclose(told)) return 125;
