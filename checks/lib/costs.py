@@ -69,7 +69,8 @@ def try_reads(program):
         os.mkdir(os.path.join(folder, "out"))
         for name, content in (
             ("small.stream", formats.stream(0, RET)), ("large.stream", formats.stream(0, NOP * 2_097_152)), ("long.stream", formats.stream(0, WHOLE)),
-            ("long.code", WHOLE), ("loads.img", formats.image(0, 0, LOADS)), ("half.code", (RET + bytes(4)) * 1_000), ("zeros.code", bytes(4 * 65_536)), ("long.img", formats.image(0, 0, WHOLE)),
+            ("long.code", WHOLE), ("half.code", (RET + bytes(4)) * 1_000), ("zeros.code", bytes(4 * 65_536)),
+            ("long.img", formats.image(0, 0, WHOLE)), ("loads.img", formats.image(0, 0, LOADS)),
         ):
             pathlib.Path(folder, name).write_bytes(content)
         for words, wanted, *most in COSTS:
@@ -100,9 +101,10 @@ def try_work(program):
     if not shutil.which("cc"):
         print("work: left out, since cc isn't here")
         return
+    mixed = steps.MIXED * 1_024
     with tempfile.TemporaryDirectory() as folder:
         for name, content in (
-            ("mixed.code", steps.MIXED * 1_024), ("mixed.img", formats.image(0, 0, steps.MIXED * 1_024)), ("mixed.stream", formats.stream(0, steps.MIXED * 1_024)),
+            ("mixed.code", mixed), ("mixed.img", formats.image(0, 0, mixed)), ("mixed.stream", formats.stream(0, mixed)),
             ("refused.code", (RET + bytes(4)) * 50), ("straight.img", formats.image(0, 0, NOP * 4_096)),
         ):
             pathlib.Path(folder, name).write_bytes(content)

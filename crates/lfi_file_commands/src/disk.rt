@@ -134,8 +134,8 @@ impl<R: Files<File = File>> ImageStore for SystemStore<'_, R> {
     }
 }
 
-/// How many bytes a regular file has. One that takes no room, as those that the system makes when they are read, may have others
-/// in number than it tells.
+/// How many bytes a regular file has. One that takes no blocks isn't trusted: where the system makes a file when it is read, it may
+/// have fewer bytes than it tells, or more.
 fn length_of(file: &File) -> Option<u64> {
     match file.metadata() {
         Ok(metadata) if metadata.is_file() && metadata.blocks() != 0 => Some(metadata.len()),
