@@ -1,4 +1,4 @@
-"""What docs/COMMANDS.md says in sentences, beside runs: for checks/program."""
+"""What docs/COMMANDS.md and docs/PROFILE.md say in sentences, beside runs: for checks/program."""
 
 import os
 import pathlib
@@ -12,7 +12,7 @@ import threading
 from lib import formats, tree
 from lib.serving import connected
 
-DOCUMENT = tree.TOP / "docs" / "COMMANDS.md"
+DOCUMENTS = tree.TOP / "docs"
 NOP, RET, SVC = 0xD503201F, 0xD65F03C0, 0xD4000001
 FILLED = [NOP] * (formats.PAGE // 4 - 1)
 RBIT, CLZ = 0xDAC00020, 0xDAC01000  # rbit x0, x1; clz x0, x0
@@ -103,22 +103,54 @@ def all_explains(room):
     return told[0] == told[1] and b"  mend: " in told[0][1], told
 
 
-SENTENCES = {
+def gone_client(room):
+    """A client that goes in the middle; and what becomes of a read that fails, as one of a socket that is reset does."""
+    path = str(room.folder / "s")
+    with subprocess.Popen([room.program, "serve", "--socket", path, "--connections", "1"], stdout=subprocess.PIPE, cwd=room.folder) as serve:
+        with connected(path) as client:
+            client.sendall((room.folder / "a.stream").read_bytes()[:-1])
+        told = serve.communicate(timeout=60)[0], room.run("load", ".")[1]
+    return told == (b"module 0: lost, fault 9\nconnection 0: fault 9\nstrays 0\n", b"connection 0: fault 10\nstrays 0\n"), told
+
+
+def registers_at_start(room):
+    """What each register and sp begin with, printed by code that runs in slot 3."""
+    found = {}
+    for number in range(32):
+        # orr x19, xzr, xN, or add x19, sp, #0; then eight times lsr x0, x19, #8j; ldr x30, [x21, #8]; blr x30
+        words = [0x910003F3 if number == 31 else 0xAA0003F3 | number << 16]
+        for j in range(8):
+            words += 0xD340FE60 | 8 * j << 16, 0xF94006BE, 0xD63F03C0
+        (room.folder / "it.img").write_bytes(formats.image(3, 0, formats.code_of(*words)))
+        found[number] = int.from_bytes(room.run("run", "it.img", "--steps", "25")[1][:8], "little")
+    base = formats.base(3)
+    return found == {number: base if number in (18, 21, 23, 24, 30) else base + (1 << 32) if number == 31 else 0 for number in range(32)}, found
+
+
+COMMANDS = {
     "ends a command but `run` with status 3 and no message": closed_pipe,
     "`load` tells what `check` does, but of RBIT at a page's end:": looks_of_load,
     "After `cannot read PATH` `load`, `run`, `pack`, `unpack` and `disassemble` do nothing; `check` and `info` go on with the next file.": unread,
     "A file of this name is `./-`, and `-` can be named once.": named_once,
     "A limit on the size of files (`ulimit -f`) ends the program by the signal SIGXFSZ.": limited,
     "`--all` includes `--explain`.": all_explains,
+    "A client that goes away in the middle is its connection's fault 9, and one that is reset its fault 10;": gone_client,
+}
+PROFILE = {
+    "A host enters it with x18, x21, x23, x24 and x30 at B, sp at B + 2^32 (an empty stack), and 0 in all other registers, where it does as "
+    "`lfiload run`.": registers_at_start,
 }
 
 
 def compare(program):
     """Each of these sentences stands there, and runs do what it says. Returns how many they are."""
-    text = " ".join(DOCUMENT.read_text(encoding="utf-8").split())
-    for sentence, tried in SENTENCES.items():
-        with tempfile.TemporaryDirectory() as folder:
-            is_so, told = tried(Room(program, folder))
-        if sentence not in text or not is_so:
-            sys.exit(f"program: docs/COMMANDS.md: {sentence!r} stands there: {sentence in text}; runs: {told!r:.600}")
-    return len(SENTENCES)
+    count = 0
+    for name, sentences in ("COMMANDS.md", COMMANDS), ("PROFILE.md", PROFILE):
+        text = " ".join((DOCUMENTS / name).read_text(encoding="utf-8").split())
+        for sentence, tried in sentences.items():
+            with tempfile.TemporaryDirectory() as folder:
+                is_so, told = tried(Room(program, folder))
+            if sentence not in text or not is_so:
+                sys.exit(f"program: docs/{name}: {sentence!r} stands there: {sentence in text}; runs: {told!r:.600}")
+            count += 1
+    return count

@@ -18,8 +18,8 @@ static int are_lawful(const frame *it, const lfi_map *map) {
            it->x[24] - map->base < map->size && it->x[30] - map->base < map->size && it->sp - (map->base - 512) < map->size + 1024;
 }
 
-/* The runtime of `lfiload run`. entry.S calls it on the host's stack; it answers whether the code goes on.
- * HOST: takes each argument for hostile */
+/* The runtime of `lfiload run`, whose one argument is a byte. entry.S calls it on the host's stack; it answers whether the code goes on.
+ * HOST: takes each argument for hostile: an address is `B + (x mod 2^32)`, and a length is tested against the slot's end */
 int lfi_runtime(frame *registers, uint32_t number) {
     if (!are_lawful(registers, &now.slot->map)) now.ending = (ending){.halt = HALT_ESCAPE, .at = registers->x[30]};
     else if (number == 0) now.ending = (ending){.halt = HALT_ENDED, .status = registers->x[0] & 255};
