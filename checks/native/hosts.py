@@ -43,6 +43,7 @@ OVER = {
     "signals": ("command.c", "run.c"),
     "mapped": (),
     "refused": (),
+    "promised": (),
     "timer": (),
     "reads": (),
     "steps": (),
@@ -50,6 +51,7 @@ OVER = {
 LINKED = {
     "steps": ["-Wl,--wrap=mprotect,--wrap=syscall,--wrap=__clear_cache"],
     "registers": ["-Wl,--wrap=lfi_enter"],
+    "promised": ["-Wl,--wrap=mmap"],
     "timer": ["-Wl,--wrap=setitimer"],
     "reads": ["-Wl,--wrap=fread"],
 }
@@ -235,6 +237,14 @@ def check_refused(refused, room):
     start, table = formats.base(1) - GUARD - 4_096, formats.base(1)
     if done.stdout.decode().splitlines()[2:] != [f"{start:x} {start + 4_096:x} r-xp", f"{table:x} {table + 4_096:x} r--p"]:
         fail(f"after a module that has run more may be accessed than its table and the host's start: {done}")
+
+
+def check_promised(promised, room):
+    """No slot asks for a promise of its memory (docs/HOST.md, "Room for it"), also not for a second module."""
+    (room / "breaks.img").write_bytes(formats.image(0, 0, formats.code_of(programs.BRK)))
+    done = run(promised, "--batch", "breaks.img", "breaks.img", cwd=room)
+    if (done.returncode, done.stdout.decode()) != (0, 2 * f"breaks.img 0  {broken(0, 0)}"):
+        fail(f"a module and then another in a slot of which no memory is promised: {done}")
 
 
 def check_timer(timer):
