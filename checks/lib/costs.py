@@ -56,6 +56,7 @@ COSTS = (
     (["info", "long.img"], b"image\n", 200, 4, 8_700),
     (["info", "long.stream"], b"stream\n", 200, 10, 4_700),
     (["run", "long.img", "--steps", "0"], b"halt 1 after 0 steps\n", 4_200, 4, 4_600),
+    (["run", "long.img", "--steps", "100"], b"halt 1 after 100 steps\n", 4_200, 4, 4_650),
     (["run", "long.img", "--steps", "4194304"], b"halt 1 after 4194304 steps\n", 4_200, 4, 21_500),
     (["run", "loads.img", "--steps", "50000"], b"halt 1 after 50000 steps\n", 30, 4, 300),
     (["unpack", "long.img"], WHOLE, 4_200, 4_200, 4_500),
@@ -207,6 +208,9 @@ def try_messages(program, folder):
     unused = [{"module": module, "outcome": "unused"} for module in range(formats.MODULES)]
     told = {"modules": unused, "connections": [{"connection": 0, "path": "strays.stream", "strays": count}], "strays": count, "images": []}
     expect(program, folder, ["load", "--format", "json", "strays.stream"], (0, json.dumps(told, separators=(",", ":")) + "\n", ""))
+    pathlib.Path(folder, "listed.stream").write_bytes(formats.messages(0, RET)[0] + formats.header(formats.CLOSE, 0, 5, 0, 0) * count)
+    lines = ["stream", "  byte 0: module 0 open, 1 words, entry 0, profile 1, small pages", *(f"  byte {12 * at}: module 5 close" for at in range(1, count + 1))]
+    expect(program, folder, ["info", "listed.stream"], (0, "".join(f"{line}\n" for line in lines), ""))
 
 
 def try_names(program, folder):

@@ -80,7 +80,22 @@ def try_made(program):
     return tried
 
 
+def try_unnamed(program, folder):
+    """An empty word names no file, whatever the standard input holds."""
+    for command in "check", "check --all", "disassemble", "info", "load", "pack", "unpack", "run --steps 1":
+        done = subprocess.run([program, *command.split(), ""], input=RET, capture_output=True, timeout=60, cwd=folder)
+        wanted = 3, b"", b"lfiload: cannot read \n  No such file or directory\n"
+        if (done.returncode, done.stdout, done.stderr) != wanted:
+            wrong("odd", f"{command} of an empty word", (done.returncode, done.stdout, done.stderr), wanted)
+    for words, said in (("load", "--out", "", "none"), "--out names no folder"), (("serve", "--connections", "1", "--socket", ""), "--socket names no path"):
+        done = run(program, folder, words)
+        if (done.returncode, done.stdout, said in done.stderr) != (2, "", True):
+            wrong("odd", words, (done.returncode, done.stdout, done.stderr), (2, "", said))
+
+
 def try_odd(program):
+    with tempfile.TemporaryDirectory() as folder:
+        try_unnamed(program, folder)
     for name in ODD_NAMES:
         with tempfile.TemporaryDirectory() as folder:
             for part in try_file, try_folder, try_socket:
