@@ -35,7 +35,8 @@ static lfi_status take_code(uint8_t *code, uint32_t words, uint32_t profile, lfi
     lfi_status status = lfi_verify_init(state, words, profile);
     while (status == LFI_LAWFUL && come < size) {
         ssize_t got = read(0, code + come, size - come < 4096 ? size - come : 4096);
-        if (got <= 0) break;
+        if (got < 0) perror("host"), exit(3);
+        if (got == 0) break;
         come += (size_t)got;
         size_t judged = 4 * (size_t)state->judged;
         status = lfi_verify_update(state, code + judged, (come - judged) / 4 * 4);

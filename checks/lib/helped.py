@@ -128,6 +128,7 @@ STATED = (
 
 def compare_sentences(program, helps):
     """The statuses that the helps tell in sentences are those of runs."""
+    compare_explain(program, helps)
     with tempfile.TemporaryDirectory() as folder:
         fill(folder)
         for command, sentence, runs in STATED:
@@ -135,6 +136,19 @@ def compare_sentences(program, helps):
             found = tuple(str(subprocess.run([program, command, *words], cwd=folder, capture_output=True, timeout=60).returncode) for words in runs)
             if not stated or stated.groups() != found:
                 numbered.fail(command, f"it says {stated and stated[0]!r}, and runs have the statuses {found}")
+
+
+def compare_explain(program, helps):
+    """The line of --explain tells of connections where the command does so then; load and serve have the same one."""
+    lines = {command: " ".join(re.search(r"--explain (.*)", helps[command])[1].split()) for command in ("check", "load", "serve")}
+    with tempfile.TemporaryDirectory() as folder:
+        fill(folder)
+        for command, file in ("check", "module.code"), ("load", "a.stream"):
+            told = subprocess.run([program, command, "--explain", file], cwd=folder, capture_output=True, timeout=60).stdout
+            if (b"connection 0" in told) != ("tell of connections" in lines[command]):
+                numbered.fail(command, f"its --explain, of which it says {lines[command]!r}, tells {told}")
+    if lines["serve"] != lines["load"]:
+        numbered.fail("serve", f"its --explain is that of load, and not {lines['serve']!r}")
 
 
 # ---- examples

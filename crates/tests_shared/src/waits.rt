@@ -231,6 +231,24 @@ fn one_is_called_where_all_wait(rt: HostRuntime) {
     }
 }
 
+/// Whether the first of `count` threads is called where there is work for one more, and none of the others waits.
+fn one_more_is_called<R: Wait>(rt: &R, count: usize) -> bool {
+    let lifecycle = Lifecycle::new(count);
+    let items = &lifecycle.wait_sets().items;
+    let mut first = Waiter::new(items, 0);
+    first.pause(rt);
+    Notifier::of_one(items, 1).tell_one_more();
+    first.pause(rt);
+    true
+}
+
+#[test]
+fn one_more_is_called_though_the_others_work(rt: HostRuntime) {
+    for count in 1..=8usize {
+        assert!(rt; one_more_is_called(&rt, count));
+    }
+}
+
 /// How often a thread waits and is called while another one comes and goes.
 const CALLS: u64 = 50_000;
 
