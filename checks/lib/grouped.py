@@ -11,6 +11,7 @@ from lib import formats
 
 # Bits 31 to 21 of a word, and its bits 11 and 10: the first row that fits has its group. By bits 31 and 28 to 25, of branches by bits 31 to
 # 24, of loads and stores by bits 29 to 26, 24, 21, 11 and 10.
+# COMMANDS: Groups are the Arm manual's.
 GROUPS = (
     ("0..0000....", "..", "reserved words"),
     ("1..0000....", "..", "SME"),

@@ -39,6 +39,7 @@ def texts_of(command, runs):
             yield from [*run.holds.get(where, []), getattr(run, where) or b""]
 
 
+# COMMANDS: **`--format json`.** `--help` has the keys. A later version may add some. Messages stay on standard error.
 def compare_keys(helps, runs):
     """The help of a command names each key that is printed, and in quotes no word that isn't. That of serve says what differs from load."""
     for command in "check", "load", "run", "serve":

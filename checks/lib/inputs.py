@@ -53,6 +53,7 @@ def try_inputs(program):
     print(f"inputs: two pipes read, one that has no more yet told; {len(READERS)} commands read what is left of a file, and tell an input that is closed or a folder; 40 files read one after another; {terminal}; a stream of 4.3 GB")
 
 
+# COMMANDS: **`-` is the standard input**, wherever a file is read.
 READERS = {
     "check": RET, "disassemble": RET, "pack": RET, "info": formats.stream(0, RET), "load": formats.stream(0, RET),
     "run --steps 5": image(0, 0, RET), "unpack": image(0, 0, RET),

@@ -80,6 +80,8 @@ def try_made(program):
     return tried
 
 
+# COMMANDS: After a line `lfiload: cannot ..` on the standard error a second line gives the system's reason, if it is known: `  No such
+#   file or directory`.
 def try_unnamed(program, folder):
     """An empty word names no file, whatever the standard input holds."""
     for command in "check", "check --all", "disassemble", "info", "load", "pack", "unpack", "run --steps 1":

@@ -40,6 +40,7 @@ def told_of(program, content, *words):
     return done.stdout + done.stderr
 
 
+# COMMANDS: [PROFILE.md](PROFILE.md) has the rules, and the faults of streams and image files.
 def number_in_profile(row, column):
     """The number of a fault in the table of docs/PROFILE.md, whose second column is of streams and whose fourth of images."""
     rows = [line.strip("| ").split(" | ") for line in (tree.TOP / "docs" / "PROFILE.md").read_text().splitlines()]

@@ -15,6 +15,9 @@ RULES = tree.script("second_verifier")
 KIND, SECOND, MODULE, LENGTH, NUMBERS, WORDS, ENTRY, ENDED = 1, 2, 3, 4, 5, 6, 7, 9
 
 
+# PROFILE: A stream is a list of messages with nothing between them: a header of 12 bytes, all numbers little-endian and unsigned, and
+#   after a Page's its payload.
+# PROFILE: The first seven of a stream are a header's, judged once its 12 bytes are there, in this order.
 def header_fault(kind, second, module, a, b):
     """The first fault that a header shows, or None."""
     tests = [
@@ -54,10 +57,13 @@ class Share:
         self.words, self.entry, self.profile, self.kind, self.pages, self.end = words, entry, profile, kind, [], None
         self.size = SIZES[kind]
 
+    # PROFILE: with P bytes a page, 4,096 or 16,384, page p of a module of n words has min(P, 4n - P * p) bytes, and there are 4n / P
+    #   pages, rounded up.
     def bytes_due(self, index):
         """How many bytes page `index` has; 0 where there is none."""
         return max(0, min(self.size, 4 * self.words - self.size * index))
 
+    # PROFILE: A page that isn't the one due, or hasn't its length, or is of the other kind, ends its module with a page fault.
     def take(self, kind, index, length, payload):
         """A page or a Close, which comes while the module is open."""
         if kind == 3:
@@ -68,6 +74,9 @@ class Share:
             self.pages.append(payload)
 
 
+# PROFILE: The first connection that opens a module has it, for the whole run. Of all other connections, and once it has ended, its
+#   messages are strays: they are counted and passed over.
+# PROFILE: A fault of the connection, its first, ends all its modules that are open.
 def connection(text, claimed):
     """What a connection makes for which these modules are claimed: the modules' shares, its fault, its strays."""
     messages, fault, inside = cut(text)
@@ -99,6 +108,9 @@ def first_fault(words, total, profile=1):
     return None
 
 
+# PROFILE: What is told of a module, the first of these that applies: *refused* with its first fault, by the pages that came (the last
+#   word's need counts once all words are there); by a Close, *complete* or *incomplete*; *lost* by its connection's fault; *page
+#   fault*; *no memory*.
 def outcome(share):
     """What is told of a module, and its code where it is complete."""
     code = b"".join(share.pages)
@@ -141,6 +153,7 @@ def reports(texts):
     return [report(texts, dict(choice)) for choice in itertools.product(*choices)]
 
 
+# PROFILE: An image's header is judged once its 24 bytes are there (5, then 1 to 4), then page by page 5 or 7, at last 6.
 def image_fault(file):
     """The number of an image file's fault with what follows it, and 0 where it has none."""
     if len(file) < 24:

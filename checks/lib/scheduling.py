@@ -126,6 +126,7 @@ def is_cut_off(client):
         return False
 
 
+# COMMANDS: One too many is cut off.
 def try_late(program):
     """Two clients connect while `serve` is held, which takes one: the other one is cut off while the first stays."""
     with tempfile.TemporaryDirectory() as folder:

@@ -8,6 +8,7 @@ import subprocess
 import sys
 import tempfile
 import threading
+import time
 
 from lib import formats, tree
 from lib.serving import connected
@@ -66,8 +67,10 @@ def closed_pipe(room):
     found = {words[0]: room.run(*words, stdout=out)[::2] for words in others}
     client.join()
     found["run"] = room.run("run", "writes.img", "--steps", "9", stdout=out)[::2]
+    found["late"] = room.run("serve", "--socket", str(room.folder / "s"), "--connections", "1", "--seconds", "1", "--format", "json", stdout=out)[::2]
     os.close(out)
-    return found == {words[0]: (3, b"") for words in others} | {"run": (0, b"halt 5 status 255 after 1 steps\n")}, found
+    late = {"run": (0, b"halt 5 status 255 after 1 steps\n"), "late": (3, b"lfiload: time is over: connection 0 had not come\n")}
+    return found == {words[0]: (3, b"") for words in others} | late, found
 
 
 def looks_of_load(room):
@@ -113,6 +116,19 @@ def gone_client(room):
     return told == (b"module 0: lost, fault 9\nconnection 0: fault 9\nstrays 0\n", b"connection 0: fault 10\nstrays 0\n"), told
 
 
+def ended_by_signal(room):
+    """`serve` that is waiting for a client when a signal comes."""
+    path = room.folder / "signalled"
+    with subprocess.Popen([room.program, "serve", "--socket", str(path), "--connections", "1"], stdout=subprocess.PIPE, stderr=subprocess.PIPE) as serve:
+        for _ in range(1_000):
+            if path.is_socket():
+                break
+            time.sleep(0.01)
+        serve.terminate()
+        told = *serve.communicate(timeout=60), serve.returncode, path.is_socket()
+    return told == (b"", b"", -signal.SIGTERM, True), told
+
+
 def registers_at_start(room):
     """What each register and sp begin with, printed by code that runs in slot 3."""
     found = {}
@@ -128,12 +144,14 @@ def registers_at_start(room):
 
 
 COMMANDS = {
-    "ends a command but `run` with status 3 and no message": closed_pipe,
+    "**A closed pipe**, as in `lfiload info FILE | head`, ends a command but `run` with status 3 and no message (`serve --format json` tells of "
+    "late clients).": closed_pipe,
     "`load` tells what `check` does, but of RBIT at a page's end:": looks_of_load,
     "After `cannot read PATH` `load`, `run`, `pack`, `unpack` and `disassemble` do nothing; `check` and `info` go on with the next file.": unread,
     "A file of this name is `./-`, and `-` can be named once.": named_once,
     "A limit on the size of files (`ulimit -f`) ends the program by the signal SIGXFSZ.": limited,
     "`--all` includes `--explain`.": all_explains,
+    "A signal ends the program at once and leaves the path: use `--seconds`, or remove it.": ended_by_signal,
     "A client that goes away in the middle is its connection's fault 9, and one that is reset its fault 10;": gone_client,
 }
 PROFILE = {
@@ -142,10 +160,13 @@ PROFILE = {
 }
 
 
+DOCUMENTED = {"COMMANDS.md": COMMANDS, "PROFILE.md": PROFILE}
+
+
 def compare(program):
     """Each of these sentences stands there, and runs do what it says. Returns how many they are."""
     count = 0
-    for name, sentences in ("COMMANDS.md", COMMANDS), ("PROFILE.md", PROFILE):
+    for name, sentences in DOCUMENTED.items():
         text = " ".join((DOCUMENTS / name).read_text(encoding="utf-8").split())
         for sentence, tried in sentences.items():
             with tempfile.TemporaryDirectory() as folder:

@@ -267,6 +267,7 @@ def seconds_of_serve(program, count, comes):
             return seconds, list(iter(lambda: ours.recv(4096), b"")), serve.returncode, used
 
 
+# COMMANDS: `lfiload: time is over: ..` tells each that had not come or not ended; the status is 1 or 3.
 def try_one_limit(program, count, comes):
     state = "come" if comes is None else "ended"
     told = [f"lfiload: time is over: connection {c} had not {state if c == 0 else 'come'}\n".encode() for c in range(count)]
@@ -283,6 +284,7 @@ def try_one_limit(program, count, comes):
     wrong("limit", "`serve --seconds 4`", seconds, "less than 4.8 seconds, once in five times")
 
 
+# COMMANDS: What a client has sent by then is still read.
 def try_sent_in_time(program):
     """`serve` that is stopped while a client sends, until the time is over: what was sent is still read."""
     with tempfile.TemporaryDirectory() as folder:
@@ -485,6 +487,7 @@ def refused_last(count):
     return formats.pages(2, 7, NOP * (1024 * (count - 1)) + bytes(4096))
 
 
+# COMMANDS: A slow or silent client holds up no other connection's module, but the report waits for all, at most `--seconds`.
 def try_slow(program):
     for verifiers in (1, 2, 8):
         try_pages(program, verifiers, 2, refused_last(2))
@@ -527,6 +530,8 @@ def try_other_socket(program, kind):
                 wrong("path", "where another socket stands", (came, path.is_socket()), wanted)
 
 
+# COMMANDS: A file that is already at the socket's path stays, and `serve` then can't listen there.
+# COMMANDS: After `cannot listen` it begins with the path.
 def try_standing(program):
     """Where something else stands at the path, also a link to nothing, it is told and left."""
     with tempfile.TemporaryDirectory() as folder:
@@ -609,6 +614,7 @@ def sends_until_refused(client):
         return False
 
 
+# COMMANDS: A connection is shut down at its stream's end or fault.
 def try_faulty(program):
     """A client whose stream has a fault, and that sends on while another one stays: its connection is closed, so it needn't wait."""
     with tempfile.TemporaryDirectory() as folder:
@@ -711,6 +717,7 @@ def one_storm(program, number):
     return used.ru_maxrss
 
 
+# COMMANDS: no other connection's module changes.
 def try_storm(program, times):
     most = [one_storm(program, number) for number in range(times)]
     print(f"storm: {times} of eight clients: as the reference implementation; most memory {min(most)} to {max(most)} KiB")

@@ -352,6 +352,7 @@ def shares_of(texts):
     return {module: (number, share) for number, text in enumerate(texts) for module, share in connection(text, range(MODULES))[0].items()}
 
 
+# COMMANDS: A code file names no module, so its words have the addresses of module 0; a loaded module's have those of its slot.
 def as_checked(program, folder, share, module):
     """What `check --explain` tells of a module's code, at the addresses of its slot."""
     pathlib.Path(folder, "checked.code").write_bytes(b"".join(share.pages))

@@ -1,0 +1,42 @@
+"""Sentences of documents that checks cite beside what bears them out, behind `COMMANDS:` or `PROFILE:` in a comment: for checks/program.
+
+A citation goes on in the lines of the comment that begin with three spaces. What it cites has to stand in the document; and what
+docs/COMMANDS.md says is cited, but for its headings and its example, which checks/program carries out.
+"""
+
+import re
+import sys
+
+from lib import sentences, tree
+
+CHECKS = tree.TOP / "checks"
+CITED = re.compile(r"^ *# (COMMANDS|PROFILE): (.*(?:\n *#   .*)*)", re.M)
+
+
+def flat(text):
+    return " ".join(re.sub(r"\n *#   ", " ", text).split())
+
+
+def citations():
+    """What is cited of each document, with the file that cites it."""
+    for file in sorted(CHECKS.rglob("*")):
+        if file.is_file() and file.suffix in ("", ".py", ".runs") and not file.name.startswith("."):
+            for document, words in CITED.findall(file.read_text(encoding="utf-8", errors="replace")):
+                yield f"{document}.md", flat(words), file.name
+    for document, told in sentences.DOCUMENTED.items():
+        yield from ((document, words, "sentences.py") for words in told)
+
+
+def compare():
+    """How many citations there are, each of which stands in its document."""
+    left, count = {name: flat((sentences.DOCUMENTS / name).read_text(encoding="utf-8")) for name in sentences.DOCUMENTED}, 0
+    whole = dict(left)
+    for document, words, file in citations():
+        if words not in whole[document]:
+            sys.exit(f"program: {file} cites what docs/{document} doesn't say: {words}")
+        left[document] = left[document].replace(words, "")
+        count += 1
+    uncited = re.sub(r"```.*?```|# The commands: what --help doesn't say", "", left["COMMANDS.md"])
+    if re.search(r"[a-z]{2}", re.sub(r"\*\*[^*]*\*\*", "", uncited)):
+        sys.exit(f"program: no check cites this of docs/COMMANDS.md: {flat(uncited)}")
+    return count
