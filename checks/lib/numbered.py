@@ -9,7 +9,7 @@ import tempfile
 
 from lib import formats, tree
 
-RET, BRK, SVC = (formats.code_of(word) for word in (0xD65F03C0, 0xD4200000, 0xD4000001))
+RET, SVC = (formats.code_of(word) for word in (0xD65F03C0, 0xD4000001))
 # What `run` tells of a fault of images, as a pattern, and a file of it; None: a folder.
 IMAGES = {
     "it doesn't begin with LFI1": b"LFI2" + formats.image(0, 0, RET)[4:],
@@ -79,22 +79,31 @@ def compare_longest(helps):
         fail("info", f"the longest stream has {most} bytes")
 
 
-def printed_of(program, registers):
-    """A byte of each of these registers at the start: 0 where it holds the base, 1 where it holds the end, 255 where it is 0. 31 is sp."""
-    words = []
-    for it in registers:  # mov x0, sp where that is asked; sub x0, xN, x21; lsr x0, x0, #32; ldr x30, [x21, #8]; blr x30
-        words += [*([0x910003E0] if it == 31 else []), 0xCB150000 | it % 31 << 5, 0xD360FC00, 0xF94006BE, 0xD63F03C0]
-    return told_of(program, formats.image(0, 0, formats.code_of(*words) + BRK), "run", "--steps", "1000")[: len(registers)]
+def start_of(program):
+    """The number that each register begins with in slot 3, printed by code that runs there; 31 is sp."""
+    found = {}
+    for number in range(32):
+        # orr x19, xzr, xN, or add x19, sp, #0; then eight times lsr x0, x19, #8j; ldr x30, [x21, #8]; blr x30
+        words = [0x910003F3 if number == 31 else 0xAA0003F3 | number << 16]
+        for j in range(8):
+            words += 0xD340FE60 | 8 * j << 16, 0xF94006BE, 0xD63F03C0
+        found[number] = int.from_bytes(told_of(program, formats.image(3, 0, formats.code_of(*words)), "run", "--steps", "25")[:8], "little")
+    return found
+
+
+def start_with(bases):
+    """What the registers begin with where these hold the base, sp the end, and all others 0."""
+    base = formats.base(3)
+    return {number: base if number in bases else base + (1 << 32) if number == 31 else 0 for number in range(32)}
 
 
 def compare_start(program, helps):
     """Of run: which registers hold the base at the start, which the end, and that all others are 0."""
     said = re.search(r"with the base of its slot in (.*?), the end of its slot in sp, and 0 in all other registers", flat(helps["run"]))
     bases = {int(it) for it in re.findall(r"\bx(\d+)", said[1])} if said else set()
-    found = printed_of(program, [*range(30), 31]) + printed_of(program, [30])
-    wanted = bytes(0 if it in bases else 1 if it == 31 else 255 for it in (*range(30), 31, 30))
-    if found != wanted:
-        fail("run", f"the registers x0 to x29, sp and x30 begin as {found.hex(' ')}, and by it as {wanted.hex(' ')}")
+    found = start_of(program)
+    if found != start_with(bases):
+        fail("run", f"the registers begin as {found}, and by it as {start_with(bases)}")
 
 
 def compare(program, helps):

@@ -10,7 +10,7 @@ import tempfile
 import threading
 import time
 
-from lib import formats, tree
+from lib import formats, numbered, tree
 from lib.serving import connected
 
 DOCUMENTS = tree.TOP / "docs"
@@ -130,17 +130,8 @@ def ended_by_signal(room):
 
 
 def registers_at_start(room):
-    """What each register and sp begin with, printed by code that runs in slot 3."""
-    found = {}
-    for number in range(32):
-        # orr x19, xzr, xN, or add x19, sp, #0; then eight times lsr x0, x19, #8j; ldr x30, [x21, #8]; blr x30
-        words = [0x910003F3 if number == 31 else 0xAA0003F3 | number << 16]
-        for j in range(8):
-            words += 0xD340FE60 | 8 * j << 16, 0xF94006BE, 0xD63F03C0
-        (room.folder / "it.img").write_bytes(formats.image(3, 0, formats.code_of(*words)))
-        found[number] = int.from_bytes(room.run("run", "it.img", "--steps", "25")[1][:8], "little")
-    base = formats.base(3)
-    return found == {number: base if number in (18, 21, 23, 24, 30) else base + (1 << 32) if number == 31 else 0 for number in range(32)}, found
+    found = numbered.start_of(room.program)
+    return found == numbered.start_with({18, 21, 23, 24, 30}), found
 
 
 COMMANDS = {
