@@ -39,6 +39,7 @@ static lfi_status two(uint32_t first, uint32_t second, lfi_fault *fault) {
 
 static int is(lfi_fault fault, uint32_t word, uint32_t rule) { return fault.word == word && fault.rule == rule; }
 
+// C: `LFI_LAWFUL` is 0.
 static int whole_code(void) {
     lfi_fault f = {9, 9};
     uint8_t bytes[1] = {0};
@@ -67,6 +68,7 @@ static int whole_code(void) {
     return 0;
 }
 
+// C: the code isn't 1 to 4,194,304 whole words, or has none at the fault;
 /* The longest module, one word more, sizes that no memory has, and an odd address. */
 static int long_code(void) {
     lfi_fault f;
@@ -84,6 +86,8 @@ static int long_code(void) {
 }
 
 /* A module of 1,025 words whose last but one opens a need, in pieces of each size. */
+// C: In whatever pieces the bytes came, also empty ones, `lfi_verify_final` tells of a whole module what `lfi_verify` tells of all its
+//   bytes at once. Before the end it tells the first fault so far, or `LFI_INCOMPLETE`.
 static int pieces(void) {
     static uint8_t bytes[4100];
     lfi_fault f, g;
@@ -109,6 +113,8 @@ static int pieces(void) {
 }
 
 /* What is refused leaves the state as it was. */
+// C: or a piece isn't whole words, or is longer than what is to come: the state is as it was
+// C: A fault that is told once stays.
 static int refused_pieces(void) {
     uint8_t bytes[16] = {0};
     lfi_state s, t;
@@ -141,6 +147,7 @@ static int refused_pieces(void) {
 }
 
 /* States that no call made: each is answered, and those that can't be a state's are told. */
+// C: It doesn't owe that a state is one that the calls made: any 24 bytes are answered, by `LFI_BAD_STATE` where a number is out of range.
 static int other_states(void) {
     uint8_t bytes[64] = {0};
     lfi_fault f = {9, 9};
@@ -164,6 +171,11 @@ static int other_states(void) {
     return 0;
 }
 
+// C: `lfi_version` answers the number of the interface, `LFI_VERSION` of the header that goes with the library.
+// C: | `LFI_UNKNOWN_PROFILE` | 5 | the profile is neither 1 nor 2: nothing was judged, begun or told |
+// C: | `LFI_UNKNOWN_MODULE` | 6 | the module isn't 0 to 15 |
+// C: enter it with the `base` register at `base`, `offset` below 2^32, `first_address`, `second_address`, `third_address` and `link` in the
+//   slot, and sp no farther than `stack_reach` bytes from it.
 static int profile(void) {
     lfi_map map, before;
     lfi_registers registers, old;
@@ -222,6 +234,7 @@ static uint8_t *nops(uint8_t *at, size_t count) {
     return at;
 }
 
+// C: It is cut at the room that there is; `count` is its whole length.
 static int explanations(void) {
     static uint8_t code[4 * 1025];
     uint8_t text[1024], other[1024];
@@ -248,6 +261,7 @@ static int explanations(void) {
 }
 
 /* A need that a word two before asks for: by all the module, and by what came of it up to the fault. */
+// C: The code is what came of the module's `words`, up to the fault at least.
 static int late(void) {
     uint8_t code[sizeof LATE], text[1024];
     lfi_fault f;
@@ -276,6 +290,7 @@ static int outside(void) {
 }
 
 /* What isn't a fault of a beginning of a module is told, and nothing is written. */
+// C: or a fault's are none;
 static int unexplained(void) {
     uint8_t code[4 * 17], text[64], other[64];
     size_t size = sizeof code, count = 7;
@@ -320,6 +335,9 @@ static const struct { uint32_t profile, rule, place, come, code[4], status; size
     {2, 10, 2, 4, {0xD10043FF, 0xD503201F, 0xF94006BE, 0xD63F03C0}, LFI_LAWFUL, 1, {0xF94003FF}}, /* ldr x30, [x21, #8], a nop behind sub sp, sp, #16: ldr xzr, [sp] */
 };
 
+// C: of `lfi_mend`, there is no mend |
+// C: Looked at are four words before it, too, and the next one, by which RBIT has a mend.
+// C: `lfi_mend` gives what stands below `mend:` as words: at most `LFI_MOST_MENDED`, 8, which keep the rules in the refused one's place,
 static int mends(void) {
     uint8_t code[16];
     uint32_t mend[LFI_MOST_MENDED + 1], rest[LFI_MOST_MENDED + 1];
@@ -390,6 +408,7 @@ static int all_mended(void) {
 }
 
 /* Any word, at any place of a module of any number of words, for any rule, has a text that fits. */
+// C: | `LFI_NO_ROOM` | 7 | a text is longer than 2,048 bytes: none is (`explain_near`) |
 static int all_explained(void) {
     uint8_t text[2048], *code = calloc(LFI_MAX_WORDS, 4);
     size_t count, longest = 0;
@@ -487,6 +506,9 @@ static lfi_status in_stream(uint8_t kind, uint8_t second, uint8_t page, uint32_t
     return event.fault.word == f.word && event.fault.rule == f.rule ? event.verdict : LFI_BAD_STATE;
 }
 
+// C: A stream has modules of both profiles, and of both page sizes, side by side: an Open of kind 1 tells profile 1, one of kind 4 profile
+//   2.
+// C: The verdicts of events are by the module's own profile.
 static int streams(void) {
     uint32_t by = 0, size = 0;
     CHECK(120, sizeof(lfi_stream_module) == 24 && sizeof(lfi_stream_text) == 424 && sizeof(lfi_cut_state) == 32 && sizeof(lfi_stream) == 840);

@@ -98,6 +98,7 @@ static void make(void) {
 /* ---- verdicts on code that came */
 
 /* What lfi_verify_final tells of this beginning of a module. */
+// C: Those of code are of one plain pass over all bytes of the module that were told so far (`FindsSoFar`).
 static lfi_status found(uint32_t words, uint32_t profile, const uint8_t *code, size_t size, lfi_fault *fault) {
     lfi_state state;
     if (lfi_verify_init(&state, words, profile) || lfi_verify_update(&state, code, size) > LFI_REFUSED) abort();
@@ -105,6 +106,9 @@ static lfi_status found(uint32_t words, uint32_t profile, const uint8_t *code, s
 }
 
 /* A module's outcome, by its whole pages. */
+// C: The `verdict` and `fault` of an end are the outcome that `lfiload load` tells, by the profile of the module's opening
+//   (`FindsOutcome`).
+// C: A page that didn't come whole counts for what is told of code, and not for an end: so code can be refused of a module that is lost.
 static void outcome(told *to, uint32_t m, uint32_t words, uint32_t profile, size_t size, int closed) {
     lfi_fault fault, again;
     lfi_status status = found(words, profile, to->code[m], size, &fault);
@@ -175,6 +179,14 @@ static void pass(told *to) {
 
 /* ---- the same in pieces */
 
+// C: | `LFI_OPEN` | the module opens: `words`, `entry`, the `profile` by which its code is to be judged, and `page_bytes`, the bytes of a
+//   full page of it: 4,096 or 16,384 |
+// C: | `LFI_STRAY` | a message of the module is passed over |
+// C: | `LFI_END` | the module ended, with `pages` of its pages received: by its Close (`LFI_CLOSED`; complete where these are all), by a
+//   page that isn't due, or is of the other kind (`LFI_PAGE_FAULT`), by the stream's fault (`LFI_LOST`). `verdict` is `LFI_LAWFUL`, where it
+//   is complete and lawful; `LFI_REFUSED`, where a word of its whole pages breaks a rule, and then `fault` is the first such fault; else
+//   `LFI_INCOMPLETE` |
+// C: | `LFI_FAULT` | the stream's fault, 1 to 10 |
 static void tell(told *to, const lfi_event *event, const uint8_t *bytes, size_t used) {
     if (event->kind == LFI_OPEN) line(to, "open", event->module, event->words, event->entry, event->profile, event->page_bytes);
     if (event->kind == LFI_STRAY) line(to, "stray", event->module, 0, 0, 0, 0);
@@ -190,6 +202,8 @@ static void tell(told *to, const lfi_event *event, const uint8_t *bytes, size_t 
 }
 
 /* Whether what is told of code is what is found of all of the module's code up to there; looked at now and then. */
+// C: | `LFI_CODE` | the bytes used are code of the module, from byte `offset` of it on; where `ended` is 1, a page is whole. `verdict` is
+//   `LFI_LAWFUL` or `LFI_REFUSED`, and `fault` the first fault, of all the module's whole words up to the end of these bytes |
 static int judged(const told *to, const lfi_event *event, size_t used, const uint32_t *words, const uint32_t *by) {
     lfi_fault fault;
     uint32_t m = event->module;
@@ -229,6 +243,8 @@ static int only_told(const lfi_event *it) {
         && (!it->verdict || code || end) && ((!it->fault.word && !it->fault.rule) || it->verdict == LFI_REFUSED);
 }
 
+// C: | `LFI_NOTHING` | nothing that a host has to do; the bytes used are behind it. Of `lfi_stream_end`: nothing is left to tell |
+// C: What is told doesn't rest on the pieces:
 static int in_pieces(told *to, uint32_t longest) {
     lfi_stream stream, copy;
     lfi_event event, again;
@@ -261,6 +277,8 @@ static int in_pieces(told *to, uint32_t longest) {
     return 0;
 }
 
+// C: The profile that `lfi_stream_init` is handed only has to be one that the library knows.
+// C: A module's numbers that no module has are read as those of one that has ended.
 static int bad_states(void) {
     lfi_stream stream, before;
     lfi_event event;
@@ -281,6 +299,8 @@ static int bad_states(void) {
 }
 
 /* A stream of whose verifier's numbers some are none of a module: its events are told, and its code isn't judged. */
+// C: An event whose code isn't judged has the `verdict` `LFI_BAD_STATE`: the numbers in `stream.verdicts` can't be a state's, or have no
+//   room for it. In a stream that only these calls wrote there is none.
 static int bad_verdicts(void) {
     static const uint8_t open[12] = {1, 0, 5, 0, 2, 0, 0, 0, 0, 0, 0, 0}, page[20] = {2, 0, 5, 0, 0, 0, 0, 0, 8, 0, 0, 0, 0xC0, 0x03, 0x5F, 0xD6, 0xC0, 0x03, 0x5F, 0xD6};
     lfi_stream stream, copy;

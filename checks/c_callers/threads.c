@@ -13,6 +13,7 @@ struct answer {
     lfi_fault fault, paged_fault;
 };
 
+// C: The library has no locks. Calls that share nothing but what they read may run at the same time.
 static void *judge(void *to) {
     struct answer *answer = to;
     lfi_map map;

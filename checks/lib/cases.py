@@ -32,3 +32,8 @@ def without(descriptors):
             os.close(descriptor)
 
     return close
+
+
+def on_one_core():
+    """Before a process begins: all its threads share one core."""
+    os.sched_setaffinity(0, {min(os.sched_getaffinity(0))})

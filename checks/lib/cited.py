@@ -1,4 +1,5 @@
-"""Sentences of documents that checks cite beside what bears them out, behind `COMMANDS:` or `PROFILE:` in a comment: for checks/program.
+"""Sentences of documents that checks cite beside what bears them out, behind the document's name in a comment, as `COMMANDS:` of
+docs/COMMANDS.md: for checks/program.
 
 A citation goes on in the lines of the comment that begin with three spaces. What it cites has to stand in the document; and what
 docs/COMMANDS.md says is cited, but for its headings and its example, which checks/program carries out.
@@ -10,17 +11,18 @@ import sys
 from lib import sentences, tree
 
 CHECKS = tree.TOP / "checks"
-CITED = re.compile(r"^ *# (COMMANDS|PROFILE): (.*(?:\n *#   .*)*)", re.M)
+DOCUMENTS = ("C.md", "COMMANDS.md", "HOST.md", "PROFILE.md")
+CITED = re.compile(r"^ *(?:#|//) (C|COMMANDS|HOST|PROFILE): (.*(?:\n *(?:#|//)   .*)*)", re.M)
 
 
 def flat(text):
-    return " ".join(re.sub(r"\n *#   ", " ", text).split())
+    return " ".join(re.sub(r"\n *(?:#|//)   ", " ", text).split())
 
 
 def citations():
     """What is cited of each document, with the file that cites it."""
     for file in sorted(CHECKS.rglob("*")):
-        if file.is_file() and file.suffix in ("", ".py", ".runs") and not file.name.startswith("."):
+        if file.is_file() and file.suffix in ("", ".py", ".runs", ".c", ".cc") and not file.name.startswith("."):
             for document, words in CITED.findall(file.read_text(encoding="utf-8", errors="replace")):
                 yield f"{document}.md", flat(words), file.name
     for document, told in sentences.DOCUMENTED.items():
@@ -29,7 +31,7 @@ def citations():
 
 def compare():
     """How many citations there are, each of which stands in its document."""
-    left, count = {name: flat((sentences.DOCUMENTS / name).read_text(encoding="utf-8")) for name in sentences.DOCUMENTED}, 0
+    left, count = {name: flat((sentences.DOCUMENTS / name).read_text(encoding="utf-8")) for name in DOCUMENTS}, 0
     whole = dict(left)
     for document, words, file in citations():
         if words not in whole[document]:

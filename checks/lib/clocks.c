@@ -4,7 +4,8 @@
  *   read   the first reading of the clock after a client was taken is preceded by such a pause
  *   write  each write to the standard output is interrupted 5,000 times
  *   lost   the first write to the standard error fails
- *   stat   nothing is told of the first file that is asked for by its name */
+ *   stat   nothing is told of the first file that is asked for by its name
+ *   pause  a pause of more than 20 milliseconds ends the program with status 99, and the first one is told on the standard error */
 #define _GNU_SOURCE
 #include <errno.h>
 #include <stdatomic.h>
@@ -36,6 +37,13 @@ int clock_gettime(clockid_t clock, struct timespec *now) {
     }
     if (is("read") && taken) pause_once();
     return (int)syscall(SYS_clock_gettime, clock, now);
+}
+
+int nanosleep(const struct timespec *time, struct timespec *left) {
+    static atomic_int told;
+    if (is("pause") && (time->tv_sec || time->tv_nsec > 20000000)) _exit(99);
+    if (is("pause") && !atomic_fetch_add(&told, 1)) syscall(SYS_write, 2, "a pause\n", 8);
+    return (int)syscall(SYS_nanosleep, time, left);
 }
 
 int accept4(int at, struct sockaddr *address, socklen_t *length, int flags) {

@@ -81,7 +81,7 @@ def keep_other(program, library, folder):
 
 def try_clocks(program):
     """Who came or ended in time is told so, however late the thread looks that keeps the time; and where the clock can't be read the time is
-    over. A write that is interrupted is tried again."""
+    over. Whoever comes is looked for every few milliseconds. A write that is interrupted is tried again."""
     with tempfile.TemporaryDirectory() as folder:
         library = compiled(folder)
         if not library:
@@ -94,6 +94,7 @@ def try_clocks(program):
         compare("fails", started(library, "fails", words, folder), none)
         serve_one(program, library, "look", 0.5, folder, LOADED, TAKEN_LATE)
         serve_one(program, library, "read", 0.2, folder, LOADED)
+        serve_one(program, library, "pause", 0.3, folder, (LOADED[0], "a pause\n", 0))
         lose_one(program, library, folder)
         keep_other(program, library, folder)
-    print("clocks: one that can't be read, pauses before and after a look, a write that is interrupted, one line that is lost, a socket of which nothing is told")
+    print("clocks: one that can't be read, pauses before and after a look and between two, a write that is interrupted, one line that is lost, a socket of which nothing is told")

@@ -9,17 +9,13 @@ import tempfile
 import time
 
 from lib import formats
-from lib.cases import NOP, RET, wrong
+from lib.cases import NOP, RET, on_one_core, wrong
 from lib.serving import connected
 
 LOADS, SERVES, SECONDS, TOGETHER, LARGE = 200, 100, 20, 300, 50
 
 
 # ---- core
-
-
-def on_one_core():
-    os.sched_setaffinity(0, {min(os.sched_getaffinity(0))})
 
 
 def ended(part, words, running, wanted):

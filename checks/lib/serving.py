@@ -20,7 +20,7 @@ import threading
 import time
 
 from lib import formats
-from lib.cases import NOP, OPENS, RET, wrong
+from lib.cases import NOP, OPENS, RET, on_one_core, wrong
 from lib.plain import connection, outcome
 
 
@@ -462,13 +462,13 @@ def told_while(client, serve):
     return ""
 
 
-def try_pages(program, verifiers, count, pieces):
+def try_pages(program, verifiers, count, pieces, before=None):
     """So many pages in pieces, each once what came before has been judged, of which the last has a fault, and then nothing: it is judged and
     told, and none waits for a thread that sleeps."""
     with tempfile.TemporaryDirectory() as folder:
         path = os.path.join(folder, "s")
         words = [program, "serve", "--socket", path, "--connections", "2", "--verifiers", str(verifiers)]
-        serve = subprocess.Popen(words, stdout=subprocess.PIPE, stderr=subprocess.PIPE, text=True)
+        serve = subprocess.Popen(words, stdout=subprocess.PIPE, stderr=subprocess.PIPE, text=True, preexec_fn=before)
         with connected(path) as first, connected(path) as second:
             first.sendall(formats.header(1, 0, 7, 1024 * (count + 1), 0))
             for piece in pieces:
@@ -493,7 +493,10 @@ def try_slow(program):
         try_pages(program, verifiers, 2, refused_last(2))
         for count in (33, 64, 65, 129, 200) * 3:
             try_pages(program, verifiers, count, [b"".join(refused_last(count))])
-    print("slow: the last of 2 to 200 pages, which is refused, is judged and told while its client sends nothing more, by 1, 2 and 8 verifiers")
+    # On one core a verifier puts many pages into a lane before its sequencer comes to look.
+    for count in (65, 129, 200) * 5:
+        try_pages(program, 1, count, [b"".join(refused_last(count))], on_one_core)
+    print("slow: the last of 2 to 200 pages, refused, is judged and told while its client sends nothing more, by 1, 2 and 8 verifiers and on one core")
 
 
 # ---- path

@@ -198,6 +198,8 @@ def compare_numbers(program):
             fail(f"docs/HOST.md, {heading}: it has {told}, and the library {wanted}")
     sentences = [f"begins at `B = (2m + 1) * {end}`", f"{entries} numbers of 8 bytes", f"number j is `{power} + {step}j`"]
     sentences += [f"sp may be up to {reach} bytes outside of the slot", f"sp {reach - 1} bytes past its end"]
+    # The farthest access: LDR of 8 bytes whose imm12 is 4,095, eights of bytes (Arm DDI 0487, C6.2).
+    sentences += [f"up to {reach - 1 + 8 * 4_095 + 8:,} bytes past the slot", f"an immediate of {8 * 4_095:,}, and 8 bytes."]
     for words in [*sentences, f"Addresses up to {power} + {entries * step:,}."]:
         if words not in DOCUMENT.read_text():
             fail(f"docs/HOST.md doesn't say what the library tells: {words}")
@@ -206,6 +208,7 @@ def compare_numbers(program):
 # ---- the host by itself
 
 
+# HOST: `lfi_profile_registers` tells them, and these are all: whatever else a register holds, the law is the same.
 def check_registers(registers, lawful, signals):
     """A run keeps what AAPCS64 has a function keep. The host tells lawful registers at a call, one by one at their edges; and so signals, from
     which it gets back as docs/HOST.md says."""
@@ -215,6 +218,9 @@ def check_registers(registers, lawful, signals):
             fail(f"{program.name}: status {done.returncode}\n{done.stdout.decode()}{done.stderr.decode()}")
 
 
+# HOST: **Code without the process's knowledge** in the slots' or the guards' addresses: they are reserved at the start, with a call that
+#   fails where something lies there (`MAP_FIXED_NOREPLACE`). Linux before 4.17 and qemu-user 7.2 take that address for a wish, and answer
+#   another one where it isn't free; so the host compares the address that it is answered with the one that it asked for.
 def check_mapped(mapped):
     """Where something lies in a slot, a guard or at the entries, the host ends (mmap(2): EEXIST), and what lies there is as it was."""
     for at in (BASE - GUARD, BASE + SLOT // 2, BASE + SLOT + GUARD - 4_096, 1 << 40):
@@ -224,6 +230,8 @@ def check_mapped(mapped):
             fail(f"a page at {at:#x} is there first: {done}")
 
 
+# HOST: Where they are refused, the pages go back to no access and are never executed.
+# HOST: For another module in the same slot no thread may be in it any more, also in no call of the runtime; then all begins with 1.
 def check_refused(refused, room):
     """Of a slot whose code was refused, or didn't come whole, the table alone may be read afterwards (docs/HOST.md, "Writing the code", 5);
     so of one whose module has run."""
@@ -239,6 +247,7 @@ def check_refused(refused, room):
         fail(f"after a module that has run more may be accessed than its table and the host's start: {done}")
 
 
+# HOST: and the system has to promise memory that it may not have: `MAP_NORESERVE` asks Linux for that.
 def check_promised(promised, room):
     """No slot asks for a promise of its memory (docs/HOST.md, "Room for it"), also not for a second module."""
     (room / "breaks.img").write_bytes(formats.image(0, 0, formats.code_of(programs.BRK)))
