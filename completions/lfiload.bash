@@ -94,7 +94,10 @@ _lfiload() {
             return
             ;;
     esac
-    [[ $word == -* ]] || return
+    if [[ $word != -* ]]; then
+        case ${COMP_WORDS[1]} in serve) compopt +o default 2>/dev/null ;; esac
+        return
+    fi
     case ${COMP_WORDS[1]} in
         check) offered='--explain --all --profile --format --help' ;;
         load) offered='--verifiers --out --explain --format --help' ;;

@@ -427,6 +427,10 @@ class Streaming(unittest.TestCase):
             ends = [(it.module, it.verdict) for it in events if isinstance(it, End)]
             self.assertEqual(sorted(ends), [(at, Status.LAWFUL) for at in range(16)])
 
+    def test_other_threads_go_on(self):
+        """While code is judged the interpreter's lock is free (ctypes: CDLL, and not PyDLL)."""
+        self.assertNotIsInstance(LIBRARY, ctypes.PyDLL)
+
     def test_numbers_that_no_call_wrote(self):
         """docs/C.md, "A stream": 840 bytes, whose first number is 0 to 2, and whose modules' verdicts begin at byte 424."""
         self.assertEqual(ctypes.sizeof(lfi_verifier._Stream), 840)

@@ -40,6 +40,10 @@ static lfi_status two(uint32_t first, uint32_t second, lfi_fault *fault) {
 static int is(lfi_fault fault, uint32_t word, uint32_t rule) { return fault.word == word && fault.rule == rule; }
 
 // C: `LFI_LAWFUL` is 0.
+// HEADER: LFI_LAWFUL: these bytes are whole words, the lowest byte first, 1 to 4,194,304 of them, and none breaks a rule; *fault is {0, 0};
+// HEADER: LFI_REFUSED: they are so many whole words, and *fault is the first fault;
+// HEADER: LFI_BAD_LENGTH: they aren't so many whole words; *fault is {0, 0};
+// HEADER: LFI_UNKNOWN_PROFILE: the profile isn't known, and nothing was judged; *fault is {0, 0}.
 static int whole_code(void) {
     lfi_fault f = {9, 9};
     uint8_t bytes[1] = {0};
@@ -88,6 +92,8 @@ static int long_code(void) {
 /* A module of 1,025 words whose last but one opens a need, in pieces of each size. */
 // C: In whatever pieces the bytes came, also empty ones, `lfi_verify_final` tells of a whole module what `lfi_verify` tells of all its
 //   bytes at once. Before the end it tells the first fault so far, or `LFI_INCOMPLETE`.
+// HEADER: where these are all: status and *fault are those that lfi_verify tells of the same bytes;
+// HEADER: else LFI_REFUSED and the first fault of what came, or LFI_INCOMPLETE and {0, 0}.
 static int pieces(void) {
     static uint8_t bytes[4100];
     lfi_fault f, g;
@@ -115,6 +121,11 @@ static int pieces(void) {
 /* What is refused leaves the state as it was. */
 // C: or a piece isn't whole words, or is longer than what is to come: the state is as it was
 // C: A fault that is told once stays.
+// HEADER: LFI_LAWFUL: *state stands for a module of so many words, of which none came;
+// HEADER: LFI_BAD_LENGTH: `words` isn't 1 to 4,194,304, and *state is as it was;
+// HEADER: LFI_LAWFUL or LFI_REFUSED: *state stands for the same module of which these bytes and then the piece came, and the status tells
+//   whether there is a fault in them;
+// HEADER: LFI_BAD_LENGTH: the piece isn't whole words, or is more than are to come, and *state is as it was.
 static int refused_pieces(void) {
     uint8_t bytes[16] = {0};
     lfi_state s, t;
@@ -148,6 +159,8 @@ static int refused_pieces(void) {
 
 /* States that no call made: each is answered, and those that can't be a state's are told. */
 // C: It doesn't owe that a state is one that the calls made: any 24 bytes are answered, by `LFI_BAD_STATE` where a number is out of range.
+// HEADER: LFI_BAD_STATE: *state can't stand for any module, and is as it was.
+// HEADER: LFI_BAD_STATE: *state can't stand for any module; *fault is {0, 0}.
 static int other_states(void) {
     uint8_t bytes[64] = {0};
     lfi_fault f = {9, 9};
@@ -176,6 +189,10 @@ static int other_states(void) {
 // C: | `LFI_UNKNOWN_MODULE` | 6 | the module isn't 0 to 15 |
 // C: enter it with the `base` register at `base`, `offset` below 2^32, `first_address`, `second_address`, `third_address` and `link` in the
 //   slot, and sp no farther than `stack_reach` bytes from it.
+// HEADER: Tells the map of a module's slot. Ensures: LFI_LAWFUL, and *map is that of this module, 0 to 15; or LFI_UNKNOWN_PROFILE or
+//   LFI_UNKNOWN_MODULE, and *map is as it was.
+// HEADER: Tells the registers. Ensures: LFI_LAWFUL, and *registers are those of the profile; or LFI_UNKNOWN_PROFILE, and *registers are as
+//   they were.
 static int profile(void) {
     lfi_map map, before;
     lfi_registers registers, old;
@@ -235,6 +252,9 @@ static uint8_t *nops(uint8_t *at, size_t count) {
 }
 
 // C: It is cut at the room that there is; `count` is its whole length.
+// HEADER: LFI_LAWFUL: *count is the length of the text, and `text` begins with it, as far as `room` bytes reach; there is no 0 at its end,
+//   and the bytes of `text` after it are as they were.
+// HEADER: of another module the addresses are those in its slot;
 static int explanations(void) {
     static uint8_t code[4 * 1025];
     uint8_t text[1024], other[1024];
@@ -291,6 +311,9 @@ static int outside(void) {
 
 /* What isn't a fault of a beginning of a module is told, and nothing is written. */
 // C: or a fault's are none;
+// HEADER: else `text` and *count are as they were: LFI_UNKNOWN_PROFILE; LFI_UNKNOWN_MODULE; LFI_BAD_LENGTH, where `words` isn't 1 to
+//   4,194,304, or `code` isn't whole words, or is more than `words`, or fault->word is none of those that came; LFI_BAD_STATE, where *fault
+//   is {0, 0} or tells none; LFI_NO_ROOM.
 static int unexplained(void) {
     uint8_t code[4 * 17], text[64], other[64];
     size_t size = sizeof code, count = 7;
@@ -338,6 +361,12 @@ static const struct { uint32_t profile, rule, place, come, code[4], status; size
 // C: of `lfi_mend`, there is no mend |
 // C: Looked at are four words before it, too, and the next one, by which RBIT has a mend.
 // C: `lfi_mend` gives what stands below `mend:` as words: at most `LFI_MOST_MENDED`, 8, which keep the rules in the refused one's place,
+// HEADER: RBIT has a mend only where the CLZ after it came.
+// HEADER: For a fault of rule 10 they stand before the word, which stays; or, where the word itself asks for a next one that there isn't,
+//   after it.
+// HEADER: LFI_LAWFUL: there is a mend; *count is how many words it has, 0 to LFI_MOST_MENDED, and `mend` begins with them, and is otherwise
+//   as it was.
+// HEADER: LFI_NO_ROOM, where `room`, in words, is less than the mend needs, which LFI_MOST_MENDED never is.
 static int mends(void) {
     uint8_t code[16];
     uint32_t mend[LFI_MOST_MENDED + 1], rest[LFI_MOST_MENDED + 1];
@@ -360,6 +389,8 @@ static int mends(void) {
 }
 
 /* What isn't a fault of this code has no mend. */
+// HEADER: LFI_UNKNOWN_PROFILE; LFI_BAD_LENGTH, where `code` isn't 1 to 4,194,304 whole words or fault->word is none of them; LFI_BAD_STATE,
+//   as in lfi_explain;
 static int unmended(void) {
     uint8_t code[8];
     uint32_t mend[LFI_MOST_MENDED], rest[LFI_MOST_MENDED];
@@ -384,6 +415,7 @@ static int is_direct(uint32_t word) {
 }
 
 /* Any words have a mend that is lawful by itself and has no direct branch, or none. */
+// HEADER: None is a direct branch.
 static int all_mended(void) {
     static const uint32_t OPEN[] = {0xD10043FF, 0xF9400A5E, 0xF94006BE, 0xD503201F}; /* a move of sp, two loads into x30, and nop */
     uint8_t code[16];
@@ -460,6 +492,7 @@ static void put_around(uint8_t *at, uint32_t place, uint32_t word, uint32_t othe
 }
 
 /* What lies before the code, behind what came of it, and behind the word after the one at fault changes nothing. */
+// HEADER: Looked at are the word at fault, up to four before it, and the one after it, where it came.
 static int only_the_code(void) {
     static const uint32_t OTHER[] = {0xF94006BE, 0xF9400A5E, 0xD10043FF, 0xDAC01000}, WORDS[] = {0xF9400020, 0xD503201F, 0xDAC00020, 0xD4000001};
     uint8_t here[16], there[16], text[1024], like[1024];

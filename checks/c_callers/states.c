@@ -97,6 +97,8 @@ static void scatter(lfi_stream *stream) {
 
 // C: | `LFI_NO_STREAM` | the numbers are those of no stream, and are as they were: none of its kind has them; or of the page that is
 //   coming, what came and what is to come aren't its bytes, or its module isn't open |
+// HEADER: LFI_NO_STREAM: *stream can't stand for any stream, and is as it was: no feed is at its place, or what came of the page and what
+//   is to come aren't the bytes of an open module's next page.
 /* Whether the page that is coming doesn't fit its module and the feed, where the feed is in a header or in a payload. */
 static int fits_none(const lfi_stream_text *text) {
     if (text->feed.place > 1 || text->page.module >= LFI_MODULES) return 0;
@@ -116,6 +118,8 @@ static void require(int holds, const char *what, uint64_t turn) {
 
 // C: Whatever the numbers are, code is told of a module that is open by them, and within its words: `offset` and the bytes used come to at
 //   most four times the module's `words` in the state. So a host with room for these never copies past it.
+// HEADER: Whatever the numbers in *stream are, LFI_CODE is told of a module that is open by them, and `offset` and the bytes used are at
+//   most four times its `words` together; `verdict` is one of the eight statuses.
 int main(int count, char **given) {
     uint64_t turns = count > 1 ? strtoull(given[1], NULL, 10) : 1000, told[7] = {0};
     seed = 0x9E3779B97F4A7C15u + (count > 2 ? strtoull(given[2], NULL, 10) : 1);

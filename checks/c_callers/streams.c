@@ -109,6 +109,9 @@ static lfi_status found(uint32_t words, uint32_t profile, const uint8_t *code, s
 // C: The `verdict` and `fault` of an end are the outcome that `lfiload load` tells, by the profile of the module's opening
 //   (`FindsOutcome`).
 // C: A page that didn't come whole counts for what is told of code, and not for an end: so code can be refused of a module that is lost.
+// HEADER: of LFI_END, they tell the outcome of one plain pass over the module's whole pages, by the profile that its LFI_OPEN told:
+//   LFI_REFUSED and their first fault, whatever its end is; LFI_LAWFUL, where all its words came, none breaks a rule, and a Close ended it:
+//   lfi_verify tells the same of its code; LFI_INCOMPLETE, else.
 static void outcome(told *to, uint32_t m, uint32_t words, uint32_t profile, size_t size, int closed) {
     lfi_fault fault, again;
     lfi_status status = found(words, profile, to->code[m], size, &fault);
@@ -136,6 +139,9 @@ static uint32_t fault_of(uint32_t kind, uint32_t second, uint32_t module, uint32
     return opens && b >= a ? 7 : 0;
 }
 
+// C: so a host needs the size of a module's pages only to know how many pages there are: `4 * words / page_bytes`, rounded up.
+// HEADER: At the stream's fault each call ends the open module of the least number, LFI_END by LFI_LOST, and LFI_NOTHING tells that none is
+//   open;
 static void pass(told *to) {
     uint32_t phase[LFI_MODULES] = {0}, words[LFI_MODULES] = {0}, pages[LFI_MODULES] = {0}, full[LFI_MODULES] = {0}, fault = 0;
     uint32_t by[LFI_MODULES] = {0};
@@ -204,6 +210,8 @@ static void tell(told *to, const lfi_event *event, const uint8_t *bytes, size_t 
 /* Whether what is told of code is what is found of all of the module's code up to there; looked at now and then. */
 // C: | `LFI_CODE` | the bytes used are code of the module, from byte `offset` of it on; where `ended` is 1, a page is whole. `verdict` is
 //   `LFI_LAWFUL` or `LFI_REFUSED`, and `fault` the first fault, of all the module's whole words up to the end of these bytes |
+// HEADER: of LFI_CODE, `verdict` and `fault` tell what lfi_verify_final tells of the whole words of the module's code up to these bytes'
+//   end: a fault or, so far, none. A page that is cut off counts here too;
 static int judged(const told *to, const lfi_event *event, size_t used, const uint32_t *words, const uint32_t *by) {
     lfi_fault fault;
     uint32_t m = event->module;
@@ -221,6 +229,9 @@ static int same(const lfi_event *a, const lfi_event *b) {
 }
 
 /* Whether a stream's numbers are as the header says, by how far the modules are: and whose page is coming behind this event. */
+// HEADER: 0: in a header; 1: in a page's payload; 2: at the stream's fault
+// HEADER: whose page is coming, before the stream's fault; 16: none is, or it is passed over
+// HEADER: 0: it wasn't opened; 1: it is open; 2: it has ended
 static int numbers_told(const lfi_stream_text *stream, const lfi_event *event, const uint32_t *phase) {
     for (uint32_t m = 0; m < LFI_MODULES; m++)
         if (stream->modules[m].phase != phase[m]) return 0;
@@ -235,6 +246,7 @@ static int holds_header(const lfi_stream_feed *feed, uint32_t before, size_t end
 }
 
 /* What a kind doesn't tell is 0. */
+// HEADER: What bytes of a stream brought. What a kind doesn't tell is 0.
 static int only_told(const lfi_event *it) {
     int open = it->kind == LFI_OPEN, code = it->kind == LFI_CODE, end = it->kind == LFI_END;
     return (!it->module || open || code || end || it->kind == LFI_STRAY) && (!it->words || open || end)
@@ -245,6 +257,10 @@ static int only_told(const lfi_event *it) {
 
 // C: | `LFI_NOTHING` | nothing that a host has to do; the bytes used are behind it. Of `lfi_stream_end`: nothing is left to tell |
 // C: What is told doesn't rest on the pieces:
+// HEADER: answers how many it used: as many as there are up to that end, so at least 1 where `size` isn't 0, and `size` where the end lies
+//   behind them; none, where *event is LFI_NO_STREAM or a fault that was told before.
+// HEADER: LFI_NOTHING: it ended between two messages, and no module is open; *stream is as it was;
+// HEADER: LFI_FAULT: it ended within a message, or a module is open; this is the stream's fault.
 static int in_pieces(told *to, uint32_t longest) {
     lfi_stream stream, copy;
     lfi_event event, again;
@@ -279,6 +295,8 @@ static int in_pieces(told *to, uint32_t longest) {
 
 // C: The profile that `lfi_stream_init` is handed only has to be one that the library knows.
 // C: A module's numbers that no module has are read as those of one that has ended.
+// HEADER: LFI_BAD_STATE: *stream can't stand for any stream, and is as it was; *event is LFI_NO_STREAM.
+// HEADER: LFI_UNKNOWN_PROFILE, where there is no such profile, and *stream is as it was.
 static int bad_states(void) {
     lfi_stream stream, before;
     lfi_event event;

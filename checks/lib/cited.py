@@ -1,5 +1,5 @@
 """Sentences of documents that checks cite beside what bears them out, behind the document's name in a comment, as `COMMANDS:` of
-docs/COMMANDS.md: for checks/program.
+docs/COMMANDS.md, `HEADER:` of include/lfi_verifier.h, or `HELP:` of what `lfiload COMMAND --help` says: for checks/program.
 
 A citation goes on in the lines of the comment that begin with three spaces. What it cites has to stand in the document; and what
 docs/COMMANDS.md says is cited, but for its headings and its example, which checks/program carries out.
@@ -11,12 +11,16 @@ import sys
 from lib import sentences, tree
 
 CHECKS = tree.TOP / "checks"
-DOCUMENTS = ("C.md", "COMMANDS.md", "HOST.md", "PROFILE.md")
-CITED = re.compile(r"^ *(?:#|//) (C|COMMANDS|HOST|PROFILE): (.*(?:\n *(?:#|//)   .*)*)", re.M)
+DOCUMENTS = {name: sentences.DOCUMENTS / f"{name}.md" for name in ("C", "COMMANDS", "HOST", "PROFILE")} | {
+    "HEADER": tree.TOP / "include" / "lfi_verifier.h",
+    "HELP": tree.CRATES / "lfi_command_line" / "src" / "help.rt",
+}
+CITED = re.compile(rf"^ *(?:#|//) ({'|'.join(DOCUMENTS)}): (.*(?:\n *(?:#|//)   .*)*)", re.M)
 
 
 def flat(text):
-    return " ".join(re.sub(r"\n *(?:#|//)   ", " ", text).split())
+    """A text in one line, without the signs of its comment."""
+    return " ".join(re.sub(r"\n *(?:(?:#|//)  | \*) ", " ", text).split())
 
 
 def citations():
@@ -24,21 +28,21 @@ def citations():
     for file in sorted(CHECKS.rglob("*")):
         if file.is_file() and file.suffix in ("", ".py", ".runs", ".c", ".cc") and not file.name.startswith("."):
             for document, words in CITED.findall(file.read_text(encoding="utf-8", errors="replace")):
-                yield f"{document}.md", flat(words), file.name
+                yield document, flat(words), file.name
     for document, told in sentences.DOCUMENTED.items():
-        yield from ((document, words, "sentences.py") for words in told)
+        yield from ((document.removesuffix(".md"), words, "sentences.py") for words in told)
 
 
 def compare():
     """How many citations there are, each of which stands in its document."""
-    left, count = {name: flat((sentences.DOCUMENTS / name).read_text(encoding="utf-8")) for name in DOCUMENTS}, 0
+    left, count = {name: flat(file.read_text(encoding="utf-8")) for name, file in DOCUMENTS.items()}, 0
     whole = dict(left)
     for document, words, file in citations():
         if words not in whole[document]:
-            sys.exit(f"program: {file} cites what docs/{document} doesn't say: {words}")
+            sys.exit(f"program: {file} cites what {DOCUMENTS[document].name} doesn't say: {words}")
         left[document] = left[document].replace(words, "")
         count += 1
-    uncited = re.sub(r"```.*?```|# The commands: what --help doesn't say", "", left["COMMANDS.md"])
+    uncited = re.sub(r"```.*?```|# The commands: what --help doesn't say", "", left["COMMANDS"])
     if re.search(r"[a-z]{2}", re.sub(r"\*\*[^*]*\*\*", "", uncited)):
         sys.exit(f"program: no check cites this of docs/COMMANDS.md: {flat(uncited)}")
     return count

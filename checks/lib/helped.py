@@ -8,6 +8,7 @@ import shlex
 import subprocess
 import tempfile
 import threading
+import time
 
 from lib import formats, numbered, tree
 from lib.serving import connected
@@ -152,6 +153,45 @@ def compare_explain(program, helps):
         numbered.fail("serve", f"its --explain is that of load, and not {lines['serve']!r}")
 
 
+# ---- operands
+
+# What is in a file, by the words of an operand's text.
+KINDS = {"code": (r"\bcode\b", "module.code"), "stream": (r"\bstreams?\b|connection's bytes", "a.stream"), "image": (r"\bimages?\b", "module-00.img")}
+
+
+def compare_operands(program, helps):
+    """A command takes the kinds of files that the text of its operand names, and no other; disassemble and pack take any as code."""
+    with tempfile.TemporaryDirectory() as folder:
+        fill(folder)
+        for command, *words in ("check",), ("load",), ("run", "--steps", "9"), ("unpack",), ("info",):
+            about = re.search(r"^Arguments:\n +<\w+>(?:\.\.\.)? +(.*)$", helps[command], re.M)[1]
+            named = {kind for kind, (pattern, _) in KINDS.items() if re.search(pattern, about)}
+            taken = {kind for kind, (_, file) in KINDS.items()
+                     if subprocess.run([program, command, *words, file], cwd=folder, capture_output=True, timeout=60).returncode == 0}
+            if named != taken:
+                numbered.fail(command, f"its operand is {about!r}, and it takes {sorted(taken)}")
+
+
+# HELP: Where several open one module, it is loaded from the one whose Open is read first, which may be another in each run; what the others
+#   send for it are strays. --explain tells which one it was, and faults in words.
+def compare_first(program):
+    """Of two streams that open a module the second one is read before the first comes."""
+    with tempfile.TemporaryDirectory() as folder:
+        paths = [os.path.join(folder, name) for name in ("first", "second")]
+        for path in paths:
+            os.mkfifo(path)
+        running = subprocess.Popen([program, "load", "--explain", *paths], stdout=subprocess.PIPE, stderr=subprocess.PIPE, text=True)
+        with open(paths[0], "wb") as first, open(paths[1], "wb") as second:
+            second.write(formats.stream(0, RET))
+            second.close()
+            time.sleep(0.5)
+            first.write(formats.stream(0, NOP + RET))
+        told = *running.communicate(timeout=60), running.returncode
+    wanted = "module 0: complete, 1 words\nstrays 3\nmodule 0: from connection 1\nconnection 0: strays 3\n", "", 0
+    if told != wanted:
+        numbered.fail("load", f"of two streams that open a module it tells {told}, and not {wanted}")
+
+
 # ---- examples
 
 def fill(folder):
@@ -219,5 +259,7 @@ def compare(program, runs):
     compare_registers(helps)
     numbered.compare(program, helps)
     compare_sentences(program, helps)
+    compare_operands(program, helps)
+    compare_first(program)
     try_examples(program, helps)
     return compare_statuses(program, helps, runs)

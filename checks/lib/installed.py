@@ -3,6 +3,7 @@
 import hashlib
 import os
 import pathlib
+import platform
 import re
 import resource
 import shutil
@@ -399,6 +400,36 @@ def try_library_alone(room, version, archive):
     run(TOP / "install", "--uninstall", "--prefix", prefix)
     if above.exists():
         fail(f"left after --uninstall: {sorted(map(str, [above, *above.rglob('*')]))}")
+
+
+# C: `./install --prefix P --library` builds the archive where there is none yet, and then installs, with a C compiler.
+def try_built_first(room, version):
+    """Where there is no archive, it is built by `checks/build --library`: here one that copies another one to its place."""
+    top, stub, place = room / "first", room / "unbuilt" / "liblfi_verifier.a", re.search(r"at (out/)TARGET(/\S+\.a)", (TOP / "docs" / "C.md").read_text())
+    shutil.copytree(TOP, top, ignore=shutil.ignore_patterns(".git", "out"), symlinks=True)
+    put_stub(stub.parent, version, version)
+    archive, build = f"{place[1]}{platform.machine()}-unknown-linux-gnu{place[2]}", top / "checks" / "build"
+    copies = f"    assert sys.argv[1:] == ['--library']\n    os.makedirs(os.path.dirname({archive!r}))\n    shutil.copy({str(stub)!r}, {archive!r})\n"
+    first, rest = build.read_text().split("\n", 1)
+    build.write_text(f"{first}\nimport os, shutil, sys\nif __name__ == '__main__':\n    os.chdir({str(top)!r})\n{copies}    sys.exit()\n{rest}")
+    told = run(top / "install", "--prefix", room / "built", "--library", "--no-program")
+    if not told.startswith("checks/build --library proves and builds the archive first\n") or not (room / "built" / "lib" / stub.name).exists():
+        fail(f"an install of a tree without an archive tells {told}")
+
+
+def try_folders_of_others(room, version):
+    """A folder that was there before an install keeps its rights, and stays when that is taken away."""
+    prefix, stub = room / "rights", room / "of_rights" / "liblfi_verifier.a"
+    put_stub(stub.parent, version, version)
+    modes = {prefix: 0o711, prefix / "lib": 0o2770, prefix / "include": 0o700, prefix / "share": 0o1777}
+    for folder, mode in modes.items():
+        folder.mkdir()
+        folder.chmod(mode)
+    for words in (["--library", "--no-program", "--archive", stub], ["--uninstall"]):
+        run(TOP / "install", "--prefix", prefix, *words)
+        found = {folder: folder.exists() and stat.S_IMODE(folder.stat().st_mode) for folder in modes}
+        if found != modes:
+            fail(f"after install {words[0]} the folders that were there have the modes {found.values()}, and not {modes.values()}")
 
 
 def try_another_machine(room, version):

@@ -79,6 +79,8 @@ def compare_longest(helps):
         fail("info", f"the longest stream has {most} bytes")
 
 
+# HELP: Calls of the runtime: entry 0 ends the run with the low byte of x0 as its status; entry 1 writes the low byte of x0 to the standard
+#   output, at once; every other sets all bits of x0.
 def start_of(program):
     """The number that each register begins with in slot 3, printed by code that runs there; 31 is sp."""
     found = {}

@@ -654,6 +654,10 @@ def squat(client, serve):
     wrong("squatter", "the errors", "", "module 15 refused")
 
 
+# HELP: module M: from connection C The connection that opened it first, from which it is loaded.
+# HELP: message at byte B Where the message begins that has the fault or isn't whole, in the bytes of the connection, counted from 0; and
+#   the path of a file.
+# HELP: connection C: strays N How many of the strays are its own.
 def try_squatter(program):
     with tempfile.TemporaryDirectory() as folder:
         path = os.path.join(folder, "s")

@@ -217,6 +217,12 @@ def put(folder, files):
     return ["--", *(name for name, _ in files)]
 
 
+# HELP: lawful, N words The N words are a lawful module (status 0). word K rule R Word K, counted from 0, is the first that breaks a rule,
+#   and R is the least rule that it breaks (status 1). bad length The file is empty, no multiple of 4 bytes, or above 16,777,216 bytes (status
+#   1).
+# HELP: Where several files are named, the path of each and a colon stand before its line. The status is the worst of theirs, the largest
+#   number.
+# HELP: With --all, all of these lines for each word that breaks a rule, in order, and then:
 class Checks(Mode):
     """Files for `check`, in words and as an object."""
 
@@ -285,6 +291,11 @@ def across_pages(source):
     return stream(source.randrange(MODULES), code, 2 if large else source.choice((1, 2)), large)
 
 
+# HELP: Prints a line for each module that was opened, one for a connection's fault, and the strays: module M: complete, N words All its
+#   words came, and they are lawful. module M: refused, word K rule R Its first fault. module M: incomplete, P of Q pages It was closed when
+#   only P pages had come. module M: lost, fault F Its connection came to fault F while it was open. module M: page fault, index I Page I
+#   wasn't the one due, or hadn't its length.
+# HELP: Each stream is a connection, numbered from 0 in the order in which they are named.
 class Loads(Mode):
     """Streams for `load --explain`, in words and as an object, whose modules no two of them open."""
 
@@ -361,6 +372,8 @@ def as_checked(program, folder, share, module):
     return re.sub(r"^  file: .*\n", "", moved, flags=re.M).removesuffix("\n")
 
 
+# HELP: A connection that has not come by then has no messages (status 3), and one that is open ends where it is, as if its client had
+#   closed it (status 1 or 3, also where its modules are complete).
 class Serves(Mode):
     """The same streams from clients of `serve`, who come one after another: it tells what `load` does, but for their paths."""
 
@@ -409,6 +422,7 @@ def outcome_members(share):
     return {"outcome": kind} | dict(zip(names[kind], numbers))
 
 
+# HELP: Each is read whole, unless it is too long.
 class Infos(Mode):
     """Files for `info`."""
 
@@ -466,6 +480,8 @@ def stream_info(data):
     return lines + ([f"  byte {at}: fault {number}, {STREAM_FAULTS[number]}"] if number else []), number is None
 
 
+# HELP: Writes a stream to the standard output, as load and serve read it: of each file an Open, its pages and a Close. The first file is
+#   module M, the next M + 1, and so on, up to 15.
 class Packs(Mode):
     """Files for `pack`."""
 
@@ -503,6 +519,8 @@ def pack_errors(files, first, entry):
     return "".join(f"lfiload: {name}: {HINTS[kind_of(data)]}\n" for name, data in files if kind_of(data)), 0
 
 
+# HELP: Writes the code of an image to the standard output, so that it can be disassembled: the 4 bytes of each of its words, and nothing
+#   else (status 0). The image is read as `run` reads it, and its code judged anew.
 class Unpacks(Mode):
     """Images for `unpack`."""
 
@@ -523,6 +541,10 @@ def asked_by(instruction, profile):
     return f"{among} is {asked}"
 
 
+# HELP: PLACE 0xADDRESS WORD TEXT Its place, counted from 0; its address where the module lies in slot 0; its value in hexadecimal digits;
+#   its assembly text.
+# HELP: -> word K Where a direct branch goes. -> outside, word K The same; the code has no word K.
+# HELP: A word that no instruction of the profile spells stands as `.inst`.
 class Listings(Mode):
     """Files for `disassemble`."""
 

@@ -44,6 +44,7 @@ OVER = {
     "mapped": (),
     "refused": (),
     "promised": (),
+    "kinds": (),
     "timer": (),
     "reads": (),
     "steps": (),
@@ -52,6 +53,7 @@ LINKED = {
     "steps": ["-Wl,--wrap=mprotect,--wrap=syscall,--wrap=__clear_cache"],
     "registers": ["-Wl,--wrap=lfi_enter"],
     "promised": ["-Wl,--wrap=mmap"],
+    "kinds": ["-Wl,--wrap=lfi_version,--wrap=sysconf"],
     "timer": ["-Wl,--wrap=setitimer"],
     "reads": ["-Wl,--wrap=fread"],
 }
@@ -254,6 +256,16 @@ def check_promised(promised, room):
     done = run(promised, "--batch", "breaks.img", "breaks.img", cwd=room)
     if (done.returncode, done.stdout.decode()) != (0, 2 * f"breaks.img 0  {broken(0, 0)}"):
         fail(f"a module and then another in a slot of which no memory is promised: {done}")
+
+
+# C: a C host that names an archive by hand compares `lfi_version()` with `LFI_VERSION` |
+def check_kinds(kinds):
+    """A host of another interface than its library's, or on a system of other pages, runs nothing."""
+    other = "native_host: pages or library of another kind: Operation not supported\n"
+    for kind, wanted in ("library", (3, other)), ("pages", (3, other)), ("neither", (1, f"halt 3 at {BASE:#018x}\n")):
+        done = run(kinds, EXAMPLES / "one_ret.stream", env={**os.environ, "KIND": kind})
+        if (done.returncode, done.stderr.decode()) != wanted or done.stdout:
+            fail(f"a host with another kind of {kind}: {done}, and not {wanted}")
 
 
 def check_timer(timer):

@@ -297,12 +297,14 @@ def accesses():
             yield f"access-{word:x}-{at:x}", program([*move(0, at), guard(18, 0), word, *END], profile=profile, count=1_024)
 
 
+# HOST: A word of zeros is UDF, which stops the code as the definitions do.
 def own_words():
     """Stores of code to its own words, the next ones and the zero bytes behind."""
     for at in (CODE, CODE + 4, CODE + 8, CODE + 12, CODE + 16, CODE + 4_088):
         yield f"own-{at:x}", program([*move(0, at), guard(18, 0), 0xF9000240, *END])
 
 
+# HOST: sp may be up to 512 bytes outside of the slot, or at bytes that can't be written.
 def stacks():
     """sp at the edges of the slot, moved from there, and accessed up and down as far as an immediate goes."""
     for at in (0, 1, 8, 511, 4_096, CODE, SLOT - 511, SLOT - 16, SLOT - 8, SLOT - 1):

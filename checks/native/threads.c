@@ -5,6 +5,10 @@
 #include "native_host.h"
 #include <pthread.h>
 
+// HOST: Slots don't depend on each other: each of 16 modules may run in its own, on threads of their own. The law speaks of one at a time,
+//   and none of them touches another's slot.
+// HOST: **Writers.** While the code runs, no other thread and no device writes code, table or data of the slot: the definitions know no
+//   second writer. One thread at a time is in a slot.
 enum { BREAKS = 300 };
 static pthread_barrier_t all_are_here;
 static int times;

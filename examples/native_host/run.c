@@ -78,7 +78,7 @@ void prepare_process(void) {
     for (size_t i = 0; i < sizeof signals / sizeof *signals; i++)
         if (sigaction(signals[i], &action, 0)) die("sigaction");
     /* HOST: **Pages of 4,096 bytes.** */
-    if (sysconf(_SC_PAGESIZE) != PAGE || lfi_version() != LFI_VERSION) die("pages or library of another kind");
+    if (sysconf(_SC_PAGESIZE) != PAGE || lfi_version() != LFI_VERSION) errno = ENOTSUP, die("pages or library of another kind");
     /* HOST: the process registers for it once (`MEMBARRIER_CMD_REGISTER_PRIVATE_EXPEDITED_SYNC_CORE`) */
     if (syscall(SYS_membarrier, MEMBARRIER_CMD_REGISTER_PRIVATE_EXPEDITED_SYNC_CORE, 0, 0)) die("membarrier");
     make_entries();
