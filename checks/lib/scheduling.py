@@ -1,14 +1,17 @@
-"""The parts of checks/hostile on what one core does, and on a client that nobody takes."""
+"""The parts of checks/hostile on what one core does, on verifiers that are held, and on a client that nobody takes."""
 
+import fcntl
 import os
 import pathlib
+import platform
 import signal
 import socket
 import subprocess
 import tempfile
+import threading
 import time
 
-from lib import formats
+from lib import formats, traced
 from lib.cases import NOP, RET, on_one_core, wrong
 from lib.serving import connected
 
@@ -106,6 +109,87 @@ def try_together(program):
             pathlib.Path(folder, f"{module}.small").write_bytes(formats.stream(module, NOP * (module + 1) + RET))
         load_each_way(program, folder)
     print(f"together: {TOGETHER} times eight clients of `serve` that end at once, {4 * LARGE} loads by many verifiers, one to eight streams by one to eight")
+
+
+# ---- held
+
+# The numbers of the system calls by which a thread reads, and by which it waits for others.
+READS, WAITS = {"aarch64": ("63", "98")}.get(platform.machine(), ("0", "202"))
+# Pages that are judged before the verifier is held; those that may be untaken from then on, and one in the pipe and one that is being read.
+FIRST, MOST, PAGES = 10, 128 + 2, 1000
+SETPIPE_SZ = 1031
+
+
+def call_of(process, thread):
+    """The number of the system call in which a thread is; another word where it is in none."""
+    return pathlib.Path(f"/proc/{process}/task/{thread}/syscall").read_text().split()[0]
+
+
+def hold_others(process):
+    """Holds all threads but the one that reads, once there is one. Answers that one and the others."""
+    until = time.monotonic() + SECONDS
+    while time.monotonic() < until:
+        threads = [int(it) for it in os.listdir(f"/proc/{process}/task")]
+        readers = [it for it in threads if call_of(process, it) == READS]
+        if readers and len(threads) == 3:
+            others = [it for it in threads if it not in readers]
+            for thread in others:
+                traced.ptrace(traced.SEIZE, thread)
+                traced.ptrace(traced.INTERRUPT, thread)
+                os.waitpid(thread, traced.WAIT_ALL)
+            return readers[0], others
+    wrong("held", "a load of a pipe", "no thread that reads", "one of three")
+
+
+class Writer(threading.Thread):
+    """Writes messages one by one, and counts them."""
+
+    def __init__(self, out, parts):
+        super().__init__(daemon=True)
+        self.out, self.parts, self.count = out, parts, 0
+
+    def run(self):
+        for part in self.parts:
+            self.out.write(part)
+            self.count += 1
+        self.out.close()
+
+    def settled(self):
+        """How many were written once no more are."""
+        before = -1
+        while self.count != before:
+            before = self.count
+            time.sleep(0.5)
+        return before
+
+
+def try_held(program):
+    """While no verifier works, the thread of a connection takes in 128 pages, and then sleeps."""
+    with tempfile.TemporaryDirectory() as folder:
+        path, parts = os.path.join(folder, "it.stream"), formats.messages(0, NOP * (1024 * (PAGES - 1)) + RET)
+        os.mkfifo(path)
+        words = [program, "load", "--verifiers", "1", path]
+        running = start(words, folder)
+        out = open(path, "wb", buffering=0)
+        fcntl.fcntl(out, SETPIPE_SZ, 4096)
+        out.write(b"".join(parts[: 1 + FIRST]))
+        time.sleep(0.5)
+        try:
+            thread, others = hold_others(running.pid)
+        except OSError as why:
+            running.kill()
+            print(f"held: left out: {why}")
+            return
+        writer = Writer(out, parts[1 + FIRST :])
+        writer.start()
+        count = writer.settled()
+        calls = {call_of(running.pid, thread) for _ in range(20) if time.sleep(0.01) is None}
+        if not 128 <= count <= MOST or calls != {WAITS}:
+            wrong("held", "a connection's thread whose verifier is held", (count, calls), (f"128 to {MOST} pages", {WAITS}))
+        for it in others:
+            traced.ptrace(traced.DETACH, it)
+        ended("held", words, running, f"module 0: complete, {1024 * (PAGES - 1) + 1} words\nstrays 0\n")
+    print(f"held: the thread of a connection took in {count} of {PAGES} pages while its verifier was held, and slept")
 
 
 # ---- late
