@@ -4,6 +4,7 @@ import fcntl
 import os
 import pathlib
 import platform
+import select
 import signal
 import socket
 import subprocess
@@ -117,6 +118,7 @@ def try_together(program):
 READS, WAITS = {"aarch64": ("63", "98")}.get(platform.machine(), ("0", "202"))
 # Pages that are judged before the verifier is held; those that may be untaken from then on, and one in the pipe and one that is being read.
 FIRST, MOST, PAGES = 10, 128 + 2, 1000
+HELD = 100
 SETPIPE_SZ = 1031
 
 
@@ -125,20 +127,37 @@ def call_of(process, thread):
     return pathlib.Path(f"/proc/{process}/task/{thread}/syscall").read_text().split()[0]
 
 
-def hold_others(process):
-    """Holds all threads but the one that reads, once there is one. Answers that one and the others."""
+def threads_of(process, streams):
+    """The threads that read, a stream each, and the others, once all are there: with one verifier two more than streams."""
     until = time.monotonic() + SECONDS
     while time.monotonic() < until:
-        threads = [int(it) for it in os.listdir(f"/proc/{process}/task")]
+        threads = sorted(int(it) for it in os.listdir(f"/proc/{process}/task"))
         readers = [it for it in threads if call_of(process, it) == READS]
-        if readers and len(threads) == 3:
-            others = [it for it in threads if it not in readers]
-            for thread in others:
-                traced.ptrace(traced.SEIZE, thread)
-                traced.ptrace(traced.INTERRUPT, thread)
-                os.waitpid(thread, traced.WAIT_ALL)
-            return readers[0], others
-    wrong("held", "a load of a pipe", "no thread that reads", "one of three")
+        if (len(readers), len(threads)) == (streams, streams + 2):
+            return readers, [it for it in threads if it not in readers]
+    wrong("held", f"a load of {streams} pipes", "other threads", f"{streams} that read, and two")
+
+
+def hold(threads):
+    for thread in threads:
+        traced.ptrace(traced.SEIZE, thread)
+        traced.ptrace(traced.INTERRUPT, thread)
+        os.waitpid(thread, traced.WAIT_ALL)
+
+
+def let_go(threads):
+    for thread in threads:
+        traced.ptrace(traced.DETACH, thread)
+
+
+def piped(folder, program, count):
+    """A load of so many pipes, by one verifier, and their other ends."""
+    paths = [os.path.join(folder, f"{number}.stream") for number in range(count)]
+    for path in paths:
+        os.mkfifo(path)
+    words = [program, "load", "--verifiers", "1", *paths]
+    running = start(words, folder)
+    return words, running, [open(path, "wb", buffering=0) for path in paths]
 
 
 class Writer(threading.Thread):
@@ -163,33 +182,57 @@ class Writer(threading.Thread):
         return before
 
 
-def try_held(program):
+def take_few(program):
     """While no verifier works, the thread of a connection takes in 128 pages, and then sleeps."""
     with tempfile.TemporaryDirectory() as folder:
-        path, parts = os.path.join(folder, "it.stream"), formats.messages(0, NOP * (1024 * (PAGES - 1)) + RET)
-        os.mkfifo(path)
-        words = [program, "load", "--verifiers", "1", path]
-        running = start(words, folder)
-        out = open(path, "wb", buffering=0)
+        parts = formats.messages(0, NOP * (1024 * (PAGES - 1)) + RET)
+        words, running, (out,) = piped(folder, program, 1)
         fcntl.fcntl(out, SETPIPE_SZ, 4096)
         out.write(b"".join(parts[: 1 + FIRST]))
         time.sleep(0.5)
-        try:
-            thread, others = hold_others(running.pid)
-        except OSError as why:
-            running.kill()
-            print(f"held: left out: {why}")
-            return
+        (thread,), others = threads_of(running.pid, 1)
+        hold(others)
         writer = Writer(out, parts[1 + FIRST :])
         writer.start()
         count = writer.settled()
         calls = {call_of(running.pid, thread) for _ in range(20) if time.sleep(0.01) is None}
         if not 128 <= count <= MOST or calls != {WAITS}:
             wrong("held", "a connection's thread whose verifier is held", (count, calls), (f"128 to {MOST} pages", {WAITS}))
-        for it in others:
-            traced.ptrace(traced.DETACH, it)
+        let_go(others)
         ended("held", words, running, f"module 0: complete, {1024 * (PAGES - 1) + 1} words\nstrays 0\n")
-    print(f"held: the thread of a connection took in {count} of {PAGES} pages while its verifier was held, and slept")
+    return count
+
+
+def tell_refused(program, which):
+    """Pages come while one of the other threads is held, which are the verifier and that of the sequencers. When it goes on, all are judged
+    and placed: what is refused at the last of them is told, though both streams stay, as soon as the other one brings a message."""
+    with tempfile.TemporaryDirectory() as folder:
+        words, running, (first, second) = piped(folder, program, 2)
+        held = [threads_of(running.pid, 2)[1][which]]
+        hold(held)
+        first.write(formats.header(1, 0, 7, 1024 * (HELD + 1), 0) + b"".join(formats.pages(2, 7, NOP * (1024 * HELD - 1) + bytes(4))))
+        time.sleep(0.5)
+        let_go(held)
+        told, until = "", time.monotonic() + SECONDS
+        while not told and time.monotonic() < until:
+            second.write(formats.header(formats.CLOSE, 0, 15, 0, 0))
+            told = running.stderr.readline() if select.select([running.stderr], [], [], 0.01)[0] else ""
+        first.close(), second.close()
+        came = told, running.communicate(timeout=60)[0].splitlines()[:2]
+        wanted = "module 7 refused\n", [f"module 7: refused, word {1024 * HELD - 1} rule 1", "connection 0: fault 9"]
+        if came != wanted:
+            wrong("held", f"{HELD} pages that come while thread {which} is held", came, wanted)
+
+
+def try_held(program):
+    try:
+        count = take_few(program)
+        for which in 0, 1:
+            tell_refused(program, which)
+    except OSError as why:
+        print(f"held: left out: {why}")
+        return
+    print(f"held: the thread of a connection took in {count} of {PAGES} pages while its verifier was held, and slept; {HELD} pages while another thread was")
 
 
 # ---- late
