@@ -295,6 +295,22 @@ static int late(void) {
     return 0;
 }
 
+/* A fault of rule 10 at a word before which nothing asks for a next one, as none is that the library tells: the probe may lie farther back. */
+static int nothing_asked(void) {
+    static const char text_of[] = "word 2 rule 10\n  0x0000000100010008  d503201f  nop\n"
+        "  a move of sp by an immediate has to be followed by a load or store at [sp] within 4 words, with only calm words before it; this word isn't that\n"
+        "  mend: put ldr xzr, [sp] right after the move, or let a pre- or post-indexed access move sp";
+    uint8_t code[4 * 6], text[1024];
+    lfi_fault f = {2, 10};
+    size_t count = 0;
+    nops(code, 6);
+    for (size_t size = sizeof code; size >= 12; size -= 4) {
+        CHECK(176, lfi_explain(LFI_PROFILE_2, 0, 6, code, size, &f, text, sizeof text, &count) == LFI_LAWFUL);
+        CHECK(177, count == sizeof text_of - 1 && !memcmp(text, text_of, count));
+    }
+    return 0;
+}
+
 /* A branch past the module's end: its explanation has the number of the module's words, whatever came of it. */
 static int outside(void) {
     uint8_t code[4 * 6], text[1024];
@@ -558,7 +574,7 @@ static int streams(void) {
 }
 
 int main(void) {
-    int (*const parts[])(void) = {whole_code, long_code, pieces, refused_pieces, other_states, profile, explanations, late, outside, unexplained, all_explained, much_room, only_the_code,
+    int (*const parts[])(void) = {whole_code, long_code, pieces, refused_pieces, other_states, profile, explanations, late, nothing_asked, outside, unexplained, all_explained, much_room, only_the_code,
                                  mends, unmended, all_mended, streams};
     for (size_t i = 0; i < sizeof parts / sizeof *parts; i++) {
         int failed = parts[i]();

@@ -405,21 +405,21 @@ def try_library_alone(room, version, archive):
 # C: `./install --prefix P --library` builds the archive where there is none yet, and then installs, with a C compiler.
 def try_built_first(room, version):
     """Where there is no archive, it is built by `checks/build --library`: here one that copies another one to its place."""
-    top, stub, place = room / "first", room / "unbuilt" / "liblfi_verifier.a", re.search(r"at (out/)TARGET(/\S+\.a)", (TOP / "docs" / "C.md").read_text())
+    top, stub, place = room / "unbuilt_tree", room / "unbuilt_stub" / "liblfi_verifier.a", re.search(r"at (out/)TARGET(/\S+\.a)", (TOP / "docs" / "C.md").read_text())
     shutil.copytree(TOP, top, ignore=shutil.ignore_patterns(".git", "out"), symlinks=True)
     put_stub(stub.parent, version, version)
     archive, build = f"{place[1]}{platform.machine()}-unknown-linux-gnu{place[2]}", top / "checks" / "build"
     copies = f"    assert sys.argv[1:] == ['--library']\n    os.makedirs(os.path.dirname({archive!r}))\n    shutil.copy({str(stub)!r}, {archive!r})\n"
     first, rest = build.read_text().split("\n", 1)
     build.write_text(f"{first}\nimport os, shutil, sys\nif __name__ == '__main__':\n    os.chdir({str(top)!r})\n{copies}    sys.exit()\n{rest}")
-    told = run(top / "install", "--prefix", room / "built", "--library", "--no-program")
-    if not told.startswith("checks/build --library proves and builds the archive first\n") or not (room / "built" / "lib" / stub.name).exists():
+    told = run(top / "install", "--prefix", room / "unbuilt_prefix", "--library", "--no-program")
+    if not told.startswith("checks/build --library proves and builds the archive first\n") or not (room / "unbuilt_prefix" / "lib" / stub.name).exists():
         fail(f"an install of a tree without an archive tells {told}")
 
 
 def try_folders_of_others(room, version):
     """A folder that was there before an install keeps its rights, and stays when that is taken away."""
-    prefix, stub = room / "rights", room / "of_rights" / "liblfi_verifier.a"
+    prefix, stub = room / "rights_prefix", room / "rights_stub" / "liblfi_verifier.a"
     put_stub(stub.parent, version, version)
     modes = {prefix: 0o711, prefix / "lib": 0o2770, prefix / "include": 0o700, prefix / "share": 0o1777}
     for folder, mode in modes.items():
