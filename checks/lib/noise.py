@@ -1,0 +1,163 @@
+"""The part of checks/hostile on threads that come late where they matter most: at the instructions by which they agree (Linux on x86-64).
+
+A run is traced, with a breakpoint at each instruction that reads and writes a word of memory as one step (`lock cmpxchg`, `xchg` and their
+kin). A thread that comes to one is held for a drawn time, while the others go on: what is lost where two threads do so at once shows itself.
+"""
+
+import ctypes
+import heapq
+import os
+import pathlib
+import platform
+import random
+import re
+import shutil
+import signal
+import subprocess
+import tempfile
+import threading
+import time
+
+from lib import formats, traced
+from lib.cases import NOP, RET, wrong
+from lib.serving import connected
+
+LOADS, SERVES, SECONDS = 60, 40, 60
+# Words of a module: of few pages, and in each third load of so many that receivers wait for verifiers.
+FEW, MANY = 30_000, 300_000
+ATOMIC = re.compile(r"^ +([0-9a-f]+):\s+(?:lock (?:cmpxchg|xadd|and|or|xor|bt)|xchg .*\()", re.M)
+# Which part of the times a thread is held, and for how many seconds at most.
+HELD = ((0.75, 0.0), (0.95, 0.0005), (1.0, 0.004))
+
+
+def sites_of(program):
+    """Where in the program these instructions are."""
+    listing = subprocess.run(["objdump", "-d", "--no-show-raw-insn", program], capture_output=True, text=True, check=True).stdout
+    return [int(it, 16) for it in ATOMIC.findall(listing)]
+
+
+class Run(traced.Traced):
+    """A run whose threads are held at these places."""
+
+    def __init__(self, program, words, out, err, sites, source):
+        super().__init__(program, words, out, err)
+        base, _ = traced.mapped(self.pid, program)
+        self.source, self.late, self.held = source, [], 0
+        self.bytes = {base + it: self.read(base + it, 1) for it in sites}
+        for at in self.bytes:
+            self.write(at, traced.BREAK)
+        ptrace_on(self.pid)
+
+    def go_on(self, thread):
+        """Lets a thread that stands at a place carry out what is there."""
+        self.thread = thread
+        at = self.registers()[traced.RIP]
+        self.write(at, self.bytes[at])
+        stands = self.step()
+        self.write(at, traced.BREAK)
+        if stands:
+            ptrace_on(thread)
+
+    def stop(self, thread):
+        """A thread stands at a place: it goes on now, or later."""
+        self.thread = thread
+        registers = self.registers()
+        registers[traced.RIP] -= 1
+        self.set_registers(registers)
+        drawn = self.source.random()
+        most = next(seconds for part, seconds in HELD if drawn < part)
+        if most == 0:
+            self.go_on(thread)
+        else:
+            self.held += 1
+            heapq.heappush(self.late, (time.monotonic() + self.source.uniform(0, most), thread))
+
+    def next(self):
+        """One thing that happens. False: the run has ended."""
+        while self.late and self.late[0][0] <= time.monotonic():
+            self.go_on(heapq.heappop(self.late)[1])
+        thread, state = os.waitpid(-1, traced.WAIT_ALL | os.WNOHANG)
+        if thread == 0:
+            time.sleep(0.0001)
+        elif os.WIFSTOPPED(state):
+            caught = os.WSTOPSIG(state)
+            if caught == signal.SIGTRAP and state >> 16 == 0:
+                self.stop(thread)
+            else:
+                ptrace_on(thread, 0 if caught in (signal.SIGSTOP, signal.SIGTRAP) else caught)
+        elif thread == self.pid:
+            self.state = state
+            return False
+        return True
+
+    def end(self):
+        """The status, or nothing where it doesn't end in time."""
+        until = time.monotonic() + SECONDS
+        while self.next():
+            if time.monotonic() > until:
+                os.kill(self.pid, signal.SIGKILL)
+                return None
+        os.close(self.memory)
+        return self.status()
+
+
+def ptrace_on(thread, caught=0):
+    traced.libc.ptrace(traced.CONT, thread, None, ctypes.c_void_p(caught))
+
+
+def trace(program, words, sites, number, clients=()):
+    """What a run prints, and its status; and how often a thread was held. Clients begin when it does."""
+    with tempfile.TemporaryFile() as out, tempfile.TemporaryFile() as err:
+        run = Run(str(program), [str(program), *words], out, err, sites, random.Random(f"noise {number}"))
+        for client in clients:
+            client.start()
+        status = run.end()
+        for client in clients:
+            client.join()
+        out.seek(0), err.seek(0)
+        return (out.read().decode(), err.read().decode(), status), run.held
+
+
+def load(program, sites, number):
+    """A load of one to four streams by one to four verifiers."""
+    count = FEW if number % 3 else MANY
+    streams = [f"{module}.{count}" for module in range(1 + number % 4)]
+    words = ["load", "--verifiers", str(1 + number // 4 % 4), *streams]
+    came, held = trace(program, words, sites, number)
+    wanted = "".join(f"module {module}: complete, {count + 1} words\n" for module in range(len(streams))) + "strays 0\n", "", 0
+    if came != wanted:
+        wrong("noise", f"{words}, load {number}", came, wanted)
+    return held
+
+
+def visit(path, module):
+    """A client that ends once it has sent a module."""
+    with connected(path) as client:
+        client.sendall(formats.stream(module, NOP * 2000 + RET))
+
+
+def serve(program, sites, number):
+    """One to four clients that send at the same time."""
+    path, count = f"s{number}", 1 + number % 4
+    clients = [threading.Thread(target=visit, args=(path, module), daemon=True) for module in range(count)]
+    words = ["serve", "--socket", path, "--connections", str(count), "--verifiers", str(1 + number // 4 % 4)]
+    came, held = trace(program, words, sites, number, clients)
+    wanted = "".join(f"module {module}: complete, 2001 words\n" for module in range(count)) + "strays 0\n", "", 0
+    if came != wanted:
+        wrong("noise", f"{words}, {number}", came, wanted)
+    return held
+
+
+def try_noise(program):
+    if platform.machine() != "x86_64" or not shutil.which("objdump"):
+        print("noise: left out, since this isn't x86-64 with objdump")
+        return
+    sites, before = sites_of(program), os.getcwd()
+    with tempfile.TemporaryDirectory() as folder:
+        for module in range(4):
+            for count in FEW, MANY:
+                pathlib.Path(folder, f"{module}.{count}").write_bytes(formats.stream(module, NOP * count + RET))
+        os.chdir(folder)
+        held = sum(load(program, sites, number) for number in range(LOADS)) + sum(serve(program, sites, number) for number in range(SERVES))
+        os.chdir(before)
+    print(f"noise: {LOADS} loads and {SERVES} runs of `serve`, whose threads were held {held} times at one of {len(sites)} places")
