@@ -349,7 +349,19 @@ def try_program_alone(room):
         wanted = "proved and built from this tree's sources" if is_of else "no stamp tells that it was built from this tree's sources"
         if last != f"crates/lfiload/out/lfiload: {wanted}":
             fail(f"an install of a program of which is wanted {wanted!r} tells {last}")
+    try_without_git(top, room / "without_git")
     try_upgrade(top, room / "upgrade")
+
+
+def try_without_git(top, prefix):
+    """A checkout is installed where git isn't, as one without a commit."""
+    (top / ".git").mkdir()
+    (prefix / "tools").mkdir(parents=True)
+    run(sys.executable, top / "install", "--prefix", prefix / "it", env={**os.environ, "PATH": str(prefix / "tools")})
+    record = (prefix / "it" / "share" / "lfiload" / "installed").read_text()
+    if not record.startswith("tree without a commit\n"):
+        fail(f"an install where git isn't records {record.splitlines()[0]}")
+    (top / ".git").rmdir()
 
 
 def try_upgrade(top, prefix):
@@ -418,7 +430,7 @@ def try_built_first(room, version):
 
 
 def try_folders_of_others(room, version):
-    """A folder that was there before an install keeps its rights, and stays when that is taken away."""
+    """A folder that was there before an install keeps its rights, and stays when that is taken away. An empty CC names no compiler."""
     prefix, stub = room / "rights_prefix", room / "rights_stub" / "liblfi_verifier.a"
     put_stub(stub.parent, version, version)
     modes = {prefix: 0o711, prefix / "lib": 0o2770, prefix / "include": 0o700, prefix / "share": 0o1777}
@@ -426,7 +438,7 @@ def try_folders_of_others(room, version):
         folder.mkdir()
         folder.chmod(mode)
     for words in (["--library", "--no-program", "--archive", stub], ["--uninstall"]):
-        run(TOP / "install", "--prefix", prefix, *words)
+        run(TOP / "install", "--prefix", prefix, *words, env={**os.environ, "CC": " "})
         found = {folder: folder.exists() and stat.S_IMODE(folder.stat().st_mode) for folder in modes}
         if found != modes:
             fail(f"after install {words[0]} the folders that were there have the modes {found.values()}, and not {modes.values()}")
