@@ -311,6 +311,21 @@ static int nothing_asked(void) {
     return 0;
 }
 
+/* A fault that the word doesn't have: its text ends so. */
+static int kept(void) {
+    static const uint32_t rules[] = {1, 2, 4, 5, 6, 7, 9};
+    static const char end[] = "\n  mend: none: it keeps this rule";
+    uint8_t code[8], text[1024];
+    size_t count = 0;
+    nops(code, 2);
+    for (size_t i = 0; i < sizeof rules / sizeof *rules; i++) {
+        lfi_fault f = {1, rules[i]};
+        CHECK(178, lfi_explain(LFI_PROFILE_1, 0, 2, code, sizeof code, &f, text, sizeof text, &count) == LFI_LAWFUL);
+        CHECK(179, count > sizeof end && !memcmp(text + count - (sizeof end - 1), end, sizeof end - 1));
+    }
+    return 0;
+}
+
 /* A branch past the module's end: its explanation has the number of the module's words, whatever came of it. */
 static int outside(void) {
     uint8_t code[4 * 6], text[1024];
@@ -574,7 +589,7 @@ static int streams(void) {
 }
 
 int main(void) {
-    int (*const parts[])(void) = {whole_code, long_code, pieces, refused_pieces, other_states, profile, explanations, late, nothing_asked, outside, unexplained, all_explained, much_room, only_the_code,
+    int (*const parts[])(void) = {whole_code, long_code, pieces, refused_pieces, other_states, profile, explanations, late, nothing_asked, kept, outside, unexplained, all_explained, much_room, only_the_code,
                                  mends, unmended, all_mended, streams};
     for (size_t i = 0; i < sizeof parts / sizeof *parts; i++) {
         int failed = parts[i]();

@@ -284,6 +284,26 @@ def try_one_limit(program, count, comes):
     wrong("limit", "`serve --seconds 4`", seconds, "less than 4.8 seconds, once in five times")
 
 
+def try_one_ends_late(program):
+    """`serve --seconds 4` of two clients, one of which ends after three seconds, and the other one stays: it ends as soon as without that."""
+    for _ in range(5):
+        with tempfile.TemporaryDirectory() as folder:
+            path, begin = os.path.join(folder, "s"), time.monotonic()
+            words = [program, "serve", "--socket", path, "--connections", "2", "--seconds", "4"]
+            serve = subprocess.Popen(words, stdout=subprocess.PIPE, stderr=subprocess.PIPE, text=True)
+            with connected(path) as first, connected(path):
+                time.sleep(max(0, begin + 3 - time.monotonic()))
+                first.close()
+                came = *serve.communicate(timeout=60), serve.returncode
+            seconds, wanted = time.monotonic() - begin, ("strays 0\n", "lfiload: time is over: connection 1 had not ended\n", 1)
+            if came != wanted or seconds < 4:
+                wrong("limit", "two clients, one of which ends after three seconds", (came, seconds), (wanted, "at least four seconds"))
+            # Busy cores may make one late.
+            if seconds < 4.8:
+                return
+    wrong("limit", "two clients, one of which ends after three seconds", seconds, "less than 4.8 seconds, once in five times")
+
+
 # COMMANDS: What a client has sent by then is still read.
 def try_sent_in_time(program):
     """`serve` that is stopped while a client sends, until the time is over: what was sent is still read."""
@@ -400,13 +420,14 @@ def try_limit(program):
     try_one_limit(program, 2, None)
     try_one_limit(program, 2, 2.9)
     try_one_limit(program, 1, 2.9)
+    try_one_ends_late(program)
     try_client_in_time(program)
     try_sent_in_time(program)
     try_one_after_another(program)
     hours = try_hours(program)
     try_no_limit(program)
     print(
-        "limit: `serve --seconds 4` without a client, and with one that comes after 2.9, of two and of one: it ends after four seconds "
+        "limit: `serve --seconds 4` without a client, and with one that comes after 2.9, of two and of one, and one of two that ends after 3: it ends after four seconds "
         "and before 4.8, and tells of each connection in one write; with a long limit one that comes after three is heard at once; what was sent in time is read; "
         f"of eight that end one after another all are heard; {hours}"
     )
