@@ -216,7 +216,7 @@ def tell_refused(program, which):
         told, until = "", time.monotonic() + SECONDS
         while not told and time.monotonic() < until:
             second.write(formats.header(formats.CLOSE, 0, 15, 0, 0))
-            told = running.stderr.readline() if select.select([running.stderr], [], [], 0.01)[0] else ""
+            told = os.read(running.stderr.fileno(), 4096).decode() if select.select([running.stderr], [], [], 0.01)[0] else ""
         first.close(), second.close()
         came = told, running.communicate(timeout=60)[0].splitlines()[:2]
         wanted = "module 7 refused\n", [f"module 7: refused, word {1024 * HELD - 1} rule 1", "connection 0: fault 9"]

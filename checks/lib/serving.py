@@ -479,7 +479,7 @@ def told_while(client, serve):
     for _ in range(6000):
         client.sendall(formats.header(formats.CLOSE, 0, 15, 0, 0))
         if select.select([serve.stderr], [], [], 0.01)[0]:
-            return serve.stderr.readline()
+            return os.read(serve.stderr.fileno(), 4096).decode()
     return ""
 
 
@@ -668,7 +668,7 @@ def squat(client, serve):
     for strays in range(1, 3000):
         client.sendall(formats.header(formats.CLOSE, 0, 15, 0, 0))
         if select.select([serve.stderr], [], [], 0.01)[0]:
-            line = serve.stderr.readline()
+            line = os.read(serve.stderr.fileno(), 4096).decode()
             if line != "module 15 refused\n":
                 wrong("squatter", "the errors", line, "module 15 refused")
             return len(text) + 12 * strays, strays

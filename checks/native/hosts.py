@@ -99,6 +99,27 @@ def build(room, archive, name, *flags):
 # ---- the document
 
 
+# What is owed to a processor, or to other code, no run shows here; that it is as it was when it was read, these lines show.
+# HOST: Where the host's own code has branch protection, an entry begins with `bti c`; the slot's pages are mapped without it. Guarded
+#   control stacks (FEAT_GCS) are off in a thread that enters a slot: the law lets code return where it likes in its slot, and such a stack
+#   doesn't.
+# HOST: Nothing of the host's may ever lie there. What lies between the guards of two slots is the host's.
+# HOST: No address there but these is ever reached: lawful code calls at no other (`entries_lie_outside`, `entries_are_called_by_x30`). The
+#   table is data that the code can read, so nothing secret is in it.
+# HOST: From the moment that a byte is judged nobody writes it: no thread, no other mapping of the same memory, no debugger. Bytes that
+#   another process can still write are copied first, and the copy is judged.
+# HOST: This comes after the last write and before the first execution; without it a core may carry out words that were there before, which
+#   nobody judged.
+# HOST: then they are lawful, since they were at the call. A compiler may ask for more registers to be kept; the law doesn't.
+# HOST: A system call made for the code goes to the slot's data alone; mapping or unmapping pages of a slot is never offered;
+# HOST: may change any byte from R on while it runs, and no other byte of the slot;
+# HOST: The law lets it go on with any lawful registers, also at another word of the code; a branch there is made as at the start.
+# HOST: Between a load of x30 or a move of sp and the next word, and in profile 2 up to the fourth one after a move of sp, these two aren't
+#   lawful.
+# HOST: a handler that sets pc elsewhere in the slot has to set lawful registers too.
+# HOST: **Anything else that uses sp** of the code, or pushes to it: unwinders, profilers, sanitizers.
+# HOST: The profile needs one that gives it to the program, as Linux does.
+# HOST: Little-endian data are owed (SCTLR_EL1.E0E is 0), which a big-endian Linux hasn't.
 def compare_words():
     """Each line of docs/HOST.md that the host's source cites stands there."""
     document, cited, lines = " ".join(DOCUMENT.read_text().split()), 0, 0
