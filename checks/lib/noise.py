@@ -22,7 +22,7 @@ from lib import formats, traced
 from lib.cases import NOP, RET, wrong
 from lib.serving import connected
 
-LOADS, SERVES, SECONDS = 60, 40, 60
+LOADS, SERVES, TOLD, SECONDS = 60, 40, 30, 60
 # Words of a module: of few pages, and in each third load of so many that receivers wait for verifiers.
 FEW, MANY = 30_000, 300_000
 ATOMIC = re.compile(r"^ +([0-9a-f]+):\s+(?:lock (?:cmpxchg|xadd|and|or|xor|bt)|xchg .*\()", re.M)
@@ -107,7 +107,7 @@ def ptrace_on(thread, caught=0):
 
 def trace(program, words, sites, number, clients=()):
     """What a run prints, and its status; and how often a thread was held. Clients begin when it does."""
-    with tempfile.TemporaryFile() as out, tempfile.TemporaryFile() as err:
+    with open("out", "w+b") as out, open("err", "w+b") as err:
         run = Run(str(program), [str(program), *words], out, err, sites, random.Random(f"noise {number}"))
         for client in clients:
             client.start()
@@ -148,6 +148,42 @@ def serve(program, sites, number):
     return held
 
 
+class Pipes(threading.Thread):
+    """Three streams of a load that stay: pages of two modules, of which the last are refused, and messages that no module takes, until both
+    are told."""
+
+    def __init__(self, paths, pages):
+        super().__init__(daemon=True)
+        self.paths, self.pages, self.is_told = paths, pages, False
+
+    def run(self):
+        streams = [open(path, "wb", buffering=0) for path in self.paths]
+        code, wanted = NOP * (1024 * self.pages - 1) + bytes(4), 2 * len("module 7 refused\n")
+        for module, stream in zip((7, 8), streams):
+            stream.write(formats.header(1, 0, module, 1024 * (self.pages + 1), 0) + b"".join(formats.pages(2, module, code)))
+        until = time.monotonic() + SECONDS / 3
+        while not self.is_told and time.monotonic() < until:
+            streams[2].write(formats.header(formats.CLOSE, 0, 15, 0, 0))
+            time.sleep(0.01)
+            self.is_told = os.path.getsize("err") >= wanted
+        for stream in streams:
+            stream.close()
+
+
+def tell(program, sites, number):
+    """Whole groups of as many pages as call the sequencers, the last refused: each is told while the streams stay."""
+    paths, pages = [f"{number}.{name}" for name in ("first", "second", "third")], 32 * (1 + number % 3)
+    for path in paths:
+        os.mkfifo(path)
+    pipes = Pipes(paths, pages)
+    (out, err, status), held = trace(program, ["load", "--verifiers", str(1 + number % 2), *paths], sites, number, [pipes])
+    came = pipes.is_told, out.splitlines()[:2], sorted(err.splitlines()), status
+    wanted = True, [f"module {it}: refused, word {1024 * pages - 1} rule 1" for it in (7, 8)], [f"module {it} refused" for it in (7, 8)], 1
+    if came != wanted:
+        wrong("noise", f"{pages} pages of two modules, of which the last are refused, and then nothing", came, wanted)
+    return held
+
+
 def try_noise(program):
     if platform.machine() != "x86_64" or not shutil.which("objdump"):
         print("noise: left out, since this isn't x86-64 with objdump")
@@ -158,6 +194,6 @@ def try_noise(program):
             for count in FEW, MANY:
                 pathlib.Path(folder, f"{module}.{count}").write_bytes(formats.stream(module, NOP * count + RET))
         os.chdir(folder)
-        held = sum(load(program, sites, number) for number in range(LOADS)) + sum(serve(program, sites, number) for number in range(SERVES))
+        held = sum(sum(way(program, sites, number) for number in range(times)) for way, times in ((load, LOADS), (serve, SERVES), (tell, TOLD)))
         os.chdir(before)
-    print(f"noise: {LOADS} loads and {SERVES} runs of `serve`, whose threads were held {held} times at one of {len(sites)} places")
+    print(f"noise: {LOADS + TOLD} loads and {SERVES} runs of `serve`, whose threads were held {held} times at one of {len(sites)} places")
