@@ -5,6 +5,7 @@ kin). A thread that comes to one is held for a drawn time, while the others go o
 """
 
 import ctypes
+import errno
 import heapq
 import os
 import pathlib
@@ -72,17 +73,25 @@ class Run(traced.Traced):
             self.held += 1
             heapq.heappush(self.late, (time.monotonic() + self.source.uniform(0, most), thread))
 
+    def unless_gone(self, what, thread):
+        """Does this with a thread; nothing where it has gone with the process."""
+        try:
+            what(thread)
+        except OSError as why:
+            if why.errno != errno.ESRCH:
+                raise
+
     def next(self):
         """One thing that happens. False: the run has ended."""
         while self.late and self.late[0][0] <= time.monotonic():
-            self.go_on(heapq.heappop(self.late)[1])
+            self.unless_gone(self.go_on, heapq.heappop(self.late)[1])
         thread, state = os.waitpid(-1, traced.WAIT_ALL | os.WNOHANG)
         if thread == 0:
             time.sleep(0.0001)
         elif os.WIFSTOPPED(state):
             caught = os.WSTOPSIG(state)
             if caught == signal.SIGTRAP and state >> 16 == 0:
-                self.stop(thread)
+                self.unless_gone(self.stop, thread)
             else:
                 ptrace_on(thread, 0 if caught in (signal.SIGSTOP, signal.SIGTRAP) else caught)
         elif thread == self.pid:
