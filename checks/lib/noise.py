@@ -21,7 +21,7 @@ import time
 
 from lib import formats, traced
 from lib.cases import NOP, RET, wrong
-from lib.serving import connected
+from lib.serving import connected, refused_last
 
 LOADS, SERVES, TOLD, SECONDS = 60, 40, 30, 60
 # Words of a module: of few pages, and in each third load of so many that receivers wait for verifiers.
@@ -122,7 +122,7 @@ def trace(program, words, sites, number, clients=()):
             client.start()
         status = run.end()
         for client in clients:
-            client.join()
+            client.join(SECONDS)
         out.seek(0), err.seek(0)
         return (out.read().decode(), err.read().decode(), status), run.held
 
@@ -167,9 +167,9 @@ class Pipes(threading.Thread):
 
     def run(self):
         streams = [open(path, "wb", buffering=0) for path in self.paths]
-        code, wanted = NOP * (1024 * self.pages - 1) + bytes(4), 2 * len("module 7 refused\n")
+        wanted = 2 * len("module 7 refused\n")
         for module, stream in zip((7, 8), streams):
-            stream.write(formats.header(1, 0, module, 1024 * (self.pages + 1), 0) + b"".join(formats.pages(2, module, code)))
+            stream.write(formats.header(1, 0, module, 1024 * (self.pages + 1), 0) + b"".join(refused_last(self.pages, module)))
         until = time.monotonic() + SECONDS / 3
         while not self.is_told and time.monotonic() < until:
             streams[2].write(formats.header(formats.CLOSE, 0, 15, 0, 0))
@@ -187,7 +187,7 @@ def tell(program, sites, number):
     pipes = Pipes(paths, pages)
     (out, err, status), held = trace(program, ["load", "--verifiers", str(1 + number % 2), *paths], sites, number, [pipes])
     came = pipes.is_told, out.splitlines()[:2], sorted(err.splitlines()), status
-    wanted = True, [f"module {it}: refused, word {1024 * pages - 1} rule 1" for it in (7, 8)], [f"module {it} refused" for it in (7, 8)], 1
+    wanted = True, [f"module {it}: refused, word {1024 * (pages - 1)} rule 1" for it in (7, 8)], [f"module {it} refused" for it in (7, 8)], 1
     if came != wanted:
         wrong("noise", f"{pages} pages of two modules, of which the last are refused, and then nothing", came, wanted)
     return held

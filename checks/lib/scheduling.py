@@ -14,7 +14,7 @@ import time
 
 from lib import formats, traced
 from lib.cases import NOP, RET, on_one_core, wrong
-from lib.serving import connected
+from lib.serving import connected, refused_last
 
 LOADS, SERVES, SECONDS, TOGETHER, LARGE = 200, 100, 20, 300, 50
 
@@ -196,8 +196,9 @@ def take_few(program):
         writer.start()
         count = writer.settled()
         calls = {call_of(running.pid, thread) for _ in range(20) if time.sleep(0.01) is None}
-        if not 128 <= count <= MOST or calls != {WAITS}:
-            wrong("held", "a connection's thread whose verifier is held", (count, calls), (f"128 to {MOST} pages", {WAITS}))
+        # On busy cores some of the first ones may be untaken, too.
+        if not 128 - FIRST <= count <= MOST or calls != {WAITS}:
+            wrong("held", "a connection's thread whose verifier is held", (count, calls), (f"{128 - FIRST} to {MOST} pages", {WAITS}))
         let_go(others)
         ended("held", words, running, f"module 0: complete, {1024 * (PAGES - 1) + 1} words\nstrays 0\n")
     return count
@@ -210,7 +211,7 @@ def tell_refused(program, which):
         words, running, (first, second) = piped(folder, program, 2)
         held = [threads_of(running.pid, 2)[1][which]]
         hold(held)
-        first.write(formats.header(1, 0, 7, 1024 * (HELD + 1), 0) + b"".join(formats.pages(2, 7, NOP * (1024 * HELD - 1) + bytes(4))))
+        first.write(formats.header(1, 0, 7, 1024 * (HELD + 1), 0) + b"".join(refused_last(HELD)))
         time.sleep(0.5)
         let_go(held)
         told, until = "", time.monotonic() + SECONDS
@@ -219,7 +220,7 @@ def tell_refused(program, which):
             told = os.read(running.stderr.fileno(), 4096).decode() if select.select([running.stderr], [], [], 0.01)[0] else ""
         first.close(), second.close()
         came = told, running.communicate(timeout=60)[0].splitlines()[:2]
-        wanted = "module 7 refused\n", [f"module 7: refused, word {1024 * HELD - 1} rule 1", "connection 0: fault 9"]
+        wanted = "module 7 refused\n", [f"module 7: refused, word {1024 * (HELD - 1)} rule 1", "connection 0: fault 9"]
         if came != wanted:
             wrong("held", f"{HELD} pages that come while thread {which} is held", came, wanted)
 

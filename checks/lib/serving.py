@@ -503,9 +503,9 @@ def try_pages(program, verifiers, count, pieces, before=None):
         wrong("slow", f"{count} pages, and then nothing, with {verifiers} verifiers", came, wanted)
 
 
-def refused_last(count):
+def refused_last(count, module=7):
     """The messages of so many pages, of which the last is refused."""
-    return formats.pages(2, 7, NOP * (1024 * (count - 1)) + bytes(4096))
+    return formats.pages(2, module, NOP * (1024 * (count - 1)) + bytes(4096))
 
 
 # COMMANDS: A slow or silent client holds up no other connection's module, but the report waits for all, at most `--seconds`.
