@@ -1,8 +1,8 @@
 """Sentences of documents that checks cite beside what bears them out, behind the document's name in a comment, as `COMMANDS:` of
 docs/COMMANDS.md, `HEADER:` of include/lfi_verifier.h, or `HELP:` of what `lfiload COMMAND --help` says: for checks/program.
 
-A citation goes on in the lines of the comment that begin with three spaces. What it cites has to stand in the document; and what
-docs/COMMANDS.md says is cited, but for its headings and its example, which checks/program carries out.
+A citation goes on in the lines of the comment that begin with three spaces. What it cites has to stand in the document; and all is cited
+of docs/COMMANDS.md, but for its headings and its example, which checks/program carries out, and of the helps, but for their examples.
 """
 
 import re
@@ -16,6 +16,15 @@ DOCUMENTS = {name: sentences.DOCUMENTS / f"{name}.md" for name in ("C", "COMMAND
     "HELP": tree.CRATES / "lfi_command_line" / "src" / "help.rt",
 }
 CITED = re.compile(rf"^ *(?:#|//) ({'|'.join(DOCUMENTS)}): (.*(?:\n *(?:#|//)   .*)*)", re.M)
+
+
+def text_of(file):
+    """What a document says; of the helps' file the texts alone, without their examples."""
+    text = file.read_text(encoding="utf-8")
+    if file.suffix == ".rt":
+        text = re.sub(r"\nExample: .*(?=\";)", "", text)
+        return "\n".join(it.replace('\\"', '"') for it in re.findall(r'&str =\s+"((?:[^"\\]|\\.)*)";', text))
+    return text
 
 
 def flat(text):
@@ -35,14 +44,15 @@ def citations():
 
 def compare():
     """How many citations there are, each of which stands in its document."""
-    left, count = {name: flat(file.read_text(encoding="utf-8")) for name, file in DOCUMENTS.items()}, 0
+    left, count = {name: flat(text_of(file)) for name, file in DOCUMENTS.items()}, 0
     whole = dict(left)
     for document, words, file in citations():
         if words not in whole[document]:
             sys.exit(f"program: {file} cites what {DOCUMENTS[document].name} doesn't say: {words}")
         left[document] = left[document].replace(words, "")
         count += 1
-    uncited = re.sub(r"```.*?```|# The commands: what --help doesn't say", "", left["COMMANDS"])
-    if re.search(r"[a-z]{2}", re.sub(r"\*\*[^*]*\*\*", "", uncited)):
-        sys.exit(f"program: no check cites this of docs/COMMANDS.md: {flat(uncited)}")
+    for name, uncited in ("COMMANDS", r"```.*?```|# The commands: what --help doesn't say|\*\*[^*]*\*\*"), ("HELP", "Exit status:|On the standard error:"):
+        rest = re.sub(uncited, "", left[name])
+        if re.search(r"[a-z]{2}", rest):
+            sys.exit(f"program: no check cites this of {DOCUMENTS[name].name}: {flat(rest)}")
     return count

@@ -23,6 +23,7 @@ UNSEEN = {
     (COMMANDS, "lfiload: no memory"): (3,),  # checks/refused_growth refuses memory
     (("load",), "module M: no memory"): (),  # and so here
     (("run",), "halt 7 after N steps"): (3,),  # and here
+    # HELP: halt 6 after N steps The runtime answered registers that aren't lawful (status 1).
     (("run",), "halt 6 after N steps"): (1,),  # the program's own runtime answers lawful registers
     (("serve",), "lfiload: connection C: cannot read"): (3,),  # checks/refused_growth has clients that aren't taken, or are reset
     (("load", "serve"), "module M refused"): (),  # a notice, which may come or not
@@ -117,6 +118,7 @@ def compare_statuses(program, helps, runs):
     return sum(count for count, _ in compared)
 
 
+# HELP: The status is 0 where each module is complete and no connection has a fault, 3 where a read failed, else 1.
 # What a help says of statuses in a sentence, and a run for each number in it.
 STATED = (
     ("load", r"The status is (\d) where each module is complete and no connection has a fault, (\d) where a read failed, else (\d)\.",

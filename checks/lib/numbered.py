@@ -47,6 +47,7 @@ def number_in_profile(row, column):
     return next((it[0] for it in rows if it[column : column + 1] == [row]), None)
 
 
+# HELP: connection C: fault F Its stream has fault F: 1 to 7 a header, 8 no memory, 9 its end, 10 a read that failed.
 def compare_stream_faults(program, helps):
     """Of load: the last fault of a header, a stream that ends too early, a read that fails. No memory is refused by checks/refused_growth."""
     told = re.search(r"Its stream has fault F: 1 to (\d+) a header, (\d+) no memory, (\d+) its end, (\d+) a read that failed\.", flat(helps["load"]))
@@ -58,6 +59,8 @@ def compare_stream_faults(program, helps):
         fail("load", f"it tells the faults {told and told.groups()} of streams, and not {wanted}")
 
 
+# HELP: image refused, fault F There is no image: 1 it doesn't begin with LFI1, 2 its profile, 3 its counts, 4 its base, 5 it is cut, 6
+#   bytes follow it (status 1), 8 no memory, 9 a read failed (status 3).
 def compare_image_faults(program, helps):
     """Of run: each fault of an image by a file of it. Of unlawful code, too."""
     told = flat(helps["run"]).partition("There is no image: ")[2].partition(" (status 3).")[0]
@@ -99,6 +102,8 @@ def start_with(bases):
     return {number: base if number in bases else base + (1 << 32) if number == 31 else 0 for number in range(32)}
 
 
+# HELP: The code starts at its entry with the base of its slot in x18, x21, x23, x24 and x30, the end of its slot in sp, and 0 in all other
+#   registers.
 def compare_start(program, helps):
     """Of run: which registers hold the base at the start, which the end, and that all others are 0."""
     said = re.search(r"with the base of its slot in (.*?), the end of its slot in sp, and 0 in all other registers", flat(helps["run"]))

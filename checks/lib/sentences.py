@@ -2,6 +2,7 @@
 
 import os
 import pathlib
+import re
 import resource
 import signal
 import subprocess
@@ -116,6 +117,7 @@ def gone_client(room):
     return told == (b"module 0: lost, fault 9\nconnection 0: fault 9\nstrays 0\n", b"connection 0: fault 10\nstrays 0\n"), told
 
 
+# HELP: A signal ends the program at once and leaves the path; serve can't listen there again before it is removed.
 def ended_by_signal(room):
     """`serve` that is waiting for a client when a signal comes."""
     path = room.folder / "signalled"
@@ -126,12 +128,35 @@ def ended_by_signal(room):
             time.sleep(0.01)
         serve.terminate()
         told = *serve.communicate(timeout=60), serve.returncode, path.is_socket()
-    return told == (b"", b"", -signal.SIGTERM, True), told
+    again = room.run("serve", "--socket", str(path), "--connections", "1")
+    listens = again[0] == 3 and again[2].startswith(b"lfiload: cannot listen\n")
+    return told == (b"", b"", -signal.SIGTERM, True) and listens, (told, again)
 
 
 def registers_at_start(room):
     found = numbered.start_of(room.program)
     return found == numbered.start_with({18, 21, 23, 24, 30}), found
+
+
+# LDR, STR X0 at the largest offset and the least, and LDP, STP.
+REACHING = (0xF97FFE40, 0xF93FFE40, 0xF8500240, 0xF84FF240, 0xA9600640, 0xA95F8640, 0xA9200640, 0xA91F8640)
+
+
+def reach(room):
+    """The furthest offsets of the words that reach furthest, as they are listed; a pair has two registers of 8 bytes."""
+    (room.folder / "it.code").write_bytes(formats.code_of(*REACHING))
+    offsets = [int(it) for it in re.findall(rb"#(-?\d+)\]", room.run("disassemble", "it.code")[1])]
+    refused = room.run("check", "it.code")
+    return (len(offsets), max(offsets), min(offsets), refused[0]) == (8, 32_760, -512, 0), (offsets, refused)
+
+
+def reserved(_):
+    """The options name each register of the table but sp, for which gcc and clang have none."""
+    text = (DOCUMENTS / "PROFILE.md").read_text()
+    table = text.partition("\n## Registers\n")[2].partition("\nAll other registers")[0]
+    held = {int(it) for row in re.findall(r"^\| ([x\d, ]+) \|", table, re.M) for it in re.findall(r"x(\d+)", row)}
+    named = {int(it) for it in re.findall(r"-ffixed-x(\d+)", re.search(r"clang takes `(.*?)`", text)[1])}
+    return held == named == {18, 21, 22, 23, 24, 30}, (held, named)
 
 
 COMMANDS = {
@@ -148,6 +173,9 @@ COMMANDS = {
 PROFILE = {
     "A host enters it with x18, x21, x23, x24 and x30 at B, sp at B + 2^32 (an empty stack), and 0 in all other registers, where it does as "
     "`lfiload run`.": registers_at_start,
+    "An immediate reaches at most 32,760 bytes up and 512 down, and an access has at most 16 bytes, so from a base in the slot, or 512 bytes "
+    "beside it, none gets past the guards.": reach,
+    "clang takes `-mgeneral-regs-only -mbranch-protection=none -ffixed-x18 -ffixed-x21 -ffixed-x22 -ffixed-x23 -ffixed-x24 -ffixed-x30`": reserved,
 }
 
 

@@ -215,6 +215,8 @@ def try_refused_verifier(program):
             wrong("taken", "a verifier's thread refused, and nobody there", came, "no memory")
 
 
+# HELP: The status is load's; it is 3 as well where a connection was not taken: that one has no messages.
+# HELP: lfiload: connection C: cannot read It was not taken, or a read of it failed (status 3).
 def try_taken(program):
     """`serve` that has no descriptor left for the second client, or for any."""
     for taken in (0, 1):
@@ -393,6 +395,7 @@ def try_hours(program):
     return "two hours and a day were waited for" if library else "no hours were waited for, since cc isn't here"
 
 
+# HELP: The report waits for each connection, also for one that sends nothing.
 def try_no_limit(program):
     """`serve` without a limit waits for a client as long as that takes: what waits with a limit of its own has waited long after a second,
     since no wait takes any time."""
@@ -508,6 +511,7 @@ def refused_last(count, module=7):
     return formats.pages(2, module, NOP * (1024 * (count - 1)) + bytes(4096))
 
 
+# HELP: module M refused A connection's thread has seen that module M is refused; the report tells why.
 # COMMANDS: A slow or silent client holds up no other connection's module, but the report waits for all, at most `--seconds`.
 def try_slow(program):
     for verifiers in (1, 2, 8):
