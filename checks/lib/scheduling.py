@@ -118,7 +118,8 @@ def try_together(program):
 READS, WAITS = {"aarch64": ("63", "98")}.get(platform.machine(), ("0", "202"))
 # Pages that are judged before the verifier is held; those that may be untaken from then on, and one in the pipe and one that is being read.
 FIRST, MOST, PAGES = 10, 128 + 2, 1000
-HELD = 100
+# Pages that come while a thread is held; after so many messages a connection's thread looks for what was refused, and how often they are tried.
+HELD, LOOK, TRIES = 100, 64, 5
 SETPIPE_SZ = 1031
 
 
@@ -127,15 +128,15 @@ def call_of(process, thread):
     return pathlib.Path(f"/proc/{process}/task/{thread}/syscall").read_text().split()[0]
 
 
-def threads_of(process, streams):
-    """The threads that read, a stream each, and the others, once all are there: with one verifier two more than streams."""
+def threads_of(process, streams, verifiers=1):
+    """The threads that read, a stream each, and the others, once all are there: one more than verifiers, and those behind the first."""
     until = time.monotonic() + SECONDS
     while time.monotonic() < until:
         threads = sorted(int(it) for it in os.listdir(f"/proc/{process}/task"))
         readers = [it for it in threads if call_of(process, it) == READS]
-        if (len(readers), len(threads)) == (streams, streams + 2):
+        if (len(readers), len(threads)) == (streams, streams + verifiers + 1):
             return readers, [it for it in threads if it not in readers]
-    wrong("held", f"a load of {streams} pipes", "other threads", f"{streams} that read, and two")
+    wrong("held", f"a load of {streams} pipes", "other threads", f"{streams} that read, and {verifiers + 1}")
 
 
 def hold(threads):
@@ -150,12 +151,12 @@ def let_go(threads):
         traced.ptrace(traced.DETACH, thread)
 
 
-def piped(folder, program, count):
-    """A load of so many pipes, by one verifier, and their other ends."""
+def piped(folder, program, count, verifiers=1):
+    """A load of so many pipes, by so many verifiers, and their other ends."""
     paths = [os.path.join(folder, f"{number}.stream") for number in range(count)]
     for path in paths:
         os.mkfifo(path)
-    words = [program, "load", "--verifiers", "1", *paths]
+    words = [program, "load", "--verifiers", str(verifiers), *paths]
     running = start(words, folder)
     return words, running, [open(path, "wb", buffering=0) for path in paths]
 
@@ -204,9 +205,25 @@ def take_few(program):
     return count
 
 
+def take_over(program, which):
+    """While one of two verifiers is held, the other one judges all pages."""
+    with tempfile.TemporaryDirectory() as folder:
+        parts = formats.messages(0, NOP * (1024 * (PAGES - 1)) + RET)
+        words, running, (out,) = piped(folder, program, 1, 2)
+        held = [threads_of(running.pid, 1, 2)[1][1 + which]]
+        hold(held)
+        writer = Writer(out, parts)
+        writer.start()
+        count = writer.settled()
+        if count != len(parts):
+            wrong("held", f"verifier {which} of two is held", f"{count} messages are taken in", len(parts))
+        let_go(held)
+        ended("held", words, running, f"module 0: complete, {1024 * (PAGES - 1) + 1} words\nstrays 0\n")
+
+
 def tell_refused(program, which):
     """Pages come while one of the other threads is held, which are the verifier and that of the sequencers. When it goes on, all are judged
-    and placed: what is refused at the last of them is told, though both streams stay, as soon as the other one brings a message."""
+    and placed: what is refused at the last of them is told, though both streams stay, once the other one has brought some messages."""
     with tempfile.TemporaryDirectory() as folder:
         words, running, (first, second) = piped(folder, program, 2)
         held = [threads_of(running.pid, 2)[1][which]]
@@ -214,21 +231,24 @@ def tell_refused(program, which):
         first.write(formats.header(1, 0, 7, 1024 * (HELD + 1), 0) + b"".join(refused_last(HELD)))
         time.sleep(0.5)
         let_go(held)
-        told, until = "", time.monotonic() + SECONDS
-        while not told and time.monotonic() < until:
-            second.write(formats.header(formats.CLOSE, 0, 15, 0, 0))
-            told = os.read(running.stderr.fileno(), 4096).decode() if select.select([running.stderr], [], [], 0.01)[0] else ""
+        told, tried = "", 0
+        while not told and tried < TRIES:
+            time.sleep(0.5)
+            second.write(LOOK * formats.header(formats.CLOSE, 0, 15, 0, 0))
+            told = os.read(running.stderr.fileno(), 4096).decode() if select.select([running.stderr], [], [], SECONDS / TRIES)[0] else ""
+            tried += 1
         first.close(), second.close()
         came = told, running.communicate(timeout=60)[0].splitlines()[:2]
         wanted = "module 7 refused\n", [f"module 7: refused, word {1024 * (HELD - 1)} rule 1", "connection 0: fault 9"]
         if came != wanted:
-            wrong("held", f"{HELD} pages that come while thread {which} is held", came, wanted)
+            wrong("held", f"{HELD} pages that come while thread {which} is held, and {tried} times {LOOK} messages", came, wanted)
 
 
 def try_held(program):
     try:
         count = take_few(program)
         for which in 0, 1:
+            take_over(program, which)
             tell_refused(program, which)
     except OSError as why:
         print(f"held: left out: {why}")
