@@ -6,7 +6,9 @@ import shutil
 import signal
 import subprocess
 import sys
+import tempfile
 import time
+from pathlib import Path
 
 from lib.installed import commit_all, fail, run
 from lib.tree import TOP
@@ -37,7 +39,10 @@ class Crate:
         if "WAITS" in os.environ:
             pathlib.Path(os.environ["WAITS"]).write_text("here")
             time.sleep(60)
-        return int((self.folder / "src" / "status").read_text())
+        status = int((self.folder / "src" / "status").read_text())
+        if status:
+            print(f"{self.folder.name}: why it isn't proved")
+        return status
 
 
 def main(verb, *words):
@@ -102,6 +107,8 @@ def try_building(room):
             done = subprocess.run(library, env=found, capture_output=True, text=True)
             if done.returncode != status or archive.read_text() != "old" or "lfi_verifier.a: proved" in done.stdout:
                 fail(f"checks/build --library, where the proof of {name} has status {status}: {done.returncode}, {done.stdout}")
+            if f"\n{'low: why it isn' if name == 'low' else 'asked lib'}" not in done.stdout:
+                fail(f"checks/build --library, where the proof of {name} has status {status}, doesn't print what was said: {done.stdout}")
         done = subprocess.run(build, env=found, capture_output=True, text=True)
         if (done.returncode == 0) != (name == "lfi_verifier"):
             fail(f"checks/build, where {name} isn't proved: {done.returncode}, {done.stdout}")
@@ -149,7 +156,48 @@ def try_ending(room):
             fail(f"checks/build, ended by {number.name}: status {status} after {took:.0f} s, {list(scratch.glob('build-*'))}, out/ is back: {kept.exists()}")
 
 
+def lines_of(file):
+    return file.read_text().splitlines() if file.exists() else []
+
+
+def try_beside(room):
+    """Of two builds in a checkout the second one begins when the first has ended: until then what was kept of a crate is elsewhere."""
+    top, found, _ = put_tree(room / "beside")
+    kept, waits, asked = top / "crates" / "low" / "out" / "kept", room / "beside" / "waits", room / "beside" / "tools" / "asked"
+    kept.parent.mkdir()
+    kept.write_text("kept")
+    build = [top / "checks" / "build", "low"]
+    first = subprocess.Popen(build, env={**found, "WAITS": str(waits)}, stdout=subprocess.DEVNULL)
+    while not waits.exists() and first.poll() is None:
+        time.sleep(0.05)
+    second = subprocess.Popen(build, env={**found, "WAITS": str(room / "beside" / "again")}, stdout=subprocess.DEVNULL)
+    time.sleep(2)
+    early = second.poll(), (room / "beside" / "again").exists()
+    first.terminate()
+    first.wait()
+    while not (room / "beside" / "again").exists() and second.poll() is None:
+        time.sleep(0.05)
+    began = (room / "beside" / "again").exists()
+    second.terminate()
+    second.wait()
+    left = sorted(it.name for it in kept.parent.iterdir())
+    if early != (None, False) or not began or "kept" not in left or "out" in left or lines_of(asked):
+        fail(f"checks/build beside another one: before that had ended {early}, then {began}, and out/ has {left}")
+
+
+def try_another_disk(room):
+    """Where the scratch folder is on another file system, crates are copied, and proved all the same."""
+    place = Path("/dev/shm")
+    if not place.is_dir() or place.stat().st_dev == room.stat().st_dev:
+        return
+    top, found, _ = put_tree(room / "disk")
+    with tempfile.TemporaryDirectory(dir=place) as scratch:
+        run(top / "checks" / "build", env={**found, "TMPDIR": scratch})
+
+
 def try_all(room):
     try_building(room)
     try_words(room)
     try_ending(room)
+    try_beside(room)
+    try_another_disk(room)
