@@ -135,6 +135,9 @@ class Refusal:
         shown = shown_places(words, place, profile) if rule == 10 else [place]
         require(places, shown, "the words that are shown")
         require([int(it[2], 16) for it in located], [words[it] for it in places], "the values of the words that are shown")
+        if rule == 4:
+            written = {number for number, _ in RULES.writes(RULES.decode(words[place], profile))}
+            require(block[1].rpartition("; ")[2], f"this one writes x{min(written & set(RULES.ADDRESSES))}", "the first register that is guarded")
         self.explanation = "\n".join([f"word {place} rule {rule}", *block])
         self.mend = mend_of(block)
         self.members = {"word": place, "rule": rule}
