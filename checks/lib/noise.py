@@ -26,25 +26,27 @@ from lib.serving import connected, refused_last
 LOADS, SERVES, TOLD, SECONDS = 60, 40, 30, 60
 # Words of a module: of few pages, and in each third load of so many that receivers wait for verifiers.
 FEW, MANY = 30_000, 300_000
-ATOMIC = re.compile(r"^ +([0-9a-f]+):\s+(?:lock (?:cmpxchg|xadd|and|or|xor|bt)|xchg .*\()", re.M)
-# Which part of the times a thread is held, and for how many seconds at most.
-HELD = ((0.75, 0.0), (0.95, 0.0005), (1.0, 0.004))
+ATOMIC = re.compile(r"^ +([0-9a-f]+):\s+(lock (?:cmpxchg|xadd|and|or|xor|bt)|xchg .*\()", re.M)
+# Which part of the times a thread is held, and for how many seconds at most; and so the sequencers' thread alone, where it writes a word
+# whatever stands there (`xchg`): what another one has written after it looked would be lost.
+HELD, ONE_HELD = ((0.75, 0.0), (0.95, 0.0005), (1.0, 0.004)), 0.02
 
 
 def sites_of(program):
-    """Where in the program these instructions are."""
+    """Where in the program these instructions are, and whether one writes whatever stands there."""
     listing = subprocess.run(["objdump", "-d", "--no-show-raw-insn", program], capture_output=True, text=True, check=True).stdout
-    return [int(it, 16) for it in ATOMIC.findall(listing)]
+    return {int(at, 16): it.startswith("xchg") for at, it in ATOMIC.findall(listing)}
 
 
 class Run(traced.Traced):
-    """A run whose threads are held at these places."""
+    """A run whose threads are held at these places, or its first one, which is the sequencers' where streams are loaded."""
 
-    def __init__(self, program, words, out, err, sites, source):
+    def __init__(self, program, words, out, err, sites, source, is_first=False):
         super().__init__(program, words, out, err)
-        base, _ = traced.mapped(self.pid, program)
+        self.writes = {at for at, writes in sites.items() if writes} if is_first else None
+        self.base, _ = traced.mapped(self.pid, program)
         self.source, self.late, self.held = source, [], 0
-        self.bytes = {base + it: self.read(base + it, 1) for it in sites}
+        self.bytes = {self.base + it: self.read(self.base + it, 1) for it in sites}
         for at in self.bytes:
             self.write(at, traced.BREAK)
         ptrace_on(self.pid)
@@ -66,7 +68,10 @@ class Run(traced.Traced):
         registers[traced.RIP] -= 1
         self.set_registers(registers)
         drawn = self.source.random()
-        most = next(seconds for part, seconds in HELD if drawn < part)
+        if self.writes is None:
+            most = next(seconds for part, seconds in HELD if drawn < part)
+        else:
+            most = ONE_HELD * (thread == self.pid and registers[traced.RIP] - self.base in self.writes)
         if most == 0:
             self.go_on(thread)
         else:
@@ -114,10 +119,10 @@ def ptrace_on(thread, caught=0):
     traced.libc.ptrace(traced.CONT, thread, None, ctypes.c_void_p(caught))
 
 
-def trace(program, words, sites, number, clients=()):
+def trace(program, words, sites, number, clients=(), is_first=False):
     """What a run prints, and its status; and how often a thread was held. Clients begin when it does."""
     with open("out", "w+b") as out, open("err", "w+b") as err:
-        run = Run(str(program), [str(program), *words], out, err, sites, random.Random(f"noise {number}"))
+        run = Run(str(program), [str(program), *words], out, err, sites, random.Random(f"noise {number}"), is_first)
         for client in clients:
             client.start()
         status = run.end()
@@ -146,10 +151,11 @@ def visit(path, module):
 
 
 def serve(program, sites, number):
-    """One to four clients that send at the same time."""
+    """One to four clients that send at the same time; every second time there is a limit, and their ends are counted."""
     path, count = f"s{number}", 1 + number % 4
     clients = [threading.Thread(target=visit, args=(path, module), daemon=True) for module in range(count)]
-    words = ["serve", "--socket", path, "--connections", str(count), "--verifiers", str(1 + number // 4 % 4)]
+    limit = ["--seconds", "20"] if number // 4 % 2 else []
+    words = ["serve", "--socket", path, "--connections", str(count), "--verifiers", str(1 + number // 4 % 4), *limit]
     came, held = trace(program, words, sites, number, clients)
     wanted = "".join(f"module {module}: complete, 2001 words\n" for module in range(count)) + "strays 0\n", "", 0
     if came != wanted:
@@ -158,38 +164,54 @@ def serve(program, sites, number):
 
 
 class Pipes(threading.Thread):
-    """Three streams of a load that stay: pages of two modules, of which the last are refused, and messages that no module takes, until both
-    are told."""
+    """Three streams of a load that stay: these parts go to the first two, by which so many modules are refused; then messages that no module
+    takes, until that is told of each."""
 
-    def __init__(self, paths, pages):
+    def __init__(self, paths, parts, pause, modules):
         super().__init__(daemon=True)
-        self.paths, self.pages, self.is_told = paths, pages, False
+        self.paths, self.parts, self.pause, self.is_told = paths, parts, pause, False
+        self.wanted = sum(len(f"module {it} refused\n") for it in modules)
 
     def run(self):
         streams = [open(path, "wb", buffering=0) for path in self.paths]
-        wanted = 2 * len("module 7 refused\n")
-        for module, stream in zip((7, 8), streams):
-            stream.write(formats.header(1, 0, module, 1024 * (self.pages + 1), 0) + b"".join(refused_last(self.pages, module)))
+        time.sleep(20 * self.pause)
+        for which, part in self.parts:
+            streams[which].write(part)
+            time.sleep(self.pause)
         until = time.monotonic() + SECONDS / 3
         while not self.is_told and time.monotonic() < until:
             streams[2].write(formats.header(formats.CLOSE, 0, 15, 0, 0))
             time.sleep(0.01)
-            self.is_told = os.path.getsize("err") >= wanted
+            self.is_told = os.path.getsize("err") >= self.wanted
         for stream in streams:
             stream.close()
 
 
+def two_modules(number):
+    """Whole groups of as many pages as call the sequencers, of two modules in turn; the last one of each is refused."""
+    pages = 32 * (1 + number % 3)
+    both = [[formats.header(1, 0, module, 1024 * (pages + 1), 0), *refused_last(pages, module)] for module in (7, 8)]
+    return [(which, part) for parts in zip(*both) for which, part in enumerate(parts)], 0, {7: 1024 * (pages - 1), 8: 1024 * (pages - 1)}
+
+
+def fifteen_modules(number):
+    """Modules of which one page comes each, which is refused: one after another, so that the sequencers are called for each."""
+    parts = [(module % 2, formats.header(1, 0, module, 1025, 0) + refused_last(1, module)[0]) for module in range(15)]
+    return parts, 0.004 * (2 + number // 2 % 3), dict.fromkeys(range(15), 0)
+
+
 def tell(program, sites, number):
-    """Whole groups of as many pages as call the sequencers, the last refused: each is told while the streams stay."""
-    paths, pages = [f"{number}.{name}" for name in ("first", "second", "third")], 32 * (1 + number % 3)
+    """Of modules that are refused at their last page each is told while the streams stay."""
+    paths = [f"{number}.{name}" for name in ("first", "second", "third")]
     for path in paths:
         os.mkfifo(path)
-    pipes = Pipes(paths, pages)
-    (out, err, status), held = trace(program, ["load", "--verifiers", str(1 + number % 2), *paths], sites, number, [pipes])
-    came = pipes.is_told, out.splitlines()[:2], sorted(err.splitlines()), status
-    wanted = True, [f"module {it}: refused, word {1024 * (pages - 1)} rule 1" for it in (7, 8)], [f"module {it} refused" for it in (7, 8)], 1
+    parts, pause, words = (two_modules, fifteen_modules)[number % 2](number)
+    pipes = Pipes(paths, parts, pause, words)
+    (out, err, status), held = trace(program, ["load", "--verifiers", str(1 + number // 2 % 2), *paths], sites, number, [pipes], number % 4 > 1)
+    came = pipes.is_told, out.splitlines()[: len(words)], sorted(err.splitlines()), status
+    wanted = True, [f"module {it}: refused, word {word} rule 1" for it, word in words.items()], sorted(f"module {it} refused" for it in words), 1
     if came != wanted:
-        wrong("noise", f"{pages} pages of two modules, of which the last are refused, and then nothing", came, wanted)
+        wrong("noise", f"{len(words)} modules, of which the last page is refused, and then nothing, load {number}", came, wanted)
     return held
 
 
