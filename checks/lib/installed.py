@@ -430,15 +430,19 @@ def try_built_first(room, version):
 
 
 def try_folders_of_others(room, version):
-    """A folder that was there before an install keeps its rights, and stays when that is taken away. An empty CC names no compiler."""
+    """A folder that was there before an install keeps its rights, and stays when that is taken away. An empty CC names no compiler, and one of
+    two words a compiler with an option."""
     prefix, stub = room / "rights_prefix", room / "rights_stub" / "liblfi_verifier.a"
     put_stub(stub.parent, version, version)
     modes = {prefix: 0o711, prefix / "lib": 0o2770, prefix / "include": 0o700, prefix / "share": 0o1777}
     for folder, mode in modes.items():
         folder.mkdir()
         folder.chmod(mode)
-    for words in (["--library", "--no-program", "--archive", stub], ["--uninstall"]):
-        run(TOP / "install", "--prefix", prefix, *words, env={**os.environ, "CC": " "})
+    put, shared = ["--library", "--no-program", "--archive", stub], prefix / "lib" / "liblfi_verifier.so"
+    for words, compiler in (put, " "), (["--uninstall"], " "), (put, "cc -O1"), (["--uninstall"], "cc"):
+        run(TOP / "install", "--prefix", prefix, *words, env={**os.environ, "CC": compiler})
+        if shared.exists() != (words == put):
+            fail(f"install {words[0]} with CC={compiler!r}: a shared library is there: {shared.exists()}")
         found = {folder: folder.exists() and stat.S_IMODE(folder.stat().st_mode) for folder in modes}
         if found != modes:
             fail(f"after install {words[0]} the folders that were there have the modes {found.values()}, and not {modes.values()}")

@@ -57,7 +57,7 @@ static void handle(int number, siginfo_t *info, void *given) {
     now.ending = why(it, number, (uint64_t)info->si_addr, registers);
     /* HOST: code that was interrupted is gone on with exactly as it stood, or not at all */
     if (now.ending.halt == HALT_NONE) return;
-    /* HOST: The handler gets back by setting pc to code of the host's, sp to the host's stack, and BTYPE to 0 */
+    /* HOST: The handler gets back by setting pc to code of the host's, sp to the host's stack, and BTYPE to 0 (bits 10 and 11 of `pstate`, */
     registers->pc = (uint64_t)lfi_leave;
     registers->regs[0] = (uint64_t)&lfi_frame;
     registers->sp = lfi_frame.host_sp;

@@ -4,7 +4,7 @@ use lfi_verifier::{
     explain, mend, registers, verify, version, Event, Fault, ModuleNumber, Profile, Reason, RefusedWord, Rule, SlotMap, Status,
     Stream, StreamFault, Verifier, Violation, MAX_BYTES, MAX_WORDS, VERSION,
 };
-use std::{fs, path::Path};
+use std::{fmt::Debug, fs, path::Path};
 
 fn example(name: &str) -> Vec<u8> {
     fs::read(Path::new("../../examples").join(name)).expect("the example is there")
@@ -47,6 +47,27 @@ fn rules() {
         }
     }
     assert!(count > 20);
+}
+
+/// What a host keeps may be copied, and a copy of a state goes on by itself.
+#[test]
+fn copies() {
+    fn copied<T: Copy + Debug + PartialEq>(it: T) -> T {
+        it
+    }
+    let (nop, svc) = (code(&[0xD503_201F]), code(&[0xD400_0001]));
+    let mut first = Verifier::new(2, Profile::One).expect("two words");
+    assert_eq!(first.update(&nop), Ok(()));
+    let mut second = copied(first);
+    assert_eq!((first.update(&nop), second.update(&svc)), (Ok(()), refused(1, Rule::Spelled)));
+    assert_eq!((copied(first).finish(), copied(second).finish()), (Ok(()), refused(1, Rule::Spelled)));
+    copied((Rule::Spelled, Fault { word: 0, rule: Rule::Spelled }, Status::Lawful, Reason::Closed));
+    copied((ModuleNumber::new(3), StreamFault::Ended, Profile::Two, Violation::Incomplete));
+    let mut stream = Stream::new().expect("a stream");
+    let text = example("one_ret.stream");
+    assert_eq!(stream.read(&text[..12]).count(), 1);
+    let mut other = stream.clone();
+    assert_eq!((stream.read(&text[12..]).count(), other.end().count()), (2, 2));
 }
 
 #[test]
