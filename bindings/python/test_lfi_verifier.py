@@ -190,6 +190,16 @@ class Verifying(unittest.TestCase):
         for profile in 0, 3, -1, 2**32 + 1:
             self.assertRaises(ValueError, lfi_verifier.verify, acquire, profile)
 
+    def test_what_is_not_said(self):
+        """The profile is 1 and the module 0 where nothing else is said."""
+        code, fault = code_of(ACQUIRE), Fault(0, 1)
+        with self.assertRaises(Refused) as refused:
+            lfi_verifier.verify(code)
+        self.assertEqual(refused.exception.fault, fault)
+        self.assertIn("0x0000000100010000  c8dffe40  .inst 0xc8dffe40\n", lfi_verifier.explain(code, fault))
+        self.assertIn("ldar is an instruction of profile 2", lfi_verifier.explain(code, fault))
+        self.assertEqual(lfi_verifier.mend(code_of(0xC8DFFC20), Fault(0, 1)), None)
+
     def test_numbers_that_do_not_fit(self):
         """A number of which 32 bits are right is none, in each parameter of each call."""
         code = (EXAMPLES / "checksums_unguarded.code").read_bytes()
