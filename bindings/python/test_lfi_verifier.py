@@ -348,6 +348,7 @@ class Streaming(unittest.TestCase):
             events = self.told("checksums.stream", size)
             parts = [it for it in events if isinstance(it, Code)]
             self.assertEqual(b"".join(it.data for it in parts), code)
+            self.assertEqual({type(it.data) for it in parts}, {bytes})
             self.assertTrue(all(it.fault is None for it in parts) and parts[-1].ends_page)
             self.assertEqual(events[-1], End(1, 124, 1, Reason.CLOSED, 0, Status.LAWFUL, None))
 

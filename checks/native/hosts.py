@@ -290,12 +290,13 @@ def check_kinds(kinds):
 
 
 def check_timer(timer):
-    """A run has the time that the host's README says, and then no timer is left."""
+    """A run has the time that the host's README says, and then no timer is left. It goes off again, since it may come while the code enters or
+    leaves the runtime, when the host only takes a note."""
     rows = ([], "60.000000"), (["--seconds", "2.5"], "2.500000"), (["--seconds", "9.9999999"], "9.999999"), (["--seconds", "1000000"], "1000000.000000")
     for words, seconds in rows:
         done = run(timer, *words, EXAMPLES / "checksums.stream")
         told = re.findall(r"^timer: (.*)$", done.stderr.decode(), re.M)
-        if done.returncode or told != [seconds, "0.000000"]:
+        if done.returncode or told != [f"{seconds} again", "0.000000"]:
             fail(f"native_host {' '.join(words)}: it sets its timer to {told}, and not to {seconds} and then to 0")
 
 
