@@ -177,7 +177,8 @@ lfi_status lfi_verify_final(const lfi_state *LFI_RESTRICT state, lfi_fault *LFI_
 /* Tells a fault as text: the fault; the word that asks for what isn't met, where there is one; the word with its address in the
  * module's slot and its assembly text; what the rule asks; and how the word is mended. `words` is how many words the module
  * has, and `code` has the first `size` bytes of its code: all that came, or all. Looked at are the word at fault, up to four
- * before it, and the one after it, where it came. Ensures:
+ * before it, and the one after it, where it came. *fault is one that was told of this code: of another the text may say what
+ * isn't so. Ensures:
  *  - LFI_LAWFUL: *count is the length of the text, and `text` begins with it, as far as `room` bytes reach; there is no 0 at
  *    its end, and the bytes of `text` after it are as they were. Where `code` is the whole module, of module 0, it is the text
  *    that `lfiload check --explain` tells of this fault, without the end of its last line; of another module the addresses are

@@ -24,6 +24,8 @@ from lib.cases import NOP, RET, wrong
 from lib.serving import connected, refused_last
 
 LOADS, SERVES, TOLD, SECONDS = 60, 40, 30, 60
+# How many places there are at least.
+FEWEST = 50
 # Words of a module: of few pages, and in each third load of so many that receivers wait for verifiers.
 FEW, MANY = 30_000, 300_000
 ATOMIC = re.compile(r"^ +([0-9a-f]+):\s+(lock (?:cmpxchg|xadd|and|or|xor|bt)|xchg .*\()", re.M)
@@ -220,6 +222,8 @@ def try_noise(program):
         print("noise: left out, since this isn't x86-64 with objdump")
         return
     sites, before = sites_of(program), os.getcwd()
+    if len(sites) < FEWEST or not any(sites.values()):
+        wrong("noise", "the places at which threads agree", len(sites), f"at least {FEWEST}")
     with tempfile.TemporaryDirectory() as folder:
         for module in range(4):
             for count in FEW, MANY:
