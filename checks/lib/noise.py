@@ -41,11 +41,11 @@ def sites_of(program):
 
 
 class Run(traced.Traced):
-    """A run whose threads are held at these places, or its first one, which is the sequencers' where streams are loaded."""
+    """A run whose threads are held at these places; or its first one alone, which is the sequencers' where streams are loaded."""
 
-    def __init__(self, program, words, out, err, sites, source, is_first=False):
+    def __init__(self, program, words, out, err, sites, source, first_alone=False):
         super().__init__(program, words, out, err)
-        self.writes = {at for at, writes in sites.items() if writes} if is_first else None
+        self.writes = {at for at, writes in sites.items() if writes} if first_alone else None
         self.base, _ = traced.mapped(self.pid, program)
         self.source, self.late, self.held = source, [], 0
         self.bytes = {self.base + it: self.read(self.base + it, 1) for it in sites}
@@ -121,10 +121,10 @@ def ptrace_on(thread, caught=0):
     traced.libc.ptrace(traced.CONT, thread, None, ctypes.c_void_p(caught))
 
 
-def trace(program, words, sites, number, clients=(), is_first=False):
+def trace(program, words, sites, number, clients=(), first_alone=False):
     """What a run prints, and its status; and how often a thread was held. Clients begin when it does."""
     with open("out", "w+b") as out, open("err", "w+b") as err:
-        run = Run(str(program), [str(program), *words], out, err, sites, random.Random(f"noise {number}"), is_first)
+        run = Run(str(program), [str(program), *words], out, err, sites, random.Random(f"noise {number}"), first_alone)
         for client in clients:
             client.start()
         status = run.end()

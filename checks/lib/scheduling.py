@@ -129,7 +129,8 @@ def call_of(process, thread):
 
 
 def threads_of(process, streams, verifiers=1):
-    """The threads that read, a stream each, and the others, once all are there: one more than verifiers, and those behind the first."""
+    """The threads that read, a stream each, and the others, once all are there: the sequencers' first, which is the process's, then the
+    verifiers'."""
     until = time.monotonic() + SECONDS
     while time.monotonic() < until:
         threads = sorted(int(it) for it in os.listdir(f"/proc/{process}/task"))
@@ -214,9 +215,9 @@ def take_over(program, which):
         hold(held)
         writer = Writer(out, parts)
         writer.start()
-        count = writer.settled()
-        if count != len(parts):
-            wrong("held", f"verifier {which} of two is held", f"{count} messages are taken in", len(parts))
+        writer.join(SECONDS)
+        if writer.count != len(parts):
+            wrong("held", f"verifier {which} of two is held", f"{writer.count} messages are taken in", len(parts))
         let_go(held)
         ended("held", words, running, f"module 0: complete, {1024 * (PAGES - 1) + 1} words\nstrays 0\n")
 
