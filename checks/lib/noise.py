@@ -167,7 +167,7 @@ def serve(program, sites, number):
 
 class Pipes(threading.Thread):
     """Three streams of a load that stay: these parts go to the first two, by which so many modules are refused; then messages that no module
-    takes, until that is told of each."""
+    takes to all three, until that is told of each."""
 
     def __init__(self, paths, parts, pause, modules):
         super().__init__(daemon=True)
@@ -182,7 +182,8 @@ class Pipes(threading.Thread):
             time.sleep(self.pause)
         until = time.monotonic() + SECONDS / 3
         while not self.is_told and time.monotonic() < until:
-            streams[2].write(formats.header(formats.CLOSE, 0, 15, 0, 0))
+            for stream in streams:
+                stream.write(formats.header(formats.CLOSE, 0, 15, 0, 0))
             time.sleep(0.01)
             self.is_told = os.path.getsize("err") >= self.wanted
         for stream in streams:
