@@ -137,6 +137,13 @@ def try_words(room):
         fail(f"checks/build stamps a library of sources that changed meanwhile {stamp}, where the build began with {begun}")
 
 
+def wait_for(file, running):
+    """Waits until a build has come to the call that makes this file, or has ended. Answers whether it has come there."""
+    while not file.exists() and running.poll() is None:
+        time.sleep(0.05)
+    return file.exists()
+
+
 def try_ending(room):
     """A signal ends the checks that run; the crates' folders out/ are put back, and no scratch folder stays."""
     top, found, _ = put_tree(room / "ended")
@@ -148,40 +155,32 @@ def try_ending(room):
         waits.unlink(missing_ok=True)
         began = time.monotonic()
         running = subprocess.Popen([top / "checks" / "build"], env={**found, "WAITS": str(waits), "TMPDIR": str(scratch)}, stdout=subprocess.DEVNULL)
-        while not waits.exists() and running.poll() is None:
-            time.sleep(0.05)
+        wait_for(waits, running)
         running.send_signal(number)
         status, took = running.wait(), time.monotonic() - began
         if status != 128 + number or took > 30 or not kept.exists() or list(scratch.glob("build-*")):
             fail(f"checks/build, ended by {number.name}: status {status} after {took:.0f} s, {list(scratch.glob('build-*'))}, out/ is back: {kept.exists()}")
 
 
-def lines_of(file):
-    return file.read_text().splitlines() if file.exists() else []
-
-
 def try_beside(room):
     """Of two builds in a checkout the second one begins when the first has ended: until then what was kept of a crate is elsewhere."""
     top, found, _ = put_tree(room / "beside")
-    kept, waits, asked = top / "crates" / "low" / "out" / "kept", room / "beside" / "waits", room / "beside" / "tools" / "asked"
+    kept, waits, again = top / "crates" / "low" / "out" / "kept", room / "beside" / "waits", room / "beside" / "again"
     kept.parent.mkdir()
     kept.write_text("kept")
     build = [top / "checks" / "build", "low"]
     first = subprocess.Popen(build, env={**found, "WAITS": str(waits)}, stdout=subprocess.DEVNULL)
-    while not waits.exists() and first.poll() is None:
-        time.sleep(0.05)
-    second = subprocess.Popen(build, env={**found, "WAITS": str(room / "beside" / "again")}, stdout=subprocess.DEVNULL)
+    wait_for(waits, first)
+    second = subprocess.Popen(build, env={**found, "WAITS": str(again)}, stdout=subprocess.DEVNULL)
     time.sleep(2)
-    early = second.poll(), (room / "beside" / "again").exists()
+    early = second.poll(), again.exists()
     first.terminate()
     first.wait()
-    while not (room / "beside" / "again").exists() and second.poll() is None:
-        time.sleep(0.05)
-    began = (room / "beside" / "again").exists()
+    began = wait_for(again, second)
     second.terminate()
     second.wait()
     left = sorted(it.name for it in kept.parent.iterdir())
-    if early != (None, False) or not began or "kept" not in left or "out" in left or lines_of(asked):
+    if early != (None, False) or not began or "kept" not in left or "out" in left:
         fail(f"checks/build beside another one: before that had ended {early}, then {began}, and out/ has {left}")
 
 

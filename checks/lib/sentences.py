@@ -146,8 +146,8 @@ def reach(room):
     """The furthest offsets of the words that reach furthest, as they are listed; a pair has two registers of 8 bytes."""
     (room.folder / "it.code").write_bytes(formats.code_of(*REACHING))
     offsets = [int(it) for it in re.findall(rb"#(-?\d+)\]", room.run("disassemble", "it.code")[1])]
-    refused = room.run("check", "it.code")
-    return (len(offsets), max(offsets), min(offsets), refused[0]) == (8, 32_760, -512, 0), (offsets, refused)
+    checked = room.run("check", "it.code")
+    return (len(offsets), max(offsets), min(offsets), checked[0]) == (8, 32_760, -512, 0), (offsets, checked)
 
 
 def reserved(_):
