@@ -2,11 +2,14 @@
 
 import array
 import ctypes
+import mmap
 import pathlib
 import pickle
 import re
 import sys
+import tempfile
 import threading
+import tracemalloc
 import unittest
 from unittest import mock
 
@@ -419,6 +422,38 @@ class Streaming(unittest.TestCase):
                     first(stream)
                     other.join()
                 self.assertEqual(waits, [True])
+                if second is Stream.end:  # nothing is read behind the end, also where the end came second
+                    self.assertEqual(stream.read(module_of(0, 4)), [])
+
+    def test_many_strays(self):
+        """Of a long stream nothing is kept."""
+        stream = Stream()
+        tracemalloc.start()
+        self.addCleanup(tracemalloc.stop)
+        for _ in range(50):
+            self.assertEqual(stream.read(header(3, 0, 9, 0, 0) * 1_000), [Stray(9)] * 1_000)
+        self.assertLess(tracemalloc.get_traced_memory()[0], 300_000)
+
+    def test_other_streams_go_on(self):
+        """While a thread is in a call of a stream, another thread reads another stream, and comes to its end."""
+        call, other, ends = LIBRARY.lfi_stream_next, Stream(), []
+
+        def reads():
+            other.read(b"\1")
+            ends.append(other.end())
+
+        def called(*given):
+            if given[0] is not other._numbers and not ends:
+                thread = threading.Thread(target=reads)
+                thread.start()
+                thread.join(5)
+                waits.append(thread.is_alive())
+            return call(*given)
+
+        waits = []
+        with mock.patch.object(LIBRARY, "lfi_stream_next", called):
+            Stream().read(b"\1")
+        self.assertEqual(waits, [False])
 
     def test_reads_of_several_threads(self):
         """The bytes of a read are handled together, whatever other threads read meanwhile: each of 16 modules comes whole."""
@@ -437,6 +472,17 @@ class Streaming(unittest.TestCase):
             self.assertFalse([it for it in events if isinstance(it, StreamFault)])
             ends = [(it.module, it.verdict) for it in events if isinstance(it, End)]
             self.assertEqual(sorted(ends), [(at, Status.LAWFUL) for at in range(16)])
+
+    def test_a_length_of_more_than_32_bits(self):
+        """Bytes of which there are 2^32 more than of a lawful word are no code."""
+        with tempfile.TemporaryFile() as file:
+            file.write(code_of(RET))
+            file.truncate(2**32 + 4)
+            with mmap.mmap(file.fileno(), 2**32 + 4) as many:
+                first = (ctypes.c_char * 4).from_buffer(many)
+                status = LIBRARY.lfi_verify(first, len(many), 1, lfi_verifier._Fault())
+                del first
+        self.assertEqual(status, Status.BAD_LENGTH)
 
     def test_other_threads_go_on(self):
         """While code is judged the interpreter's lock is free (ctypes: CDLL, and not PyDLL)."""

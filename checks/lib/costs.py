@@ -92,6 +92,7 @@ WORK = (
     (["info", "mixed.img"], 0, 330_000),
     (["info", "mixed.stream"], 0, 80_000),
     (["run", "straight.img", "--steps", "4096"], 0, 930_000),
+    (["run", "long.img", "--steps", "16384"], 0, 3_400_000),
     (["run", "singles.img", "--steps", "1024"], 0, 350_000),
     (["run", "pairs.img", "--steps", "1024"], 0, 400_000),
     (["unpack", "mixed.img"], 0, 310_000),
@@ -109,6 +110,7 @@ def try_work(program):
         for name, content in (
             ("mixed.code", mixed), ("mixed.img", formats.image(0, 0, mixed)), ("mixed.stream", formats.stream(0, mixed)),
             ("refused.code", (RET + bytes(4)) * 50), ("straight.img", formats.image(0, 0, NOP * 4_096)),
+            ("long.img", formats.image(0, 0, NOP * 16_384)),
             # stur x0, [sp, #-16]; then ldur x0, [sp, #-16], or ldp x0, x1, [sp, #-16]
             *((f"{name}.img", formats.image(0, 0, formats.code_of(0xF81F03E0, *[word] * 1_023))) for name, word in (("singles", 0xF85F03E0), ("pairs", 0xA97F07E0))),
         ):

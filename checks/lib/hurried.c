@@ -1,6 +1,6 @@
 /* Loaded before the C library (LD_PRELOAD): a sleep takes no time, and for the program its time goes by; so a wait for a word of memory
- * that has a limit of time, which nobody ends within a millisecond. At its end the program's seconds are written to the file that
- * HURRIED names. For checks/lib/serving.py, on Linux. */
+ * that has a limit of time, which nobody ends within a millisecond. At its end the program's seconds, and the microseconds
+ * of its longest sleep, are written to the file that HURRIED names. For checks/lib/serving.py, on Linux. */
 #define _GNU_SOURCE
 #include <errno.h>
 #include <linux/futex.h>
@@ -17,8 +17,8 @@
 /* A longer wait, in seconds, has no limit of time. */
 #define LONGEST 1000000L
 
-/* How much time went by without being waited for, in nanoseconds. */
-static atomic_llong slept;
+/* How much time went by without being waited for, and the longest sleep, in nanoseconds. One thread sleeps. */
+static atomic_llong slept, longest;
 
 /* A call of the system, which no other library has to be asked for. */
 static long call(long number, long a, long b, long c, long d, long e, long f) {
@@ -46,6 +46,7 @@ int clock_gettime(clockid_t clock, struct timespec *now) {
 int nanosleep(const struct timespec *time, struct timespec *left) {
     (void)left;
     slept += nanos_of(time);
+    if (nanos_of(time) > longest) longest = nanos_of(time);
     return sched_yield();
 }
 
@@ -75,7 +76,7 @@ long syscall(long number, ...) {
 void _exit(int status) {
     FILE *file = getenv("HURRIED") ? fopen(getenv("HURRIED"), "w") : NULL;
     if (file) {
-        fprintf(file, "%lld\n", slept / NANOS);
+        fprintf(file, "%lld %lld\n", slept / NANOS, longest / 1000);
         fclose(file);
     }
     for (;;) call(SYS_exit_group, status, 0, 0, 0, 0, 0);

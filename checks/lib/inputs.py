@@ -1,6 +1,7 @@
 """The parts of checks/hostile on what the program reads: inputs of all kinds, and code of the most words."""
 
 import fcntl
+import json
 import os
 import pathlib
 import resource
@@ -152,15 +153,20 @@ def try_long_stream(program):
     """A stream of more than 2^32 bytes, by a pipe: pages and Closes that no module takes, a module, and a message that isn't whole."""
     pages = (formats.header(5, 0, 9, 0, LARGE_PAGE) + bytes(LARGE_PAGE)) * 500
     rest = formats.header(formats.CLOSE, 0, 9, 0, 0) * 60_000 + formats.stream(3, RET)
-    load = subprocess.Popen([program, "load", "--explain", "/dev/stdin"], stdin=subprocess.PIPE, stdout=subprocess.PIPE, text=False)
-    for _ in range(525):
-        load.stdin.write(pages)
-    came = load.communicate(rest + b"\x01", timeout=60)[0].decode().splitlines()
+    told = []
+    for words in ["--explain"], ["--format", "json"]:
+        load = subprocess.Popen([program, "load", *words, "/dev/stdin"], stdin=subprocess.PIPE, stdout=subprocess.PIPE, text=False)
+        for _ in range(525):
+            load.stdin.write(pages)
+        told.append(load.communicate(rest + b"\x01", timeout=60)[0].decode())
+    came, by_object = told[0].splitlines(), json.loads(told[1])["connections"][0]
     strays = 525 * 500 + 60_000
     wanted = ["module 3: complete, 1 words", "connection 0: fault 9", f"strays {strays}", "module 3: from connection 0",
               "connection 0: input ended too early", f"  message at byte {525 * len(pages) + len(rest)} of /dev/stdin", f"connection 0: strays {strays}"]
     if came != wanted or 525 * len(pages) <= 1 << 32:
         wrong("inputs", "a long stream", came, wanted)
+    if (by_object["byte"], by_object["strays"]) != (525 * len(pages) + len(rest), strays):
+        wrong("inputs", "a long stream, as an object", by_object, wanted)
 
 
 def try_standard_inputs(program, folder, command):

@@ -10,6 +10,7 @@ import shutil
 import stat
 import subprocess
 import sys
+import tempfile
 
 from lib.tree import TOP, script
 
@@ -105,6 +106,18 @@ def compare_contents(prefix, archive):
         fail(f"installed with other bytes than the tree's: {differ}")
 
 
+# Commands that CMake 3.10 has, by its manual cmake-commands(7).
+CMAKE_COMMANDS = {"add_library", "else", "elseif", "endif", "get_filename_component", "if", "set", "set_target_properties", "unset"}
+
+
+def compare_cmake(prefix):
+    """What is installed for CMake has commands that its version 3.10 has."""
+    for file in sorted((prefix / "lib" / "cmake" / "lfi_verifier").iterdir()):
+        asked = set(re.findall(r"^ *(\w+) *\(", file.read_text(), re.M))
+        if not asked or asked - CMAKE_COMMANDS:
+            fail(f"{file.name} asks CMake for {sorted(asked - CMAKE_COMMANDS)}")
+
+
 def files_in(prefix):
     """All files and links there."""
     return [it for it in prefix.rglob("*") if it.is_symlink() or not it.is_dir()]
@@ -123,6 +136,16 @@ def try_files_of_others(prefix, words):
         if files_in(prefix) != [page] or page.read_text() != "another page\n":
             fail(f"an install that replaces nothing of somebody else leaves {files_in(prefix)}")
     page.unlink()
+    # Nor is one where the program alone is installed.
+    header = prefix / "include" / "lfi_verifier.h"
+    run(TOP / "install", "--prefix", prefix)
+    header.parent.mkdir(parents=True, exist_ok=True)
+    header.write_text("another header\n")
+    before = {it: it.read_bytes() for it in files_in(prefix)}
+    run(*words, status=1)
+    if {it: it.read_bytes() for it in files_in(prefix)} != before:
+        fail("an install of the library beside the program replaces a header of somebody else, or writes something")
+    header.unlink()
     run(*words)
     mine.write_text("mine\n")
     page.unlink()
@@ -201,6 +224,27 @@ def try_full_disk(prefix):
         fail(f"left of a first install that failed, after --uninstall: {sorted(map(str, prefix.rglob('*')))}")
 
 
+def try_one_after_another(prefix, words):
+    """The program first and the library later, or the other way round: --uninstall leaves nothing, also of the prefix."""
+    for first, second in (words[3:], []), ([], words[3:]):
+        for more in first, second, ["--uninstall"]:
+            run(*words[:1], "--prefix", prefix, *more)
+        if prefix.exists():
+            fail(f"left of two installs, {first} and then {second}: {sorted(map(str, prefix.rglob('*')))}")
+
+
+def try_another_disk(prefix, words):
+    """An install, and an uninstall, where the folder for scratch files is on another file system than the prefix."""
+    place = pathlib.Path("/dev/shm")
+    if not place.is_dir() or place.stat().st_dev == prefix.parent.stat().st_dev:
+        return
+    with tempfile.TemporaryDirectory(dir=place) as scratch:
+        for more in words[3:], ["--uninstall"]:
+            run(*words[:1], "--prefix", prefix, *more, env={**os.environ, "TMPDIR": scratch})
+        if prefix.exists() or os.listdir(scratch):
+            fail(f"an install with TMPDIR on another file system leaves {sorted(map(str, prefix.rglob('*')))}, {os.listdir(scratch)}")
+
+
 def try_failures(prefix):
     """An install that can't put a file in its place leaves none beside it. Where nobody reads what it tells, and of a record that is
     none, a line says so."""
@@ -261,6 +305,8 @@ def try_stops(room, archive):
     run(TOP / "install", "--prefix", "stops/prefix", cwd=room)
     before = {it: (it.stat().st_mtime_ns, it.read_bytes()) for it in files_in(prefix)}
     library = ["--library", "--archive", archive]
+    # Of the program alone nothing is linked.
+    run(TOP / "install", "--check", "--prefix", "stops/prefix", "--archive", archive, cwd=room, env={**os.environ, "CC": "no-compiler"})
     stops = (
         (["--no-program"], {}, "nothing to install: --no-program goes with --library"),
         (["--library", "--archive", missing], {}, f"{missing} isn't there: checks/build --library proves and builds it"),
@@ -365,7 +411,7 @@ def try_without_git(top, prefix):
 
 
 def try_upgrade(top, prefix):
-    """An install in the place of another that fails midway is on record with both: --check tells what is of the one before, and --uninstall
+    """An install in the place of another that fails midway, twice, is on record with both: --check tells what is of the one before, and --uninstall
     leaves nothing; so where it is done again."""
     program, page = top / "crates" / "lfiload" / "out" / "lfiload", top / "docs" / "lfiload.1"
     words = [top / "install", "--prefix", prefix]
@@ -374,9 +420,10 @@ def try_upgrade(top, prefix):
         run(*words)
         page.write_text(page.read_text() + f"{again}\n")
         program.write_bytes(b"#!/bin/sh\n" + bytes(100_000))
-        told = subprocess.run(words, capture_output=True, text=True, preexec_fn=up_to_64_kib)
-        if told.returncode != 1 or told.stderr != f"install: {prefix / 'bin' / 'lfiload'}: File too large\n":
-            fail(f"an install in the place of another that can't write the program: status {told.returncode}, {told.stderr}")
+        for _ in range(2):
+            told = subprocess.run(words, capture_output=True, text=True, preexec_fn=up_to_64_kib)
+            if told.returncode != 1 or told.stderr != f"install: {prefix / 'bin' / 'lfiload'}: File too large\n":
+                fail(f"an install in the place of another that can't write the program: status {told.returncode}, {told.stderr}")
         if (prefix / "bin" / "lfiload").read_text() != "#!/bin/sh\n":
             fail("an install that fails in the place of another takes its program away")
         told = run(*words, "--check", status=1)

@@ -290,20 +290,44 @@ def try_one_ends_late(program):
     """`serve --seconds 4` of two clients, one of which ends after three seconds, and the other one stays: it ends as soon as without that."""
     for _ in range(5):
         with tempfile.TemporaryDirectory() as folder:
-            path, begin = os.path.join(folder, "s"), time.monotonic()
+            path, begin, before = os.path.join(folder, "s"), time.monotonic(), resource.getrusage(resource.RUSAGE_CHILDREN)
             words = [program, "serve", "--socket", path, "--connections", "2", "--seconds", "4"]
             serve = subprocess.Popen(words, stdout=subprocess.PIPE, stderr=subprocess.PIPE, text=True)
             with connected(path) as first, connected(path):
                 time.sleep(max(0, begin + 3 - time.monotonic()))
                 first.close()
                 came = *serve.communicate(timeout=60), serve.returncode
+            used = sum(resource.getrusage(resource.RUSAGE_CHILDREN)[:2]) - sum(before[:2])
             seconds, wanted = time.monotonic() - begin, ("strays 0\n", "lfiload: time is over: connection 1 had not ended\n", 1)
             if came != wanted or seconds < 4:
                 wrong("limit", "two clients, one of which ends after three seconds", (came, seconds), (wanted, "at least four seconds"))
+            if used > 0.5:
+                wrong("limit", "two clients, one of which ends after three seconds", used, "at most half a second of a processor")
             # Busy cores may make one late.
             if seconds < 4.8:
                 return
     wrong("limit", "two clients, one of which ends after three seconds", seconds, "less than 4.8 seconds, once in five times")
+
+
+def try_eight_stay(program):
+    """`serve` with a limit, and eight clients that send a module each and stay: each is cut off, and what it has sent is read."""
+    with tempfile.TemporaryDirectory() as folder, contextlib.ExitStack() as open_ones:
+        path = os.path.join(folder, "s")
+        words = [program, "serve", "--socket", path, "--connections", "8", "--seconds", "2"]
+        serve = open_ones.enter_context(subprocess.Popen(words, stdout=subprocess.PIPE, stderr=subprocess.PIPE, text=True))
+        clients = [open_ones.enter_context(connected(path)) for _ in range(8)]
+        for module, client in enumerate(clients):
+            client.sendall(formats.stream(module, RET))
+            client.settimeout(20)
+        try:
+            came = *serve.communicate(timeout=20), serve.returncode, [client.recv(1) for client in clients]
+        except (TimeoutError, subprocess.TimeoutExpired):
+            serve.kill()
+            came = "it doesn't end"
+    report = "".join(f"module {module}: complete, 1 words\n" for module in range(8)) + "strays 0\n"
+    wanted = report, "".join(f"lfiload: time is over: connection {c} had not ended\n" for c in range(8)), 1, [b""] * 8
+    if came != wanted:
+        wrong("limit", "eight clients that stay", came, wanted)
 
 
 # COMMANDS: What a client has sent by then is still read.
@@ -374,7 +398,7 @@ def hurried(folder):
 
 def try_hours(program):
     """`serve` with a limit of two hours, for which nobody comes, or of a day, with a client that stays and is silent: each time it waits
-    for all of it."""
+    for all of it. While it waits for whoever comes it never sleeps long."""
     with tempfile.TemporaryDirectory() as folder:
         library = hurried(folder)
         for limit, comes in ((7200, False), (86_400, True)) if library else ():
@@ -389,9 +413,9 @@ def try_hours(program):
                 serve.kill()
                 told = serve.communicate()[1], None
             wanted = f"lfiload: time is over: connection 0 had not {'ended' if comes else 'come'}\n", 1 if comes else 3
-            waited = int(kept.read_text()) if kept.exists() else -1
-            if told != wanted or not limit - 60 <= waited <= limit + 60:
-                wrong("limit", f"{limit} hurried seconds, with a client: {comes}", (told, waited), (wanted, f"about {limit}"))
+            waited, longest = map(int, kept.read_text().split()) if kept.exists() else (-1, -1)
+            if told != wanted or not limit - 60 <= waited <= limit + 60 or longest > 20_000:
+                wrong("limit", f"{limit} hurried seconds, with a client: {comes}", (told, waited, longest), (wanted, f"about {limit}", "at most 20,000 us a sleep"))
     return "two hours and a day were waited for" if library else "no hours were waited for, since cc isn't here"
 
 
@@ -424,6 +448,7 @@ def try_limit(program):
     try_one_limit(program, 2, 2.9)
     try_one_limit(program, 1, 2.9)
     try_one_ends_late(program)
+    try_eight_stay(program)
     try_client_in_time(program)
     try_sent_in_time(program)
     try_one_after_another(program)
@@ -431,7 +456,7 @@ def try_limit(program):
     try_no_limit(program)
     print(
         "limit: `serve --seconds 4` without a client, and with one that comes after 2.9, of two and of one, and one of two that ends after 3: it ends after four seconds "
-        "and before 4.8, and tells of each connection in one write; with a long limit one that comes after three is heard at once; what was sent in time is read; "
+        "and before 4.8, and tells of each connection in one write; of eight that stay each is cut off; with a long limit one that comes after three is heard at once; what was sent in time is read; "
         f"of eight that end one after another all are heard; {hours}"
     )
 

@@ -6,9 +6,11 @@ import pathlib
 import platform
 import re
 import resource
+import shutil
 import struct
 import subprocess
 import sys
+import time
 
 HERE = pathlib.Path(__file__).resolve().parent
 sys.path.insert(0, str(HERE.parent))
@@ -78,6 +80,18 @@ def run(program, *words, **more):
 # ---- how it is built
 
 
+def build_by_readme(host, archive):
+    """Builds the host by the README's line, without words, in a tree whose archive is where `checks/build --library` puts it."""
+    place = host.parent.parent / "out" / "aarch64-unknown-linux-gnu"
+    place.mkdir(parents=True)
+    (place / "liblfi_verifier.a").symlink_to(archive)
+    own = {"CC": COMPILER} if IS_AARCH64 else {}
+    plain = {name: value for name, value in os.environ.items() if name != "CC"}
+    told = subprocess.run([host / "make"], capture_output=True, text=True, env={**plain, **own})
+    if told.returncode or told.stderr or not (host / "out" / "native_host").exists():
+        fail(f"make without words builds no host: {told.stdout}{told.stderr}")
+
+
 def build(room, archive, name, *flags):
     """Builds a host, or another program over the host's files."""
     made = room / name
@@ -87,10 +101,15 @@ def build(room, archive, name, *flags):
         sources = [*files, HERE / f"{name}.c", archive]
         told = subprocess.run([COMPILER, *words, *sources, *LINKED.get(name, []), "-o", made], capture_output=True, text=True)
     else:
-        # A checkout may lie below a folder with a space. Hosts are built side by side, so each has a link of its own.
+        # A checkout may lie below a folder with a space. Hosts are built side by side, so each has a tree and a link of its own.
         spaced = room / f"archive of {name}.a"
         spaced.symlink_to(archive)
-        told = subprocess.run([HOST / "make", *flags, made, spaced], capture_output=True, text=True, env={**os.environ, "CC": COMPILER})
+        host = room / f"tree of {name}" / "examples" / HOST.name
+        shutil.copytree(HOST, host, ignore=shutil.ignore_patterns("out"))
+        shutil.copytree(TOP / "include", host.parent.parent / "include")
+        if name == "native_host":
+            build_by_readme(host, archive)
+        told = subprocess.run([host / "make", *flags, made, spaced], capture_output=True, text=True, env={**os.environ, "CC": COMPILER})
     if told.returncode or told.stderr:
         fail(f"{name} isn't built: {told.stdout}{told.stderr}")
     return made
@@ -464,7 +483,8 @@ def check_told(host, room, corpus):
     if not takes_many(host, room):
         fail("native_host --batch, with more files than it may have open: not all were run")
     tell_full(host, room)
-    return count + 4
+    tell_late(host, room)
+    return count + 6
 
 
 def takes_many(host, room):
@@ -483,6 +503,18 @@ def tell_full(host, room):
             done = subprocess.run([*RUNNER, host, *words], cwd=room, stdout=full, stderr=subprocess.PIPE, timeout=60)
         if (done.returncode, done.stderr) != wanted:
             fail(f"native_host {' '.join(map(str, words))}, to a device that is full: {done}, and not {wanted}")
+
+
+def tell_late(host, room):
+    """A run whose time is up while its output waits for a reader is told as one whose time is up, and its process ends well."""
+    (room / "endless.img").write_bytes(formats.image(0, 0, formats.code_of(*programs.call(1), programs.branch(-2))))
+    for words in ["endless.img"], ["--batch", "endless.img"]:
+        with subprocess.Popen([*RUNNER, host, "--seconds", "1", *words], cwd=room, stdout=subprocess.PIPE, stderr=subprocess.PIPE) as running:
+            time.sleep(2)
+            out, err = running.communicate(timeout=60)
+        told = out.split(b" ", 3)[-1] if words[1:] else err
+        if running.returncode or told != b"halt 1\n":
+            fail(f"native_host {' '.join(words)}, of which nobody reads until its time is up: status {running.returncode}, {told[:80]}, {err}")
 
 
 def check_escapes(hosts, room):

@@ -1,7 +1,8 @@
 /* 16 slots in one process, a thread each, all at once: threads CODE TIMES runs the same code of profile 1 so often in each slot, and prints
  * a line for each run: the slot, the output, how it ended. Then each thread runs NOP and BRK in its slot so often that signals come in
- * several threads at once, and prints how many of these runs ended at the BRK. At the end it prints how many threads had a stack for signals
- * that shares no byte with another one's. Made of the files of examples/native_host but command.c. */
+ * several threads at once, and prints how many of these runs ended at the BRK; then NOP alone, and whether that ended behind it. At the end
+ * it prints how many threads had a stack for signals that shares no byte with another one's. Made of the files of examples/native_host but
+ * command.c. */
 #include "native_host.h"
 #include <pthread.h>
 
@@ -50,7 +51,9 @@ static void print_breaks(const slot *it) {
         ending how = run_slot(it, 0, put);
         right += how.halt == HALT_BREAK && how.at == code_of(it) + 4;
     }
-    printf("%zu breaks %d\n", (size_t)(it - slots), right);
+    fill((uint32_t)(it - slots), code, sizeof *code); /* the NOP alone: what was behind it isn't there any more */
+    ending how = run_slot(it, 0, put);
+    printf("%zu breaks %d, fresh %d\n", (size_t)(it - slots), right, how.halt == HALT_FETCH && how.at == code_of(it) + 4);
 }
 
 static void *enter(void *given) {

@@ -72,7 +72,7 @@ void prepare_thread(void) {
 
 void prepare_process(void) {
     static const int signals[] = {SIGSEGV, SIGBUS, SIGILL, SIGTRAP, SIGALRM};
-    struct sigaction action = {.sa_sigaction = handle, .sa_flags = SA_SIGINFO | SA_ONSTACK};
+    struct sigaction action = {.sa_sigaction = handle, .sa_flags = SA_SIGINFO | SA_ONSTACK | SA_RESTART}; /* a write goes on */
     sigfillset(&action.sa_mask);
     prepare_thread();
     for (size_t i = 0; i < sizeof signals / sizeof *signals; i++)

@@ -91,6 +91,8 @@ fn pieces_of_a_profile() {
     assert_eq!(verifier.update(&guard), refused(0, Rule::Spelled));
     assert_eq!(verifier.update(&[]), refused(0, Rule::Spelled));
     assert_eq!(verifier.finish(), refused(0, Rule::Spelled));
+    // Behind the refusal it counts on, and a piece that isn't due is told.
+    assert_eq!((verifier.judged(), verifier.update(&guard)), (2, Err(Violation::BadLength)));
 }
 
 /// The headings of docs/PROFILE.md, "Rules".
