@@ -87,21 +87,28 @@ def try_reads(program):
 WORK = (
     (["check", "mixed.code"], 0, 300_000),
     (["check", "--explain", "mixed.code"], 0, 310_000),
+    (["check", "--profile", "2", "late.code"], 0, 900_000),
+    (["check", "--profile", "2", "ordered.code"], 0, 400_000),
     (["check", "--all", "refused.code"], 1, 430_000),
+    (["check", "--all", "--profile", "2", "calm.code"], 1, 1_000_000),
     (["disassemble", "refused.code"], 0, 330_000),
+    (["disassemble", "--check", "--profile", "2", "calm.code"], 0, 3_300_000),
     (["info", "mixed.img"], 0, 330_000),
     (["info", "mixed.stream"], 0, 80_000),
     (["run", "straight.img", "--steps", "4096"], 0, 930_000),
     (["run", "long.img", "--steps", "16384"], 0, 3_400_000),
     (["run", "singles.img", "--steps", "1024"], 0, 350_000),
     (["run", "pairs.img", "--steps", "1024"], 0, 400_000),
+    (["run", "odd_singles.img", "--steps", "1024"], 0, 400_000),
+    (["run", "odd_pairs.img", "--steps", "1024"], 0, 450_000),
     (["unpack", "mixed.img"], 0, 310_000),
     (["pack", "mixed.code"], 0, 90_000),
 )
 
 
 def try_work(program):
-    """How many instructions a command executes on 8,192 words, or on fewer where one costs more: no clause says how much work a body is."""
+    """How many instructions a command executes on 8,192 words, or on fewer where one costs more: no clause says how much work a body is.
+    Of calm.code each 50th word is refused, and any of its words may stand between a move of sp and its probe."""
     if not shutil.which("cc"):
         print("work: left out, since cc isn't here")
         return
@@ -111,8 +118,17 @@ def try_work(program):
             ("mixed.code", mixed), ("mixed.img", formats.image(0, 0, mixed)), ("mixed.stream", formats.stream(0, mixed)),
             ("refused.code", (RET + bytes(4)) * 50), ("straight.img", formats.image(0, 0, NOP * 4_096)),
             ("long.img", formats.image(0, 0, NOP * 16_384)),
-            # stur x0, [sp, #-16]; then ldur x0, [sp, #-16], or ldp x0, x1, [sp, #-16]
-            *((f"{name}.img", formats.image(0, 0, formats.code_of(0xF81F03E0, *[word] * 1_023))) for name, word in (("singles", 0xF85F03E0), ("pairs", 0xA97F07E0))),
+            # sub sp, sp, #16; add x0, x0, #1; nop; ldr xzr, [sp]
+            ("late.code", formats.code_of(0xD10043FF, 0x91000400, 0xD503201F, 0xF94003FF) * 2_048),
+            # add x18, x21, w1, uxtw; ldar x0, [x18]; stlr x0, [x18]; nop
+            ("ordered.code", formats.code_of(0x8B2142B2, 0xC8DFFE40, 0xC89FFE40, 0xD503201F) * 2_048),
+            # mov x21, x0, behind 49 times nop
+            ("calm.code", (NOP * 49 + formats.code_of(0xAA0003F5)) * 20),
+            # stur x0, [sp, #-16]; then ldur x0, [sp, #-16], or -17, or ldp x0, x1, [sp, #-16], or -24
+            *(
+                (f"{name}.img", formats.image(0, 0, formats.code_of(0xF81F03E0, *[word] * 1_023)))
+                for name, word in (("singles", 0xF85F03E0), ("odd_singles", 0xF85EF3E0), ("pairs", 0xA97F07E0), ("odd_pairs", 0xA97E87E0))
+            ),
         ):
             pathlib.Path(folder, name).write_bytes(content)
         steps.build(folder)
