@@ -116,6 +116,8 @@ def try_together(program):
 
 # The numbers of the system calls by which a thread reads, and by which it waits for others.
 READS, WAITS = {"aarch64": ("63", "98")}.get(platform.machine(), ("0", "202"))
+# More seconds than this are no limit.
+ENDLESS = 1 << 40
 # Pages that are judged before the verifier is held; those that may be untaken from then on, and one in the pipe and one that is being read.
 FIRST, MOST, PAGES = 10, 128 + 2, 1000
 # Pages that come while a thread is held; after so many messages a connection's thread looks for what was refused, and how often they are tried.
@@ -126,6 +128,25 @@ SETPIPE_SZ = 1031
 def call_of(process, thread):
     """The number of the system call in which a thread is; another word where it is in none."""
     return pathlib.Path(f"/proc/{process}/task/{thread}/syscall").read_text().split()[0]
+
+
+def sleeps(process, thread):
+    """Whether a thread waits for others, until it is called: for no time but one without an end, and without looking again and again."""
+    number, *arguments = pathlib.Path(f"/proc/{process}/task/{thread}/syscall").read_text().split()
+    if number != WAITS:
+        return False
+    limit = int(arguments[3], 16)
+    with open(f"/proc/{process}/mem", "rb", buffering=0) as memory:
+        return limit == 0 or int.from_bytes(os.pread(memory.fileno(), 8, limit), "little") > ENDLESS
+
+
+def fall_asleep(process, threads):
+    """Whether these threads come to sleep, each time that one looks."""
+    until = time.monotonic() + SECONDS
+    while time.monotonic() < until:
+        if all(sleeps(process, thread) for _ in range(20) if time.sleep(0.01) is None for thread in threads):
+            return True
+    return False
 
 
 def threads_of(process, streams, verifiers=1):
@@ -197,13 +218,57 @@ def take_few(program):
         writer = Writer(out, parts[1 + FIRST :])
         writer.start()
         count = writer.settled()
-        calls = {call_of(running.pid, thread) for _ in range(20) if time.sleep(0.01) is None}
+        asleep = fall_asleep(running.pid, [thread])
         # On busy cores some of the first ones may be untaken, too.
-        if not 128 - FIRST <= count <= MOST or calls != {WAITS}:
-            wrong("held", "a connection's thread whose verifier is held", (count, calls), (f"{128 - FIRST} to {MOST} pages", {WAITS}))
+        if not 128 - FIRST <= count <= MOST or not asleep:
+            wrong("held", "a connection's thread whose verifier is held: pages, and whether it sleeps", (count, asleep), (f"{128 - FIRST} to {MOST}", True))
         let_go(others)
         ended("held", words, running, f"module 0: complete, {1024 * (PAGES - 1) + 1} words\nstrays 0\n")
     return count
+
+
+def rest(program):
+    """While the sequencers are held, the verifiers judge what has room, and then all sleep; so do all but a thread that reads where nothing comes."""
+    with tempfile.TemporaryDirectory() as folder:
+        words, running, (out,) = piped(folder, program, 1, 2)
+        readers, (first, *verifiers) = threads_of(running.pid, 1, 2)
+        idle = fall_asleep(running.pid, [first, *verifiers])
+        hold([first])
+        writer = Writer(out, formats.messages(0, NOP * (1024 * (PAGES - 1)) + RET))
+        writer.start()
+        count = writer.settled()
+        full = fall_asleep(running.pid, [*readers, *verifiers])
+        if not idle or not full or count >= PAGES:
+            wrong("held", "threads that have nothing to do, and those whose sequencers are held: whether they sleep", (idle, full, count), (True, True))
+        let_go([first])
+        ended("held", words, running, f"module 0: complete, {1024 * (PAGES - 1) + 1} words\nstrays 0\n")
+
+
+def others(run):
+    """The threads but the one that stands at a place. One that begins stops first, and is let go on."""
+    time.sleep(0.5)
+    while (thread := os.waitpid(-1, traced.WAIT_ALL | os.WNOHANG)[0]) != 0:
+        traced.ptrace(traced.CONT, thread)
+    return {int(it) for it in os.listdir(f"/proc/{run.pid}/task")} - {run.thread}
+
+
+def start_asleep(program):
+    """While the last of eight threads isn't started, those that are wait for the start, and sleep."""
+    with tempfile.TemporaryDirectory() as folder, tempfile.TemporaryFile() as out, tempfile.TemporaryFile() as err:
+        paths = [os.path.join(folder, f"{module}.stream") for module in range(4)]
+        for module, path in enumerate(paths):
+            pathlib.Path(path).write_bytes(formats.stream(module, RET))
+        words = [str(program), "load", "--verifiers", "4", *paths]
+        run = traced.Traced(words[0], words, out, err)
+        run.come_to(traced.entry(run.pid))
+        place = traced.mapped(run.pid, "libc.so.6")[0] + traced.offset(traced.libc.pthread_create)
+        came = sum(run.come_to(place) and (number == 7 or run.step()) for number in range(8))
+        asleep = fall_asleep(run.pid, others(run))
+        while run.go():
+            pass
+        os.close(run.memory)
+        if (came, asleep, run.status()) != (8, True, 0):
+            wrong("held", f"{words[1:4]} of four streams: threads, whether they sleep before the last one is there, status", (came, asleep, run.status()), (8, True, 0))
 
 
 def take_over(program, which):
@@ -247,6 +312,8 @@ def tell_refused(program, which):
 
 def try_held(program):
     try:
+        start_asleep(program)
+        rest(program)
         count = take_few(program)
         for which in 0, 1:
             take_over(program, which)
@@ -254,7 +321,7 @@ def try_held(program):
     except OSError as why:
         print(f"held: left out: {why}")
         return
-    print(f"held: the thread of a connection took in {count} of {PAGES} pages while its verifier was held, and slept; {HELD} pages while another thread was")
+    print(f"held: the thread of a connection took in {count} of {PAGES} pages while its verifier was held, and slept; {HELD} pages while another thread was; threads that wait sleep")
 
 
 # ---- late

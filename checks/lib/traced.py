@@ -78,6 +78,18 @@ class Traced:
             passed = 0 if caught in (signal.SIGSTOP, signal.SIGTRAP) else caught
             libc.ptrace(CONT, self.thread, None, passed)
 
+    def come_to(self, place):
+        """Goes on until some thread comes to this place, where it stands, and tells whether one came."""
+        kept = self.read(place, 1)
+        self.write(place, BREAK)
+        came = self.go()
+        if came:
+            self.write(place, kept)
+            registers = self.registers()
+            registers[RIP] = place
+            self.set_registers(registers)
+        return came
+
     def step(self):
         """Lets that thread take one step, while the others go on, and tells whether it stands."""
         ptrace(STEP, self.thread)
