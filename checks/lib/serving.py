@@ -62,8 +62,8 @@ def send(path, text, source, how, delay):
 # ---- taken
 
 
-def serve_few(program, taken, words):
-    """What comes of `serve` of three clients, which has descriptors for so many of them."""
+def serve_few(program, taken, words, word=RET):
+    """What comes of `serve` of three clients, which has descriptors for so many of them. Each sends a module of one word."""
     with tempfile.TemporaryDirectory() as folder:
         path = os.path.join(folder, "s")
         # The listener has 3.
@@ -74,7 +74,7 @@ def serve_few(program, taken, words):
             preexec_fn=lambda: resource.setrlimit(resource.RLIMIT_NOFILE, few),
         )
         for _ in range(taken):
-            send(path, formats.stream(0, RET), random.Random(0), "", 0)
+            send(path, formats.stream(0, word), random.Random(0), "", 0)
         return *serve.communicate(timeout=60), serve.returncode
 
 
@@ -231,6 +231,10 @@ def try_taken(program):
         wanted = ["heard"] * taken + ["not taken"] * (3 - taken), told, 3
         if came != wanted:
             wrong("taken", f"{taken} of three clients, as an object", came, wanted)
+    out, err, status = serve_few(program, 1, [], bytes(4))
+    came, wanted = (out, err.replace("module 0 refused\n", ""), status), ("module 0: refused, word 0 rule 1\nstrays 0\n", told, 3)
+    if came != wanted:
+        wrong("taken", "one of three clients, whose module is refused", came, wanted)
     for words in ([], ["--seconds", "3000"]):
         for floods in (False, True):
             try_refused_thread(program, words, floods)
