@@ -103,6 +103,8 @@ WORK = (
     (["run", "odd_pairs.img", "--steps", "1024"], 0, 450_000),
     (["unpack", "mixed.img"], 0, 310_000),
     (["pack", "mixed.code"], 0, 90_000),
+    (["load", "--verifiers", "1", "mixed.stream"], 0, 650_000),
+    (["load", "--verifiers", "1", "straight.stream"], 0, 1_100_000),
 )
 
 
@@ -117,7 +119,7 @@ def try_work(program):
         for name, content in (
             ("mixed.code", mixed), ("mixed.img", formats.image(0, 0, mixed)), ("mixed.stream", formats.stream(0, mixed)),
             ("refused.code", (RET + bytes(4)) * 50), ("straight.img", formats.image(0, 0, NOP * 4_096)),
-            ("long.img", formats.image(0, 0, NOP * 16_384)),
+            ("long.img", formats.image(0, 0, NOP * 16_384)), ("straight.stream", formats.stream(1, NOP * 32_768)),
             # sub sp, sp, #16; add x0, x0, #1; nop; ldr xzr, [sp]
             ("late.code", formats.code_of(0xD10043FF, 0x91000400, 0xD503201F, 0xF94003FF) * 2_048),
             # add x18, x21, w1, uxtw; ldar x0, [x18]; stlr x0, [x18]; nop

@@ -1,4 +1,4 @@
-"""How many instructions a program of one thread executes: a measure of work that is nearly alike on every machine, and no time."""
+"""How many instructions a program executes in all its threads: a measure of work that is nearly alike on every machine, and no time."""
 
 import os
 import pathlib
