@@ -92,11 +92,12 @@ def module_of(module, pages):
 
 
 def views_of(data):
-    """Buffers that have these bytes, in items of four bytes, and with others between them."""
+    """Buffers that have these bytes, in items of four bytes, with others between them, backwards, and as a part."""
     words = array.array("I", data)
     pairs = array.array("I", [it for word in words for it in (word, 0)])
     doubled = bytes(it for byte in data for it in (byte, 0))
-    return memoryview(data).cast("I"), words, memoryview(pairs)[::2], memoryview(doubled)[::2]
+    backwards, part = memoryview(data[::-1])[::-1], memoryview(b"\0" + data + b"\0")[1:-1]
+    return memoryview(data).cast("I"), words, memoryview(pairs)[::2], memoryview(doubled)[::2], backwards, part
 
 
 def written_during(name, data, written):
@@ -150,6 +151,15 @@ class Verifying(unittest.TestCase):
         profile, module, words, fault, wanted = EXPLAINED[0]
         for view in views_of(code_of(*words)):
             self.assertEqual(lfi_verifier.explain(view, fault, profile, module), wanted)
+
+    def test_names(self):
+        """Each parameter may be told by its name."""
+        self.assertIsNone(lfi_verifier.verify(data=code_of(ACQUIRE), profile=2))
+        profile, module, words, fault, wanted = EXPLAINED[0]
+        self.assertEqual(lfi_verifier.explain(data=code_of(*words), fault=fault, profile=profile, module=module), wanted)
+        profile, words, fault, wanted = MENDED[0]
+        self.assertEqual(lfi_verifier.mend(data=code_of(*words), fault=fault, profile=profile), wanted)
+        self.assertEqual(Stream().read(piece=b"\1"), [])
 
     def test_what_has_no_bytes(self):
         """A number isn't taken for a count of zero bytes, nor a list or a path for its bytes."""

@@ -10,7 +10,7 @@ import tempfile
 import time
 from pathlib import Path
 
-from lib.installed import commit_all, fail, run
+from lib.installed import commit_all, fail, oldest_python, run
 from lib.tree import TOP
 
 ANSWERS = """import hashlib, os, pathlib, sys, time
@@ -49,6 +49,8 @@ def main(verb, *words):
     crate = Crate(os.getcwd(), None, {})
     status = int((crate.folder / "src" / "status").read_text())
     (crate.folder / "out").mkdir(exist_ok=True)
+    if os.environ.get("NONE") in words:
+        return 1
     made = crate.folder / "out" / ("liblfi_verifier.a" if verb == "lib" else "lfiload")
     with open(pathlib.Path(__file__).with_name("asked"), "a") as asked:
         print(crate.folder.name, verb, *words[:2], file=asked)
@@ -100,6 +102,15 @@ def try_building(room):
     run(*library, env=found)
     if archive.read_text() != "new":
         fail("checks/build --library puts no archive in its place")
+    archive.write_text("old")
+    run(oldest_python() or sys.executable, *library, env=found)
+    if archive.read_text() != "new":
+        fail("checks/build --library puts no archive in its place by the oldest Python")
+    targets = "aarch64-unknown-linux-gnu", "x86_64-unknown-linux-gnu"
+    for none in targets:
+        done = subprocess.run([*build, "--library", *(it for target in targets for it in ("--target", target))], env={**found, "NONE": none}, capture_output=True, text=True)
+        if done.returncode != 1 or f"{none}/liblfi_verifier.a: proved" in done.stdout:
+            fail(f"checks/build --library, where no archive for {none} is built beside another one: {done.returncode}, {done.stdout}")
     for name in "lfi_verifier", "low":
         for status in 1, 2, 101:
             (top / "crates" / name / "src" / "status").write_text(str(status))

@@ -495,17 +495,26 @@ def try_folders_of_others(room, version):
             fail(f"after install {words[0]} the folders that were there have the modes {found.values()}, and not {modes.values()}")
 
 
+def try_told_prefix():
+    """The prefix where none is said is the one of the help."""
+    told = re.search(r"^The prefix is (\S+) where it isn't said", run(TOP / "install", "--help"), re.M)[1]
+    without, with_it = (subprocess.run([TOP / "install", "--check", *words], capture_output=True, text=True) for words in ([], ["--prefix", told]))
+    if (without.returncode, without.stdout, without.stderr) != (with_it.returncode, with_it.stdout, with_it.stderr):
+        fail(f"install --check tells {without.stdout}{without.stderr} where no prefix is said, and the help says {told}")
+
+
 def try_another_machine(room, version):
     """What docs/C.md says of AArch64, with its archive where that is built, makes a shared library for it."""
     told = of_document(r"For another machine `--archive (\S+) --no-program` and `CC=(\S+)`")
-    archive, compiler = TOP / told[1], told[2]
+    archive, compiler, here = told[1], told[2], TOP
     if not has(compiler):
         return
-    if not archive.exists():
-        put_stub(room / "aarch64", version, version, compiler)
-        archive = room / "aarch64" / "liblfi_verifier.a"
+    if not (here / archive).exists():
+        here = room / "elsewhere"
+        (here / archive).parent.parent.mkdir(parents=True)
+        put_stub((here / archive).parent, version, version, compiler)
     prefix = room / "machine"
-    run(TOP / "install", "--prefix", prefix, "--library", "--archive", archive, "--no-program", env={**os.environ, "CC": compiler})
+    run(TOP / "install", "--prefix", prefix, "--library", "--archive", archive, "--no-program", cwd=here, env={**os.environ, "CC": compiler})
     head = (prefix / "lib" / "liblfi_verifier.so").read_bytes()[:20]
     # The field e_machine of an ELF header, which is EM_AARCH64.
     if int.from_bytes(head[18:], "little") != 183:

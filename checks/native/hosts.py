@@ -81,7 +81,8 @@ def run(program, *words, **more):
 
 
 def build_by_readme(host, archive):
-    """Builds the host by the README's line, without words, in a tree whose archive is where `checks/build --library` puts it."""
+    """Builds the host by the README's line, without words, in a tree whose archive is where `checks/build --library` puts it; and from another
+    folder, with words that are told from there."""
     place = host.parent.parent / "out" / "aarch64-unknown-linux-gnu"
     place.mkdir(parents=True)
     (place / "liblfi_verifier.a").symlink_to(archive)
@@ -90,6 +91,11 @@ def build_by_readme(host, archive):
     told = subprocess.run([host / "make"], capture_output=True, text=True, env={**plain, **own})
     if told.returncode or told.stderr or not (host / "out" / "native_host").exists():
         fail(f"make without words builds no host: {told.stdout}{told.stderr}")
+    room = host.parent.parent / "elsewhere"
+    room.mkdir()
+    told = subprocess.run([host / "make", "made", os.path.relpath(place / "liblfi_verifier.a", room)], cwd=room, capture_output=True, text=True, env={**os.environ, "CC": COMPILER})
+    if told.returncode or told.stderr or os.listdir(room) != ["made"]:
+        fail(f"make with OUT and ARCHIVE as they are called from another folder builds no host there: {told.stdout}{told.stderr}")
 
 
 def build(room, archive, name, *flags):
@@ -265,8 +271,11 @@ def check_registers(registers, lawful, signals):
 #   another one where it isn't free; so the host compares the address that it is answered with the one that it asked for.
 def check_mapped(mapped):
     """Where something lies in a slot, a guard or at the entries, the host ends (mmap(2): EEXIST), and what lies there is as it was."""
-    for at in (BASE - GUARD, BASE + SLOT // 2, BASE + SLOT + GUARD - 4_096, 1 << 40):
-        done = run(mapped, EXAMPLES / "one_ret.stream", env={**os.environ, "MAPPED": hex(at)})
+    places = [(EXAMPLES / "one_ret.stream", at) for at in (BASE - GUARD, BASE + SLOT // 2, BASE + SLOT + GUARD - 4_096, 1 << 40)]
+    # The page of the host's own from which the slot is entered; that of the lowest slot may be qemu's.
+    places.append((EXAMPLES / "checksums.stream", formats.base(1) - GUARD - 4_096))
+    for file, at in places:
+        done = run(mapped, file, env={**os.environ, "MAPPED": hex(at)})
         wanted = 3, b"the page is of another part of this process\n", b"native_host: mmap: File exists\n"
         if (done.returncode, done.stdout, done.stderr) != wanted:
             fail(f"a page at {at:#x} is there first: {done}")

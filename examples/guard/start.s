@@ -1,5 +1,5 @@
-// The start of a module that gcc and guard have made. The linker script tells data_words, where the words lie that stand for the data, how
-// many halves of a word the data have, and where they go; all three are offsets in the slot.
+// The start of a module that gcc and guard have made. The linker script tells where the words lie that stand for the data, data_words, and
+// where the data go, data_start, as offsets in the slot; and of how many halves of a word they are, data_halves.
     .text
     .global _start, rt_putc
 _start:

@@ -4,7 +4,7 @@ use lfi_verifier::{
     explain, mend, registers, verify, version, Event, Fault, ModuleNumber, Profile, Reason, RefusedWord, Rule, SlotMap, Status,
     Stream, StreamFault, Verifier, Violation, MAX_BYTES, MAX_WORDS, VERSION,
 };
-use std::{fmt::Debug, fs, path::Path};
+use std::{error::Error, fmt::Debug, fs, path::Path};
 
 fn example(name: &str) -> Vec<u8> {
     fs::read(Path::new("../../examples").join(name)).expect("the example is there")
@@ -47,6 +47,24 @@ fn rules() {
         }
     }
     assert!(count > 20);
+}
+
+/// A host passes on why code isn't lawful, or a stream or a call is none, by `?`.
+#[test]
+fn errors() {
+    type Passed = Result<(), Box<dyn Error + Send + Sync>>;
+    fn judged(code: &[u8]) -> Passed {
+        Ok(verify(code, Profile::One)?)
+    }
+    fn told<E: Error + Send + Sync + 'static>(why: E) -> Passed {
+        Err(why)?
+    }
+    let text = |passed: Passed| passed.map_err(|why| why.to_string());
+    assert_eq!(text(judged(&code(&[0xD503_201F]))), Ok(()));
+    assert_eq!(text(judged(&code(&[0xD400_0001]))), Err("word 0 rule 1".to_string()));
+    let (status, fault) = (Status::BadLength, StreamFault::Kind);
+    assert_eq!(text(told(status)), Err(status.to_string()));
+    assert_eq!(text(told(fault)), Err(fault.to_string()));
 }
 
 /// What a host keeps may be copied, and a copy of a state goes on by itself.
