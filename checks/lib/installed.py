@@ -6,6 +6,7 @@ import pathlib
 import platform
 import re
 import resource
+import shlex
 import shutil
 import stat
 import subprocess
@@ -493,6 +494,15 @@ def try_folders_of_others(room, version):
         found = {folder: folder.exists() and stat.S_IMODE(folder.stat().st_mode) for folder in modes}
         if found != modes:
             fail(f"after install {words[0]} the folders that were there have the modes {found.values()}, and not {modes.values()}")
+
+
+def try_outputs(prefix):
+    """Where nobody takes what is told, that is said, or it was asked for."""
+    words = f"{shlex.quote(str(TOP / 'install'))} --check --prefix {shlex.quote(str(prefix))}"
+    for more, wanted in ("> /dev/full", (1, "install: standard output: No space left on device\n")), (">&-", (0, "")):
+        done = subprocess.run(f"{words} {more}", shell=True, stderr=subprocess.PIPE, text=True)
+        if (done.returncode, done.stderr) != wanted:
+            fail(f"install --check {more}: {done}")
 
 
 def try_told_prefix():
