@@ -52,7 +52,7 @@ OVER = {
     "steps": (),
 }
 LINKED = {
-    "steps": ["-Wl,--wrap=mprotect,--wrap=syscall,--wrap=__clear_cache"],
+    "steps": ["-Wl,--wrap=mmap,--wrap=mprotect,--wrap=lfi_verify_update,--wrap=syscall,--wrap=__clear_cache"],
     "registers": ["-Wl,--wrap=lfi_enter"],
     "promised": ["-Wl,--wrap=mmap"],
     "kinds": ["-Wl,--wrap=lfi_version,--wrap=sysconf"],
@@ -118,27 +118,6 @@ def build(room, archive, name, *flags):
 # ---- the document
 
 
-# What is owed to a processor, or to other code, no run shows here; that it is as it was when it was read, these lines show.
-# HOST: Where the host's own code has branch protection, an entry begins with `bti c`; the slot's pages are mapped without it. Guarded
-#   control stacks (FEAT_GCS) are off in a thread that enters a slot: the law lets code return where it likes in its slot, and such a stack
-#   doesn't.
-# HOST: Nothing of the host's may ever lie there. What lies between the guards of two slots is the host's.
-# HOST: No address there but these is ever reached: lawful code calls at no other (`entries_lie_outside`, `entries_are_called_by_x30`). The
-#   table is data that the code can read, so nothing secret is in it.
-# HOST: From the moment that a byte is judged nobody writes it: no thread, no other mapping of the same memory, no debugger. Bytes that
-#   another process can still write are copied first, and the copy is judged.
-# HOST: This comes after the last write and before the first execution; without it a core may carry out words that were there before, which
-#   nobody judged.
-# HOST: then they are lawful, since they were at the call. A compiler may ask for more registers to be kept; the law doesn't.
-# HOST: A system call made for the code goes to the slot's data alone; mapping or unmapping pages of a slot is never offered;
-# HOST: may change any byte from R on while it runs, and no other byte of the slot;
-# HOST: The law lets it go on with any lawful registers, also at another word of the code; a branch there is made as at the start.
-# HOST: Between a load of x30 or a move of sp and the next word, and in profile 2 up to the fourth one after a move of sp, these two aren't
-#   lawful.
-# HOST: a handler that sets pc elsewhere in the slot has to set lawful registers too.
-# HOST: **Anything else that uses sp** of the code, or pushes to it: unwinders, profilers, sanitizers.
-# HOST: The profile needs one that gives it to the program, as Linux does.
-# HOST: Little-endian data are owed (SCTLR_EL1.E0E is 0), which a big-endian Linux hasn't.
 def compare_words():
     """Each line of docs/HOST.md that the host's source cites stands there."""
     document, cited, lines = " ".join(DOCUMENT.read_text().split()), 0, 0
@@ -239,6 +218,7 @@ def compare_numbers(program):
         if told != wanted:
             fail(f"docs/HOST.md, {heading}: it has {told}, and the library {wanted}")
     sentences = [f"begins at `B = (2m + 1) * {end}`", f"{entries} numbers of 8 bytes", f"number j is `{power} + {step}j`"]
+    sentences += [f"takes {size >> 30} GiB and {2 * guard >> 10} KiB of addresses", "x18, x21 to x24, sp and its own way back, x30"]
     sentences += [f"sp may be up to {reach} bytes outside of the slot", f"sp {reach - 1} bytes past its end"]
     # The farthest access: LDR of 8 bytes whose imm12 is 4,095, eights of bytes (Arm DDI 0487, C6.2).
     sentences += [f"up to {reach - 1 + 8 * 4_095 + 8:,} bytes past the slot", f"an immediate of {8 * 4_095:,}, and 8 bytes."]
@@ -331,25 +311,29 @@ def check_reads(reads, room):
             fail(f"a read of {name} fails: {done}, and not {wanted}")
 
 
-def check_steps(steps):
-    """Of one_ret.stream, whose code is one word in slot 0, the calls come in the order of docs/HOST.md, "Writing the code"; so do those for
-    code of the host's own, in other places."""
-    done = run(steps, EXAMPLES / "one_ret.stream")
-    told = re.findall(r"^step: (.*)$", done.stderr.decode(), re.M)
-    table, code, data = (f"{BASE + first:#x} {BASE + last:#x}" for first, last in ((0, 4_096), (65_536, 69_632), (69_632, SLOT)))
-    wanted = [
-        *(f"{table} read write", f"{table} read"),  # step 2
-        f"{code} read write",  # 3
-        *(f"{code} read", f"{code} caches", "synchronize", f"{code} read execute"),  # 6 and 7
-        f"{data} read write",  # 8
-    ]
-    own = [line for line in told if line not in wanted]
-    if [line for line in told if line in wanted] != wanted or own[:1] != ["register"]:
-        fail("the calls for code in a slot come in another order than docs/HOST.md has: " + "; ".join(told))
-    for first, second, third in zip(own[1::3], own[2::3], own[3::3]):
-        place = first.removesuffix(" read write")
-        if [first, second, third] != [f"{place} read write", f"{place} caches", f"{place} read execute"]:
-            fail("the calls for the host's own code come in another order: " + "; ".join(own))
+def check_steps(steps, room):
+    """Of code that is one word in slot 0, RET in a stream and BRK in an image, the calls come in the order of docs/HOST.md, "Writing the code";
+    so do those for code of the host's own, in other places. An image is judged where it lies; a stream is in the piece that came."""
+    (room / "steps.img").write_bytes(formats.image(0, 0, formats.code_of(programs.BRK)))
+    for file, judged in (EXAMPLES / "one_ret.stream", []), (room / "steps.img", [f"{BASE + 65_536:#x} {BASE + 65_540:#x} judge"]):
+        done = run(steps, file)
+        told = re.findall(r"^step: (.*)$", done.stderr.decode(), re.M)
+        table, code, data = (f"{BASE + first:#x} {BASE + last:#x}" for first, last in ((0, 4_096), (65_536, 69_632), (69_632, SLOT)))
+        wanted = [
+            f"{BASE - GUARD - 4_096:#x} {BASE + SLOT + GUARD:#x} reserve",  # step 1, with the page of the host's below
+            *(f"{table} read write", f"{table} read"),  # 2
+            *(f"{code} read write", *judged),  # 3 and 4
+            *(f"{code} read", f"{code} caches", "synchronize", f"{code} read execute"),  # 6 and 7
+            f"{data} read write",  # 8
+            f"{BASE + 65_536:#x} {BASE + SLOT:#x} reserve",  # after the run
+        ]
+        own = [line for line in told if line not in wanted and not re.fullmatch(r"0x10000000000 0x1000000\w000 reserve", line)]
+        if [line for line in told if line in wanted] != wanted or own[:1] != ["register"] or len(own) != 7:
+            fail("the calls for code in a slot come in another order than docs/HOST.md has: " + "; ".join(told))
+        for first, second, third in zip(own[1::3], own[2::3], own[3::3]):
+            place = first.removesuffix(" read write")
+            if [first, second, third] != [f"{place} read write", f"{place} caches", f"{place} read execute"]:
+                fail("the calls for the host's own code come in another order: " + "; ".join(own))
 
 
 # ---- what it tells
