@@ -21,6 +21,9 @@ static void look_at_reasons(slot *it) {
     printf("%zu signals\n", sizeof rows / sizeof *rows);
 }
 
+// HOST: **Handlers that end the code.** The handler gets back by setting pc to code of the host's, sp to the host's stack, and BTYPE to 0
+//   (bits 10 and 11 of `pstate`, which may be set where the signal came at the target of a BR or BLR). What it hands over it puts into a
+//   register; all others are the code's there. It finds its thread's frame by TPIDR_EL0, as an entry does.
 static void look_at_the_way_back(slot *it) {
     ucontext_t context = {.uc_mcontext = {.pc = code_of(it) + 4, .sp = 16, .pstate = branch_type}};
     siginfo_t info = {0};
@@ -36,13 +39,21 @@ static uint32_t word_at(size_t place) {
     return memcpy(&word, lfi_entries + place, sizeof word), word;
 }
 
+// HOST: At each of these addresses the host has code, of at most 16 bytes (four instructions) before the next one begins; for a j that has
+//   no service too, since the code may call any.
+// HOST: **Which entry was called** pc alone tells; all registers may be the same for each. So the host's code at an entry has to differ
+//   from entry to entry, and where no register may be lost it has none to put the number in. Still four instructions an entry lose no
+//   register: `bti c`, `fmov d31, x16`, `mov w16, #j`, and a `b` to a common tail behind the 8,192 bytes.
 static void look_at_entries(void) {
     const size_t tail = ENTRIES * ENTRY_BYTES;
     for (size_t j = 0, at = 0; j < ENTRIES; j++, at += ENTRY_BYTES) {
         uint32_t to_tail = 0x14000000 | (uint32_t)(tail - at - 12) >> 2;
+        // HOST: Where the host's own code has branch protection, an entry begins with `bti c`; the slot's pages are mapped without it.
         if (word_at(at) == BTI_C && word_at(at + 4) == FMOV_D31_X16 && word_at(at + 8) == (MOVZ_W16 | j << 5) && word_at(at + 12) == to_tail) continue;
         printf("entry %zu has other words: 0x%x ..\n", j, word_at(at)), j = ENTRIES;
     }
+    // HOST: The tail keeps x17 in d30 in the same way, and goes on by a literal and `br x17`, since most of the host lies farther away than
+    //   the 128 MiB that `b` reaches.
     if (word_at(tail) != FMOV_D30_X17 || (word_at(tail + 4) & 0xff00001f) != LITERAL_X17 || word_at(tail + 8) != BR_X17) printf("another tail\n");
 }
 
@@ -69,12 +80,15 @@ static void look_at_ordered(void) {
         ucontext_t wanted = found;
         if (k >= 2) {
             ending how = why(it, SIGBUS, 0, &found.uc_mcontext);
+            // HOST: It looks at the word at pc, and tests each byte by the map above.
             if (how.halt != HALT_ACCESS || how.at != denied[k - 2][2]) printf("denied %zu: %d at 0x%llx\n", k, (int)how.halt, (unsigned long long)how.at);
         } else {
             handle(SIGBUS, &info, &found);
             wanted.uc_mcontext.pc += 4;
             memcpy(stores ? (void *)(bytes + 3) : (void *)wanted.uc_mcontext.regs, stores ? (void *)wanted.uc_mcontext.regs : (void *)(bytes + 3), 8);
         }
+        // HOST: So code that was interrupted is gone on with exactly as it stood, or not at all;
+        // HOST: It changes what the instruction changes, and nothing else: the data register or the bytes, and pc. Then it goes on.
         if (memcmp(&found, &wanted, sizeof found) || memcmp(data, bytes, sizeof bytes)) printf("ordered %zu: something else is changed\n", k);
     }
 }
