@@ -2,7 +2,7 @@
 docs/COMMANDS.md, `HEADER:` of include/lfi_verifier.h, or `HELP:` of what `lfiload COMMAND --help` says: for checks/program.
 
 A citation goes on in the lines of the comment that begin with three spaces. What it cites has to stand in the document. All is cited of
-docs/COMMANDS.md and docs/HOST.md, but for headings, examples and pieces of code, which are carried out or
+docs/COMMANDS.md, docs/HOST.md and the header's comments, but for headings, examples and pieces of code, which are carried out or
 compiled, the heads of tables, and the rows of HOST that checks/native compares with what the library tells; and of the helps, but for
 their examples.
 """
@@ -122,19 +122,39 @@ knows the order of its clients uses a module only if it is from the right one. A
 meant by another one. It can't get unlawful code told as complete, change what others sent, or reach another process. So **a process, with
 its socket and folder, is for one tenant**.
 """,
+    "HEADER": """
+lfi_verifier.h: the verifier of A64 code for Lightweight Fault Isolation, as a static library for hosts. What stands below "Ensures" is
+proved of the library's code. What stands below "The caller owes" is the caller's to keep: no tool looks at C. docs/C.md has both, with
+examples.
+
+The caller owes, at each call: - no pointer is null, also where the size is 0;
+
+each pointer to a struct is aligned for it;
+
+`size` bytes can be read at `code`, `piece` or `bytes`, and `room` bytes written at `text`, or words at `mend`, each below 2^63 bytes, and
+nobody else writes them during the call: bytes that another thread or process may still write are to be copied first;
+
+what is written overlaps nothing else that the call is handed, and no other thread uses it during the call; - nobody writes bytes that
+lfi_stream_next told as code, until the host has its own copy of them: they were judged there.
+
+The bytes are judged here, in this piece: from this call on until the host has made its own copy of them nobody may write them, or what is
+judged isn't what is copied.
+""",
 }
 # What of documents is cited nowhere: pieces of code, headings, tables' heads, and HOST's rows of the map and of the registers' numbers.
 UNCITED = re.compile(r"^```.*?^```$|^#+ .*?$|^\|[^\n]*\n\|(?:---\|)+$|^\| (?:B [^\n]*|x\d[^\n]*|sp \|[^\n]*)$", re.M | re.S)
-WHOLE = {"COMMANDS": r"\*\*[^*]*\*\*", "HELP": "Exit status:|On the standard error:", "HOST": ""}
+WHOLE = {"COMMANDS": r"\*\*[^*]*\*\*", "HEADER": "Ensures:", "HELP": "Exit status:|On the standard error:", "HOST": ""}
 
 
 def text_of(file):
-    """What a document says, without what is cited nowhere; of the helps' file the texts alone, of the header the comments."""
+    """What a document says, without what is cited nowhere; of the helps' file the texts alone, of the header the comments, behind the names of
+    what they stand beside."""
     text = file.read_text(encoding="utf-8")
     if file.suffix == ".md":
         return UNCITED.sub("", text)
     if file.suffix == ".h":
-        return re.sub(r"\n \*(?=\n)", "", "\n".join(re.findall(r"/\* (.*?) ?\*/", text, re.S)))
+        comments = re.findall(r"(?:(\w+)(?:\[\d+\]; | \d+u|;) *)?/\* (.*?) ?\*/", text, re.S)
+        return re.sub(r"\n \*(?=\n)", "", "\n".join(f"{name}: {told}" if name else told for name, told in comments))
     if file.suffix == ".rt":
         text = re.sub(r"\nExample: .*(?=\";)", "", text)
         return "\n".join(it.replace('\\"', '"') for it in re.findall(r'&str =\s+"((?:[^"\\]|\\.)*)";', text))
