@@ -54,6 +54,8 @@ static int whole_code(void) {
     CHECK(1, sizeof(lfi_state) == 24 && sizeof(lfi_fault) == 8 && sizeof(lfi_map) == 64 && sizeof(lfi_registers) == 28);
     // HEADER: LFI_LAWFUL: no word breaks a rule (of an unfinished module: none so far); what was asked for is done LFI_REFUSED: a word
     //   breaks a rule
+    // C: | `LFI_LAWFUL` | 0 | no word breaks a rule; of a piece, none so far; of other calls, what was asked for is done | | `LFI_REFUSED`
+    //   | 1 | a word breaks a rule: `fault` has its place, counted from 0, and the least rule that it breaks, 1 to 10;
     CHECK(2, one(0xD65F03C0, &f) == LFI_LAWFUL && is(f, 0, 0));                       /* RET */
     CHECK(3, one(0xD4000001, &f) == LFI_REFUSED && is(f, 0, 1));                      /* SVC #0 */
     CHECK(4, one(0xF9400020, &f) == LFI_REFUSED && is(f, 0, 2));                      /* LDR X0, [X1] */
@@ -62,6 +64,7 @@ static int whole_code(void) {
     CHECK(7, two(0xD503201F, 0x14000001, &f) == LFI_REFUSED && is(f, 1, 8));          /* B to the end */
     CHECK(8, one(0xD10043FF, &f) == LFI_REFUSED && is(f, 0, 10));                     /* SUB SP, SP, #16, left open */
     // HEADER: LFI_BAD_LENGTH: not 1 to 4,194,304 whole words; a piece: not whole words, or more than are to come
+    // C: | `LFI_BAD_LENGTH` | 2 |
     CHECK(9, lfi_verify(bytes, 0, LFI_PROFILE_1, &f) == LFI_BAD_LENGTH && is(f, 0, 0));
     f.word = 9;
     CHECK(10, lfi_verify(bytes, 1, LFI_PROFILE_1, &f) == LFI_BAD_LENGTH && is(f, 0, 0));
@@ -70,6 +73,7 @@ static int whole_code(void) {
         f.word = 9;
         CHECK(11, lfi_verify(bytes, 1, unknown[i], &f) == LFI_UNKNOWN_PROFILE && is(f, 0, 0));
     }
+    // C: Or it judges its copy by profile 1, which refuses the instructions that only profile 2 has.
     CHECK(12, one_by(LFI_PROFILE_1, 0xC8DFFE40, &f) == LFI_REFUSED && is(f, 0, 1));   /* LDAR X0, [X18] */
     CHECK(13, one_by(LFI_PROFILE_2, 0xC8DFFE40, &f) == LFI_LAWFUL && is(f, 0, 0));
     CHECK(14, one_by(LFI_PROFILE_2, 0xC8DFFC20, &f) == LFI_REFUSED && is(f, 0, 2));   /* LDAR X0, [X1] */
@@ -83,6 +87,7 @@ static int whole_code(void) {
 /* The longest module, one word more, sizes that no memory has, and an odd address. */
 // HEADER: The most words of a module, the most bytes of its code, and how many slots there are for modules.
 // HEADER: bytes may lie at any address;
+// C: Bytes may lie at any address.
 static int long_code(void) {
     lfi_fault f;
     uint8_t *bytes = malloc(LFI_MAX_BYTES + 8);
@@ -124,6 +129,7 @@ static int pieces(void) {
                 // HEADER: LFI_INCOMPLETE: words are still to come, and those that came break no rule
                 // HEADER: Tells what is found. *state may be used on. Ensures, where *state stands for a module of which certain bytes
                 //   came:
+                // C: | `LFI_INCOMPLETE` | 3 | words are still to come, and none so far breaks a rule |
                 if (at + n < sizeof bytes) CHECK(33, lfi_verify_final(&s, &g) == LFI_INCOMPLETE && is(g, 0, 0));
             }
             CHECK(34, lfi_verify_final(&s, &g) == whole && is(g, f.word, f.rule));
@@ -180,6 +186,7 @@ static int refused_pieces(void) {
 // HEADER: LFI_BAD_STATE: *state can't stand for any module, and is as it was.
 // HEADER: LFI_BAD_STATE: *state can't stand for any module; *fault is {0, 0}.
 // HEADER: A state needs no more than that: numbers that no call made are answered, by LFI_BAD_STATE where one is out of its range.
+// C: One that the host changed by itself may stand for code that never came, or none.
 static int other_states(void) {
     uint8_t bytes[64] = {0};
     lfi_fault f = {9, 9};
@@ -191,6 +198,7 @@ static int other_states(void) {
     for (size_t i = 0; i < sizeof wrong / sizeof *wrong; i++) {
         lfi_state s = wrong[i];
         // HEADER: LFI_BAD_STATE: the numbers can't be a state's, or a fault's
+        // C: | `LFI_BAD_STATE` | 4 | the state's numbers are none that a module, or a stream, can have: it is as it was;
         CHECK(60, lfi_verify_update(&s, bytes, 4) == LFI_BAD_STATE && !memcmp(&s, &wrong[i], sizeof s));
         f.word = 9;
         CHECK(61, lfi_verify_final(&s, &f) == LFI_BAD_STATE && is(f, 0, 0));
@@ -222,6 +230,7 @@ static int profile(void) {
     for (uint32_t module = 0; module < LFI_MODULES; module++) {
         CHECK(71, lfi_profile_map(LFI_PROFILE_1, module, &map) == LFI_LAWFUL);
         // HEADER: base: the address at which the slot begins size: its bytes: 2^32
+        // C: `lfi_profile_map` tells where a module's slot lies: base, bytes, guards, table, code, entries of the runtime.
         CHECK(72, map.base == (2ull * module + 1) << 32 && map.size == 1ull << 32 && map.guard == 65536);
         // HEADER: table: the bytes of the table of entries, from the base on: 8 bytes each, the lowest byte first code: where the code
         //   begins, in bytes from the base
@@ -238,6 +247,7 @@ static int profile(void) {
     CHECK(78, lfi_profile_registers(LFI_PROFILE_1, &registers) == LFI_LAWFUL);
     // HEADER: The registers that code rests on, by their numbers, as they are to be when the module is entered. base: holds the slot's base
     //   offset: holds a number below 2^32 first_address: these four hold addresses in the slot
+    // C: `lfi_profile_registers` tells which registers code rests on.
     CHECK(79, registers.base == 21 && registers.offset == 22 && registers.first_address == 18);
     CHECK(80, registers.second_address == 23 && registers.third_address == 24 && registers.link == 30);
     // HEADER: stack_reach: how many bytes sp may be from the slot, at most
@@ -288,6 +298,8 @@ static uint8_t *nops(uint8_t *at, size_t count) {
 // HEADER: of another module the addresses are those in its slot;
 // HEADER: Tells a fault as text: the fault; the word that asks for what isn't met, where there is one; the word with its address in the
 //   module's slot and its assembly text; what the rule asks; and how the word is mended.
+// C: The text is that of `lfiload check --explain` and `load --explain`: the fault, the word at its address in the module's slot, its
+//   assembly text, what the rule asks, and how the word is mended.
 static int explanations(void) {
     static uint8_t code[4 * 1025];
     uint8_t text[1024], other[1024];
@@ -507,6 +519,7 @@ static int all_mended(void) {
         // HEADER: Each spells an instruction of the profile and breaks none of the rules 1 to 7 and 9, wherever it stands; the first meets
         //   what is open before it, by the words before it in `code`, each other one what the one before it asks for, and the last asks for
         //   nothing.
+        // C: by the contract of `mend_of` ([PROVED.md](PROVED.md)).
         CHECK(132, count == 0 || lfi_verify((const uint8_t *)mend, 4 * count, profile, &told) == LFI_LAWFUL);
     }
     CHECK(133, found > 1000);
@@ -622,6 +635,7 @@ static int streams(void) {
     uint32_t by = 0, size = 0;
     // HEADER: The same of a beginning that may be cut within a word: 32 bytes.
     CHECK(120, sizeof(lfi_stream_module) == 24 && sizeof(lfi_stream_text) == 424 && sizeof(lfi_cut_state) == 32 && sizeof(lfi_stream) == 840);
+    // C: A host that runs code of profile 1 alone looks at `profile` and passes the module over.
     CHECK(121, in_stream(1, 0, 2, 0xD65F03C0, &by, &size) == LFI_LAWFUL && by == LFI_PROFILE_1 && size == 4096);
     CHECK(122, in_stream(1, 0, 2, 0xC8DFFE40, &by, &size) == LFI_REFUSED && by == LFI_PROFILE_1 && size == 4096); /* LDAR X0, [X18] */
     CHECK(123, in_stream(4, 0, 2, 0xC8DFFE40, &by, &size) == LFI_LAWFUL && by == LFI_PROFILE_2 && size == 4096);

@@ -143,6 +143,8 @@ int main(int count, char **given) {
         require(used <= size && event->kind <= LFI_NO_STREAM && event->verdict <= LFI_NO_ROOM, "what is used and told", turn);
         told[event->kind]++;
         if (fits_none(&before.text)) require(event->kind == LFI_NO_STREAM, "a page that fits no stream", turn);
+        // C: A state that the host changed by itself may stand for a stream that never came, and what can't be one is told as
+        //   `LFI_NO_STREAM`.
         if (event->kind == LFI_NO_STREAM) require(used == 0 && !memcmp(stream, &before, sizeof before), "no stream, but it is changed", turn);
         if (event->kind == LFI_CODE) {
             const lfi_stream_module *it = &before.text.modules[event->module];

@@ -102,6 +102,8 @@ static void make(void) {
 static lfi_status found(uint32_t words, uint32_t profile, const uint8_t *code, size_t size, lfi_fault *fault) {
     lfi_state state;
     // HEADER: A host may judge its copy besides, by lfi_verify_update.
+    // C: Or it judges each whole page once it lies in its place, by `lfi_verify_update`; `one_outcome` and `next_place` say that this gives
+    //   the same outcome.
     if (lfi_verify_init(&state, words, profile) || lfi_verify_update(&state, code, size) > LFI_REFUSED) abort();
     return lfi_verify_final(&state, fault);
 }
@@ -204,6 +206,7 @@ static void tell(told *to, const lfi_event *event, const uint8_t *bytes, size_t 
     if (event->kind == LFI_STRAY) line(to, "stray", event->module, 0, 0, 0, 0);
     if (event->kind == LFI_CODE) {
         // HEADER: offset: of LFI_CODE: where in the module's code the first of these bytes belongs
+        // C: `offset` says where bytes belong,
         if (event->offset + used <= ROOM) memcpy(to->code[event->module] + event->offset, bytes, used);
         // HEADER: ended: of LFI_CODE: 1 where its last byte is a page's last one, else 0
         if (event->ended) line(to, "page", event->module, (uint32_t)(event->offset + used), 0, 0, 0);
@@ -282,6 +285,10 @@ static int only_told(const lfi_event *it) {
 // HEADER: Goes on in the next bytes of a stream, up to the end of a header or of a payload, judges them where they are code, and
 // HEADER: What it didn't use comes first in the next call. Ensures, where *stream stood for a stream of which certain bytes came, in
 //   whatever pieces:
+// C: A connection's stream (docs/PROFILE.md, "Streams") is read in the same way: its state is 840 bytes of plain numbers of the host's, and
+//   each call tells one thing that its bytes brought.
+// C: the bytes that came so far are cut into messages in one way (`one_cut`), and what a module has got grows by the item that the event
+//   tells (`Grows`).
 static int in_pieces(told *to, uint32_t longest) {
     lfi_stream stream, copy;
     lfi_event event, again;
@@ -351,6 +358,7 @@ static int bad_states(void) {
 // C: An event whose code isn't judged has the `verdict` `LFI_BAD_STATE`: the numbers in `stream.verdicts` can't be a state's, or have no
 //   room for it. In a stream that only these calls wrote there is none.
 // HEADER: Where only the verifier's numbers of a module can't be a state's, or have no room for its code, `verdict` is LFI_BAD_STATE.
+// C: of an event, its code wasn't judged |
 static int bad_verdicts(void) {
     static const uint8_t open[12] = {1, 0, 5, 0, 2, 0, 0, 0, 0, 0, 0, 0}, page[20] = {2, 0, 5, 0, 0, 0, 0, 0, 8, 0, 0, 0, 0xC0, 0x03, 0x5F, 0xD6, 0xC0, 0x03, 0x5F, 0xD6};
     lfi_stream stream, copy;

@@ -2,7 +2,7 @@
 docs/COMMANDS.md, `HEADER:` of include/lfi_verifier.h, or `HELP:` of what `lfiload COMMAND --help` says: for checks/program.
 
 A citation goes on in the lines of the comment that begin with three spaces. What it cites has to stand in the document. All is cited of
-docs/COMMANDS.md, docs/HOST.md and the header's comments, but for headings, examples and pieces of code, which are carried out or
+docs/COMMANDS.md, docs/HOST.md, docs/C.md and the header's comments, but for headings, examples and pieces of code, which are carried out or
 compiled, the heads of tables, and the rows of HOST that checks/native compares with what the library tells; and of the helps, but for
 their examples.
 """
@@ -122,6 +122,67 @@ knows the order of its clients uses a module only if it is from the right one. A
 meant by another one. It can't get unlawful code told as complete, change what others sent, or reach another process. So **a process, with
 its socket and folder, is for one tenant**.
 """,
+    "C": """
+A host that runs foreign code in its own process can call the verifier instead of starting a program.
+
+Of the ten rules, and of what a word asks of the next one, speaks docs/PROFILE.md.
+
+The bytes are judged in the caller's piece. From the call on until the host has copied them nobody may write them; where that can't be kept,
+as in memory that is shared with another process, the host copies the piece first.
+
+Which of several connections has a module is the host's to say: it has one state a connection.
+
+Both are tied to the definitions of which confinement is proved (docs/PROFILE.md, "Modules, pages, slots" and "Registers"): lawful code that
+starts from lawful registers on this map never touches a byte outside of its slot.
+
+The law is one of definitions, and of the machine that carries them out. What a processor does is not proved. [HOST.md](HOST.md) says in
+order what a host does, and what the system has to be kept from; [examples/native_host](../examples/native_host/README.md) does it.
+
+Nothing looks at C. What a call promises, it promises to a caller that keeps all of this: | No pointer is null, also where the size is 0. |
+A null pointer is no address at which bytes can lie, not even none. | | `size` is below 2^63, and as many bytes can be read at `code`,
+`piece` or `bytes`;
+
+No call can see how much memory lies at a pointer. |
+
+| Nobody writes these bytes during the call. | What two looks at a byte find must be the same. Bytes that another thread or process may
+still write, as in shared memory, are to be copied first, and the copy judged. | | Nobody writes the bytes between a call of
+`lfi_stream_next` that told them as code and the host's own copy of them. | They are judged where they lie; what is copied must be what was
+judged. A host that can't keep this judges its copy, by `lfi_verify_update`. |
+
+| A pointer to a struct is aligned for it.
+
+| What a call writes overlaps nothing else that the call is handed. | | | No other thread uses, during the call, a struct that it writes, or
+writes one that it reads. |
+
+The same sources and toolchain make the same bytes, and a line of `checks/build --library` tells the hash.
+
+| of the program, now 0.1.0 | `lfiload --version`, CHANGELOG.md, a release's name | with each release: the first part, from 1.0.0 on, where
+a command, a printed line or a status changes its meaning (before 1.0.0 the second part); the second where something is added; else the
+third | scripts that read the lines. CHANGELOG.md names each such change |
+
+by one with each change of a function, a struct or a number of the header, or of what one of them means | a host is compiled anew.
+
+| of a profile, 1 and 2 | the kind of an Open, a field of an image, `--profile`, the calls' `profile` | never: a profile's instructions,
+rules, registers and map stay what they are. Other ones are another profile, with the next number | nothing for code of a known profile. A
+library or program that doesn't know a profile says so: `LFI_UNKNOWN_PROFILE`, fault 1 of a stream, fault 2 of an image | | of messages,
+kinds 1 to 5 | a stream's headers | a kind's meaning stays; another message is another kind | an older receiver tells fault 1, unknown kind,
+and loads nothing from there on | | of image files, `LFI1` | their first four bytes | another layout has other first bytes | an older reader
+tells fault 1, it is no image file | So code, streams and images that were made once stay readable: each later version of the program and of
+the library takes the profiles, kinds of messages and image files that a released one took. One may be dropped only where the first part of
+the program's version grows, and CHANGELOG.md announces it one release before. The exception is a fault of the profile itself. Where code
+that a profile calls lawful could leave its slot, the rule is mended in that profile, at once and in a release of its own; such code is
+refused from then on.
+
+Of `LFI_VERSION` each release has one, the newest. Libraries of several numbers can be installed beside each other in several prefixes, and
+a host finds its own by the SONAME. The format of bytes that only one process reads, such as `lfi_state` and `lfi_stream`, is no promise
+beyond its `LFI_VERSION`: don't write them to files.
+
+**Proved**, of the library's code: what the header says under "Ensures"; that each call ends, reads and writes no memory but what it was
+handed, and can't stop the process. `checks/contracts lfi_verifier` prints the clauses. - **Tested**, by `checks/c_callers/run` and
+`checks/delivered`: [PROVED.md](PROVED.md), "What is only tested". Nothing of bindings/ is proved. - **Believed**: the compilers. The
+archives are made by LLVM; that for x86-64 by the toolchain's own compiler, too, and both are tested. The proofs stop at the source. The
+linker, and that the host is compiled against this header, are the host's.
+""",
     "HEADER": """
 lfi_verifier.h: the verifier of A64 code for Lightweight Fault Isolation, as a static library for hosts. What stands below "Ensures" is
 proved of the library's code. What stands below "The caller owes" is the caller's to keep: no tool looks at C. docs/C.md has both, with
@@ -143,7 +204,7 @@ judged isn't what is copied.
 }
 # What of documents is cited nowhere: pieces of code, headings, tables' heads, and HOST's rows of the map and of the registers' numbers.
 UNCITED = re.compile(r"^```.*?^```$|^#+ .*?$|^\|[^\n]*\n\|(?:---\|)+$|^\| (?:B [^\n]*|x\d[^\n]*|sp \|[^\n]*)$", re.M | re.S)
-WHOLE = {"COMMANDS": r"\*\*[^*]*\*\*", "HEADER": "Ensures:", "HELP": "Exit status:|On the standard error:", "HOST": ""}
+WHOLE = {"C": "", "COMMANDS": r"\*\*[^*]*\*\*", "HEADER": "Ensures:", "HELP": "Exit status:|On the standard error:", "HOST": ""}
 
 
 def text_of(file):
