@@ -166,7 +166,7 @@ static int refused_pieces(void) {
     put(bytes, 0xD4000001);
     // HEADER: profile: the profile by which it is judged words: how many words the module has judged: how many came fault: the first fault
     //   so far need: what the last word asks of the next one
-    CHECK(48, lfi_verify_update(&s, bytes, 4) == LFI_REFUSED && s.judged == 1);
+    CHECK(48, lfi_verify_update(&s, bytes, 4) == LFI_REFUSED && s.profile == 1 && s.words == 2 && s.judged == 1 && is(s.fault, 0, 1) && !s.need);
     CHECK(49, lfi_verify_final(&s, &f) == LFI_REFUSED && is(f, 0, 1)); /* a fault is told before all has come */
     CHECK(50, lfi_verify_update(&s, bytes, 0) == LFI_REFUSED);
     CHECK(51, lfi_verify_update(&s, bytes, 8) == LFI_BAD_LENGTH && s.judged == 1);
@@ -176,7 +176,7 @@ static int refused_pieces(void) {
     CHECK(54, lfi_verify_update(&s, bytes, 0) == LFI_REFUSED && lfi_verify_update(&s, bytes, 4) == LFI_BAD_LENGTH);
     put(bytes, 0xC8DFFEBE); /* LDAR X30, [X21], and its guard in the next piece */
     put(bytes + 4, 0x8B3E42BE);
-    CHECK(55, lfi_verify_init(&s, 2, LFI_PROFILE_2) == LFI_LAWFUL && lfi_verify_update(&s, bytes, 4) == LFI_LAWFUL);
+    CHECK(55, lfi_verify_init(&s, 2, LFI_PROFILE_2) == LFI_LAWFUL && lfi_verify_update(&s, bytes, 4) == LFI_LAWFUL && s.profile == 2 && s.need);
     CHECK(56, lfi_verify_update(&s, bytes + 4, 4) == LFI_LAWFUL && lfi_verify_final(&s, &f) == LFI_LAWFUL && is(f, 0, 0));
     return 0;
 }

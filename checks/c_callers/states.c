@@ -105,8 +105,7 @@ static int fits_none(const lfi_stream_text *text) {
     const lfi_stream_module *it = &text->modules[text->page.module];
     // HEADER: words: of an open one, its words in all entry: of an open one, the word at which it is entered profile: of an open one, the
     //   profile by which it is to be judged page_words: of an open one, the words of a full page of it: 1,024 or 4,096 pages: of an open
-    //   one, how many of its pages came modules: of an open module, what is judged of its whole pages coming: of the page that is coming
-    //   what came, after its module's whole pages
+    //   one, how many of its pages came
     int open = it->phase == 1 && it->words >= 1 && it->words <= LFI_MAX_WORDS && it->entry < it->words && (it->profile == 1 || it->profile == 2) &&
                (it->page_words == 1024 || (it->page_words == 4096 && it->profile == 2));
     if (!open || text->feed.place != 1) return 1;

@@ -370,11 +370,18 @@ static int bad_verdicts(void) {
     if (lfi_stream_end(&copy, &event) || event.kind != LFI_FAULT || lfi_stream_end(&copy, &event) || event.kind != LFI_END || event.verdict != LFI_BAD_STATE) return 4;
     copy = stream, copy.verdicts.modules[5].words = 1;
     if (lfi_stream_next(&copy, page + 12, 8, &event) != 8 || event.kind != LFI_CODE || event.verdict != LFI_BAD_STATE) return 8;
-    // HEADER: whole: the whole words that came count: how many bytes came after them: 0 to 3 held: these bytes
     if (lfi_stream_next(&stream, page + 12, 2, &event) != 2 || event.kind != LFI_CODE || event.verdict != LFI_LAWFUL) return 5;
     copy = stream, copy.verdicts.coming.count = 4;
     if (lfi_stream_next(&copy, page + 14, 2, &event) != 2 || event.kind != LFI_CODE || event.verdict != LFI_BAD_STATE) return 6;
     if (lfi_stream_next(&stream, page + 14, 2, &event) != 2 || event.kind != LFI_CODE || event.verdict != LFI_LAWFUL) return 7;
+    if (lfi_stream_next(&stream, page + 16, 3, &event) != 3 || lfi_stream_next(&stream, page + 19, 0, &event) != 0) return 9;
+    // HEADER: whole: the whole words that came count: how many bytes came after them: 0 to 3 held: these bytes
+    const lfi_cut_state *coming = &stream.verdicts.coming;
+    if (coming->whole.judged != 1 || coming->count != 3 || memcmp(coming->held, page + 16, 3)) return 10;
+    // HEADER: modules: of an open module, what is judged of its whole pages coming: of the page that is coming what came, after its
+    //   module's whole pages
+    if (stream.verdicts.modules[5].judged != 0 || coming->whole.words != 2 || coming->whole.profile != 1) return 11;
+    if (lfi_stream_next(&stream, page + 19, 1, &event) != 1 || !event.ended || stream.verdicts.modules[5].judged != 2) return 12;
     return 0;
 }
 

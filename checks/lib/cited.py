@@ -156,6 +156,8 @@ writes one that it reads. |
 
 The same sources and toolchain make the same bytes, and a line of `checks/build --library` tells the hash.
 
+`cargo doc` has all of it, with examples.
+
 | of the program, now 0.1.0 | `lfiload --version`, CHANGELOG.md, a release's name | with each release: the first part, from 1.0.0 on, where
 a command, a printed line or a status changes its meaning (before 1.0.0 the second part); the second where something is added; else the
 third | scripts that read the lines. CHANGELOG.md names each such change |

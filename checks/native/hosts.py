@@ -238,7 +238,6 @@ def compare_numbers(program):
 # ---- the host by itself
 
 
-# HOST: `lfi_profile_registers` tells them, and these are all: whatever else a register holds, the law is the same.
 def check_registers(registers, lawful, signals):
     """A run keeps what AAPCS64 has a function keep. The host tells lawful registers at a call, one by one at their edges; and so signals, from
     which it gets back as docs/HOST.md says."""
@@ -449,8 +448,6 @@ def of_several(room):
         yield ["--batch", "--seconds", "2", first, second], status, lines.encode(), ""
 
 
-# HOST: So an entry - uses no byte at sp: it takes a stack of the host's, which it finds by what the code can't write (a system register
-#   such as TPIDR_EL0, which no instruction of the profile names);
 def of_places(room):
     """Code of the most words, of several pages, of which the last isn't full, in far slots; and a signal where nothing may be written at sp."""
     far = formats.code_of(*[NOP] * 2_000, programs.BRK)

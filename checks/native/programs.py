@@ -201,7 +201,6 @@ def some_number(source, arena):
     return source.choice(NUMBERS) if kind < 0.85 else source.getrandbits(64)
 
 
-# HOST: | all others, and the flags | anything |
 def random_program(source):
     """An image of random code: most of it accesses an arena of data, some of it what it finds."""
     profile, module = source.choice((1, 2)), source.choice((0, 1, 7, 15))
@@ -319,6 +318,8 @@ def own_words():
 
 # HOST: sp may be up to 512 bytes outside of the slot, or at bytes that can't be written.
 # HOST: All else is the code's: sp may be up to 512 bytes outside of the slot, or at bytes that can't be written.
+# HOST: So an entry - uses no byte at sp: it takes a stack of the host's, which it finds by what the code can't write (a system register
+#   such as TPIDR_EL0, which no instruction of the profile names);
 def stacks():
     """sp at the edges of the slot, moved from there, and accessed up and down as far as an immediate goes."""
     for at in (0, 1, 8, 511, 4_096, CODE, SLOT - 511, SLOT - 16, SLOT - 8, SLOT - 1):
