@@ -37,6 +37,7 @@ static lfi_status two(uint32_t first, uint32_t second, lfi_fault *fault) {
     return lfi_verify(bytes, 8, LFI_PROFILE_1, fault);
 }
 
+// HEADER: The first fault: the place of a word, counted from 0, and the least rule that it breaks, 1 to 10. 0 and 0: none.
 static int is(lfi_fault fault, uint32_t word, uint32_t rule) { return fault.word == word && fault.rule == rule; }
 
 // C: `LFI_LAWFUL` is 0.
@@ -44,10 +45,17 @@ static int is(lfi_fault fault, uint32_t word, uint32_t rule) { return fault.word
 // HEADER: LFI_REFUSED: they are so many whole words, and *fault is the first fault;
 // HEADER: LFI_BAD_LENGTH: they aren't so many whole words; *fault is {0, 0};
 // HEADER: LFI_UNKNOWN_PROFILE: the profile isn't known, and nothing was judged; *fault is {0, 0}.
+// HEADER: The profiles: the rules, registers and map of slots of docs/PROFILE.md. The second has the instructions of the first, and LDAR
+//   and STLR. Calls with another number answer LFI_UNKNOWN_PROFILE.
+// HEADER: Judges whole code by a profile. Ensures:
 static int whole_code(void) {
     lfi_fault f = {9, 9};
     uint8_t bytes[1] = {0};
     CHECK(1, sizeof(lfi_state) == 24 && sizeof(lfi_fault) == 8 && sizeof(lfi_map) == 64 && sizeof(lfi_registers) == 28);
+    // HEADER: LFI_LAWFUL: no word breaks a rule (of an unfinished module: none so far); what was asked for is done LFI_REFUSED: a word
+    //   breaks a rule
+    // C: | `LFI_LAWFUL` | 0 | no word breaks a rule; of a piece, none so far; of other calls, what was asked for is done | | `LFI_REFUSED`
+    //   | 1 | a word breaks a rule: `fault` has its place, counted from 0, and the least rule that it breaks, 1 to 10;
     CHECK(2, one(0xD65F03C0, &f) == LFI_LAWFUL && is(f, 0, 0));                       /* RET */
     CHECK(3, one(0xD4000001, &f) == LFI_REFUSED && is(f, 0, 1));                      /* SVC #0 */
     CHECK(4, one(0xF9400020, &f) == LFI_REFUSED && is(f, 0, 2));                      /* LDR X0, [X1] */
@@ -55,6 +63,8 @@ static int whole_code(void) {
     CHECK(6, two(0xF94006BE, 0xD63F03C0, &f) == LFI_LAWFUL && is(f, 0, 0));           /* a call of the runtime */
     CHECK(7, two(0xD503201F, 0x14000001, &f) == LFI_REFUSED && is(f, 1, 8));          /* B to the end */
     CHECK(8, one(0xD10043FF, &f) == LFI_REFUSED && is(f, 0, 10));                     /* SUB SP, SP, #16, left open */
+    // HEADER: LFI_BAD_LENGTH: not 1 to 4,194,304 whole words; a piece: not whole words, or more than are to come
+    // C: | `LFI_BAD_LENGTH` | 2 |
     CHECK(9, lfi_verify(bytes, 0, LFI_PROFILE_1, &f) == LFI_BAD_LENGTH && is(f, 0, 0));
     f.word = 9;
     CHECK(10, lfi_verify(bytes, 1, LFI_PROFILE_1, &f) == LFI_BAD_LENGTH && is(f, 0, 0));
@@ -63,6 +73,7 @@ static int whole_code(void) {
         f.word = 9;
         CHECK(11, lfi_verify(bytes, 1, unknown[i], &f) == LFI_UNKNOWN_PROFILE && is(f, 0, 0));
     }
+    // C: Or it judges its copy by profile 1, which refuses the instructions that only profile 2 has.
     CHECK(12, one_by(LFI_PROFILE_1, 0xC8DFFE40, &f) == LFI_REFUSED && is(f, 0, 1));   /* LDAR X0, [X18] */
     CHECK(13, one_by(LFI_PROFILE_2, 0xC8DFFE40, &f) == LFI_LAWFUL && is(f, 0, 0));
     CHECK(14, one_by(LFI_PROFILE_2, 0xC8DFFC20, &f) == LFI_REFUSED && is(f, 0, 2));   /* LDAR X0, [X1] */
@@ -74,6 +85,9 @@ static int whole_code(void) {
 
 // C: the code isn't 1 to 4,194,304 whole words, or has none at the fault;
 /* The longest module, one word more, sizes that no memory has, and an odd address. */
+// HEADER: The most words of a module, the most bytes of its code, and how many slots there are for modules.
+// HEADER: bytes may lie at any address;
+// C: Bytes may lie at any address.
 static int long_code(void) {
     lfi_fault f;
     uint8_t *bytes = malloc(LFI_MAX_BYTES + 8);
@@ -103,6 +117,8 @@ static int pieces(void) {
         put(bytes + 4 * 1024, met ? 0x8B3E42BE : 0xD503201F);
         lfi_status whole = lfi_verify(bytes, sizeof bytes, LFI_PROFILE_1, &f);
         CHECK(30, whole == (met ? LFI_LAWFUL : LFI_REFUSED) && (met ? is(f, 0, 0) : is(f, 1024, 10)));
+        // HEADER: Judges the next piece: whole words, in any cutting, also none. Ensures, where *state stood for a module of which certain
+        //   bytes came:
         for (size_t piece = 4; piece <= sizeof bytes; piece += 4) {
             lfi_state s;
             CHECK(31, lfi_verify_init(&s, 1025, LFI_PROFILE_1) == LFI_LAWFUL);
@@ -110,6 +126,10 @@ static int pieces(void) {
                 size_t n = sizeof bytes - at < piece ? sizeof bytes - at : piece;
                 lfi_status so_far = lfi_verify_update(&s, bytes + at, n);
                 CHECK(32, so_far == (!met && at + n == sizeof bytes ? LFI_REFUSED : LFI_LAWFUL));
+                // HEADER: LFI_INCOMPLETE: words are still to come, and those that came break no rule
+                // HEADER: Tells what is found. *state may be used on. Ensures, where *state stands for a module of which certain bytes
+                //   came:
+                // C: | `LFI_INCOMPLETE` | 3 | words are still to come, and none so far breaks a rule |
                 if (at + n < sizeof bytes) CHECK(33, lfi_verify_final(&s, &g) == LFI_INCOMPLETE && is(g, 0, 0));
             }
             CHECK(34, lfi_verify_final(&s, &g) == whole && is(g, f.word, f.rule));
@@ -126,6 +146,7 @@ static int pieces(void) {
 // HEADER: LFI_LAWFUL or LFI_REFUSED: *state stands for the same module of which these bytes and then the piece came, and the status tells
 //   whether there is a fault in them;
 // HEADER: LFI_BAD_LENGTH: the piece isn't whole words, or is more than are to come, and *state is as it was.
+// HEADER: Begins to judge a module of so many words by a profile. Ensures:
 static int refused_pieces(void) {
     uint8_t bytes[16] = {0};
     lfi_state s, t;
@@ -134,6 +155,7 @@ static int refused_pieces(void) {
     t = s;
     CHECK(40, lfi_verify_init(&s, 0, LFI_PROFILE_1) == LFI_BAD_LENGTH && !memcmp(&s, &t, sizeof s));
     CHECK(41, lfi_verify_init(&s, LFI_MAX_WORDS + 1, LFI_PROFILE_1) == LFI_BAD_LENGTH && !memcmp(&s, &t, sizeof s));
+    // HEADER: LFI_UNKNOWN_PROFILE: the profile isn't known, and *state is as it was.
     CHECK(42, lfi_verify_init(&s, 2, 3) == LFI_UNKNOWN_PROFILE && !memcmp(&s, &t, sizeof s));
     CHECK(43, lfi_verify_init(&s, LFI_MAX_WORDS, LFI_PROFILE_1) == LFI_LAWFUL && s.words == LFI_MAX_WORDS && s.judged == 0);
     CHECK(44, lfi_verify_init(&s, 2, LFI_PROFILE_1) == LFI_LAWFUL);
@@ -142,7 +164,9 @@ static int refused_pieces(void) {
     CHECK(46, lfi_verify_update(&s, bytes, 12) == LFI_BAD_LENGTH && !memcmp(&s, &t, sizeof s));
     CHECK(47, lfi_verify_update(&s, bytes, 0) == LFI_LAWFUL && !memcmp(&s, &t, sizeof s));
     put(bytes, 0xD4000001);
-    CHECK(48, lfi_verify_update(&s, bytes, 4) == LFI_REFUSED && s.judged == 1);
+    // HEADER: profile: the profile by which it is judged words: how many words the module has judged: how many came fault: the first fault
+    //   so far need: what the last word asks of the next one
+    CHECK(48, lfi_verify_update(&s, bytes, 4) == LFI_REFUSED && s.profile == 1 && s.words == 2 && s.judged == 1 && is(s.fault, 0, 1) && !s.need);
     CHECK(49, lfi_verify_final(&s, &f) == LFI_REFUSED && is(f, 0, 1)); /* a fault is told before all has come */
     CHECK(50, lfi_verify_update(&s, bytes, 0) == LFI_REFUSED);
     CHECK(51, lfi_verify_update(&s, bytes, 8) == LFI_BAD_LENGTH && s.judged == 1);
@@ -152,7 +176,7 @@ static int refused_pieces(void) {
     CHECK(54, lfi_verify_update(&s, bytes, 0) == LFI_REFUSED && lfi_verify_update(&s, bytes, 4) == LFI_BAD_LENGTH);
     put(bytes, 0xC8DFFEBE); /* LDAR X30, [X21], and its guard in the next piece */
     put(bytes + 4, 0x8B3E42BE);
-    CHECK(55, lfi_verify_init(&s, 2, LFI_PROFILE_2) == LFI_LAWFUL && lfi_verify_update(&s, bytes, 4) == LFI_LAWFUL);
+    CHECK(55, lfi_verify_init(&s, 2, LFI_PROFILE_2) == LFI_LAWFUL && lfi_verify_update(&s, bytes, 4) == LFI_LAWFUL && s.profile == 2 && s.need);
     CHECK(56, lfi_verify_update(&s, bytes + 4, 4) == LFI_LAWFUL && lfi_verify_final(&s, &f) == LFI_LAWFUL && is(f, 0, 0));
     return 0;
 }
@@ -161,6 +185,8 @@ static int refused_pieces(void) {
 // C: It doesn't owe that a state is one that the calls made: any 24 bytes are answered, by `LFI_BAD_STATE` where a number is out of range.
 // HEADER: LFI_BAD_STATE: *state can't stand for any module, and is as it was.
 // HEADER: LFI_BAD_STATE: *state can't stand for any module; *fault is {0, 0}.
+// HEADER: A state needs no more than that: numbers that no call made are answered, by LFI_BAD_STATE where one is out of its range.
+// C: One that the host changed by itself may stand for code that never came, or none.
 static int other_states(void) {
     uint8_t bytes[64] = {0};
     lfi_fault f = {9, 9};
@@ -171,6 +197,8 @@ static int other_states(void) {
     };
     for (size_t i = 0; i < sizeof wrong / sizeof *wrong; i++) {
         lfi_state s = wrong[i];
+        // HEADER: LFI_BAD_STATE: the numbers can't be a state's, or a fault's
+        // C: | `LFI_BAD_STATE` | 4 | the state's numbers are none that a module, or a stream, can have: it is as it was;
         CHECK(60, lfi_verify_update(&s, bytes, 4) == LFI_BAD_STATE && !memcmp(&s, &wrong[i], sizeof s));
         f.word = 9;
         CHECK(61, lfi_verify_final(&s, &f) == LFI_BAD_STATE && is(f, 0, 0));
@@ -196,20 +224,33 @@ static int other_states(void) {
 static int profile(void) {
     lfi_map map, before;
     lfi_registers registers, old;
+    // HEADER: The number of this interface; lfi_version() answers that of the library that is linked.
+    // HEADER: The number of the library's interface: LFI_VERSION of the header that goes with it.
     CHECK(70, lfi_version() == LFI_VERSION);
     for (uint32_t module = 0; module < LFI_MODULES; module++) {
         CHECK(71, lfi_profile_map(LFI_PROFILE_1, module, &map) == LFI_LAWFUL);
+        // HEADER: base: the address at which the slot begins size: its bytes: 2^32
+        // C: `lfi_profile_map` tells where a module's slot lies: base, bytes, guards, table, code, entries of the runtime.
         CHECK(72, map.base == (2ull * module + 1) << 32 && map.size == 1ull << 32 && map.guard == 65536);
+        // HEADER: table: the bytes of the table of entries, from the base on: 8 bytes each, the lowest byte first code: where the code
+        //   begins, in bytes from the base
         CHECK(73, map.table == 4096 && map.code == 65536);
+        // HEADER: entry: the address of the runtime's first entry, which is the table's first number entry_step: from an entry to the next
+        //   entries: how many entries there are
         CHECK(74, map.entry == 1ull << 40 && map.entry_step == 16 && map.entries == 512);
     }
     before = map;
+    // HEADER: LFI_UNKNOWN_PROFILE: there is no such profile LFI_UNKNOWN_MODULE: there is no such module: the numbers are 0 to 15
     CHECK(75, lfi_profile_map(LFI_PROFILE_1, 16, &map) == LFI_UNKNOWN_MODULE && !memcmp(&map, &before, sizeof map));
     CHECK(76, lfi_profile_map(LFI_PROFILE_1, 0xFFFFFFFF, &map) == LFI_UNKNOWN_MODULE);
     CHECK(77, lfi_profile_map(3, 0, &map) == LFI_UNKNOWN_PROFILE && !memcmp(&map, &before, sizeof map));
     CHECK(78, lfi_profile_registers(LFI_PROFILE_1, &registers) == LFI_LAWFUL);
+    // HEADER: The registers that code rests on, by their numbers, as they are to be when the module is entered. base: holds the slot's base
+    //   offset: holds a number below 2^32 first_address: these four hold addresses in the slot
+    // C: `lfi_profile_registers` tells which registers code rests on.
     CHECK(79, registers.base == 21 && registers.offset == 22 && registers.first_address == 18);
     CHECK(80, registers.second_address == 23 && registers.third_address == 24 && registers.link == 30);
+    // HEADER: stack_reach: how many bytes sp may be from the slot, at most
     CHECK(81, registers.stack_reach == 512);
     old = registers;
     CHECK(83, lfi_profile_registers(LFI_PROFILE_2, &registers) == LFI_LAWFUL && !memcmp(&registers, &old, sizeof old));
@@ -255,6 +296,10 @@ static uint8_t *nops(uint8_t *at, size_t count) {
 // HEADER: LFI_LAWFUL: *count is the length of the text, and `text` begins with it, as far as `room` bytes reach; there is no 0 at its end,
 //   and the bytes of `text` after it are as they were.
 // HEADER: of another module the addresses are those in its slot;
+// HEADER: Tells a fault as text: the fault; the word that asks for what isn't met, where there is one; the word with its address in the
+//   module's slot and its assembly text; what the rule asks; and how the word is mended.
+// C: The text is that of `lfiload check --explain` and `load --explain`: the fault, the word at its address in the module's slot, its
+//   assembly text, what the rule asks, and how the word is mended.
 static int explanations(void) {
     static uint8_t code[4 * 1025];
     uint8_t text[1024], other[1024];
@@ -264,6 +309,8 @@ static int explanations(void) {
     memset(other, '#', sizeof other);
     put(nops(code, 1025) + 4 * 16, 0xB8237880);
     CHECK(90, lfi_explain(LFI_PROFILE_1, 0, 124, code, size, &f, text, sizeof text, &count) == LFI_LAWFUL);
+    // HEADER: Where `code` is the whole module, of module 0, it is the text that `lfiload check --explain` tells of this fault, without the
+    //   end of its last line;
     CHECK(91, count == sizeof FIRST - 1 && !memcmp(text, FIRST, count) && !memcmp(text + count, other, sizeof text - count));
     /* All the module, a word less than all, and a part of it. */
     static const uint32_t words[] = {17, 18, 124, 4194304};
@@ -282,6 +329,7 @@ static int explanations(void) {
 
 /* A need that a word two before asks for: by all the module, and by what came of it up to the fault. */
 // C: The code is what came of the module's `words`, up to the fault at least.
+// HEADER: `words` is how many words the module has, and `code` has the first `size` bytes of its code: all that came, or all.
 static int late(void) {
     uint8_t code[sizeof LATE], text[1024];
     lfi_fault f;
@@ -312,6 +360,7 @@ static int nothing_asked(void) {
 }
 
 /* A fault that the word doesn't have: its text ends so. */
+// HEADER: *fault is one that was told of this code: of another the text may say what isn't so. Ensures:
 static int kept(void) {
     static const uint32_t rules[] = {1, 2, 4, 5, 6, 7, 9};
     static const char end[] = "\n  mend: none: it keeps this rule";
@@ -369,6 +418,8 @@ static int unexplained(void) {
 }
 
 /* Mends, with LLVM's words of the texts beside them: the words that came, and the place of the fault. */
+// HEADER: LFI_MOST_MENDED: the most words of a mend Tells a mend: the words that stand in the place of the word at a fault. `code` and
+//   `size` are as in lfi_explain, and the words looked at are the same; the text of lfi_explain has the same instructions.
 static const struct { uint32_t profile, rule, place, come, code[4], status; size_t count; uint32_t mend[5]; } MENDS[] = {
     {1, 2, 0, 1, {0xB8237880}, LFI_LAWFUL, 2, {0x0B234896, 0xB8364AA0}},                         /* str w0, [x4, x3, lsl #2]: add w22, w4, w3, uxtw #2; str w0, [x21, w22, uxtw] */
     {1, 2, 0, 1, {0xF8408FC0}, LFI_LAWFUL, 3, {0x110023D6, 0x8B3642BE, 0xF87E4AA0}},             /* ldr x0, [x30, #8]!: add w22, w30, #8; add x30, x21, w22, uxtw; ldr x0, [x21, w30, uxtw] */
@@ -412,6 +463,7 @@ static int mends(void) {
             lfi_status status = lfi_mend(MENDS[i].profile, code, 4 * (size_t)MENDS[i].come, &f, mend, room, &count);
             int fits = MENDS[i].status == LFI_REFUSED || room >= MENDS[i].count;
             size_t wanted = fits && status == LFI_LAWFUL ? MENDS[i].count : 0;
+            // HEADER: else `mend` and *count are as they were: LFI_REFUSED, where there is none, for a reason that lfi_explain tells;
             CHECK(120, status == (fits ? MENDS[i].status : LFI_NO_ROOM) && count == (status == LFI_LAWFUL ? MENDS[i].count : 7));
             CHECK(121, !memcmp(mend, MENDS[i].mend, 4 * wanted) && !memcmp(mend + wanted, rest, sizeof mend - 4 * wanted));
         }
@@ -464,6 +516,10 @@ static int all_mended(void) {
         found++;
         CHECK(131, count <= LFI_MOST_MENDED);
         for (size_t k = 0; k < count; k++) CHECK(134, !is_direct(mend[k]));
+        // HEADER: Each spells an instruction of the profile and breaks none of the rules 1 to 7 and 9, wherever it stands; the first meets
+        //   what is open before it, by the words before it in `code`, each other one what the one before it asks for, and the last asks for
+        //   nothing.
+        // C: by the contract of `mend_of` ([PROVED.md](PROVED.md)).
         CHECK(132, count == 0 || lfi_verify((const uint8_t *)mend, 4 * count, profile, &told) == LFI_LAWFUL);
     }
     CHECK(133, found > 1000);
@@ -472,6 +528,7 @@ static int all_mended(void) {
 
 /* Any word, at any place of a module of any number of words, for any rule, has a text that fits. */
 // C: | `LFI_NO_ROOM` | 7 | a text is longer than 2,048 bytes: none is (`explain_near`) |
+// HEADER: LFI_NO_ROOM: a text is longer than 2,048 bytes, for which the library has room; it is proved that none is
 static int all_explained(void) {
     uint8_t text[2048], *code = calloc(LFI_MAX_WORDS, 4);
     size_t count, longest = 0;
@@ -573,9 +630,12 @@ static lfi_status in_stream(uint8_t kind, uint8_t second, uint8_t page, uint32_t
 // C: A stream has modules of both profiles, and of both page sizes, side by side: an Open of kind 1 tells profile 1, one of kind 4 profile
 //   2.
 // C: The verdicts of events are by the module's own profile.
+// HEADER: What modules the stream may have doesn't rest on `profile`: each tells its own, by LFI_OPEN.
 static int streams(void) {
     uint32_t by = 0, size = 0;
+    // HEADER: The same of a beginning that may be cut within a word: 32 bytes.
     CHECK(120, sizeof(lfi_stream_module) == 24 && sizeof(lfi_stream_text) == 424 && sizeof(lfi_cut_state) == 32 && sizeof(lfi_stream) == 840);
+    // C: A host that runs code of profile 1 alone looks at `profile` and passes the module over.
     CHECK(121, in_stream(1, 0, 2, 0xD65F03C0, &by, &size) == LFI_LAWFUL && by == LFI_PROFILE_1 && size == 4096);
     CHECK(122, in_stream(1, 0, 2, 0xC8DFFE40, &by, &size) == LFI_REFUSED && by == LFI_PROFILE_1 && size == 4096); /* LDAR X0, [X18] */
     CHECK(123, in_stream(4, 0, 2, 0xC8DFFE40, &by, &size) == LFI_LAWFUL && by == LFI_PROFILE_2 && size == 4096);

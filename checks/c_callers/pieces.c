@@ -27,6 +27,10 @@ static lfi_status in_pieces(const uint8_t *bytes, uint32_t words, lfi_fault *fau
     while (at < size) {
         size_t piece = 4 * (size_t)(number() % (words + 1));
         if (piece > size - at) piece = size - at;
+        // HEADER: A module of which a beginning has been judged: 24 bytes of the caller's, to be copied and dropped as it likes. The fields
+        //   may be read; only lfi_verify_init and lfi_verify_update write them.
+        // C: Code that comes in pieces is judged as it comes. The state is 24 bytes of plain numbers of the host's, on its stack, in its
+        //   heap or in shared memory; a copy of it is as good as the state itself, and nothing has to be given back.
         copy = state;
         lfi_status status = lfi_verify_update(&state, bytes + at, piece);
         if (status != lfi_verify_update(&copy, bytes + at, piece) || memcmp(&copy, &state, sizeof state)) return 98;

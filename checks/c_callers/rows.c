@@ -17,6 +17,7 @@ static int told(const char *call, size_t at, lfi_status status, lfi_fault fault,
     return 1;
 }
 
+// C: Status and fault are those of `lfiload check` on the same bytes: the call's contract cites the same definition, `Checks`.
 int main(void) {
     size_t count = sizeof ROWS / sizeof *ROWS;
     for (size_t at = 0; at < count; at++) {

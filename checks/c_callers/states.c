@@ -103,10 +103,14 @@ static void scatter(lfi_stream *stream) {
 static int fits_none(const lfi_stream_text *text) {
     if (text->feed.place > 1 || text->page.module >= LFI_MODULES) return 0;
     const lfi_stream_module *it = &text->modules[text->page.module];
+    // HEADER: words: of an open one, its words in all entry: of an open one, the word at which it is entered profile: of an open one, the
+    //   profile by which it is to be judged page_words: of an open one, the words of a full page of it: 1,024 or 4,096 pages: of an open
+    //   one, how many of its pages came
     int open = it->phase == 1 && it->words >= 1 && it->words <= LFI_MAX_WORDS && it->entry < it->words && (it->profile == 1 || it->profile == 2) &&
                (it->page_words == 1024 || (it->page_words == 4096 && it->profile == 2));
     if (!open || text->feed.place != 1) return 1;
     uint64_t bytes = bytes_of(it->words, it->page_words, it->pages);
+    // HEADER: come: how many of its bytes came
     return text->page.come >= bytes || text->feed.number != bytes - text->page.come;
 }
 
@@ -120,6 +124,7 @@ static void require(int holds, const char *what, uint64_t turn) {
 //   most four times the module's `words` in the state. So a host with room for these never copies past it.
 // HEADER: Whatever the numbers in *stream are, LFI_CODE is told of a module that is open by them, and `offset` and the bytes used are at
 //   most four times its `words` together; `verdict` is one of the eight statuses.
+// HEADER: writes nothing but what it is handed to write, and ends each call.
 int main(int count, char **given) {
     uint64_t turns = count > 1 ? strtoull(given[1], NULL, 10) : 1000, told[7] = {0};
     seed = 0x9E3779B97F4A7C15u + (count > 2 ? strtoull(given[2], NULL, 10) : 1);
@@ -137,6 +142,8 @@ int main(int count, char **given) {
         require(used <= size && event->kind <= LFI_NO_STREAM && event->verdict <= LFI_NO_ROOM, "what is used and told", turn);
         told[event->kind]++;
         if (fits_none(&before.text)) require(event->kind == LFI_NO_STREAM, "a page that fits no stream", turn);
+        // C: A state that the host changed by itself may stand for a stream that never came, and what can't be one is told as
+        //   `LFI_NO_STREAM`.
         if (event->kind == LFI_NO_STREAM) require(used == 0 && !memcmp(stream, &before, sizeof before), "no stream, but it is changed", turn);
         if (event->kind == LFI_CODE) {
             const lfi_stream_module *it = &before.text.modules[event->module];

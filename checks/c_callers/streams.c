@@ -101,6 +101,9 @@ static void make(void) {
 // C: Those of code are of one plain pass over all bytes of the module that were told so far (`FindsSoFar`).
 static lfi_status found(uint32_t words, uint32_t profile, const uint8_t *code, size_t size, lfi_fault *fault) {
     lfi_state state;
+    // HEADER: A host may judge its copy besides, by lfi_verify_update.
+    // C: Or it judges each whole page once it lies in its place, by `lfi_verify_update`; `one_outcome` and `next_place` say that this gives
+    //   the same outcome.
     if (lfi_verify_init(&state, words, profile) || lfi_verify_update(&state, code, size) > LFI_REFUSED) abort();
     return lfi_verify_final(&state, fault);
 }
@@ -193,17 +196,26 @@ static void pass(told *to) {
 //   is complete and lawful; `LFI_REFUSED`, where a word of its whole pages breaks a rule, and then `fault` is the first such fault; else
 //   `LFI_INCOMPLETE` |
 // C: | `LFI_FAULT` | the stream's fault, 1 to 10 |
+// HEADER: LFI_NOTHING: nothing that a host has to do LFI_OPEN: the module opens, and tells its profile and its page size LFI_CODE: the
+//   bytes used are code of the module LFI_STRAY: a message of the module that is passed over LFI_END: the module has ended LFI_FAULT: the
+//   stream's fault: nothing after it is read LFI_NO_STREAM: the numbers are those of no stream LFI_CLOSED: by its Close: complete where all
+//   its pages came, else incomplete LFI_LOST: by the stream's fault LFI_PAGE_FAULT: by a page that isn't the one due, hasn't its length, or
+//   is of the other kind
 static void tell(told *to, const lfi_event *event, const uint8_t *bytes, size_t used) {
     if (event->kind == LFI_OPEN) line(to, "open", event->module, event->words, event->entry, event->profile, event->page_bytes);
     if (event->kind == LFI_STRAY) line(to, "stray", event->module, 0, 0, 0, 0);
     if (event->kind == LFI_CODE) {
+        // HEADER: offset: of LFI_CODE: where in the module's code the first of these bytes belongs
+        // C: `offset` says where bytes belong,
         if (event->offset + used <= ROOM) memcpy(to->code[event->module] + event->offset, bytes, used);
+        // HEADER: ended: of LFI_CODE: 1 where its last byte is a page's last one, else 0
         if (event->ended) line(to, "page", event->module, (uint32_t)(event->offset + used), 0, 0, 0);
     }
     if (event->kind == LFI_END && event->reason == LFI_CLOSED) line(to, "end", event->module, event->words, event->pages, LFI_CLOSED, 0);
     if (event->kind == LFI_END && event->reason == LFI_PAGE_FAULT) line(to, "page fault", event->module, event->words, event->pages, event->number, 0);
     if (event->kind == LFI_END && event->reason == LFI_LOST) line(to, "lost", event->module, event->words, event->pages, event->number, 0);
     if (event->kind == LFI_END) line(to, "outcome", event->module, event->verdict, event->fault.word, event->fault.rule, 0);
+    // HEADER: LFI_FAULT: the bytes used end a header with this fault;
     if (event->kind == LFI_FAULT) line(to, "fault", event->number, 0, 0, 0, 0);
 }
 
@@ -218,6 +230,9 @@ static int judged(const told *to, const lfi_event *event, size_t used, const uin
     if (event->kind != LFI_CODE && event->kind != LFI_END) return event->verdict == 0 && event->fault.word == 0 && event->fault.rule == 0;
     if (event->kind == LFI_END || event->offset + used > ROOM || (number(50) && !event->ended)) return 1;
     lfi_status status = found(words[m], by[m], to->code[m], (event->offset + used) / 4 * 4, &fault);
+    // HEADER: verdict: of LFI_CODE: LFI_LAWFUL or LFI_REFUSED, by all whole words of the module that were told so far; of LFI_END:
+    //   LFI_LAWFUL, it is complete and lawful; LFI_REFUSED; LFI_INCOMPLETE, it is neither
+    // HEADER: fault: where that is LFI_REFUSED, the module's first fault so far, or of all its whole pages; else {0, 0}
     return event->verdict == (status == LFI_REFUSED ? LFI_REFUSED : LFI_LAWFUL) && event->fault.word == fault.word && event->fault.rule == fault.rule;
 }
 
@@ -229,9 +244,9 @@ static int same(const lfi_event *a, const lfi_event *b) {
 }
 
 /* Whether a stream's numbers are as the header says, by how far the modules are: and whose page is coming behind this event. */
-// HEADER: 0: in a header; 1: in a page's payload; 2: at the stream's fault
-// HEADER: whose page is coming, before the stream's fault; 16: none is, or it is passed over
-// HEADER: 0: it wasn't opened; 1: it is open; 2: it has ended
+// HEADER: place: 0: in a header; 1: in a page's payload; 2: at the stream's fault
+// HEADER: module: whose page is coming, before the stream's fault; 16: none is, or it is passed over
+// HEADER: phase: 0: it wasn't opened; 1: it is open; 2: it has ended
 static int numbers_told(const lfi_stream_text *stream, const lfi_event *event, const uint32_t *phase) {
     for (uint32_t m = 0; m < LFI_MODULES; m++)
         if (stream->modules[m].phase != phase[m]) return 0;
@@ -240,6 +255,7 @@ static int numbers_told(const lfi_stream_text *stream, const lfi_event *event, c
 }
 
 /* Whether a feed holds the bytes of the header that came: the last ones before this place, where it was in a header before. */
+// HEADER: number: the header's bytes that came; the payload's bytes that are to come; the fault's number held: the header's bytes
 static int holds_header(const lfi_stream_feed *feed, uint32_t before, size_t end) {
     size_t count = feed->place == 0 ? feed->number : before == 0 ? 12 : 0;
     return count <= 12 && count <= end && memcmp(feed->held, text + end - count, count) == 0;
@@ -247,6 +263,11 @@ static int holds_header(const lfi_stream_feed *feed, uint32_t before, size_t end
 
 /* What a kind doesn't tell is 0. */
 // HEADER: What bytes of a stream brought. What a kind doesn't tell is 0.
+// HEADER: kind: LFI_NOTHING and the others below module: of LFI_OPEN, LFI_CODE, LFI_STRAY and LFI_END words: the module's words in all, of
+//   LFI_OPEN and LFI_END entry: the word at which it is entered, of LFI_OPEN profile: the profile by which its code is to be judged, of
+//   LFI_OPEN: LFI_PROFILE_1 or LFI_PROFILE_2 page_bytes: the bytes of a full page of it, of LFI_OPEN: 4,096 or 16,384; the last page has
+//   what is left pages: how many of its pages came, of LFI_END reason: of LFI_END: LFI_CLOSED and the others below number: of LFI_FAULT and
+//   LFI_LOST the fault, 1 to 10; of LFI_PAGE_FAULT the index of the page
 static int only_told(const lfi_event *it) {
     int open = it->kind == LFI_OPEN, code = it->kind == LFI_CODE, end = it->kind == LFI_END;
     return (!it->module || open || code || end || it->kind == LFI_STRAY) && (!it->words || open || end)
@@ -261,6 +282,13 @@ static int only_told(const lfi_event *it) {
 //   behind them; none, where *event is LFI_NO_STREAM or a fault that was told before.
 // HEADER: LFI_NOTHING: it ended between two messages, and no module is open; *stream is as it was;
 // HEADER: LFI_FAULT: it ended within a message, or a module is open; this is the stream's fault.
+// HEADER: Goes on in the next bytes of a stream, up to the end of a header or of a payload, judges them where they are code, and
+// HEADER: What it didn't use comes first in the next call. Ensures, where *stream stood for a stream of which certain bytes came, in
+//   whatever pieces:
+// C: A connection's stream (docs/PROFILE.md, "Streams") is read in the same way: its state is 840 bytes of plain numbers of the host's, and
+//   each call tells one thing that its bytes brought.
+// C: the bytes that came so far are cut into messages in one way (`one_cut`), and what a module has got grows by the item that the event
+//   tells (`Grows`).
 static int in_pieces(told *to, uint32_t longest) {
     lfi_stream stream, copy;
     lfi_event event, again;
@@ -271,9 +299,15 @@ static int in_pieces(told *to, uint32_t longest) {
     while (place < length && event.kind != LFI_FAULT) {
         size_t size = 1 + number(longest);
         if (size > length - place) size = length - place;
+        // HEADER: A connection's stream, of which some bytes came: plain numbers of the caller's, to be copied and dropped as it likes.
+        //   Only lfi_stream_init, lfi_stream_next and lfi_stream_end write them.
         copy = stream;
         uint32_t before = stream.text.feed.place;
         size_t used = lfi_stream_next(&stream, text + place, size, &event);
+        // HEADER: unless *event is LFI_FAULT, *stream stands for the stream of which these bytes and then those used came, and *event tells
+        //   what they brought, and all of it: LFI_OPEN, a module that wasn't opened before opens; LFI_CODE, all bytes used are payload of
+        //   the page that is due of an open module, and belong at `offset` of its code; LFI_STRAY, a message is passed over; LFI_END, by a
+        //   Close or a page that isn't due. The bytes used are all of one message, and none lies behind its header where they began in it;
         if (used != lfi_stream_next(&copy, text + place, size, &again) || used > size || !same(&event, &again)) return 2;
         if (event.kind == LFI_NO_STREAM || (used == 0 && event.kind != LFI_FAULT)) return 3;
         if (event.kind == LFI_OPEN) words[event.module] = event.words, by[event.module] = event.profile, phase[event.module] = 1;
@@ -283,8 +317,11 @@ static int in_pieces(told *to, uint32_t longest) {
         if (!judged(to, &event, used, words, by)) return 6;
         place += used;
     }
+    // HEADER: At the stream's fault every call answers 0 and tells it.
     if (event.kind == LFI_FAULT && (lfi_stream_next(&stream, text, 12, &again) != 0 || again.kind != LFI_FAULT || again.number != event.number)) return 4;
     do {
+        // HEADER: Tells the end of the input. Ensures, where *stream stood for a stream of which certain bytes came: LFI_LAWFUL, and
+        // HEADER: of LFI_END `verdict` and `fault` tell the outcome as in lfi_stream_next.
         if (lfi_stream_end(&stream, &event)) return 5;
         if (event.kind == LFI_END) phase[event.module] = 2;
         if (!numbers_told(&stream.text, &event, phase) || !only_told(&event)) return 8;
@@ -297,6 +334,7 @@ static int in_pieces(told *to, uint32_t longest) {
 // C: A module's numbers that no module has are read as those of one that has ended.
 // HEADER: LFI_BAD_STATE: *stream can't stand for any stream, and is as it was; *event is LFI_NO_STREAM.
 // HEADER: LFI_UNKNOWN_PROFILE, where there is no such profile, and *stream is as it was.
+// HEADER: Begins a stream (docs/PROFILE.md, "Streams"). Ensures: LFI_LAWFUL, and *stream stands for a stream of which no byte came; or
 static int bad_states(void) {
     lfi_stream stream, before;
     lfi_event event;
@@ -319,6 +357,8 @@ static int bad_states(void) {
 /* A stream of whose verifier's numbers some are none of a module: its events are told, and its code isn't judged. */
 // C: An event whose code isn't judged has the `verdict` `LFI_BAD_STATE`: the numbers in `stream.verdicts` can't be a state's, or have no
 //   room for it. In a stream that only these calls wrote there is none.
+// HEADER: Where only the verifier's numbers of a module can't be a state's, or have no room for its code, `verdict` is LFI_BAD_STATE.
+// C: of an event, its code wasn't judged |
 static int bad_verdicts(void) {
     static const uint8_t open[12] = {1, 0, 5, 0, 2, 0, 0, 0, 0, 0, 0, 0}, page[20] = {2, 0, 5, 0, 0, 0, 0, 0, 8, 0, 0, 0, 0xC0, 0x03, 0x5F, 0xD6, 0xC0, 0x03, 0x5F, 0xD6};
     lfi_stream stream, copy;
@@ -334,6 +374,14 @@ static int bad_verdicts(void) {
     copy = stream, copy.verdicts.coming.count = 4;
     if (lfi_stream_next(&copy, page + 14, 2, &event) != 2 || event.kind != LFI_CODE || event.verdict != LFI_BAD_STATE) return 6;
     if (lfi_stream_next(&stream, page + 14, 2, &event) != 2 || event.kind != LFI_CODE || event.verdict != LFI_LAWFUL) return 7;
+    if (lfi_stream_next(&stream, page + 16, 3, &event) != 3 || lfi_stream_next(&stream, page + 19, 0, &event) != 0) return 9;
+    // HEADER: whole: the whole words that came count: how many bytes came after them: 0 to 3 held: these bytes
+    const lfi_cut_state *coming = &stream.verdicts.coming;
+    if (coming->whole.judged != 1 || coming->count != 3 || memcmp(coming->held, page + 16, 3)) return 10;
+    // HEADER: modules: of an open module, what is judged of its whole pages coming: of the page that is coming what came, after its
+    //   module's whole pages
+    if (stream.verdicts.modules[5].judged != 0 || coming->whole.words != 2 || coming->whole.profile != 1) return 11;
+    if (lfi_stream_next(&stream, page + 19, 1, &event) != 1 || !event.ended || stream.verdicts.modules[5].judged != 2) return 12;
     return 0;
 }
 

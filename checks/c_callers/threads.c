@@ -14,6 +14,7 @@ struct answer {
 };
 
 // C: The library has no locks. Calls that share nothing but what they read may run at the same time.
+// HEADER: Calls may run at the same time on any threads, as long as no call writes what another one is handed. No call ends the process.
 static void *judge(void *to) {
     struct answer *answer = to;
     lfi_map map;

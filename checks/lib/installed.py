@@ -163,6 +163,7 @@ def try_files_of_others(prefix, words):
         fail("an install writes to a file that has another name, too")
 
 
+# C: `./install --check --prefix P` says of each file whether it is of this tree, and `--uninstall` removes what was installed.
 def try_changes(prefix, words):
     """All goes, also the prefix; a file that was changed is told and left."""
     run(TOP / "install", "--uninstall", "--prefix", prefix)
@@ -452,6 +453,8 @@ def try_library_alone(room, version, archive):
     compare_modes(above)
     alone = of_document(r"^\| share/doc/lfiload/ \| ([A-Z, ]+); with the program")[1].split(", ")
     found = sorted(it.name for it in (prefix / "share" / "doc" / "lfiload").iterdir())
+    # C: | bin/lfiload, its man page, its completions | the program, but with `--no-program` | | share/doc/lfiload/ | C, HOST; with the
+    #   program COMMANDS, GLOSSARY, PROFILE |
     if (prefix / "bin").exists() or found != sorted(f"{it}.md" for it in alone):
         fail(f"the library alone is installed with the documents {found}, and the program: {(prefix / 'bin').exists()}")
     told = run(TOP / "install", "--check", "--prefix", prefix, "--archive", archive, status=1).splitlines()
@@ -513,6 +516,8 @@ def try_told_prefix():
         fail(f"install --check tells {without.stdout}{without.stderr} where no prefix is said, and the help says {told}")
 
 
+# C: For another machine `--archive out/aarch64-unknown-linux-gnu/liblfi_verifier.a --no-program` and `CC=aarch64-linux-gnu-gcc` install the
+#   library alone.
 def try_another_machine(room, version):
     """What docs/C.md says of AArch64, with its archive where that is built, makes a shared library for it."""
     told = of_document(r"For another machine `--archive (\S+) --no-program` and `CC=(\S+)`")

@@ -33,6 +33,8 @@ def of_release(prefix):
     }
 
 
+# C: `checks/release` packs what is installed, with the bindings (share/lfiload/bindings) and the documents, as
+#   out/lfiload-VERSION-TARGET.tar.gz.
 def compare_release(file, head, prefix):
     """A release's names are in order below one folder, its bytes those of the prefix and of the tree, its owners and times 0."""
     with tarfile.open(file) as packed:

@@ -52,7 +52,7 @@ OVER = {
     "steps": (),
 }
 LINKED = {
-    "steps": ["-Wl,--wrap=mprotect,--wrap=syscall,--wrap=__clear_cache"],
+    "steps": ["-Wl,--wrap=mmap,--wrap=mprotect,--wrap=lfi_verify_update,--wrap=syscall,--wrap=__clear_cache"],
     "registers": ["-Wl,--wrap=lfi_enter"],
     "promised": ["-Wl,--wrap=mmap"],
     "kinds": ["-Wl,--wrap=lfi_version,--wrap=sysconf"],
@@ -124,27 +124,6 @@ def build(room, archive, name, *flags):
 # ---- the document
 
 
-# What is owed to a processor, or to other code, no run shows here; that it is as it was when it was read, these lines show.
-# HOST: Where the host's own code has branch protection, an entry begins with `bti c`; the slot's pages are mapped without it. Guarded
-#   control stacks (FEAT_GCS) are off in a thread that enters a slot: the law lets code return where it likes in its slot, and such a stack
-#   doesn't.
-# HOST: Nothing of the host's may ever lie there. What lies between the guards of two slots is the host's.
-# HOST: No address there but these is ever reached: lawful code calls at no other (`entries_lie_outside`, `entries_are_called_by_x30`). The
-#   table is data that the code can read, so nothing secret is in it.
-# HOST: From the moment that a byte is judged nobody writes it: no thread, no other mapping of the same memory, no debugger. Bytes that
-#   another process can still write are copied first, and the copy is judged.
-# HOST: This comes after the last write and before the first execution; without it a core may carry out words that were there before, which
-#   nobody judged.
-# HOST: then they are lawful, since they were at the call. A compiler may ask for more registers to be kept; the law doesn't.
-# HOST: A system call made for the code goes to the slot's data alone; mapping or unmapping pages of a slot is never offered;
-# HOST: may change any byte from R on while it runs, and no other byte of the slot;
-# HOST: The law lets it go on with any lawful registers, also at another word of the code; a branch there is made as at the start.
-# HOST: Between a load of x30 or a move of sp and the next word, and in profile 2 up to the fourth one after a move of sp, these two aren't
-#   lawful.
-# HOST: a handler that sets pc elsewhere in the slot has to set lawful registers too.
-# HOST: **Anything else that uses sp** of the code, or pushes to it: unwinders, profilers, sanitizers.
-# HOST: The profile needs one that gives it to the program, as Linux does.
-# HOST: Little-endian data are owed (SCTLR_EL1.E0E is 0), which a big-endian Linux hasn't.
 def compare_words():
     """Each line of docs/HOST.md that the host's source cites stands there."""
     document, cited, lines = " ".join(DOCUMENT.read_text().split()), 0, 0
@@ -208,6 +187,7 @@ def registers_in(text):
     return {int(it) for it in re.findall(r"\bx(\d+)", text)} | {it for some in ranges for it in some} | ({31} if re.search(r"\bsp\b", text) else set())
 
 
+# HOST: `lfiload run` starts with x18, x21, x23, x24 and x30 at B, sp at B + 2^32 and 0 elsewhere.
 def compare_registers(own, offset, *addresses):
     """Where a document lists registers that a host sets or an entry keeps, these are those that the library tells; so are those that rows spoil."""
     start, every = {own, *addresses}, {own, offset, *addresses, 31}
@@ -220,10 +200,12 @@ def compare_registers(own, offset, *addresses):
         told = [registers_in(it) for it in re.findall(pattern, (TOP / "docs" / name).read_text())]
         if told != [wanted]:
             fail(f"docs/{name} lists other registers than {sorted(wanted)} (31: sp): {told}")
+    # HOST: x21 is B, so it tells which slot has called.
     if UNLAWFUL.keys() != every or f"x{own} is B, so it tells which slot has called" not in DOCUMENT.read_text():
         fail(f"the library tells the registers {sorted(every)} (31: sp), the rows have {sorted(UNLAWFUL)}, and docs/HOST.md another one at B")
 
 
+# HOST: Slot m, 0 to 15, begins at `B = (2m + 1) * 2^32`. `lfi_profile_map` tells these numbers.
 def compare_numbers(program):
     """The map and the registers of docs/HOST.md are those that the library tells, of each slot and in both profiles."""
     lines = [tuple(map(int, line.split())) for line in run(program).stdout.decode().splitlines()]
@@ -245,9 +227,15 @@ def compare_numbers(program):
         if told != wanted:
             fail(f"docs/HOST.md, {heading}: it has {told}, and the library {wanted}")
     sentences = [f"begins at `B = (2m + 1) * {end}`", f"{entries} numbers of 8 bytes", f"number j is `{power} + {step}j`"]
+    # HOST: **Room for it.** A slot with its guards takes 4 GiB and 128 KiB of addresses, most of which are never touched.
+    sentences += [f"takes {size >> 30} GiB and {2 * guard >> 10} KiB of addresses", "x18, x21 to x24, sp and its own way back, x30"]
     sentences += [f"sp may be up to {reach} bytes outside of the slot", f"sp {reach - 1} bytes past its end"]
+    # HOST: The guards are owed: a load or store reaches up to 33,279 bytes past the slot: sp 511 bytes past its end, an immediate of
+    #   32,760, and 8 bytes.
     # The farthest access: LDR of 8 bytes whose imm12 is 4,095, eights of bytes (Arm DDI 0487, C6.2).
     sentences += [f"up to {reach - 1 + 8 * 4_095 + 8:,} bytes past the slot", f"an immediate of {8 * 4_095:,}, and 8 bytes."]
+    # HOST: **Addresses up to 2^40 + 8,192.** The runtime's entries lie there; a system that gives a process 39 bits of addresses has no
+    #   room for them.
     for words in [*sentences, f"Addresses up to {power} + {entries * step:,}."]:
         if words not in DOCUMENT.read_text():
             fail(f"docs/HOST.md doesn't say what the library tells: {words}")
@@ -256,7 +244,6 @@ def compare_numbers(program):
 # ---- the host by itself
 
 
-# HOST: `lfi_profile_registers` tells them, and these are all: whatever else a register holds, the law is the same.
 def check_registers(registers, lawful, signals):
     """A run keeps what AAPCS64 has a function keep. The host tells lawful registers at a call, one by one at their edges; and so signals, from
     which it gets back as docs/HOST.md says."""
@@ -269,6 +256,7 @@ def check_registers(registers, lawful, signals):
 # HOST: **Code without the process's knowledge** in the slots' or the guards' addresses: they are reserved at the start, with a call that
 #   fails where something lies there (`MAP_FIXED_NOREPLACE`). Linux before 4.17 and qemu-user 7.2 take that address for a wish, and answer
 #   another one where it isn't free; so the host compares the address that it is answered with the one that it asked for.
+# HOST: Nothing of the host's may ever lie there.
 def check_mapped(mapped):
     """Where something lies in a slot, a guard or at the entries, the host ends (mmap(2): EEXIST), and what lies there is as it was."""
     places = [(EXAMPLES / "one_ret.stream", at) for at in (BASE - GUARD, BASE + SLOT // 2, BASE + SLOT + GUARD - 4_096, 1 << 40)]
@@ -293,6 +281,9 @@ def check_refused(refused, room):
         if done.returncode != 1 or done.stdout.decode().splitlines() != tables:
             fail(f"after {file.name}, of which nothing is run, more may be accessed than the tables: {done}")
     done = run(refused, EXAMPLES / "checksums.stream")
+    # HOST: What lies between the guards of two slots is the host's.
+    # HOST: A page of its own in reach of a branch, below the lower guard, with `mov x16, #0` and a `b` to the word, is how the example does
+    #   it.
     start, table = formats.base(1) - GUARD - 4_096, formats.base(1)
     if done.stdout.decode().splitlines()[2:] != [f"{start:x} {start + 4_096:x} r-xp", f"{table:x} {table + 4_096:x} r--p"]:
         fail(f"after a module that has run more may be accessed than its table and the host's start: {done}")
@@ -308,6 +299,8 @@ def check_promised(promised, room):
 
 
 # C: a C host that names an archive by hand compares `lfi_version()` with `LFI_VERSION` |
+# HOST: **Pages of 4,096 bytes.** Where a system's are larger, R needn't begin one, and table and code share one with what has no access:
+#   this map can't be made.
 def check_kinds(kinds):
     """A host of another interface than its library's, or on a system of other pages, runs nothing."""
     other = "native_host: pages or library of another kind: Operation not supported\n"
@@ -340,25 +333,44 @@ def check_reads(reads, room):
             fail(f"a read of {name} fails: {done}, and not {wanted}")
 
 
-def check_steps(steps):
-    """Of one_ret.stream, whose code is one word in slot 0, the calls come in the order of docs/HOST.md, "Writing the code"; so do those for
-    code of the host's own, in other places."""
-    done = run(steps, EXAMPLES / "one_ret.stream")
-    told = re.findall(r"^step: (.*)$", done.stderr.decode(), re.M)
-    table, code, data = (f"{BASE + first:#x} {BASE + last:#x}" for first, last in ((0, 4_096), (65_536, 69_632), (69_632, SLOT)))
-    wanted = [
-        *(f"{table} read write", f"{table} read"),  # step 2
-        f"{code} read write",  # 3
-        *(f"{code} read", f"{code} caches", "synchronize", f"{code} read execute"),  # 6 and 7
-        f"{data} read write",  # 8
-    ]
-    own = [line for line in told if line not in wanted]
-    if [line for line in told if line in wanted] != wanted or own[:1] != ["register"]:
-        fail("the calls for code in a slot come in another order than docs/HOST.md has: " + "; ".join(told))
-    for first, second, third in zip(own[1::3], own[2::3], own[3::3]):
-        place = first.removesuffix(" read write")
-        if [first, second, third] != [f"{place} read write", f"{place} caches", f"{place} read execute"]:
-            fail("the calls for the host's own code come in another order: " + "; ".join(own))
+# HOST: In this order, for each module:
+def check_steps(steps, room):
+    """Of code that is one word in slot 0, RET in a stream and BRK in an image, the calls come in the order of docs/HOST.md, "Writing the code";
+    so do those for code of the host's own, in other places. An image is judged where it lies; a stream is in the piece that came."""
+    (room / "steps.img").write_bytes(formats.image(0, 0, formats.code_of(programs.BRK)))
+    # HOST: A host that can't keep this judges the copy itself, each page by `lfi_verify_update`.
+    for file, judged in (EXAMPLES / "one_ret.stream", []), (room / "steps.img", [f"{BASE + 65_536:#x} {BASE + 65_540:#x} judge"]):
+        done = run(steps, file)
+        told = re.findall(r"^step: (.*)$", done.stderr.decode(), re.M)
+        table, code, data = (f"{BASE + first:#x} {BASE + last:#x}" for first, last in ((0, 4_096), (65_536, 69_632), (69_632, SLOT)))
+        wanted = [
+            # HOST: 1. Reserve slot and guards without access; no other mapping, thread or process has a way to these pages.
+            f"{BASE - GUARD - 4_096:#x} {BASE + SLOT + GUARD:#x} reserve",  # step 1, with the page of the host's below
+            # HOST: 2. Write the table; from then on it is read alone.
+            *(f"{table} read write", f"{table} read"),  # 2
+            # HOST: 3. Map 65,536 to R for reading and writing, not for execution, and bring the code there.
+            # HOST: 4. Judge these very bytes (`lfi_verify`, or piece by piece as they come).
+            *(f"{code} read write", *judged),  # 3 and 4
+            # HOST: 6. Take the right to write away. Then bring the instruction caches in step: clean the data cache and invalidate the
+            #   instruction cache from the first word to R (`__builtin___clear_cache` does it), and have each core that will execute the
+            #   code synchronize its context by ISB. (On Linux that is `membarrier` with `MEMBARRIER_CMD_PRIVATE_EXPEDITED_SYNC_CORE` for
+            #   threads that run elsewhere; the process registers for it once (`MEMBARRIER_CMD_REGISTER_PRIVATE_EXPEDITED_SYNC_CORE`), or
+            #   the call is refused with EPERM.)
+            # HOST: 7. Map them for reading and execution. They are never writable and executable at once (W^X), and never writable again.
+            *(f"{code} read", f"{code} caches", "synchronize", f"{code} read execute"),  # 6 and 7
+            # HOST: 8. Map R to the slot's end for reading and writing, never for execution; the profile has zero bytes there at first, the
+            #   law asks for none.
+            f"{data} read write",  # 8
+            f"{BASE + 65_536:#x} {BASE + SLOT:#x} reserve",  # after the run
+        ]
+        # HOST: A file is read, and not mapped: a mapping, also a private one, may change when another process writes the file.
+        own = [line for line in told if line not in wanted and not re.fullmatch(r"0x10000000000 0x1000000\w000 reserve", line)]
+        if [line for line in told if line in wanted] != wanted or own[:1] != ["register"] or len(own) != 7:
+            fail("the calls for code in a slot come in another order than docs/HOST.md has: " + "; ".join(told))
+        for first, second, third in zip(own[1::3], own[2::3], own[3::3]):
+            place = first.removesuffix(" read write")
+            if [first, second, third] != [f"{place} read write", f"{place} caches", f"{place} read execute"]:
+                fail("the calls for the host's own code come in another order: " + "; ".join(own))
 
 
 # ---- what it tells
@@ -404,6 +416,9 @@ def of_spoiled(room):
     yield ["plain.img"], 1, b"", "image refused, fault 7, word 0 rule 1\n"
 
 
+# HOST: | so do LDAR and STLR of profile 2 | SIGBUS where the address is no multiple of their size; on a processor with FEAT_LSE2 only where
+#   they cross a multiple of 16 | it stops where the definitions go on, unless the host carries the access out |
+# HOST: For the last row to be as in the definitions, its handler carries the access out.
 def of_ordered(room):
     """LDAR at addresses that are no multiples of its size, carried out and not."""
     # LDAR X0, [X18]: 15 bytes past a multiple of 16; and at the table's last byte, by which it leaves it
@@ -420,6 +435,7 @@ def of_ordered(room):
         yield ["--emulate", name], 0, b"\0", broken(0, len(code) - 1)
 
 
+# HOST: The zeros are a matter of secrets, of which the law doesn't speak: what the host leaves in a register the code can read.
 def of_several(room):
     """What comes behind another one in the same process finds nothing of it: no bytes that were refused, no registers, no time that is over."""
     codes = {
@@ -482,6 +498,8 @@ def cases(room, corpus):
         yield from part(room)
 
 
+# HOST: None of these leaves the slot. The host ends the code, by its handler on its own stack; what it makes of the slot's data is its
+#   affair.
 def check_told(host, room, corpus):
     """The status and both outputs of single runs. Answers how many there were."""
     count = 0
@@ -526,6 +544,8 @@ def tell_late(host, room):
             fail(f"native_host {' '.join(words)}, of which nobody reads until its time is up: status {running.returncode}, {told[:80]}, {err}")
 
 
+# HOST: **At an entry** x30 and pc of the definitions are both the address of the word after the call, which lies in the slot. On a
+#   processor pc is the entry's and x30 that address.
 def check_escapes(hosts, room):
     """Each register that isn't lawful at a call is told as an escape. `hosts` have a fault each."""
     (room / "call.img").write_bytes(formats.image(0, 0, formats.code_of(*programs.call(1), programs.BRK)))

@@ -14,7 +14,10 @@ int main(void) {
     };
     for (size_t k = 0; k < sizeof rows / sizeof *rows; k++)
         for (int j = 0; j < 4; j++) {
-            frame it = {.sp = end};
+            frame it = {.sp = end, .flags = UINT64_C(15) << 28};
+            // HOST: `lfi_profile_registers` tells them, and these are all: whatever else a register holds, the law is the same.
+            // HOST: | all others, and the flags | anything |
+            for (uint64_t r = 0; r < 31; r++) it.x[r] = r == 22 ? 0 : ~r;
             it.x[18] = it.x[21] = it.x[23] = it.x[24] = it.x[30] = base;
             *(rows[k].number == 31 ? &it.sp : &it.x[rows[k].number]) = rows[k].pairs[j];
             if (are_lawful(&it, &map) != (j % 2 == 0)) printf("register %d: 0x%llx\n", rows[k].number, (unsigned long long)rows[k].pairs[j]);

@@ -244,6 +244,7 @@ def program(words, entry=0, module=0, profile=1, count=0):
     return formats.image(module, entry, formats.code_of(*words), profile)
 
 
+# HOST: | pc | an address in the slot: the word at which it is entered; after a call the word after it, as a rule |
 def starts():
     """What the registers hold at the start, in each slot, entered at the first word and at a later one."""
     for module in range(formats.MODULES):
@@ -256,6 +257,8 @@ def longest():
     yield "longest", program([BRK] * (formats.MOST_WORDS - len(END)) + END, formats.MOST_WORDS - len(END))
 
 
+# HOST: keeps x18, x21 to x24, sp and its own way back, x30, and gives them back as they were;
+# HOST: returns through x30 of the call, or doesn't return.
 def entries():
     """Each entry, one by one among the edges of their numbers and all in one program; what they answer and keep."""
     fill = [word for register in FREE for word in move(register, (register + 1) * 0x0123456789ABCDEF % (1 << 64))]
@@ -272,6 +275,9 @@ def places(count):
     return sorted({(edge + by) % SLOT for edge in edges for by in (-16, -9, -8, -7, -4, -3, -2, -1, 0, 1, 2, 3, 4, 8)} | {0x80000000})
 
 
+# HOST: Pages are executable as a whole, and the law's code is the n words alone.
+# HOST: | a fetch that isn't at a word of the code (halt 3) | SIGSEGV; SIGILL in the zero bytes; SIGBUS at an address that is no multiple of
+#   4 | |
 def jumps():
     """Branches through each register that may hold a target, to each such place."""
     for count in (16, 1_024, 1_030):
@@ -283,6 +289,10 @@ def jumps():
         yield f"off-{count}", program([NOP] * count)
 
 
+# HOST: | an access without permission (halt 2) | SIGSEGV | a store that crosses into such a page may have written its first bytes; in the
+#   definitions it has written nothing |
+# HOST: | an access at any alignment goes on | it does so in ordinary memory, but SIGBUS where its base is sp and sp is no multiple of 16 |
+#   it stops where the definitions go on |
 def accesses():
     """Loads and stores of each class and size at each such place: through an address register, as single, pair and ordered ones, and by an
     offset; and as far from it as an immediate goes."""
@@ -298,6 +308,8 @@ def accesses():
 
 
 # HOST: A word of zeros is UDF, which stops the code as the definitions do.
+# HOST: **A handler that takes pc for the fault's place.** Whether pc is one of the n words tells a fetch from an access. The fault's
+#   address (`si_addr`) doesn't: a store of a word to itself faults at an address that is pc.
 def own_words():
     """Stores of code to its own words, the next ones and the zero bytes behind."""
     for at in (CODE, CODE + 4, CODE + 8, CODE + 12, CODE + 16, CODE + 4_088):
@@ -305,6 +317,9 @@ def own_words():
 
 
 # HOST: sp may be up to 512 bytes outside of the slot, or at bytes that can't be written.
+# HOST: All else is the code's: sp may be up to 512 bytes outside of the slot, or at bytes that can't be written.
+# HOST: So an entry - uses no byte at sp: it takes a stack of the host's, which it finds by what the code can't write (a system register
+#   such as TPIDR_EL0, which no instruction of the profile names);
 def stacks():
     """sp at the edges of the slot, moved from there, and accessed up and down as far as an immediate goes."""
     for at in (0, 1, 8, 511, 4_096, CODE, SLOT - 511, SLOT - 16, SLOT - 8, SLOT - 1):

@@ -51,6 +51,7 @@ static int print_lost(void) {
 }
 
 /* Answers whether code that ends so was lawful, ended so, and changed nothing that is its caller's. */
+// HOST: Floating-point and SIMD registers are touched by no instruction of the profile, so an entry owes them to the host alone.
 static int is_kept(const uint8_t *code, const uint8_t *end, enum halt wanted) {
     size_t size = (size_t)(end - code);
     lfi_fault fault;

@@ -1,14 +1,31 @@
-/* Tells on standard error, as they come, the host's calls that change what may be done with pages, that bring caches in step and that have
- * other cores synchronize. Made of all files of examples/native_host, with --wrap=mprotect, --wrap=syscall and --wrap=__clear_cache. */
+/* Tells on standard error, as they come, the host's calls that reserve pages or change what may be done with them, that judge code in its
+ * place, that bring caches in step and that have other cores synchronize. Made of all files of examples/native_host, with --wrap=mmap,
+ * --wrap=mprotect, --wrap=lfi_verify_update, --wrap=syscall and --wrap=__clear_cache. */
 #include "native_host.h"
 #include <stdarg.h>
 
+void *__real_mmap(void *at, size_t size, int rights, int flags, int file, off_t from);
 int __real_mprotect(void *from, size_t size, int rights);
+lfi_status __real_lfi_verify_update(lfi_state *state, const uint8_t *piece, size_t size);
 long __real_syscall(long number, ...);
 void __real___clear_cache(void *from, void *to);
+void *__wrap_mmap(void *at, size_t size, int rights, int flags, int file, off_t from);
 int __wrap_mprotect(void *from, size_t size, int rights);
+lfi_status __wrap_lfi_verify_update(lfi_state *state, const uint8_t *piece, size_t size);
 long __wrap_syscall(long number, ...);
 void __wrap___clear_cache(void *from, void *to);
+
+/* Pages that nobody else has a way to, and without access; or others, as those of a file. */
+void *__wrap_mmap(void *at, size_t size, int rights, int flags, int file, off_t from) {
+    int own = rights == PROT_NONE && flags & MAP_PRIVATE && flags & MAP_ANONYMOUS && file == -1;
+    fprintf(stderr, "step: %p %p %s\n", at, (void *)((char *)at + size), own ? "reserve" : "map otherwise");
+    return __real_mmap(at, size, rights, flags, file, from);
+}
+
+lfi_status __wrap_lfi_verify_update(lfi_state *state, const uint8_t *piece, size_t size) {
+    fprintf(stderr, "step: %p %p judge\n", (const void *)piece, (const void *)(piece + size));
+    return __real_lfi_verify_update(state, piece, size);
+}
 
 int __wrap_mprotect(void *from, size_t size, int rights) {
     const char *reads = rights & PROT_READ ? " read" : "", *writes = rights & PROT_WRITE ? " write" : "", *executes = rights & PROT_EXEC ? " execute" : "";

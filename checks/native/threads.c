@@ -42,6 +42,7 @@ static void print_outputs(const slot *it) {
 }
 
 /* A signal ends each of these runs, on a stack that no other thread's handler uses. */
+// HOST: | BRK (halt 4) | SIGTRAP | |
 static void print_breaks(const slot *it) {
     static const uint32_t code[] = {0xd503201f, 0xd4200000}; /* NOP, BRK #1 */
     int right = 0;
@@ -51,6 +52,7 @@ static void print_breaks(const slot *it) {
         ending how = run_slot(it, 0, put);
         right += how.halt == HALT_BREAK && how.at == code_of(it) + 4;
     }
+    // HOST: The rest is zero.
     fill((uint32_t)(it - slots), code, sizeof *code); /* the NOP alone: what was behind it isn't there any more */
     ending how = run_slot(it, 0, put);
     printf("%zu breaks %d, fresh %d\n", (size_t)(it - slots), right, how.halt == HALT_FETCH && how.at == code_of(it) + 4);
@@ -66,6 +68,8 @@ static void *enter(void *given) {
 }
 
 /* Whether signals of this slot's thread come on a stack of its own. */
+// HOST: **Signals on the code's stack.** A signal that comes while the code runs is delivered at sp, which the code chooses. All handlers
+//   run on a stack of their own (`sigaltstack`, `SA_ONSTACK`), for each thread that enters a slot.
 static int is_apart(uint32_t number) {
     const stack_t *it = &stacks[number];
     uint32_t m = 0;
