@@ -44,6 +44,12 @@ EXPLAINED = (
      "  a direct branch may go only to a word of the module; it has 2, and this one goes to word 2\n"
      "  mend: let it go to a word of the module; code outside is called by ldr x30, [x21, #8j], j being 0 to 511, with blr x30 right"
      " after it"),
+    (1, 0, (0x14000801, *[NOP] * 2_048), Fault(0, 8),
+     "word 0 rule 8\n"
+     "  0x0000000100010000  14000801  b .+8196\n"
+     "  a direct branch may go only to a word of the module; it has 2049, and this one goes to word 2049\n"
+     "  mend: let it go to a word of the module; code outside is called by ldr x30, [x21, #8j], j being 0 to 511, with blr x30 right"
+     " after it"),
     (2, 0, (0xD10043FF, NOP, 0xF94006BE, 0xD63F03C0, 0xF90003E0, RET), Fault(2, 10),
      "word 2 rule 10\n"
      "  0x0000000100010000  d10043ff  sub sp, sp, #16\n"
@@ -176,7 +182,7 @@ class Verifying(unittest.TestCase):
             with written_during("lfi_verify", data, code_of(SVC)):
                 self.assertIsNone(lfi_verifier.verify(data if view is bytearray else view(data)))
             self.assertEqual(verdict(data), "word 0 rule 1")
-            for call, (profile, *_, words, fault, wanted) in ((lfi_verifier.explain, EXPLAINED[3]), (lfi_verifier.mend, MENDED[1])):
+            for call, (profile, *_, words, fault, wanted) in ((lfi_verifier.explain, EXPLAINED[-1]), (lfi_verifier.mend, MENDED[1])):
                 data = bytearray(code_of(*words))
                 with written_during(f"lfi_{call.__name__}", data, bytes(len(data))):
                     self.assertEqual(call(data if view is bytearray else view(data), fault, profile), wanted)
