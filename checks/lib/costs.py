@@ -2,6 +2,7 @@
 
 import concurrent.futures
 import contextlib
+import fcntl
 import json
 import os
 import pathlib
@@ -183,6 +184,30 @@ def try_most(program):
         try_modules(program, profile, large)
     try_strays(program)
     print(f"most: {formats.MODULES} modules of {formats.MOST_WORDS} words from one connection, in small and large pages, also with the last one refused; 30 million other messages")
+
+
+# ---- many
+
+# More than 32 bits count.
+MANY = (1 << 32) + 5
+
+
+def try_many(program):
+    """A stream of more messages of no open module than 32 bits count: each is counted, of its connection and of all."""
+    message, more = formats.header(formats.CLOSE, 0, 5, 0, 0), 1 << 20
+    part = message * more
+    words = [program, "load", "--verifiers", "1", "--format", "json", "/dev/stdin"]
+    with subprocess.Popen(words, stdin=subprocess.PIPE, stdout=subprocess.PIPE) as load:
+        fcntl.fcntl(load.stdin, fcntl.F_SETPIPE_SZ, 1 << 20)
+        with contextlib.suppress(OSError):
+            for _ in range(MANY // more):
+                load.stdin.write(part)
+            load.stdin.write(message * (MANY % more))
+        told = json.loads(load.communicate()[0] or "{}")
+    came = [it.get("strays") for it in (*told.get("connections", []), told)], load.returncode
+    if came != ([MANY, MANY], 0):
+        wrong("many", f"{MANY} messages of a module that isn't open", came, [MANY, MANY])
+    print(f"many: {MANY} messages of a stream that no module takes")
 
 
 # ---- large
