@@ -81,17 +81,22 @@ def run(program, *words, **more):
 
 
 def build_by_readme(host, archive):
-    """Builds the host by the README's line, without words, in a tree whose archive is where `checks/build --library` puts it; and from another
-    folder, with words that are told from there."""
-    place = host.parent.parent / "out" / "aarch64-unknown-linux-gnu"
+    """Builds and starts the host by the README's lines, in a tree whose archive is where `checks/build --library` puts it; and builds it from
+    another folder, with words that are told from there."""
+    top = host.parent.parent
+    place = top / "out" / "aarch64-unknown-linux-gnu"
     place.mkdir(parents=True)
     (place / "liblfi_verifier.a").symlink_to(archive)
+    shutil.copy(EXAMPLES / "checksums.stream", host.parent)
     own = {"CC": COMPILER} if IS_AARCH64 else {}
     plain = {name: value for name, value in os.environ.items() if name != "CC"}
-    told = subprocess.run([host / "make"], capture_output=True, text=True, env={**plain, **own})
-    if told.returncode or told.stderr or not (host / "out" / "native_host").exists():
-        fail(f"make without words builds no host: {told.stdout}{told.stderr}")
-    room = host.parent.parent / "elsewhere"
+    readme = (HOST / "README.md").read_text(encoding="utf-8")
+    _, make, start = re.findall(r"^\$ (.*)$", readme, re.M)
+    lines = f"{make} && {start.removeprefix('qemu-aarch64 ') if IS_AARCH64 else start}"
+    told = subprocess.run(["sh", "-c", lines], cwd=top, capture_output=True, text=True, env={**plain, **own})
+    if told.returncode or f"$ {start}\n{told.stdout}{told.stderr}```" not in readme:
+        fail(f"the README's lines: {told.stdout}{told.stderr}")
+    room = top / "elsewhere"
     room.mkdir()
     told = subprocess.run([host / "make", "made", os.path.relpath(place / "liblfi_verifier.a", room)], cwd=room, capture_output=True, text=True, env={**os.environ, "CC": COMPILER})
     if told.returncode or told.stderr or os.listdir(room) != ["made"]:
