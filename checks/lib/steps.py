@@ -21,8 +21,12 @@ def build(folder):
 
 
 def steps_of(folder, words):
-    """The status of a run in the folder, and how many instructions it executed; `None` where the system lets nobody trace here."""
+    """The status of a run in the folder, and how many instructions it executed; `None` where the system lets nobody trace here. A run that
+    takes five minutes has no status."""
     told = pathlib.Path(folder, f"steps-{threading.get_ident()}")
     given = {"cwd": folder, "env": {**os.environ, "GLIBC_TUNABLES": TUNABLES}, "stdin": subprocess.DEVNULL, "capture_output": True, "timeout": 300}
-    done = subprocess.run([os.path.join(folder, "steps"), told, *words], **given)
+    try:
+        done = subprocess.run([os.path.join(folder, "steps"), told, *words], **given)
+    except subprocess.TimeoutExpired:
+        return "no end", 0
     return done.returncode, None if done.returncode == UNTRACED else int(told.read_text())
