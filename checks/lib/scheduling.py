@@ -140,10 +140,11 @@ def sleeps(process, thread):
         return limit == 0 or int.from_bytes(os.pread(memory.fileno(), 8, limit), "little") > ENDLESS
 
 
-def fall_asleep(process, threads):
-    """Whether these threads come to sleep, each time that one looks."""
+def fall_asleep(process, threads, between=lambda: None):
+    """Whether these threads come to sleep, each time that one looks; something else may be done between."""
     until = time.monotonic() + SECONDS
     while time.monotonic() < until:
+        between()
         if all(sleeps(process, thread) for _ in range(20) if time.sleep(0.01) is None for thread in threads):
             return True
     return False
@@ -244,12 +245,10 @@ def rest(program):
         ended("held", words, running, f"module 0: complete, {1024 * (PAGES - 1) + 1} words\nstrays 0\n")
 
 
-def others(run):
-    """The threads but the one that stands at a place. One that begins stops first, and is let go on."""
-    time.sleep(0.5)
+def let_begin():
+    """A traced thread that begins stops first, and is let go on."""
     while (thread := os.waitpid(-1, traced.WAIT_ALL | os.WNOHANG)[0]) != 0:
         traced.ptrace(traced.CONT, thread)
-    return {int(it) for it in os.listdir(f"/proc/{run.pid}/task")} - {run.thread}
 
 
 def start_asleep(program):
@@ -263,7 +262,7 @@ def start_asleep(program):
         run.come_to(traced.entry(run.pid))
         place = traced.mapped(run.pid, "libc.so.6")[0] + traced.offset(traced.libc.pthread_create)
         came = sum(run.come_to(place) and (number == 7 or run.step()) for number in range(8))
-        asleep = fall_asleep(run.pid, others(run))
+        asleep = fall_asleep(run.pid, {int(it) for it in os.listdir(f"/proc/{run.pid}/task")} - {run.thread}, let_begin)
         while run.go():
             pass
         os.close(run.memory)
@@ -312,7 +311,8 @@ def tell_refused(program, which):
 
 def try_held(program):
     try:
-        start_asleep(program)
+        if platform.machine() == "x86_64":
+            start_asleep(program)
         rest(program)
         count = take_few(program)
         for which in 0, 1:
