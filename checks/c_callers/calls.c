@@ -530,8 +530,8 @@ static int all_mended(void) {
 // C: | `LFI_NO_ROOM` | 7 | a text is longer than 2,048 bytes: none is (`explain_near`) |
 // HEADER: LFI_NO_ROOM: a text is longer than 2,048 bytes, for which the library has room; it is proved that none is
 static int all_explained(void) {
-    uint8_t text[2048], *code = calloc(LFI_MAX_WORDS, 4);
-    size_t count, longest = 0;
+    uint8_t text[2048], cut[2048], *code = calloc(LFI_MAX_WORDS, 4);
+    size_t count, whole, longest = 0;
     CHECK(115, code);
     for (uint32_t i = 0; i < 200000; i++) {
         uint32_t word = i * 2654435761u, before = word * 40503u + i;
@@ -541,6 +541,10 @@ static int all_explained(void) {
         if (f.word) put(code + 4 * (size_t)(f.word - 1), before);
         uint32_t come = i % 5 ? words : f.word + 1;
         CHECK(110, lfi_explain(1 + i / 16 % 2, i % 16, words, code, 4 * (size_t)come, &f, text, sizeof text, &count) == LFI_LAWFUL);
+        /* The same is cut at any room. */
+        size_t room = i % 701;
+        CHECK(180, lfi_explain(1 + i / 16 % 2, i % 16, words, code, 4 * (size_t)come, &f, cut, room, &whole) == LFI_LAWFUL);
+        CHECK(181, whole == count && !memcmp(cut, text, room < count ? room : count));
         if (count > longest) longest = count;
     }
     CHECK(111, longest < 1024);

@@ -1,17 +1,15 @@
-"""The parts of checks/hostile on how much a run asks of the system, and on the most that one client or one command takes."""
+"""The parts of checks/hostile on how many calls and pages of memory a run asks for, and on the most that one client or one command takes."""
 
-import concurrent.futures
 import contextlib
 import fcntl
 import json
 import os
 import pathlib
 import re
-import shutil
 import subprocess
 import tempfile
 
-from lib import formats, steps
+from lib import formats
 from lib.cases import NOP, RET, run, wrong
 from lib.serving import connected
 
@@ -46,8 +44,11 @@ LOADS = formats.code_of(0x8B2142B2, 0xA9400E42, 0xF9400644, 0x11404021, 0x17FFFF
 COSTS = (
     (["load", "small.stream"], b"module 0: complete, 1 words\nstrays 0\n", 20, 4, 300),
     (["load", "large.stream"], b"module 0: complete, 2097152 words\nstrays 0\n", 100, 4, 2_700),
+    (["load", "--format", "json", "large.stream", "small.stream"], b'{"modules":[', 100, 6, 2_700),
     (["load", "--out", "out", "long.stream"], b"module 0: complete, 4194304 words\nstrays 0\n", 200, 4_200, 5_000),
     (["check", "long.code"], b"lawful, 4194304 words\n", 300, 4, 150),
+    (["check", "--profile", "2", "long.code"], b"lawful, 4194304 words\n", 300, 4, 150),
+    (["check", "long.code", "half.code", "long.code"], b"long.code: lawful, 4194304 words\n", 600, 8, 150),
     (["check", "--explain", "long.code"], b"lawful, 4194304 words\n", 200, 4, 4_500),
     (["check", "--format", "json", "long.code"], b'{"files":[', 200, 10, 4_500),
     (["check", "--all", "half.code"], b"word 1 rule 1\n", 30, 60, 130),
@@ -80,70 +81,6 @@ def try_reads(program):
             if not told.startswith(wanted) or any(came > limit for came, limit in zip(cost, most)):
                 wrong("reads", words, (*cost, told[:100]), f"at most {most[0]} reads, {most[1]} writes and {most[2]} pages of memory, and {wanted[:100]!r}")
     print(f"reads: {len(COSTS)} commands on the most words ask for few reads, writes and pages of memory")
-
-
-# ---- work
-
-# Words, their status, and the most instructions that they may execute, less those of `--version`.
-WORK = (
-    (["check", "mixed.code"], 0, 300_000),
-    (["check", "--explain", "mixed.code"], 0, 310_000),
-    (["check", "--profile", "2", "late.code"], 0, 750_000),
-    (["check", "--profile", "2", "ordered.code"], 0, 350_000),
-    (["check", "--all", "refused.code"], 1, 430_000),
-    (["check", "--all", "--profile", "2", "calm.code"], 1, 800_000),
-    (["disassemble", "refused.code"], 0, 330_000),
-    (["info", "mixed.img"], 0, 330_000),
-    (["info", "mixed.stream"], 0, 80_000),
-    (["run", "straight.img", "--steps", "4096"], 0, 930_000),
-    (["run", "long.img", "--steps", "16384"], 0, 3_400_000),
-    (["run", "singles.img", "--steps", "1024"], 0, 350_000),
-    (["run", "pairs.img", "--steps", "1024"], 0, 400_000),
-    (["run", "odd_singles.img", "--steps", "1024"], 0, 320_000),
-    (["run", "odd_pairs.img", "--steps", "1024"], 0, 370_000),
-    (["unpack", "mixed.img"], 0, 310_000),
-    (["pack", "mixed.code"], 0, 90_000),
-    (["load", "--verifiers", "1", "mixed.stream"], 0, 650_000),
-    (["load", "--verifiers", "1", "straight.stream"], 0, 950_000),
-)
-
-
-def try_work(program):
-    """How many instructions a command executes on 8,192 words, or on fewer where one costs more: no clause says how much work a body is.
-    Of calm.code each 50th word is refused, and any of its words may stand between a move of sp and its probe."""
-    if not shutil.which("cc"):
-        print("work: left out, since cc isn't here")
-        return
-    mixed = steps.MIXED * 1_024
-    with tempfile.TemporaryDirectory() as folder:
-        for name, content in (
-            ("mixed.code", mixed), ("mixed.img", formats.image(0, 0, mixed)), ("mixed.stream", formats.stream(0, mixed)),
-            ("refused.code", (RET + bytes(4)) * 50), ("straight.img", formats.image(0, 0, NOP * 4_096)),
-            ("long.img", formats.image(0, 0, NOP * 16_384)), ("straight.stream", formats.stream(1, NOP * 32_768)),
-            # sub sp, sp, #16; add x0, x0, #1; nop; ldr xzr, [sp]
-            ("late.code", formats.code_of(0xD10043FF, 0x91000400, 0xD503201F, 0xF94003FF) * 2_048),
-            # add x18, x21, w1, uxtw; ldar x0, [x18]; stlr x0, [x18]; nop
-            ("ordered.code", formats.code_of(0x8B2142B2, 0xC8DFFE40, 0xC89FFE40, 0xD503201F) * 2_048),
-            # mov x21, x0, behind 49 times nop
-            ("calm.code", (NOP * 49 + formats.code_of(0xAA0003F5)) * 20),
-            # stur x0, [sp, #-16]; then ldur x0, [sp, #-16], or -17, or ldp x0, x1, [sp, #-16], or -24
-            *(
-                (f"{name}.img", formats.image(0, 0, formats.code_of(0xF81F03E0, *[word] * 1_023)))
-                for name, word in (("singles", 0xF85F03E0), ("odd_singles", 0xF85EF3E0), ("pairs", 0xA97F07E0), ("odd_pairs", 0xA97E87E0))
-            ),
-        ):
-            pathlib.Path(folder, name).write_bytes(content)
-        steps.build(folder)
-        with concurrent.futures.ThreadPoolExecutor(os.cpu_count()) as pool:
-            (_, least), *found = pool.map(lambda words: steps.steps_of(folder, [program, *words]), [["--version"], *(words for words, _, _ in WORK)])
-    if least is None:
-        print("work: left out, since the system lets nobody trace here")
-        return
-    for (words, wanted, most), (status, count) in zip(WORK, found):
-        if status != wanted or count - least > most:
-            wrong("work", words, (status, count - least), f"status {wanted} and at most {most} instructions")
-    counts = ", ".join(f"{words[0]} {count - least}" for (words, _, _), (_, count) in zip(WORK, found))
-    print(f"work: instructions of {len(WORK)} commands beyond the {least} of `--version`: {counts}")
 
 
 # ---- most
@@ -295,6 +232,9 @@ def try_images(program, folder):
     done = subprocess.run([program, "unpack", "module-03.img"], cwd=folder, capture_output=True, timeout=60)
     if (done.returncode, done.stdout, done.stderr) != (0, WHOLE, b""):
         wrong("large", "unpack of an image of the most words", (done.returncode, len(done.stdout), done.stderr), "its code")
+    back = formats.code_of(0x14000000 | 1 - formats.MOST_WORDS & 0x3FFFFFF)
+    pathlib.Path(folder, "thrice.img").write_bytes(formats.image(3, 0, WHOLE[4:] + back))
+    expect(program, folder, ["run", "thrice.img", "--steps", str(3 * formats.MOST_WORDS)], (0, "", f"halt 1 after {3 * formats.MOST_WORDS} steps\n"))
     count, begin = 400_000, formats.base(0) + 65_536
     pathlib.Path(folder, "listed.code").write_bytes(WHOLE[: 4 * count])
     lines = "".join(f"{place:7}  {begin + 4 * place:#018x}  d503201f  nop\n" for place in range(count))
@@ -362,9 +302,10 @@ def try_counts(program, folder):
     if (packed.returncode, packed.stdout, packed.stderr) != (0, b"".join(map(formats.stream, range(formats.MODULES), codes)), b""):
         wrong("large", "sixteen files, packed", (packed.returncode, packed.stdout[:100], packed.stderr), "the streams of all")
     try_refused(program, folder, 70_000)
-    pathlib.Path(folder, "one.code").write_bytes(RET)
+    # As many as the system lets one name.
+    pathlib.Path(folder, "a").write_bytes(RET)
     for command, line in ("check", "lawful, 1 words"), ("info", "code, 1 words"):
-        expect(program, folder, [command, *["one.code"] * 70_000], (0, f"one.code: {line}\n" * 70_000, ""))
+        expect(program, folder, [command, *"a" * 190_000], (0, f"a: {line}\n" * 190_000, ""))
     entry = formats.MOST_WORDS - 1
     pathlib.Path(folder, "most.code").write_bytes(WHOLE)
     packed = subprocess.run([program, "pack", "--entry", str(entry), "most.code"], cwd=folder, capture_output=True)
@@ -388,4 +329,4 @@ def try_large(program):
     for part in try_lengths, try_messages, try_names, try_images, try_counts, try_services, try_whole_slot:
         with tempfile.TemporaryDirectory() as folder:
             part(program, folder)
-    print("large: code of the most words and of one more, 16,392 messages, names of 3,839 bytes, sixteen files packed, an image of the most words, 400,000 listed and 70,000 refused words, 70,000 files, 200,000 printed bytes, calls of 510 entries")
+    print("large: code of the most words and of one more, 16,392 messages, names of 3,839 bytes, sixteen files packed, an image of the most words, 400,000 listed and 70,000 refused words, 190,000 files, 200,000 printed bytes, calls of 510 entries")

@@ -1,6 +1,7 @@
 """The parts of checks/hostile on what the program reads: inputs of all kinds, and code of the most words."""
 
 import fcntl
+import itertools
 import json
 import os
 import pathlib
@@ -13,7 +14,8 @@ import time
 
 from lib import formats
 from lib.cases import NOP, RET, run, without, wrong
-from lib.formats import LARGE_PAGE, MOST_WORDS, image
+from lib.formats import LARGE_PAGE, MOST_WORDS, PAGE, image
+
 
 def waiting_pipe(content):
     """The reading end of a pipe with some bytes, which doesn't wait for more, and the writing end."""
@@ -51,7 +53,11 @@ def try_inputs(program):
     try_long_stream(program)
     try_lock(program)
     try_growing(program)
-    print(f"inputs: two pipes read, one that has no more yet told; {len(READERS)} commands read what is left of a file, and tell an input that is closed or a folder; 40 files read one after another; {terminal}; a stream of 4.3 GB")
+    try_endless(program)
+    print(
+        f"inputs: two pipes read, one that has no more yet told; {len(READERS)} commands read what is left of a file, and tell an input that is closed or a folder; 40 files read one after another; {terminal}; a stream of 4.3 GB; "
+        f"{len(ENDLESS)} commands end on a file without an end, and {len(REFUSED_AT_ONCE)} on a refused beginning though more may come"
+    )
 
 
 # COMMANDS: **`-` is the standard input**, wherever a file is read.
@@ -188,6 +194,35 @@ def try_standard_inputs(program, folder, command):
             wrong("inputs", f"{command} - {what}", (done.returncode, done.stderr), "status 3, and a message")
 
 
+# What commands tell of a file without an end, all of whose bytes are 0.
+TOO_LONG = "  more than 16777216 bytes; code has a multiple of 4, from 4 to 16777216\n"
+NO_IMAGE, NO_STREAM = "image refused, fault 1\n  it is no image file\n", "connection 0: fault 1\nstrays 0\n"
+ENDLESS = {
+    "check": ("bad length\n", f"lfiload: bad length /dev/zero\n{TOO_LONG}"), "check --all": ("bad length\n", f"lfiload: bad length /dev/zero\n{TOO_LONG}"),
+    "disassemble": ("bad length\n", f"lfiload: bad length /dev/zero\n{TOO_LONG}"), "pack": ("", f"lfiload: bad length /dev/zero\n{TOO_LONG}"),
+    "info": ("too long, more than 269222272 bytes\n", ""), "load": (NO_STREAM, ""), "unpack": ("", NO_IMAGE), "run --steps 5": ("", NO_IMAGE),
+}
+REFUSED_AT_ONCE = ("load", "unpack", "run --steps 5")
+
+
+def try_endless(program):
+    """Each command on a file without an end; and those that know at the beginning that it is none of theirs on a pipe that stays open."""
+    for command, wanted in ENDLESS.items():
+        done = run(program, "/", [*command.split(), "/dev/zero"])
+        if (done.stdout, done.stderr, done.returncode) != (*wanted, 1):
+            wrong("inputs", f"{command} /dev/zero", done, (*wanted, 1))
+    for command in REFUSED_AT_ONCE:
+        reader, writer = os.pipe()
+        os.write(writer, bytes(40_000))
+        try:
+            done = subprocess.run([program, *command.split(), "-"], stdin=reader, capture_output=True, text=True, timeout=60)
+        except subprocess.TimeoutExpired:
+            wrong("inputs", f"{command} - of zeros, after which more may come", "no end", ENDLESS[command])
+        os.close(reader), os.close(writer)
+        if (done.stdout, done.stderr, done.returncode) != (*ENDLESS[command], 1):
+            wrong("inputs", f"{command} - of zeros, after which more may come", done, (*ENDLESS[command], 1))
+
+
 # ---- far
 
 
@@ -204,6 +239,29 @@ def try_entries(program, folder):
         if (came.returncode, came.stderr) != (0, f"halt 4 at {at:#018x} after 0 steps\n"):
             wrong("far", f"an image of {count} words, entered at word {entry}", (came.returncode, came.stderr), "a run that begins there")
     return len(entered)
+
+
+# sub sp, sp, #16; ldr x30, [sp, #8]; ldr x30, [x21, #16]; and a word that meets no need: br x30.
+OPENING, OTHER, PAGE_WORDS = (0xD10043FF, 0xF94007FE, 0xF9400ABE), 0xD61F03C0, PAGE // 4
+
+
+# COMMANDS: `load` tells what `check` does, but of RBIT at a page's end:
+def try_told_alike(program, folder):
+    """A need that is not met, at the begin of a module and where two pages meet, with up to four calm words between: `load` tells of it what `check`
+    does."""
+    tried = 0
+    for profile, opening, calm, begin in itertools.product((1, 2), OPENING, range(5), (0, 1, *range(PAGE_WORDS - 6, PAGE_WORDS + 1))):
+        words = [*[0xD503201F] * begin, opening, *[0xD503201F] * calm, OTHER, *[0xD503201F] * (begin % 3)]
+        pathlib.Path(folder, "a.code").write_bytes(formats.code_of(*words))
+        pathlib.Path(folder, "a.stream").write_bytes(formats.stream(0, formats.code_of(*words), profile))
+        told = run(program, folder, ["check", "--explain", "--profile", str(profile), "a.code"])
+        first, _, explained = told.stdout.partition("\n")
+        wanted = f"module 0: refused, {first}\nstrays 0\nmodule 0: {first}\n{explained}module 0: from connection 0\n"
+        loaded = run(program, folder, ["load", "--explain", "a.stream"])
+        if told.returncode != 1 or (loaded.returncode, loaded.stdout) != (1, wanted):
+            wrong("far", f"profile {profile}, {opening:08x} at {begin}, {calm} calm words", (loaded.returncode, loaded.stdout), wanted)
+        tried += 1
+    return tried
 
 
 def try_far(program):
@@ -236,5 +294,5 @@ def try_far(program):
         wanted = f"      0  0x{at - 4 * last:016x}  {0x14000000 | last:08x}  b .+{4 * last}  -> word {last}\n", f"{last:7}  0x{at:016x}  {0x14000000 | -last & 0x3FFFFFF:08x}  b .-{4 * last}  -> word 0\n"
         if not listed.startswith(wanted[0]) or not listed.endswith(wanted[1]):
             wrong("far", "a listing", (listed[:100], listed[-100:]), wanted)
-        entries = try_entries(program, folder)
-    print(f"far: {len(rows) + 2} rows on the last of {most} words, {entries} lengths and entries")
+        entries, alike = try_entries(program, folder), try_told_alike(program, folder)
+    print(f"far: {len(rows) + 2} rows on the last of {most} words, {entries} lengths and entries; {alike} needs told by `check` and `load` alike")

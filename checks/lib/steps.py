@@ -1,5 +1,6 @@
 """How many instructions a program executes in all its threads: a measure of work that is nearly alike on every machine, and no time."""
 
+import itertools
 import os
 import pathlib
 import subprocess
@@ -20,13 +21,22 @@ def build(folder):
     subprocess.run(["cc", "-O2", "-o", "steps", SOURCE], cwd=folder, check=True)
 
 
+def parts_of(folder, words, read=subprocess.DEVNULL):
+    """The status of a run in the folder that reads this; how many instructions it executed, or `None` where the system lets nobody trace here; how many
+    of these before each write to its output, since the one before; and its output. A run that takes five minutes has no status."""
+    told, output = (pathlib.Path(folder, f"{name}-{threading.get_ident()}") for name in ("steps", "output"))
+    with open(output, "wb") as file:
+        given = {"cwd": folder, "env": {**os.environ, "GLIBC_TUNABLES": TUNABLES}, "stdin": read, "stdout": file, "stderr": subprocess.PIPE}
+        try:
+            done = subprocess.run([os.path.join(folder, "steps"), told, *words], timeout=300, **given)
+        except subprocess.TimeoutExpired:
+            return "no end", 0, [], b""
+    if done.returncode == UNTRACED:
+        return done.returncode, None, [], b""
+    steps, *grown = map(int, told.read_text().split())
+    return done.returncode, steps, [after - before for before, after in itertools.pairwise([0, *grown])], output.read_bytes()
+
+
 def steps_of(folder, words):
-    """The status of a run in the folder, and how many instructions it executed; `None` where the system lets nobody trace here. A run that
-    takes five minutes has no status."""
-    told = pathlib.Path(folder, f"steps-{threading.get_ident()}")
-    given = {"cwd": folder, "env": {**os.environ, "GLIBC_TUNABLES": TUNABLES}, "stdin": subprocess.DEVNULL, "capture_output": True, "timeout": 300}
-    try:
-        done = subprocess.run([os.path.join(folder, "steps"), told, *words], **given)
-    except subprocess.TimeoutExpired:
-        return "no end", 0
-    return done.returncode, None if done.returncode == UNTRACED else int(told.read_text())
+    """The status of a run, and its instructions, as `parts_of` has them."""
+    return parts_of(folder, words)[:2]

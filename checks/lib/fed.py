@@ -1,0 +1,117 @@
+"""The part of checks/hostile on how bytes come to the program: by its standard input and by clients, in small pieces, and more than 32 bits count."""
+
+import os
+import pathlib
+import shutil
+import socket
+import subprocess
+import tempfile
+import threading
+
+from lib import formats, steps
+from lib.cases import NOP, wrong
+from lib.formats import image
+from lib.serving import connected
+
+WHOLE = NOP * formats.MOST_WORDS
+CALLS = pathlib.Path(__file__).resolve().parent / "calls.c"
+# Words, what is read from the standard input, and the most system calls; a load hands over 4,096 pages, and threads that sleep are called.
+INPUTS = (
+    (["check", "-"], WHOLE, 300), (["check", "--explain", "-"], WHOLE, 300), (["disassemble", "-"], WHOLE[:400_000], 1_200), (["pack", "-"], WHOLE, 9_000),
+    (["info", "-"], formats.stream(0, WHOLE), 400), (["load", "-"], formats.stream(0, WHOLE), 2_500),
+    (["unpack", "-"], image(0, 0, WHOLE), 9_000), (["run", "-", "--steps", "0"], image(0, 0, WHOLE), 4_500),
+)
+
+
+def calls_of(folder, words, given):
+    """How many system calls a run asks for; `None` where the system lets nobody trace here. And its status."""
+    told = pathlib.Path(folder, "told")
+    done = subprocess.run([os.path.join(folder, "calls"), told, *words], cwd=folder, stdin=given, stdout=subprocess.DEVNULL, stderr=subprocess.DEVNULL, timeout=120)
+    return None if done.returncode == steps.UNTRACED else int(told.read_text()), done.returncode
+
+
+def calls_of_serve(program, folder, content):
+    """The same of `serve` whose client sends this."""
+    done = []
+    words = [program, "serve", "--socket", "s", "--connections", "1"]
+    serve = threading.Thread(target=lambda: done.append(calls_of(folder, words, subprocess.DEVNULL)))
+    serve.start()
+    with connected(os.path.join(folder, "s")) as client:
+        client.sendall(content)
+    serve.join()
+    return done[0]
+
+
+def try_calls(program, folder):
+    """Each command asks the system seldom for the bytes of its standard input, and `serve` for those of a client."""
+    seen = []
+    for words, content, most in INPUTS:
+        pathlib.Path(folder, "input").write_bytes(content)
+        with open(os.path.join(folder, "input"), "rb") as file:
+            calls, status = calls_of(folder, [program, *words], file)
+        if calls is None:
+            return "no calls are counted, since the system lets nobody trace here"
+        if status or calls > most:
+            wrong("fed", f"{' '.join(words)} of {len(content)} bytes", (status, calls), f"status 0, and at most {most} system calls")
+        seen.append(calls)
+    calls, status = calls_of_serve(program, folder, formats.stream(0, WHOLE))
+    if status or calls > 3_000:
+        wrong("fed", "`serve` of 16 MiB", (status, calls), "status 0, and at most 3,000 system calls")
+    return f"system calls for 16 MiB of a standard input {seen}, of a client {calls}"
+
+
+# Words, what is read, and the most instructions less those of `--version`.
+PACKETS = 500
+PACKED = ((["check", "-"], NOP * 8_000, 280_000), (["load", "--verifiers", "1", "-"], formats.stream(0, NOP * 7_900), 760_000))
+
+
+def feed(sender, content):
+    """Sends this as so many packets."""
+    size = -(-len(content) // PACKETS)
+    with sender:
+        for at in range(0, len(content), size):
+            sender.send(content[at : at + size])
+
+
+def try_packets(program, folder):
+    """What comes in small packets is put together without much work."""
+    steps.build(folder)
+    seen = []
+    _, least = steps.steps_of(folder, [program, "--version"])
+    for words, content, most in PACKED if least is not None else ():
+        sender, reader = socket.socketpair(socket.AF_UNIX, socket.SOCK_SEQPACKET)
+        feeder = threading.Thread(target=feed, args=(sender, content))
+        feeder.start()
+        with reader:
+            status, count, _, _ = steps.parts_of(folder, [program, *words], reader)
+        feeder.join()
+        if status or count - least > most:
+            wrong("fed", f"{' '.join(words)} of {PACKETS} packets", (status, count - least), f"status 0, and at most {most} instructions")
+        seen.append(count - least)
+    return f"instructions for {PACKETS} packets {seen}"
+
+
+def try_long_client(program, folder):
+    """A client of `serve` that sends more than 2^32 bytes: pages that no module takes, and a module."""
+    pages, times = (formats.header(5, 0, 9, 0, formats.LARGE_PAGE) + bytes(formats.LARGE_PAGE)) * 500, 525
+    words = [program, "serve", "--socket", "long", "--connections", "1", "--explain"]
+    serve = subprocess.Popen(words, cwd=folder, stdout=subprocess.PIPE, text=True)
+    with connected(os.path.join(folder, "long")) as client:
+        for _ in range(times):
+            client.sendall(pages)
+        client.sendall(formats.stream(3, NOP))
+    told, strays = (serve.communicate(timeout=60)[0], serve.returncode), times * 500
+    wanted = f"module 3: complete, 1 words\nstrays {strays}\nmodule 3: from connection 0\nconnection 0: strays {strays}\n", 0
+    if told != wanted or times * len(pages) <= 1 << 32:
+        wrong("fed", "a client that sends 4.3 GB", told, wanted)
+    return "4.3 GB of a client read"
+
+
+def try_fed(program):
+    """System calls and instructions by which bytes are read; and many of them."""
+    if not shutil.which("cc"):
+        print("fed: left out, since cc isn't here")
+        return
+    with tempfile.TemporaryDirectory() as folder:
+        subprocess.run(["cc", "-O2", "-o", "calls", CALLS], cwd=folder, check=True)
+        print("fed: " + "; ".join(part(program, folder) for part in (try_calls, try_packets, try_long_client)))
