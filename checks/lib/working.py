@@ -1,16 +1,19 @@
 """The part of checks/hostile on how many instructions a command executes: no clause says how much work a body is."""
 
 import concurrent.futures
+import contextlib
 import itertools
 import os
 import pathlib
 import shutil
 import tempfile
+import threading
 
 from lib import formats, steps
 from lib.cases import NOP, RET, wrong
 from lib.formats import code_of
 from lib.plain import RULES
+from lib.serving import connected
 
 # Words, their status, and the most instructions that they may execute, less those of `--version`.
 WORK = (
@@ -33,6 +36,7 @@ WORK = (
     (["pack", "mixed.code"], 0, 90_000),
     (["load", "--verifiers", "1", "mixed.stream"], 0, 650_000),
     (["load", "--verifiers", "1", "straight.stream"], 0, 950_000),
+    (["load", "--verifiers", "8", *(f"{module}.stream" for module in range(8))], 0, 1_400_000),
     (["load", "--verifiers", "1", "large.stream"], 0, 950_000),
     (["load", "--verifiers", "1", "turns.stream"], 0, 1_150_000),
     (["load", "--verifiers", "1", "refused.stream"], 1, 1_100_000),
@@ -60,6 +64,7 @@ WORK = (
     (["pack", "--profile", "2", "--pages", "large", "mixed.code"], 0, 100_000),
     (["unpack", "long.img"], 0, 380_000),
     (["run", "far.img", "--steps", "1536"], 0, 1_400_000),
+    (["run", "returns.img", "--steps", "4096"], 0, 310_000),
     (["run", "near.img", "--steps", "3072"], 0, 300_000),
     (["run", "hops.img", "--steps", "8192"], 0, 2_600_000),
     (["run", "prints.img", "--steps", "1536"], 0, 520_000),
@@ -98,6 +103,9 @@ def write_commands(folder):
         ("code.img", formats.image(0, 0, code_of(0x52A00021, 0xF8614AA2, 0x17FFFFFF))),
         ("table.img", formats.image(0, 0, code_of(0x52800101, 0xF8614AA2, 0x17FFFFFF))),
         ("fresh.img", formats.image(0, 0, code_of(0x52A00021, 0x11404021, 0xF8614AA2, 0x17FFFFFE))),
+        # bl .+8; b .+8; ret; b .-12
+        ("returns.img", formats.image(0, 0, code_of(0x94000002, 0x14000002, 0xD65F03C0, 0x17FFFFFD))),
+        *((f"{module}.stream", formats.stream(module, steps.MIXED * 256)) for module in range(8)),
         # Each branch goes to the next page, and those of the last one to the next word of the first.
         ("hops.img", formats.image(0, 0, code_of(*[0x14000400] * 7_168, *[0x14000000 | 1 - 7_168 & (1 << 26) - 1] * 1_023, 0x14000000))),
         # ldr x30, [x21, #8]; blr x30; b to the first; and the same at entry 2.
@@ -105,6 +113,30 @@ def write_commands(folder):
         ("calls.img", formats.image(0, 0, code_of(0xF9400ABE, 0xD63F03C0, 0x17FFFFFE))),
     ):
         pathlib.Path(folder, name).write_bytes(content)
+
+
+# What a client of `serve` sends, with the most instructions.
+SERVED = (("mixed.stream", 640_000), ("strays.stream", 850_000))
+
+
+def send(folder, name):
+    """A client of `serve` that sends this file."""
+    with connected(os.path.join(folder, f"socket-{name}")) as client, contextlib.suppress(OSError):
+        client.sendall(pathlib.Path(folder, name).read_bytes())
+
+
+def try_served(program, folder, least):
+    """`serve` of a client. Answers what is told of that."""
+    counts = []
+    for name, most in SERVED:
+        sender = threading.Thread(target=send, args=(folder, name))
+        sender.start()
+        status, count = steps.steps_of(folder, [program, "serve", "--socket", f"socket-{name}", "--connections", "1", "--verifiers", "1"])
+        sender.join()
+        if status or count - least > most:
+            wrong("work", f"serve of {name}", (status, count - least), f"status 0 and at most {most} instructions")
+        counts.append(f"serve {count - least}")
+    return ", ".join(counts)
 
 
 # ---- forms
@@ -271,4 +303,5 @@ def try_work(program):
             print("work: left out, since the system lets nobody trace here")
             return
         counts, (carried, checked) = try_commands(program, folder, least), try_forms(program, folder)
-    print(f"work: instructions of {len(WORK)} commands beyond the {least} of `--version`: {counts}; {carried} forms carried out, {checked} checked; listings and explanations of each class")
+        served = try_served(program, folder, least)
+    print(f"work: instructions of {len(WORK)} commands beyond the {least} of `--version`: {counts}, {served}; {carried} forms carried out, {checked} checked; listings and explanations of each class")
