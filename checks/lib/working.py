@@ -5,6 +5,7 @@ import contextlib
 import itertools
 import os
 import pathlib
+import random
 import shutil
 import tempfile
 import threading
@@ -184,34 +185,70 @@ NEEDS = (
 )
 
 
+def filled(name, chosen):
+    """A word of a pattern with these values of some fields, and the others as they are where they make no form."""
+    _, fixed, places = (RULES.CLASSES | RULES.ORDERED)[name]
+    values = operands_of(name, chosen) | chosen
+    return fixed | sum(values.get(field, 0) << place for field, place, _ in places)
+
+
 def forms():
     """Each form of each class, but BRK and branches to a register, as a lawful word, with its class."""
-    for name, (_, fixed, places) in (RULES.CLASSES | RULES.ORDERED).items():
+    for name, (_, _, places) in (RULES.CLASSES | RULES.ORDERED).items():
         fields = FORM_FIELDS | ({"cond"} if name == "ConditionalBranch" else set())
         for values in itertools.product(*(range(1 << width) for field, _, width in places if field in fields)):
             chosen = dict(zip((field for field, _, _ in places if field in fields), values))
             for more in ({}, OTHERS) if name in COMPUTED else ({},):
-                filled = operands_of(name, chosen) | chosen | more
-                word = fixed | sum(filled.get(field, 0) << place for field, place, _ in places)
+                word = filled(name, chosen | more)
                 if name in STEP and not RULES.faults([word, RULES.NOP], 2):
                     yield name, word
 
 
+def some_steps(name):
+    """Lawful words of a class with any numbers, and registers as those of a form have; none for a branch."""
+    source, found = random.Random(name), []
+    _, _, places = (RULES.CLASSES | RULES.ORDERED)[name]
+    while len(found) < TOGETHER:
+        chosen = {field: source.getrandbits(width) for field, _, width in places if field not in RULES.REGISTERS}
+        word = filled(name, chosen)
+        if not RULES.faults([word, RULES.NOP], 2):
+            found.append(word)
+    return tuple(found)
+
+
+def carried():
+    """What is carried out together: a form again and again, or words of a class; with the class."""
+    same = [(name, (form,) * TOGETHER) for name, form in forms()]
+    return same + [(name, some_steps(name)) for name in STEP if name not in RULES.DIRECT]
+
+
+def some_of(name):
+    """Lawful words of a class with any operands."""
+    source, found = random.Random(name), []
+    _, fixed, places = (RULES.CLASSES | RULES.ORDERED)[name]
+    while len(found) < CHECKED - 1:
+        word = fixed | sum(source.choice((source.getrandbits(width), OPERANDS.get(field, 0) % (1 << width))) << place for field, place, width in places)
+        if not RULES.faults([word, RULES.NOP], 2):
+            found.append(word)
+    return tuple(found)
+
+
 def write_forms(folder, drawn):
-    """An image for the words of each form, carried out twice: the first time once each, since code is looked at where it is first run, and then
+    """An image for the words of each form and class, carried out twice: the first time once each, since code is looked at where it is first run, and then
     so often."""
-    blocks = [word for _, form in drawn for word in (COUNT, *[form] * TOGETHER, *AGAIN)]
+    blocks = [word for _, words in drawn for word in (COUNT, *words, *AGAIN)]
     # subs xzr, x12, #8; b.eq to the end; movz x12, #8; b to the first block.
     twice = (0xF100019F | ROUNDS << 10, 0x54000060, 0xD280000C | ROUNDS << 5, 0x14000000 | -len(blocks) - 3 & 0x3FFFFFF)
     pathlib.Path(folder, "forms.img").write_bytes(formats.image(0, 0, code_of(*BEGIN, *blocks, *twice, *END), 2))
 
 
-def write_checked(folder, drawn, profile):
-    """Files of code of each form, and of each need, that are lawful by a profile, with the most instructions for a check of each."""
-    files = []
-    groups = [((form,), LOOKED_AT if name in SLOW else CHECK) for name, form in drawn] + list(NEEDS)
+def write_checked(folder, profile):
+    """Files of code of each form, of each class and of each need, that are lawful by a profile, with the most instructions for a check of each."""
+    files, alone = [], [(name, (form,)) for name, form in forms()] + [(name, some_of(name)) for name in RULES.CLASSES | RULES.ORDERED]
+    groups = [(group, LOOKED_AT if name in SLOW else CHECK) for name, group in alone] + list(NEEDS)
     for number, (group, most) in enumerate(groups):
-        words = [*group * (CHECKED // len(group) - 1), *[RULES.NOP] * len(group)]
+        times = (CHECKED - 1) // len(group)
+        words = [*group * times, *[RULES.NOP] * (CHECKED - times * len(group))]
         if not RULES.faults(words, profile):
             name = f"profile-{profile}-{number}.code"
             pathlib.Path(folder, name).write_bytes(code_of(*words))
@@ -262,13 +299,13 @@ def counted(program, folder, lines):
 
 def try_forms(program, folder):
     """Each form of an instruction is carried out and, with needs, checked by both profiles. Answers how many there are."""
-    drawn = list(forms())
+    drawn = carried()
     write_forms(folder, drawn)
-    checked = [write_checked(folder, drawn, profile) for profile in (1, 2)]
+    checked = [write_checked(folder, profile) for profile in (1, 2)]
     lines = [["run", "forms.img", "--steps", "1000000"]]
     lines += [["check", "--profile", str(profile), *(name for name, _, _ in files)] for profile, files in enumerate(checked, 1)]
     run, *checks = counted(program, folder, lines)
-    compare("run", [(f"{name}, word {form:08x}", STEP[name] * TOGETHER * ROUNDS) for name, form in drawn], run, (0, bytes(2 * len(drawn))))
+    compare("run", [(f"{name}, word {words[0]:08x}", STEP[name] * TOGETHER * ROUNDS) for name, words in drawn], run, (0, bytes(2 * len(drawn))))
     for profile, (files, came) in enumerate(zip(checked, checks), 1):
         lawful = "".join(f"{name}: lawful, {len(words)} words\n" for name, words, _ in files)
         rows = [(f"word {words[0]:08x} and others", most) for _, words, most in files]
