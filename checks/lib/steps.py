@@ -12,8 +12,10 @@ from lib import formats
 MIXED = formats.code_of(0x8B2142B2, 0xF9400240, 0xF9000240, 0xD2800900, 0xF101201F, 0x54000020, 0x14000001, 0xD65F03C0)
 SOURCE = pathlib.Path(__file__).resolve().parent / "steps.c"
 UNTRACED = 125
-# glibc copies and sets long pieces by one instruction where the processor does that fast, and then each byte is a step.
-TUNABLES = ":".join(f"glibc.cpu.x86_rep_{name}_threshold={1 << 30}" for name in ("movsb", "stosb"))
+# glibc copies and sets bytes by what the processor has: long pieces by one instruction, of which each byte is a step, and others by 64 bytes, or 32. Here it
+# goes by what each processor has.
+LEFT_OUT = ",".join(f"-{name}" for name in ("AVX", "AVX2", "AVX512F", "AVX512VL", "AVX_Fast_Unaligned_Load", "ERMS", "FSRM"))
+TUNABLES = ":".join((*(f"glibc.cpu.x86_rep_{name}_threshold={1 << 30}" for name in ("movsb", "stosb")), f"glibc.cpu.hwcaps={LEFT_OUT}"))
 
 
 def build(folder):

@@ -18,58 +18,58 @@ from lib.serving import connected
 
 # Words, their status, and the most instructions that they may execute, less those of `--version`.
 WORK = (
-    (["check", "mixed.code"], 0, 300_000),
-    (["check", "--explain", "mixed.code"], 0, 310_000),
-    (["check", "--profile", "2", "late.code"], 0, 750_000),
-    (["check", "--profile", "2", "ordered.code"], 0, 350_000),
-    (["check", "--all", "refused.code"], 1, 430_000),
-    (["check", "--all", "--profile", "2", "calm.code"], 1, 800_000),
-    (["disassemble", "refused.code"], 0, 330_000),
+    (["check", "mixed.code"], 0, 280_000),
+    (["check", "--explain", "mixed.code"], 0, 290_000),
+    (["check", "--profile", "2", "late.code"], 0, 850_000),
+    (["check", "--profile", "2", "ordered.code"], 0, 390_000),
+    (["check", "--all", "refused.code"], 1, 420_000),
+    (["check", "--all", "--profile", "2", "calm.code"], 1, 960_000),
+    (["disassemble", "refused.code"], 0, 300_000),
     (["info", "mixed.img"], 0, 330_000),
-    (["info", "mixed.stream"], 0, 80_000),
-    (["run", "straight.img", "--steps", "4096"], 0, 930_000),
-    (["run", "long.img", "--steps", "8192"], 0, 1_700_000),
-    (["run", "singles.img", "--steps", "1024"], 0, 350_000),
-    (["run", "pairs.img", "--steps", "1024"], 0, 400_000),
-    (["run", "odd_singles.img", "--steps", "1024"], 0, 320_000),
-    (["run", "odd_pairs.img", "--steps", "1024"], 0, 370_000),
-    (["unpack", "mixed.img"], 0, 310_000),
-    (["pack", "mixed.code"], 0, 90_000),
-    (["load", "--verifiers", "1", "mixed.stream"], 0, 650_000),
-    (["load", "--verifiers", "1", "straight.stream"], 0, 950_000),
-    (["load", "--verifiers", "8", *(f"{module}.stream" for module in range(8))], 0, 1_400_000),
-    (["load", "--verifiers", "1", "large.stream"], 0, 950_000),
-    (["load", "--verifiers", "1", "turns.stream"], 0, 1_150_000),
-    (["load", "--verifiers", "1", "refused.stream"], 1, 1_100_000),
-    (["load", "--verifiers", "1", "--explain", "refused.stream"], 1, 1_120_000),
-    (["load", "--verifiers", "1", "twice.stream"], 0, 690_000),
-    (["load", "--verifiers", "1", "strays.stream"], 0, 780_000),
-    (["load", "--verifiers", "1", "--format", "json", "mixed.stream"], 0, 650_000),
-    (["load", "--verifiers", "1", "--out", ".", "turns.stream"], 0, 1_230_000),
-    (["info", "strays.stream"], 0, 1_230_000),
-    (["info", "turns.stream"], 0, 150_000),
-    (["check", "--format", "json", "mixed.code"], 0, 310_000),
-    (["check", "--format", "json", "--all", "refused.code"], 1, 700_000),
-    (["check", "--all", "mixed.code"], 0, 310_000),
+    (["info", "mixed.stream"], 0, 60_000),
+    (["run", "straight.img", "--steps", "4096"], 0, 880_000),
+    (["run", "long.img", "--steps", "8192"], 0, 1_880_000),
+    (["run", "singles.img", "--steps", "1024"], 0, 380_000),
+    (["run", "pairs.img", "--steps", "1024"], 0, 430_000),
+    (["run", "odd_singles.img", "--steps", "1024"], 0, 380_000),
+    (["run", "odd_pairs.img", "--steps", "1024"], 0, 430_000),
+    (["unpack", "mixed.img"], 0, 300_000),
+    (["pack", "mixed.code"], 0, 70_000),
+    (["load", "--verifiers", "1", "mixed.stream"], 0, 620_000),
+    (["load", "--verifiers", "1", "straight.stream"], 0, 1_120_000),
+    (["load", "--verifiers", "8", *(f"{module}.stream" for module in range(8))], 0, 1_560_000),
+    (["load", "--verifiers", "1", "large.stream"], 0, 1_000_000),
+    (["load", "--verifiers", "1", "turns.stream"], 0, 1_200_000),
+    (["load", "--verifiers", "1", "refused.stream"], 1, 1_120_000),
+    (["load", "--verifiers", "1", "--explain", "refused.stream"], 1, 1_140_000),
+    (["load", "--verifiers", "1", "twice.stream"], 0, 730_000),
+    (["load", "--verifiers", "1", "strays.stream"], 0, 860_000),
+    (["load", "--verifiers", "1", "--format", "json", "mixed.stream"], 0, 640_000),
+    (["load", "--verifiers", "1", "--out", ".", "turns.stream"], 0, 1_360_000),
+    (["info", "strays.stream"], 0, 1_210_000),
+    (["info", "turns.stream"], 0, 200_000),
+    (["check", "--format", "json", "mixed.code"], 0, 300_000),
+    (["check", "--format", "json", "--all", "refused.code"], 1, 720_000),
+    (["check", "--all", "mixed.code"], 0, 290_000),
     (["check", "first.code"], 1, 60_000),
-    (["check", "--explain", "first.code"], 1, 100_000),
-    (["check", "--explain", "--profile", "2", "first.code"], 1, 110_000),
-    (["check", *["short.code"] * 20], 0, 510_000),
-    (["run", "code.img", "--steps", "1536"], 0, 660_000),
-    (["run", "table.img", "--steps", "1536"], 0, 470_000),
-    (["run", "fresh.img", "--steps", "1536"], 0, 250_000),
-    (["check", *["one.code"] * 50], 0, 520_000),
-    (["info", *["one.code"] * 50], 0, 300_000),
-    (["disassemble", "--check", "refused.code"], 0, 400_000),
-    (["pack", *["one.code"] * 16], 0, 130_000),
-    (["pack", "--profile", "2", "--pages", "large", "mixed.code"], 0, 100_000),
+    (["check", "--explain", "first.code"], 1, 140_000),
+    (["check", "--explain", "--profile", "2", "first.code"], 1, 150_000),
+    (["check", *["short.code"] * 20], 0, 700_000),
+    (["run", "code.img", "--steps", "1536"], 0, 690_000),
+    (["run", "table.img", "--steps", "1536"], 0, 510_000),
+    (["run", "fresh.img", "--steps", "1536"], 0, 270_000),
+    (["check", *["one.code"] * 50], 0, 1_010_000),
+    (["info", *["one.code"] * 50], 0, 350_000),
+    (["disassemble", "--check", "refused.code"], 0, 370_000),
+    (["pack", *["one.code"] * 16], 0, 140_000),
+    (["pack", "--profile", "2", "--pages", "large", "mixed.code"], 0, 70_000),
     (["unpack", "long.img"], 0, 380_000),
-    (["run", "far.img", "--steps", "1536"], 0, 1_400_000),
-    (["run", "returns.img", "--steps", "4096"], 0, 310_000),
-    (["run", "near.img", "--steps", "3072"], 0, 300_000),
-    (["run", "hops.img", "--steps", "8192"], 0, 2_600_000),
-    (["run", "prints.img", "--steps", "1536"], 0, 520_000),
-    (["run", "calls.img", "--steps", "1536"], 0, 510_000),
+    (["run", "far.img", "--steps", "768"], 0, 2_550_000),
+    (["run", "returns.img", "--steps", "4096"], 0, 340_000),
+    (["run", "near.img", "--steps", "3072"], 0, 370_000),
+    (["run", "hops.img", "--steps", "8192"], 0, 2_620_000),
+    (["run", "prints.img", "--steps", "1536"], 0, 590_000),
+    (["run", "calls.img", "--steps", "1536"], 0, 580_000),
 )
 
 
@@ -156,7 +156,7 @@ STEP = {
     "SignedOffset": 135, "RegisterOffset": 125, "Pair": 165, "Ordered": 90,
 }
 # The most for a check of a file of so many words; those that are looked at one by one have more.
-CHECKED, CHECK, LOOKED_AT = 256, 14_000, 39_000
+CHECKED, CHECK, LOOKED_AT = 512, 27_000, 76_000
 SLOW = ("Branch", "ConditionalBranch", "CompareBranch", "TestBranch", "Ordered")
 # How many words of a form stand together, and how often they are carried out before a byte is printed.
 TOGETHER, ROUNDS = 16, 8
@@ -179,9 +179,9 @@ def operands_of(name, chosen):
 
 # Words that stand together, of which one meets the need that the first opens, or has one that is near it; with the most for a check of them.
 NEEDS = (
-    ((0xA8C17BFD, 0x8B3E42BE), 26_000), ((0xF94003FE, 0x8B3E42BE), 26_000), ((0xF94006BE, 0xD63F03C0), 26_000), ((0xD10043FF, 0xF94003FF), 36_000),
-    ((0x910043FF, 0xA9007BFD), 36_000), ((0xA9BF7BFD, 0xF90007E0), 14_000), ((0x94000001, 0xD503201F), 26_000), ((0xD63F0240, 0xD503201F), 14_000),
-    ((0xD65F03C0, 0xD4200000), 14_000), ((0xD10043FF, 0xD503201F, 0xD503201F, 0xF94003FF), 36_000), ((0x910043FF, 0x91000400, 0xF9400240, 0xA9007BFD), 36_000),
+    ((0xA8C17BFD, 0x8B3E42BE), 52_000), ((0xF94003FE, 0x8B3E42BE), 52_000), ((0xF94006BE, 0xD63F03C0), 52_000), ((0xD10043FF, 0xF94003FF), 70_000),
+    ((0x910043FF, 0xA9007BFD), 70_000), ((0xA9BF7BFD, 0xF90007E0), 27_000), ((0x94000001, 0xD503201F), 52_000), ((0xD63F0240, 0xD503201F), 27_000),
+    ((0xD65F03C0, 0xD4200000), 27_000), ((0xD10043FF, 0xD503201F, 0xD503201F, 0xF94003FF), 70_000), ((0x910043FF, 0x91000400, 0xF9400240, 0xA9007BFD), 70_000),
 )
 
 
@@ -226,7 +226,7 @@ def some_of(name):
     """Lawful words of a class with any operands."""
     source, found = random.Random(name), []
     _, fixed, places = (RULES.CLASSES | RULES.ORDERED)[name]
-    while len(found) < CHECKED - 1:
+    while len(found) < CHECKED // 2 - 1:
         word = fixed | sum(source.choice((source.getrandbits(width), OPERANDS.get(field, 0) % (1 << width))) << place for field, place, width in places)
         if not RULES.faults([word, RULES.NOP], 2):
             found.append(word)
