@@ -1,5 +1,6 @@
 """The part of checks/hostile on how bytes come to the program: by its standard input and by clients, in small pieces, and more than 32 bits count."""
 
+import contextlib
 import os
 import pathlib
 import shutil
@@ -24,9 +25,12 @@ INPUTS = (
 
 
 def calls_of(folder, words, given):
-    """How many system calls a run asks for; `None` where the system lets nobody trace here. And its status."""
-    told = pathlib.Path(folder, "told")
-    done = subprocess.run([os.path.join(folder, "calls"), told, *words], cwd=folder, stdin=given, stdout=subprocess.DEVNULL, stderr=subprocess.DEVNULL, timeout=120)
+    """How many system calls a run asks for; `None` where the system lets nobody trace here. And its status; a run that takes five minutes has none."""
+    told, more = pathlib.Path(folder, "told"), {"stdout": subprocess.DEVNULL, "stderr": subprocess.DEVNULL, "timeout": 300}
+    try:
+        done = subprocess.run([os.path.join(folder, "calls"), told, *words], cwd=folder, stdin=given, **more)
+    except subprocess.TimeoutExpired:
+        return 0, "no end"
     return None if done.returncode == steps.UNTRACED else int(told.read_text()), done.returncode
 
 
@@ -36,7 +40,7 @@ def calls_of_serve(program, folder, content):
     words = [program, "serve", "--socket", "s", "--connections", "1"]
     serve = threading.Thread(target=lambda: done.append(calls_of(folder, words, subprocess.DEVNULL)))
     serve.start()
-    with connected(os.path.join(folder, "s")) as client:
+    with connected(os.path.join(folder, "s")) as client, contextlib.suppress(OSError):
         client.sendall(content)
     serve.join()
     return done[0]
@@ -96,7 +100,7 @@ def try_long_client(program, folder):
     pages, times = (formats.header(5, 0, 9, 0, formats.LARGE_PAGE) + bytes(formats.LARGE_PAGE)) * 500, 525
     words = [program, "serve", "--socket", "long", "--connections", "1", "--explain"]
     serve = subprocess.Popen(words, cwd=folder, stdout=subprocess.PIPE, text=True)
-    with connected(os.path.join(folder, "long")) as client:
+    with connected(os.path.join(folder, "long")) as client, contextlib.suppress(OSError):
         for _ in range(times):
             client.sendall(pages)
         client.sendall(formats.stream(3, NOP))

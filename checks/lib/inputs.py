@@ -119,10 +119,11 @@ def try_terminal_output(program):
 
 
 def append(path, over):
-    """Appends words to a file again and again."""
+    """Appends words to a file again and again, but no more than half of what it has."""
     with open(path, "ab", buffering=0) as file:
-        while not over.is_set():
-            file.write(NOP * 64)
+        for _ in range(15_000):
+            if not over.is_set():
+                file.write(NOP * 64)
 
 
 def try_growing(program):

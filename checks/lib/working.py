@@ -66,6 +66,7 @@ WORK = (
     (["unpack", "long.img"], 0, 380_000),
     (["run", "far.img", "--steps", "768"], 0, 2_550_000),
     (["run", "returns.img", "--steps", "4096"], 0, 340_000),
+    (["run", "between.img", "--steps", "3000"], 0, 450_000),
     (["run", "near.img", "--steps", "3072"], 0, 370_000),
     (["run", "hops.img", "--steps", "8192"], 0, 2_620_000),
     (["run", "prints.img", "--steps", "1536"], 0, 590_000),
@@ -104,6 +105,8 @@ def write_commands(folder):
         ("code.img", formats.image(0, 0, code_of(0x52A00021, 0xF8614AA2, 0x17FFFFFF))),
         ("table.img", formats.image(0, 0, code_of(0x52800101, 0xF8614AA2, 0x17FFFFFF))),
         ("fresh.img", formats.image(0, 0, code_of(0x52A00021, 0x11404021, 0xF8614AA2, 0x17FFFFFE))),
+        # At word 0 a branch to word 900, and there one back.
+        ("between.img", formats.image(0, 0, code_of(0x14000000 | 900, *[0xD503201F] * 899, 0x14000000 | -900 & 0x3FFFFFF, *[0xD503201F] * 123))),
         # bl .+8; b .+8; ret; b .-12
         ("returns.img", formats.image(0, 0, code_of(0x94000002, 0x14000002, 0xD65F03C0, 0x17FFFFFD))),
         *((f"{module}.stream", formats.stream(module, steps.MIXED * 256)) for module in range(8)),
