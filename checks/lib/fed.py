@@ -66,6 +66,8 @@ def try_calls(program, folder):
 
 # Words, what is read, and the most instructions less those of `--version`.
 PACKETS = 500
+# Pages of each of eight streams, and how often threads may sleep where they are loaded by one verifier.
+PAGES, MOST_SLEEPS = 2_000, 2_000
 PACKED = ((["check", "-"], NOP * 8_000, 280_000), (["load", "--verifiers", "1", "-"], formats.stream(0, NOP * 7_900), 760_000))
 
 
@@ -95,6 +97,22 @@ def try_packets(program, folder):
     return f"instructions for {PACKETS} packets {seen}"
 
 
+def try_sleeps(program, folder):
+    """How often the threads of a load go to sleep: they are called for many pages at once. Other work beside may let them sleep more often."""
+    names = [f"{module}.stream" for module in range(8)]
+    for module, name in enumerate(names):
+        pathlib.Path(folder, name).write_bytes(formats.stream(module, NOP * (PAGES * 1024)))
+    sleeps = []
+    while len(sleeps) < 5 and min(sleeps, default=MOST_SLEEPS + 1) > MOST_SLEEPS:
+        load = subprocess.Popen([program, "load", "--verifiers", "1", *names], cwd=folder, stdout=subprocess.DEVNULL)
+        _, status, used = os.wait4(load.pid, 0)
+        load.returncode = os.waitstatus_to_exitcode(status)
+        sleeps.append(used.ru_nvcsw)
+    if load.returncode or min(sleeps) > MOST_SLEEPS:
+        wrong("fed", f"a load of eight streams of {PAGES} pages: status, and how often its threads slept", (load.returncode, sleeps), f"0, and once at most {MOST_SLEEPS}")
+    return f"threads slept {min(sleeps)} times for {8 * PAGES} pages"
+
+
 def try_long_client(program, folder):
     """A client of `serve` that sends more than 2^32 bytes: pages that no module takes, and a module."""
     pages, times = (formats.header(5, 0, 9, 0, formats.LARGE_PAGE) + bytes(formats.LARGE_PAGE)) * 500, 525
@@ -118,4 +136,4 @@ def try_fed(program):
         return
     with tempfile.TemporaryDirectory() as folder:
         subprocess.run(["cc", "-O2", "-o", "calls", CALLS], cwd=folder, check=True)
-        print("fed: " + "; ".join(part(program, folder) for part in (try_calls, try_packets, try_long_client)))
+        print("fed: " + "; ".join(part(program, folder) for part in (try_calls, try_packets, try_sleeps, try_long_client)))

@@ -23,12 +23,12 @@ from lib import formats, traced
 from lib.cases import NOP, RET, wrong
 from lib.serving import connected, refused_last
 
-LOADS, SERVES, TOLD, SECONDS = 60, 40, 30, 60
+LOADS, SHORT, SERVES, TOLD, SECONDS = 60, 40, 40, 30, 60
 # How many places there are at least.
 FEWEST = 50
 # Words of a module: of few pages, and in each third load of so many that receivers wait for verifiers.
 FEW, MANY = 30_000, 300_000
-ATOMIC = re.compile(r"^ +([0-9a-f]+):\s+(lock (?:cmpxchg|xadd|and|or|xor|bt)|xchg .*\()", re.M)
+ATOMIC = re.compile(r"^ +([0-9a-f]+):\s+(lock \w+|xchg .*\()", re.M)
 # Which part of the times a thread is held, and for how many seconds at most; and so the sequencers' thread alone, where it writes a word
 # whatever stands there (`xchg`): what another one has written after it looked would be lost.
 HELD, ONE_HELD = ((0.75, 0.0), (0.95, 0.0005), (1.0, 0.004)), 0.02
@@ -146,6 +146,15 @@ def load(program, sites, number):
     return held
 
 
+def load_short(program, sites, number):
+    """A load of one word by many verifiers, which see the stream's end together."""
+    words = ["load", "--verifiers", str((2, 3, 4, 8)[number % 4]), "short"]
+    came, held = trace(program, words, sites, number)
+    if came != ("module 5: complete, 1 words\nstrays 0\n", "", 0):
+        wrong("noise", f"{words}, load {number}", came, "complete")
+    return held
+
+
 def visit(path, module):
     """A client that ends once it has sent a module."""
     with connected(path) as client:
@@ -229,7 +238,9 @@ def try_noise(program):
         for module in range(4):
             for count in FEW, MANY:
                 pathlib.Path(folder, f"{module}.{count}").write_bytes(formats.stream(module, NOP * count + RET))
+        pathlib.Path(folder, "short").write_bytes(formats.stream(5, RET))
         os.chdir(folder)
-        held = sum(sum(way(program, sites, number) for number in range(times)) for way, times in ((load, LOADS), (serve, SERVES), (tell, TOLD)))
+        ways = (load, LOADS), (load_short, SHORT), (serve, SERVES), (tell, TOLD)
+        held = sum(sum(way(program, sites, number) for number in range(times)) for way, times in ways)
         os.chdir(before)
-    print(f"noise: {LOADS + TOLD} loads and {SERVES} runs of `serve`, whose threads were held {held} times at one of {len(sites)} places")
+    print(f"noise: {LOADS + SHORT + TOLD} loads and {SERVES} runs of `serve`, whose threads were held {held} times at one of {len(sites)} places")

@@ -311,6 +311,11 @@ def tell_refused(program, which):
 
 def try_held(program):
     try:
+        pathlib.Path("/proc/self/syscall").read_text()
+    except OSError as why:
+        print(f"held: left out: {why}")
+        return
+    try:
         if platform.machine() == "x86_64":
             start_asleep(program)
         rest(program)
@@ -318,9 +323,11 @@ def try_held(program):
         for which in 0, 1:
             take_over(program, which)
             tell_refused(program, which)
-    except OSError as why:
+    except PermissionError as why:
         print(f"held: left out: {why}")
         return
+    except OSError as why:
+        wrong("held", "a thread that is looked at or held", str(why), "one that is there")
     print(f"held: the thread of a connection took in {count} of {PAGES} pages while its verifier was held, and slept; {HELD} pages while another thread was; threads that wait sleep")
 
 
