@@ -64,10 +64,10 @@ def try_calls(program, folder):
     return f"system calls for 16 MiB of a standard input {seen}, of a client {calls}"
 
 
-# Words, what is read, and the most instructions less those of `--version`.
-PACKETS = 500
 # Pages of each of eight streams, and how often threads may sleep where they are loaded by one verifier.
 PAGES, MOST_SLEEPS = 2_000, 2_000
+# In how many packets it comes; and words, what is read, and the most instructions less those of `--version`.
+PACKETS = 500
 PACKED = ((["check", "-"], NOP * 8_000, 280_000), (["load", "--verifiers", "1", "-"], formats.stream(0, NOP * 7_900), 760_000))
 
 
