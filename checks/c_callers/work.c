@@ -1,6 +1,6 @@
 /* work WAY FILE: judges what the file has by one call (whole), in pieces of 4,096 bytes (pieces) or of 256 (small), or as a stream in pieces of
- * 4,096 (stream) or 4,095 (odd). How many instructions that takes is counted from outside. The status is 0 where all of it is lawful, 1 where
- * it is refused, else 3. */
+ * 4,096 (stream) or 4,095 (odd); or tells a fault of rule 2 at each of the last 64 words, as text (explain) or as words (mend). How many
+ * instructions that takes is counted from outside. The status is 0 where all of it is lawful, or told, 1 where it is refused, else 3. */
 #include "lfi_verifier.h"
 #include <stdio.h>
 #include <string.h>
@@ -34,7 +34,31 @@ static lfi_status stream(size_t size, size_t most) {
     return verdict;
 }
 
+static lfi_status explain(size_t size) {
+    uint8_t text[2048];
+    size_t count;
+    lfi_status status = LFI_LAWFUL;
+    for (uint32_t k = 0; k < 64 && status == LFI_LAWFUL; k++) {
+        lfi_fault fault = {(uint32_t)(size / 4) - 64 + k, 2};
+        status = lfi_explain(LFI_PROFILE_1, 0, (uint32_t)(size / 4), bytes, size, &fault, text, sizeof text, &count);
+    }
+    return status;
+}
+
+static lfi_status mend(size_t size) {
+    uint32_t words[LFI_MOST_MENDED];
+    size_t count;
+    lfi_status status = LFI_LAWFUL;
+    for (uint32_t k = 0; k < 64 && status == LFI_LAWFUL; k++) {
+        lfi_fault fault = {(uint32_t)(size / 4) - 64 + k, 2};
+        status = lfi_mend(LFI_PROFILE_1, bytes, size, &fault, words, LFI_MOST_MENDED, &count);
+    }
+    return status;
+}
+
 static lfi_status verdict_of(const char *way, size_t size) {
+    if (!strcmp(way, "explain")) return explain(size);
+    if (!strcmp(way, "mend")) return mend(size);
     if (!strcmp(way, "whole")) return whole(size);
     if (!strcmp(way, "pieces")) return pieces(size, 4096);
     return !strcmp(way, "small") ? pieces(size, 256) : stream(size, strcmp(way, "odd") ? 4096 : 4095);

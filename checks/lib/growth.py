@@ -43,6 +43,7 @@ CASES = (
     (["load", "FILE"], lambda size: STRAY * size, 40_000_000, 1),
     (["load", "--format", "json", "--explain", "FILE"], lambda size: modules(size), 4_194_304, 1),
     (["load", "--explain", "FILE"], lambda size: modules(size, bytes(4)), 4_194_304, 1),
+    (["load", "--explain", *["FILE"] * 8], lambda size: modules(size // 16), 4_194_304, 1),
     (["load", "--out", ".", "FILE"], lambda size: stream(3, NOP * size), 4_194_304, 10),
     (["pack", *["FILE"] * 16], lambda size: NOP * size, 4_194_304, 1),
     (["unpack", "FILE"], lambda size: image(3, 0, NOP * size), 4_194_304, 20),
@@ -72,7 +73,7 @@ def seconds_of(folder, words, times):
 
 def is_kept(words):
     """Whether a command of these keeps all of a file, of which it has several."""
-    return words.count("FILE") > 1 and (words[0] == "info" or {"--explain", "json"} & set(words))
+    return words.count("FILE") > 1 and (words[0] == "info" or words[0] == "check" and bool({"--explain", "json"} & set(words)))
 
 
 def compare(program, folder, what, few, many, times=1, limit=MOST):

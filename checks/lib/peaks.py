@@ -18,6 +18,7 @@ MOVES_SP = code_of(0x11404000, 0x8B2042BF, 0x17FFFFFE)
 # movz w2, #256, lsl #16; add w1, w1, w2; str x2, [x21, w1, uxtw]; b .-8
 STORES_FAR = code_of(0x52A02002, 0x0B020021, 0xF8214AA2, 0x17FFFFFE)
 REFUSED, WHOLE, PARTS = bytes(4) + NOP * 2_097_151, NOP * formats.MOST_WORDS, [f"part-{number}.code" for number in range(50)]
+KEPT = ("long.code", "odd.code")
 STREAMS, SIZES = [f"{module}.stream" for module in range(8)], (1 << 20, 3_000_000, 5_000_000, (1 << 23) - 4, 12_000_000)
 
 
@@ -31,7 +32,7 @@ def write_files(folder):
     with open(os.path.join(folder, "huge.code"), "wb") as huge:
         huge.truncate((1 << 32) + 4)
     for name, content in (
-        ("long.code", WHOLE), ("odd.code", WHOLE[4:]), ("long.stream", formats.stream(5, WHOLE)), ("small.stream", formats.stream(5, RET)),
+        ("long.code", WHOLE), ("odd.code", WHOLE[4:]), ("long.img", image(5, 0, WHOLE)), ("long.stream", formats.stream(5, WHOLE)), ("small.stream", formats.stream(5, RET)),
         ("refused.code", bytes(1 << 18)), *((f"{size}.code", WHOLE[:size]) for size in SIZES), *((name, bytes(1 << 16)) for name in PARTS),
         ("loop.img", image(0, 0, LOOP)), ("moves.img", image(0, 0, MOVES_SP)), ("far.img", image(0, 0, STORES_FAR)),
     ):
@@ -53,6 +54,9 @@ TOUCHED = (
     *((f"one of {size} bytes", 6_000, (f"lawful, {size // 4} words\n", [], 0), "check", f"{size}.code") for size in SIZES),
     ("one by profile 2", 6_000, ("lawful, 4194304 words\n", [], 0), "check", "--profile", "2", "long.code"),
     ("one of both", 6_000, ("long.code: lawful, 4194304 words\nodd.code: lawful, 4194303 words\n", [], 0), "check", "long.code", "odd.code"),
+    ("four checks that keep the code", 48_000, ("".join(f"{name}: lawful, {4_194_304 - n} words\n" for n, name in enumerate(KEPT)) * 2, [], 0), "check", "--explain", *KEPT * 2),
+    ("four listed images", 48_000, (None, [], 0), "info", *["long.img"] * 4),
+    ("four modules packed", 90_000, (None, [], 0), "pack", *KEPT * 2),
     ("a check of 4 GiB", 24_000, ("bad length\n", TOO_LONG, 1), "check", "huge.code"),
     ("a file without an end", 300_000, ("too long, more than 269222272 bytes\n", [], 1), "info", "/dev/zero"),
     ("explanations of 65,536 words", 6_000, (None, [], 1), "check", "--all", "refused.code"),
@@ -80,7 +84,7 @@ def told_of(program, folder, words, keeps):
     """What a run comes to: its output, the lines of its errors, its status."""
     pathlib.Path(folder, "peak").unlink(missing_ok=True)
     given = {"stdin": subprocess.DEVNULL, "stdout": subprocess.PIPE if keeps else subprocess.DEVNULL, "stderr": subprocess.PIPE}
-    done = subprocess.run([program, *words], text=True, cwd=folder, env=loaded(folder), timeout=60, **given)
+    done = subprocess.run([program, *words], text=True, errors="replace", cwd=folder, env=loaded(folder), timeout=60, **given)
     return done.stdout, sorted(done.stderr.splitlines()), done.returncode
 
 

@@ -286,6 +286,8 @@ FEW = 24
 def texts():
     """Some words of each class, with registers that rules name, evenly taken; and some that no pattern has."""
     yield "others", LEFT_OUT
+    # ldar x0, [x18]; stlr w1, [x23]; ldarb w2, [sp]; ldar x30, [x24]
+    yield "Ordered", (0xC8DFFE40, 0x889FFEE1, 0x08DFFFE2, 0xC8DFFF1E)
     for name in RULES.CLASSES:
         drawn = RULES.family(name, RULES.few_values(name))
         yield name, drawn[:: -(-len(drawn) // FEW)]
