@@ -302,10 +302,10 @@ def try_counts(program, folder):
     if (packed.returncode, packed.stdout, packed.stderr) != (0, b"".join(map(formats.stream, range(formats.MODULES), codes)), b""):
         wrong("large", "sixteen files, packed", (packed.returncode, packed.stdout[:100], packed.stderr), "the streams of all")
     try_refused(program, folder, 70_000)
-    # As many as the system lets one name.
+    # Nearly as many as the system lets one name.
     pathlib.Path(folder, "a").write_bytes(RET)
     for command, line in ("check", "lawful, 1 words"), ("info", "code, 1 words"):
-        expect(program, folder, [command, *"a" * 190_000], (0, f"a: {line}\n" * 190_000, ""))
+        expect(program, folder, [command, *"a" * 150_000], (0, f"a: {line}\n" * 150_000, ""))
     entry = formats.MOST_WORDS - 1
     pathlib.Path(folder, "most.code").write_bytes(WHOLE)
     packed = subprocess.run([program, "pack", "--entry", str(entry), "most.code"], cwd=folder, capture_output=True)
@@ -329,4 +329,4 @@ def try_large(program):
     for part in try_lengths, try_messages, try_names, try_images, try_counts, try_services, try_whole_slot:
         with tempfile.TemporaryDirectory() as folder:
             part(program, folder)
-    print("large: code of the most words and of one more, 16,392 messages, names of 3,839 bytes, sixteen files packed, an image of the most words, 400,000 listed and 70,000 refused words, 190,000 files, 200,000 printed bytes, calls of 510 entries")
+    print("large: code of the most words and of one more, 16,392 messages, names of 3,839 bytes, sixteen files packed, an image of the most words, 400,000 listed and 70,000 refused words, 150,000 files, 200,000 printed bytes, calls of 510 entries")

@@ -5,7 +5,7 @@ import pathlib
 import subprocess
 import tempfile
 
-from lib import formats
+from lib import formats, steps
 from lib.cases import NOP, RET, wrong
 from lib.formats import code_of, image, stream
 
@@ -54,7 +54,7 @@ CASES = (
     (["run", "FILE", "--steps", "SIZE"], lambda size: image(0, 0, NOP * 3 + code_of(0x17FFFFFD)), 1_000_000_000, 1),
 )
 # The same of so many files.
-FILES, MOST_FILES = (["check"], ["info"], ["check", "--format", "json"]), 190_000
+FILES, MOST_FILES = (["check"], ["info"], ["check", "--format", "json"]), 150_000
 # How many times as many seconds the most may take as an eighth of it; more where all of a file is kept, since memory that is new and no cache
 # holds is slower.
 PART, MOST, MOST_KEPT = 8, 16, 40
@@ -87,9 +87,31 @@ def compare(program, folder, what, few, many, times=1, limit=MOST):
     wrong("growth", what, f"{more:.2f} seconds of a processor for {PART} times of what takes {less:.3f}", f"at most {limit} times as many")
 
 
+# What is done with a file of the most words, four times, and with its 64 parts, as often: that may take so many times as long.
+WHOLE_AND_PARTS, PARTS, MOST_WHOLE = (["check"], ["check", "--profile", "2"], ["info"]), 64, 3
+
+
+def compare_parts(program, folder, words):
+    """Words far from the beginning take as much work as those near it."""
+    for _ in range(4):
+        whole, first = seconds_of(folder, [program, *words, *["mixed.code"] * 4], 1)
+        parts, second = seconds_of(folder, [program, *words, *(f"{number}.code" for number in range(PARTS) for _ in range(4))], 1)
+        if first or second:
+            wrong("growth", " ".join(words), (first, second), "status 0")
+        if whole <= MOST_WHOLE * parts:
+            return parts, whole
+    wrong("growth", " ".join(words), f"{whole:.2f} seconds of a processor for a file whose {PARTS} parts take {parts:.2f}", f"at most {MOST_WHOLE} times as many")
+
+
 def try_growth(program):
     """Each command on the most that it takes, or on much, and on an eighth of it."""
     seen = []
+    with tempfile.TemporaryDirectory() as folder:
+        size = formats.MOST_WORDS * 4 // PARTS
+        for number in range(PARTS):
+            pathlib.Path(folder, f"{number}.code").write_bytes(steps.MIXED * (size // len(steps.MIXED)))
+        pathlib.Path(folder, "mixed.code").write_bytes(steps.MIXED * (PARTS * size // len(steps.MIXED)))
+        seen += [(f"parts: {' '.join(words)}", *compare_parts(program, folder, words)) for words in WHOLE_AND_PARTS]
     for words, made, most, times in CASES:
         with tempfile.TemporaryDirectory() as folder:
             both = {"few": most // PART, "many": most}

@@ -13,7 +13,7 @@ import threading
 import time
 
 from lib import formats
-from lib.cases import NOP, RET, run, without, wrong
+from lib.cases import NOP, OPENS, RET, run, without, wrong
 from lib.formats import LARGE_PAGE, MOST_WORDS, PAGE, image
 
 
@@ -229,16 +229,16 @@ def try_endless(program):
 
 def try_entries(program, folder):
     """Code of several lengths, entered at several words: it is loaded, and a run begins there."""
-    entered = [(count, entry) for count in (100_000, 1_234_567, MOST_WORDS) for entry in (1, count // 3, count // 2, count - 2)]
-    for count, entry in entered:
+    entered = [(count, entry, kind) for count in (100_000, 1_234_567, MOST_WORDS) for entry in (1, count // 3, count // 2, count - 2) for kind in OPENS]
+    for count, entry, kind in entered:
         code = NOP * entry + bytes.fromhex("000020d4") + NOP * (count - entry - 1)
-        pathlib.Path(folder, "entered.stream").write_bytes(formats.stream(7, code, entry=entry))
+        pathlib.Path(folder, "entered.stream").write_bytes(formats.stream(7, code, *kind, entry))
         told = run(program, folder, ["load", "--out", ".", "entered.stream"])
         if (told.returncode, told.stdout, told.stderr) != (0, f"module 7: complete, {count} words\nstrays 0\n", ""):
-            wrong("far", f"{count} words, entered at word {entry}", (told.returncode, told.stdout, told.stderr), "complete")
+            wrong("far", f"{count} words of kind {kind}, entered at word {entry}", (told.returncode, told.stdout, told.stderr), "complete")
         came, at = run(program, folder, ["run", "module-07.img", "--steps", "3"]), formats.base(7) + 65_536 + 4 * entry
         if (came.returncode, came.stderr) != (0, f"halt 4 at {at:#018x} after 0 steps\n"):
-            wrong("far", f"an image of {count} words, entered at word {entry}", (came.returncode, came.stderr), "a run that begins there")
+            wrong("far", f"an image of {count} words of kind {kind}, entered at word {entry}", (came.returncode, came.stderr), "a run that begins there")
     return len(entered)
 
 
@@ -296,4 +296,4 @@ def try_far(program):
         if not listed.startswith(wanted[0]) or not listed.endswith(wanted[1]):
             wrong("far", "a listing", (listed[:100], listed[-100:]), wanted)
         entries, alike = try_entries(program, folder), try_told_alike(program, folder)
-    print(f"far: {len(rows) + 2} rows on the last of {most} words, {entries} lengths and entries; {alike} needs told by `check` and `load` alike")
+    print(f"far: {len(rows) + 2} rows on the last of {most} words, {entries} lengths and entries of each kind of module; {alike} needs told by `check` and `load` alike")

@@ -32,7 +32,7 @@ def write_files(folder):
     with open(os.path.join(folder, "huge.code"), "wb") as huge:
         huge.truncate((1 << 32) + 4)
     for name, content in (
-        ("long.code", WHOLE), ("odd.code", WHOLE[4:]), ("long.img", image(5, 0, WHOLE)), ("long.stream", formats.stream(5, WHOLE)), ("small.stream", formats.stream(5, RET)),
+        ("long.code", WHOLE), ("odd.code", WHOLE[4:]), ("long.img", image(5, 0, WHOLE)), ("late.img", image(5, formats.MOST_WORDS - 1_000, WHOLE)), ("long.stream", formats.stream(5, WHOLE)), ("small.stream", formats.stream(5, RET)),
         ("refused.code", bytes(1 << 18)), *((f"{size}.code", WHOLE[:size]) for size in SIZES), *((name, bytes(1 << 16)) for name in PARTS),
         ("loop.img", image(0, 0, LOOP)), ("moves.img", image(0, 0, MOVES_SP)), ("far.img", image(0, 0, STORES_FAR)),
     ):
@@ -64,6 +64,8 @@ TOUCHED = (
     ("a listing of 16 MiB", 24_000, (None, [], 0), "disassemble", "long.code"),
     ("a run that moves sp", 6_000, ("", ["halt 1 after 60000 steps"], 0), "run", "moves.img", "--steps", "60000"),
     ("a run that stores in each 16 MiB", 36_000, ("", ["halt 1 after 750 steps"], 0), "run", "far.img", "--steps", "750"),
+    ("a run of the first 131,072 words", 40_000, ("", ["halt 1 after 131072 steps"], 0), "run", "long.img", "--steps", "131072"),
+    ("a run that begins at the last ones", 120_000, ("", ["halt 1 after 900 steps"], 0), "run", "late.img", "--steps", "900"),
     ("a load of 16 MiB", 25_000, ("module 5: complete, 4194304 words\nstrays 0\n", [], 0), "load", "long.stream"),
     ("one that writes its image", 25_000, ("module 5: complete, 4194304 words\nstrays 0\n", [], 0), "load", "--out", ".", "long.stream"),
 )

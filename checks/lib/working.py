@@ -219,10 +219,19 @@ def some_steps(name):
     return tuple(found)
 
 
+def far_accesses():
+    """Stores and loads in each sixteenth of a slot: movz w1, #4096 * k, lsl #16; add x18, x21, w1, uxtw; str x2, [x18, #16]; ldr x2, [x18, #16];
+    stp x2, x3, [x18, #32]; ldp x2, x9, [x18, #32]; strb w2, [x21, w1, uxtw]; ldr w2, [x21, w1, uxtw]."""
+    accesses = (0xF9000A42, 0xF9400A42, 0xA9020E42, 0xA9422642, 0x38214AA2, 0xB8614AA2) * 2
+    return [(0x52A00001 | 4096 * part << 5, 0x8B2142B2, *accesses, RULES.NOP, RULES.NOP) for part in range(1, 16)]
+
+
 def carried():
-    """What is carried out together: a form again and again, or words of a class; with the class."""
+    """What is carried out together: a form again and again, words of a class, or accesses far from others; with the class. The last ones change
+    through what the others go."""
     same = [(name, (form,) * TOGETHER) for name, form in forms()]
-    return same + [(name, some_steps(name)) for name in STEP if name not in RULES.DIRECT]
+    some = [(name, some_steps(name)) for name in STEP if name not in RULES.DIRECT]
+    return same + some + [("UnsignedOffset", words) for words in far_accesses()]
 
 
 def some_of(name):
