@@ -87,15 +87,15 @@ def compare(program, folder, what, few, many, times=1, limit=MOST):
     wrong("growth", what, f"{more:.2f} seconds of a processor for {PART} times of what takes {less:.3f}", f"at most {limit} times as many")
 
 
-# What is done with a file of the most words, four times, and with its 64 parts, as often: that may take so many times as long.
-WHOLE_AND_PARTS, PARTS, MOST_WHOLE = (["check"], ["check", "--profile", "2"], ["info"]), 64, 3
+# What is done twelve times with a file of the most words, and as often with each of its 64 parts: that may take so many times as long.
+WHOLE_AND_PARTS, PARTS, MOST_WHOLE = (["check"], ["check", "--profile", "2"]), 64, 2.5
 
 
 def compare_parts(program, folder, words):
     """Words far from the beginning take as much work as those near it."""
     for _ in range(4):
-        whole, first = seconds_of(folder, [program, *words, *["mixed.code"] * 4], 1)
-        parts, second = seconds_of(folder, [program, *words, *(f"{number}.code" for number in range(PARTS) for _ in range(4))], 1)
+        whole, first = seconds_of(folder, [program, *words, *["mixed.code"] * 12], 1)
+        parts, second = seconds_of(folder, [program, *words, *(f"{number}.code" for number in range(PARTS) for _ in range(12))], 1)
         if first or second:
             wrong("growth", " ".join(words), (first, second), "status 0")
         if whole <= MOST_WHOLE * parts:
