@@ -242,6 +242,22 @@ def try_entries(program, folder):
     return len(entered)
 
 
+def try_lengths(program, folder):
+    """Code whose length is a piece's, or near that of some: it is judged whole, and so is its last word."""
+    tried = 0
+    for size, beside in itertools.product((*(count << 16 for count in (1, 2, 3, 4, 5, 16, 128)), PAGE, LARGE_PAGE), (-8, -4, 0, 4, 8)):
+        count = (size + beside) // 4
+        for code, wanted in (NOP * count, (0, f"lawful, {count} words\n")), (NOP * (count - 1) + bytes(4), (1, f"word {count - 1} rule 1\n")):
+            pathlib.Path(folder, "a.code").write_bytes(code)
+            for words in ["check", "a.code"], ["check", "--profile", "2", "a.code"], ["check", "-"]:
+                with open(os.path.join(folder, "a.code"), "rb") as file:
+                    done = subprocess.run([program, *words], stdin=file, cwd=folder, capture_output=True, text=True, timeout=60)
+                if (done.returncode, done.stdout) != wanted:
+                    wrong("far", f"{' '.join(words)} of {count} words", (done.returncode, done.stdout, done.stderr), wanted)
+                tried += 1
+    return tried
+
+
 # sub sp, sp, #16; ldr x30, [sp, #8]; ldr x30, [x21, #16]; and a word that meets no need: br x30.
 OPENING, OTHER, PAGE_WORDS = (0xD10043FF, 0xF94007FE, 0xF9400ABE), 0xD61F03C0, PAGE // 4
 
@@ -295,5 +311,5 @@ def try_far(program):
         wanted = f"      0  0x{at - 4 * last:016x}  {0x14000000 | last:08x}  b .+{4 * last}  -> word {last}\n", f"{last:7}  0x{at:016x}  {0x14000000 | -last & 0x3FFFFFF:08x}  b .-{4 * last}  -> word 0\n"
         if not listed.startswith(wanted[0]) or not listed.endswith(wanted[1]):
             wrong("far", "a listing", (listed[:100], listed[-100:]), wanted)
-        entries, alike = try_entries(program, folder), try_told_alike(program, folder)
-    print(f"far: {len(rows) + 2} rows on the last of {most} words, {entries} lengths and entries of each kind of module; {alike} needs told by `check` and `load` alike")
+        entries, alike, lengths = try_entries(program, folder), try_told_alike(program, folder), try_lengths(program, folder)
+    print(f"far: {len(rows) + 2} rows on the last of {most} words, {entries} lengths and entries of each kind of module; {alike} needs told by `check` and `load` alike; {lengths} checks of code of lengths about those of pieces")

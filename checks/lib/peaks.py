@@ -31,6 +31,9 @@ def write_files(folder):
     # The length of this one modulo 2^32 is that of one word.
     with open(os.path.join(folder, "huge.code"), "wb") as huge:
         huge.truncate((1 << 32) + 4)
+    with open(os.path.join(folder, "holes.code"), "wb") as holes:
+        holes.write(WHOLE[:4_096])
+        holes.truncate(1 << 24)
     for name, content in (
         ("long.code", WHOLE), ("odd.code", WHOLE[4:]), ("long.img", image(5, 0, WHOLE)), ("late.img", image(5, formats.MOST_WORDS - 1_000, WHOLE)), ("long.stream", formats.stream(5, WHOLE)), ("small.stream", formats.stream(5, RET)),
         ("refused.code", bytes(1 << 18)), *((f"{size}.code", WHOLE[:size]) for size in SIZES), *((name, bytes(1 << 16)) for name in PARTS),
@@ -57,6 +60,7 @@ TOUCHED = (
     ("four checks that keep the code", 48_000, ("".join(f"{name}: lawful, {4_194_304 - n} words\n" for n, name in enumerate(KEPT)) * 2, [], 0), "check", "--explain", *KEPT * 2),
     ("four listed images", 48_000, (None, [], 0), "info", *["long.img"] * 4),
     ("four modules packed", 90_000, (None, [], 0), "pack", *KEPT * 2),
+    ("a check of a file with holes", 6_000, ("word 1024 rule 1\n", [], 1), "check", "holes.code"),
     ("a check of 4 GiB", 24_000, ("bad length\n", TOO_LONG, 1), "check", "huge.code"),
     ("a file without an end", 300_000, ("too long, more than 269222272 bytes\n", [], 1), "info", "/dev/zero"),
     ("explanations of 65,536 words", 6_000, (None, [], 1), "check", "--all", "refused.code"),
