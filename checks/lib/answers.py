@@ -16,6 +16,8 @@ CODE = NOP * 20_000 + bytes(4) + RET
 FILES = {
     "a.code": NOP * 20_000 + RET, "b.code": CODE, "a.stream": formats.stream(3, NOP * 20_000 + RET) + formats.stream(4, CODE, 2, True),
     "a.img": image(3, 0, NOP * 20_000 + RET),
+    # ldr x30, [x21, #8]; blr x30, which prints a byte; b to the first.
+    "prints.img": image(0, 0, formats.code_of(0xF94006BE, 0xD63F03C0, 0x17FFFFFE)),
 }
 # Each command with what it reads from its standard input, if that is named.
 COMMANDS = (
@@ -72,6 +74,14 @@ def try_errors(program, folder, library):
                 wrong("answers", f"{command}, {how}", (errors, status), (wanted, 3))
 
 
+def try_printing(program, folder, library):
+    """A run whose output can't be written ends by a halt of its own, whatever the error is."""
+    for how in ("nothing", *(f"write {number}" for number in sorted(SAID | OTHERS))):
+        came = carried_out(program, folder, library, how, "run prints.img --steps 3000", None)
+        if came != (b"", [b"halt 5 status 255 after 1 steps"], 0, {}):
+            wrong("answers", f"run prints.img, {how}", came, "halt 5 status 255")
+
+
 def try_nothing(program, folder, library):
     """A write that takes no byte is told, and ends."""
     for command, source in COMMANDS:
@@ -92,5 +102,6 @@ def try_answers(program):
             pathlib.Path(folder, name).write_bytes(content)
         try_pieces(program, folder, library)
         try_errors(program, folder, library)
+        try_printing(program, folder, library)
         try_nothing(program, folder, library)
     print(f"answers: {len(COMMANDS)} commands whose reads and writes are short, interrupted or take nothing; {len(SAID) + len(OTHERS)} errors of each")

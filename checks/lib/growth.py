@@ -1,5 +1,6 @@
 """The part of checks/hostile on how work grows with what a command is given: eight times as much may take some eight times as long."""
 
+import itertools
 import os
 import pathlib
 import subprocess
@@ -87,31 +88,37 @@ def compare(program, folder, what, few, many, times=1, limit=MOST):
     wrong("growth", what, f"{more:.2f} seconds of a processor for {PART} times of what takes {less:.3f}", f"at most {limit} times as many")
 
 
-# What is done twelve times with a file of the most words, and as often with each of its 64 parts: that may take so many times as long.
-WHOLE_AND_PARTS, PARTS, MOST_WHOLE = (["check"], ["check", "--profile", "2"]), 64, 2.5
+# Code that is checked by both profiles: a file of the most words eight times, and each of its 64 parts as often. The file may take so many times as long.
+# Loads of x30 with what follows them, a move of sp with a probe, a pair, branches to the next word, one through a register, and a load by one.
+WHOLE_AND_PARTS = (
+    steps.MIXED, code_of(0xF94007FE, 0x8B3E42BE), code_of(0xF94006BE, 0xD63F03C0), code_of(0xA8C17BFD, 0x8B3E42BE), code_of(0xD10043FF, 0xF94003FF),
+    code_of(0xA9400A40), code_of(0x14000001, 0xD503201F), code_of(0xB4000020, 0xD503201F), code_of(0xD61F0240), code_of(0xF8614AA2),
+)
+PARTS, TIMES, MOST_WHOLE = 64, 8, 2.5
 
 
-def compare_parts(program, folder, words):
+def compare_parts(program, folder, code, words):
     """Words far from the beginning take as much work as those near it."""
+    size = formats.MOST_WORDS * 4 // PARTS
+    for number in range(PARTS):
+        pathlib.Path(folder, f"{number}.code").write_bytes(code * (size // len(code)))
+    pathlib.Path(folder, "whole.code").write_bytes(code * (PARTS * size // len(code)))
     for _ in range(4):
-        whole, first = seconds_of(folder, [program, *words, *["mixed.code"] * 12], 1)
-        parts, second = seconds_of(folder, [program, *words, *(f"{number}.code" for number in range(PARTS) for _ in range(12))], 1)
+        whole, first = seconds_of(folder, [program, *words, *["whole.code"] * TIMES], 1)
+        parts, second = seconds_of(folder, [program, *words, *(f"{number}.code" for number in range(PARTS) for _ in range(TIMES))], 1)
         if first or second:
-            wrong("growth", " ".join(words), (first, second), "status 0")
+            wrong("growth", f"{' '.join(words)} of {code.hex()}", (first, second), "status 0")
         if whole <= MOST_WHOLE * parts:
             return parts, whole
-    wrong("growth", " ".join(words), f"{whole:.2f} seconds of a processor for a file whose {PARTS} parts take {parts:.2f}", f"at most {MOST_WHOLE} times as many")
+    wrong("growth", f"{' '.join(words)} of {code.hex()}", f"{whole:.2f} seconds of a processor for a file whose {PARTS} parts take {parts:.2f}", f"at most {MOST_WHOLE} times as many")
 
 
 def try_growth(program):
     """Each command on the most that it takes, or on much, and on an eighth of it."""
     seen = []
-    with tempfile.TemporaryDirectory() as folder:
-        size = formats.MOST_WORDS * 4 // PARTS
-        for number in range(PARTS):
-            pathlib.Path(folder, f"{number}.code").write_bytes(steps.MIXED * (size // len(steps.MIXED)))
-        pathlib.Path(folder, "mixed.code").write_bytes(steps.MIXED * (PARTS * size // len(steps.MIXED)))
-        seen += [(f"parts: {' '.join(words)}", *compare_parts(program, folder, words)) for words in WHOLE_AND_PARTS]
+    for code, words in itertools.product(WHOLE_AND_PARTS, (["check"], ["check", "--profile", "2"])):
+        with tempfile.TemporaryDirectory() as folder:
+            seen.append((f"parts of {code[:4].hex()}", *compare_parts(program, folder, code, words)))
     for words, made, most, times in CASES:
         with tempfile.TemporaryDirectory() as folder:
             both = {"few": most // PART, "many": most}
