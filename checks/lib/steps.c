@@ -17,7 +17,7 @@ enum { MOST = 1 << 16, UNTRACED = 125, CALL = SIGTRAP | 0x80 };
 static int load(pid_t child) {
     int status;
     if (waitpid(child, &status, 0) != child || !WIFSTOPPED(status)) return UNTRACED;
-    if (ptrace(PTRACE_SETOPTIONS, child, 0, PTRACE_O_TRACECLONE | PTRACE_O_TRACESYSGOOD)) return UNTRACED;
+    if (ptrace(PTRACE_SETOPTIONS, child, 0, PTRACE_O_TRACECLONE | PTRACE_O_TRACESYSGOOD | PTRACE_O_EXITKILL)) return UNTRACED;
     for (int found = 0; found < 2;) {
         if (ptrace(PTRACE_SYSCALL, child, 0, 0) || waitpid(child, &status, 0) != child) return UNTRACED;
         if (!WIFSTOPPED(status)) return 2;

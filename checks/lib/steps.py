@@ -25,12 +25,12 @@ def build(folder):
 
 def parts_of(folder, words, read=subprocess.DEVNULL):
     """The status of a run in the folder that reads this; how many instructions it executed, or `None` where the system lets nobody trace here; how many
-    of these before each write to its output, since the one before; and its output. A run that takes five minutes has no status."""
+    of these before each write to its output, since the one before; and its output. A run that takes a quarter of an hour has no status."""
     told, output = (pathlib.Path(folder, f"{name}-{threading.get_ident()}") for name in ("steps", "output"))
     with open(output, "wb") as file:
         given = {"cwd": folder, "env": {**os.environ, "GLIBC_TUNABLES": TUNABLES}, "stdin": read, "stdout": file, "stderr": subprocess.PIPE}
         try:
-            done = subprocess.run([os.path.join(folder, "steps"), told, *words], timeout=300, **given)
+            done = subprocess.run([os.path.join(folder, "steps"), told, *words], timeout=900, **given)
         except subprocess.TimeoutExpired:
             return "no end", 0, [], b""
     if done.returncode == UNTRACED:

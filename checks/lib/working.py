@@ -307,7 +307,7 @@ def texts():
 
 def counted(program, folder, lines):
     """What comes of each command, several at once."""
-    with concurrent.futures.ThreadPoolExecutor(os.cpu_count()) as pool:
+    with concurrent.futures.ThreadPoolExecutor(len(os.sched_getaffinity(0))) as pool:
         return list(pool.map(lambda words: steps.parts_of(folder, [program, *words]), lines))
 
 
