@@ -8,7 +8,7 @@ import subprocess
 import tempfile
 
 from lib import formats
-from lib.cases import NOP, RET, wrong
+from lib.cases import NOP, PRINTS, RET, wrong
 from lib.formats import image
 
 SOURCE = pathlib.Path(__file__).resolve().parent / "answers.c"
@@ -16,8 +16,7 @@ CODE = NOP * 20_000 + bytes(4) + RET
 FILES = {
     "a.code": NOP * 20_000 + RET, "b.code": CODE, "a.stream": formats.stream(3, NOP * 20_000 + RET) + formats.stream(4, CODE, 2, True),
     "a.img": image(3, 0, NOP * 20_000 + RET),
-    # ldr x30, [x21, #8]; blr x30, which prints a byte; b to the first.
-    "prints.img": image(0, 0, formats.code_of(0xF94006BE, 0xD63F03C0, 0x17FFFFFE)),
+    "prints.img": image(0, 0, PRINTS),
 }
 # Each command with what it reads from its standard input, if that is named.
 COMMANDS = (

@@ -10,7 +10,7 @@ import subprocess
 import tempfile
 
 from lib import formats
-from lib.cases import NOP, RET, run, wrong
+from lib.cases import NOP, PRINTS, RET, run, wrong
 from lib.serving import connected
 
 WHOLE = NOP * formats.MOST_WORDS
@@ -150,8 +150,6 @@ def try_many(program):
 # ---- large
 
 TOO_LONG = "lfiload: bad length long.code\n  more than 16777216 bytes; code has a multiple of 4, from 4 to 16777216\n"
-# LDR X30, [X21, #8]; BLR X30, which writes the low byte of X0; B to the first of them.
-PRINTS = formats.code_of(0xF94006BE, 0xD63F03C0, 0x17FFFFFE)
 
 
 def expect(program, folder, words, wanted):

@@ -7,13 +7,11 @@ import subprocess
 import tempfile
 
 from lib import formats, steps
-from lib.cases import NOP, RET, wrong
+from lib.cases import NOP, PRINTS, RET, wrong
 from lib.formats import code_of, image, stream
 
 STRAY = formats.header(formats.CLOSE, 0, 5, 0, 0)
 OPEN = formats.messages(0, RET)[0]
-# ldr x30, [x21, #8]; blr x30; b to the first.
-PRINTS = code_of(0xF94006BE, 0xD63F03C0, 0x17FFFFFE)
 # movz w1, #2, lsl #16; str x0, [x21, w1, uxtw]; add w1, w1, #16, lsl #12; b .-8
 STORES = code_of(0x52A00041, 0xF8214AA0, 0x11404021, 0x17FFFFFE)
 # sub sp, sp, #16; nop; nop; ldr xzr, [sp]

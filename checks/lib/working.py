@@ -11,7 +11,7 @@ import tempfile
 import threading
 
 from lib import formats, steps
-from lib.cases import NOP, RET, wrong
+from lib.cases import NOP, PRINTS, RET, wrong
 from lib.formats import code_of
 from lib.plain import RULES
 from lib.serving import connected
@@ -112,8 +112,8 @@ def write_commands(folder):
         *((f"{module}.stream", formats.stream(module, steps.MIXED * 256)) for module in range(8)),
         # Each branch goes to the next page, and those of the last one to the next word of the first.
         ("hops.img", formats.image(0, 0, code_of(*[0x14000400] * 7_168, *[0x14000000 | 1 - 7_168 & (1 << 26) - 1] * 1_023, 0x14000000))),
-        # ldr x30, [x21, #8]; blr x30; b to the first; and the same at entry 2.
-        ("prints.img", formats.image(0, 0, code_of(0xF94006BE, 0xD63F03C0, 0x17FFFFFE))),
+        ("prints.img", formats.image(0, 0, PRINTS)),
+        # ldr x30, [x21, #16]; blr x30; b to the first.
         ("calls.img", formats.image(0, 0, code_of(0xF9400ABE, 0xD63F03C0, 0x17FFFFFE))),
     ):
         pathlib.Path(folder, name).write_bytes(content)
