@@ -4,10 +4,14 @@ import os
 import subprocess
 import sys
 
+from lib import formats
+
 # The last is a branch to itself.
 NOP, RET, LOOP = bytes.fromhex("1f2003d5"), bytes.fromhex("c0035fd6"), bytes.fromhex("00000014")
 # ldr x30, [x21, #8]; blr x30, which writes the low byte of x0; b to the first of them.
 PRINTS = bytes.fromhex("be0640f9 c0033fd6 feffff17")
+# Code of the most words.
+WHOLE = NOP * formats.MOST_WORDS
 OPENS = ((1, False), (2, False), (2, True))  # the profile of each kind of Open, and whether its pages are large
 
 

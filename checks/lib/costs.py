@@ -10,10 +10,8 @@ import subprocess
 import tempfile
 
 from lib import formats
-from lib.cases import NOP, PRINTS, RET, run, wrong
+from lib.cases import NOP, PRINTS, RET, WHOLE, run, wrong
 from lib.serving import connected
-
-WHOLE = NOP * formats.MOST_WORDS
 
 
 # ---- reads

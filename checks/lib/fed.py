@@ -10,12 +10,10 @@ import tempfile
 import threading
 
 from lib import formats, steps
-from lib.cases import NOP, wrong
+from lib.cases import NOP, WHOLE, wrong
 from lib.formats import image
 from lib.serving import connected
 
-WHOLE = NOP * formats.MOST_WORDS
-CALLS = pathlib.Path(__file__).resolve().parent / "calls.c"
 # Words, what is read from the standard input, and the most system calls; a load hands over 4,096 pages, and threads that sleep are called.
 INPUTS = (
     (["check", "-"], WHOLE, 300), (["check", "--explain", "-"], WHOLE, 300), (["disassemble", "-"], WHOLE[:400_000], 1_200), (["pack", "-"], WHOLE, 9_000),
@@ -24,21 +22,11 @@ INPUTS = (
 )
 
 
-def calls_of(folder, words, given):
-    """How many system calls a run asks for; `None` where the system lets nobody trace here. And its status; a run that takes five minutes has none."""
-    told, more = pathlib.Path(folder, "told"), {"stdout": subprocess.DEVNULL, "stderr": subprocess.DEVNULL, "timeout": 300}
-    try:
-        done = subprocess.run([os.path.join(folder, "calls"), told, *words], cwd=folder, stdin=given, **more)
-    except subprocess.TimeoutExpired:
-        return 0, "no end"
-    return None if done.returncode == steps.UNTRACED else int(told.read_text()), done.returncode
-
-
 def calls_of_serve(program, folder, content):
-    """The same of `serve` whose client sends this."""
+    """The status of `serve` whose client sends this, and how many system calls it asks for."""
     done = []
     words = [program, "serve", "--socket", "s", "--connections", "1"]
-    serve = threading.Thread(target=lambda: done.append(calls_of(folder, words, subprocess.DEVNULL)))
+    serve = threading.Thread(target=lambda: done.append(steps.calls_of(folder, words)))
     serve.start()
     with connected(os.path.join(folder, "s")) as client, contextlib.suppress(OSError):
         client.sendall(content)
@@ -52,13 +40,13 @@ def try_calls(program, folder):
     for words, content, most in INPUTS:
         pathlib.Path(folder, "input").write_bytes(content)
         with open(os.path.join(folder, "input"), "rb") as file:
-            calls, status = calls_of(folder, [program, *words], file)
+            status, calls = steps.calls_of(folder, [program, *words], file)
         if calls is None:
             return "no calls are counted, since the system lets nobody trace here"
         if status or calls > most:
             wrong("fed", f"{' '.join(words)} of {len(content)} bytes", (status, calls), f"status 0, and at most {most} system calls")
         seen.append(calls)
-    calls, status = calls_of_serve(program, folder, formats.stream(0, WHOLE))
+    status, calls = calls_of_serve(program, folder, formats.stream(0, WHOLE))
     if status or calls > 3_000:
         wrong("fed", "`serve` of 16 MiB", (status, calls), "status 0, and at most 3,000 system calls")
     return f"system calls for 16 MiB of a standard input {seen}, of a client {calls}"
@@ -135,5 +123,5 @@ def try_fed(program):
         print("fed: left out, since cc isn't here")
         return
     with tempfile.TemporaryDirectory() as folder:
-        subprocess.run(["cc", "-O2", "-o", "calls", CALLS], cwd=folder, check=True)
+        steps.build(folder)
         print("fed: " + "; ".join(part(program, folder) for part in (try_calls, try_packets, try_sleeps, try_long_client)))

@@ -8,7 +8,7 @@ import subprocess
 import tempfile
 
 from lib import formats
-from lib.cases import LOOP, NOP, RET, wrong
+from lib.cases import LOOP, NOP, RET, WHOLE, wrong
 from lib.formats import code_of, image
 from lib.serving import connected
 
@@ -17,7 +17,7 @@ SOURCE = pathlib.Path(__file__).resolve().parent / "peak.c"
 MOVES_SP = code_of(0x11404000, 0x8B2042BF, 0x17FFFFFE)
 # movz w2, #256, lsl #16; add w1, w1, w2; str x2, [x21, w1, uxtw]; b .-8
 STORES_FAR = code_of(0x52A02002, 0x0B020021, 0xF8214AA2, 0x17FFFFFE)
-REFUSED, WHOLE, PARTS = bytes(4) + NOP * 2_097_151, NOP * formats.MOST_WORDS, [f"part-{number}.code" for number in range(50)]
+REFUSED, PARTS = bytes(4) + NOP * 2_097_151, [f"part-{number}.code" for number in range(50)]
 KEPT = ("long.code", "odd.code")
 STREAMS, SIZES = [f"{module}.stream" for module in range(8)], (1 << 20, 3_000_000, 5_000_000, (1 << 23) - 4, 12_000_000)
 

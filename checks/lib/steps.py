@@ -1,4 +1,5 @@
-"""How many instructions a program executes in all its threads: a measure of work that is nearly alike on every machine, and no time."""
+"""How many instructions a program executes in all its threads, and how often it calls the system: a measure of work that is nearly alike on every
+machine, and no time."""
 
 import itertools
 import os
@@ -30,7 +31,7 @@ def parts_of(folder, words, read=subprocess.DEVNULL):
     with open(output, "wb") as file:
         given = {"cwd": folder, "env": {**os.environ, "GLIBC_TUNABLES": TUNABLES}, "stdin": read, "stdout": file, "stderr": subprocess.PIPE}
         try:
-            done = subprocess.run([os.path.join(folder, "steps"), told, *words], timeout=900, **given)
+            done = subprocess.run([os.path.join(folder, "steps"), "instructions", told, *words], timeout=900, **given)
         except subprocess.TimeoutExpired:
             return "no end", 0, [], b""
     if done.returncode == UNTRACED:
@@ -42,3 +43,14 @@ def parts_of(folder, words, read=subprocess.DEVNULL):
 def steps_of(folder, words):
     """The status of a run, and its instructions, as `parts_of` has them."""
     return parts_of(folder, words)[:2]
+
+
+def calls_of(folder, words, read=subprocess.DEVNULL):
+    """The status of a run in the folder that reads this, and how many system calls it asks for, or `None` where the system lets nobody trace here. A run
+    that takes five minutes has no status."""
+    told, more = pathlib.Path(folder, f"calls-{threading.get_ident()}"), {"stdout": subprocess.DEVNULL, "stderr": subprocess.DEVNULL, "timeout": 300}
+    try:
+        done = subprocess.run([os.path.join(folder, "steps"), "calls", told, *words], cwd=folder, stdin=read, **more)
+    except subprocess.TimeoutExpired:
+        return "no end", 0
+    return done.returncode, None if done.returncode == UNTRACED else int(told.read_text())

@@ -7,6 +7,7 @@ ghost use Rattle.std.specs.IoError.{error_kind};
 ghost use Rattle.lfi_check.specs.Checking.{Checks, verdict_text};
 ghost use Rattle.lfi_file_commands.specs.inner.Whole.{IsFoundOf};
 ghost use Rattle.lfi_file_commands.specs.Checking.{naming_text, verdict_of, IsFound};
+ghost use Rattle.lfi_file_commands.specs.Causes.{cause_of};
 ghost use Rattle.lfi_file_commands.specs.Failures.{fault_of_read, is_of_a_write};
 
 use crate::device_cause::DeviceCause;
@@ -60,7 +61,8 @@ impl CommandFault {
 
     /// That of a write.
     pub(crate) fn of_write(error: &io::Error) -> CommandFault
-        ensures { is_of_a_write result ≡ true }
+        ensures fault { result ≡ CommandFault.NotWritten (cause_of (error_kind error.now)) }
+        ensures write { is_of_a_write result ≡ true }
     {
         CommandFault::NotWritten(DeviceCause::of(error))
     }
