@@ -109,26 +109,39 @@ def operand_of(text):
     return found and found[1]
 
 
-def lines_of(helps):
-    """Lines, and which words are offered behind them."""
+def begun(words, many):
+    """The beginnings of words, of so many letters, each with the words that begin so."""
+    return {it[:many]: {word for word in words if word.startswith(it[:many])} for it in words}
+
+
+def lines_of(options, helps):
+    """Lines, and which words are offered behind them, and where a word is begun."""
     yield "lfiload ", set(helps)
+    for begin, wanted in {**begun(helps, 1), **begun(helps, 2), "--": options, **begun(options, 3)}.items():
+        yield f"lfiload {begin}", set(wanted)
     for name, text in helps.items():
-        options = options_of(text)
-        yield f"lfiload {name} --", set(options)
-        yield f"lfiload {name} {'' if operand_of(text) else '--explain '}", {FILE, PLACE} if operand_of(text) else set()
-        for option in (it for it, takes in options.items() if takes):
-            yield f"lfiload {name} {option} ", set(VALUES[option].split())
+        own = options_of(text)
+        for begin, wanted in {"--": own, **begun(own, 3)}.items():
+            yield f"lfiload {name} {begin}", set(wanted)
+        files = {FILE, PLACE} if operand_of(text) else set()
+        for begin in ("", FILE[:2]) if files else ("--explain ",):
+            yield f"lfiload {name} {begin}", {it for it in files if it.startswith(begin)}
+        for option in (it for it, takes in own.items() if takes):
+            values = VALUES[option].split()
+            for begin, wanted in {"": values, **begun(values, 1)}.items():
+                yield f"lfiload {name} {option} {begin}", set(wanted)
 
 
-def type_lines(name, helps):
+def type_lines(name, options, helps):
     """What a shell offers behind each of the lines; but for options where no word is begun, which some list beside the rest."""
     with tempfile.TemporaryDirectory() as folder:
         pathlib.Path(folder, FILE).touch()
         pathlib.Path(folder, PLACE).mkdir()
         shell, count = SHELLS[name](folder), 0
-        for line, wanted in lines_of(helps):
-            found = {it for it in shell.offered(line) if line.endswith("--") or not it.startswith("-")}
-            if found != wanted:
+        for line, wanted in lines_of(options, helps):
+            last = line.rpartition(" ")[2]
+            found = {it for it in shell.offered(line) if last.startswith("-") or not it.startswith("-")}
+            if found - {last} != wanted - {last}:
                 wrong(f"behind {line!r} {name} offers {sorted(found)}, and not {sorted(wanted)}")
             count += 1
         shell.close()
@@ -189,8 +202,8 @@ def try_equals(name, options):
             wrong(f"bash offers {told} behind {name} {option}=, {apart} behind a space, and {begun} where these are begun")
 
 
-def try_all(helps):
-    """The files, and each shell that is here."""
+def try_all(options, helps):
+    """The files, and each shell that is here. The program has these options by itself."""
     compare_texts(helps)
     for shell in SHELLS:
         if not shutil.which(shell):
@@ -199,4 +212,4 @@ def try_all(helps):
         if shell == "bash":
             for name, text in helps.items():
                 try_equals(name, options_of(text))
-        print(f"completions: {shell} offers what --help says behind {type_lines(shell, helps)} lines")
+        print(f"completions: {shell} offers what --help says behind {type_lines(shell, options, helps)} lines")

@@ -13,3 +13,4 @@ pub mod Joined
 mod Paths
 mod Streams
 mod Telling
+mod ToldByAll

@@ -1,8 +1,8 @@
 -- What `lfiload load --explain` tells of refused modules. Source: this project's profile, docs/COMMANDS.md.
-use Rattle.std.specs.Prelude.{◌≡◌, ℕ, List, [], ◌∷◌, ◌++◌, Option, Some, None, codes, decimal}
+use Rattle.std.specs.Prelude.{◌≡◌, ℕ, ◌<◌, List, [], ◌∷◌, ◌++◌, length, Option, Some, None, codes, decimal}
 use Rattle.lfi_sequence.specs.declared.report.ModuleReport.{ModuleReport}
 use Rattle.lfi_sequence.specs.declared.refused.RefusedModule.{RefusedModule}
-use Rattle.lfi_sequence.specs.Refused.{near_words}
+use Rattle.lfi_sequence.specs.Refused.{near_words, AreNear}
 use Rattle.lfi_explain.specs.declared.explanation.Explanation.{Explanation}
 use Rattle.lfi_explain.specs.declared.explanation.KnownFault.{KnownFault}
 use Rattle.lfi_explain.specs.Explanations.{ExplainsNear, explanation_line}
@@ -16,6 +16,11 @@ known_of m =
 abbrev pub IsRefusal : Option RefusedModule → Option Explanation → Type 0
 IsRefusal (Some refused) told = (e : Explanation) × (told ≡ Some e) × ExplainsNear (near_words refused.refusal.near) refused.refusal.near.at (known_of refused) e
 IsRefusal None told = told ≡ None
+
+-- Where the words near a refused module's fault are of these, what is told of it is what all these tell.
+abbrev pub IsToldByAll : RefusedModule → Option Explanation → Type 0
+IsToldByAll refused told = (ws : List ℕ) (e : Explanation) → AreNear ws refused.refusal.fault.word refused.refusal.near → refused.refusal.fault.word < length ws
+    → told ≡ Some e → ExplainsNear ws refused.refusal.fault.word (known_of refused) e
 
 -- the lines of a refused module
 abbrev pub refusal_lines : Option Explanation → List ℕ

@@ -1,8 +1,8 @@
 //! What is told of refused modules.
 
-ghost use Rattle.std.specs.Prelude.{◌≡◌, ℕ, List, IfOk, OnOk};
+ghost use Rattle.std.specs.Prelude.{◌≡◌, ℕ, List, IfOk, IfSome, OnOk};
 ghost use Rattle.std.specs.Io.KnownBytes.{Appends};
-ghost use Rattle.lfi_file_commands.specs.Refused.{IsRefusal, known_of, refusal_lines, TellRefused};
+ghost use Rattle.lfi_file_commands.specs.Refused.{IsRefusal, IsToldByAll, known_of, refusal_lines, TellRefused};
 
 use crate::texts::write_line;
 use lfi_explain::{Explanation, KnownFault, explain_near};
@@ -24,7 +24,8 @@ fn known_of(refused: &RefusedModule) -> KnownFault
 
 /// What is told of a module's fault, where it was refused.
 pub fn refusal_of(refused: &Option<RefusedModule>) -> Option<Explanation>
-    ensures { IsRefusal refused.now result }
+    ensures told { IsRefusal refused.now result }
+    ensures all { IfSome refused.now (λ refused. IsToldByAll refused result) }
 {
     match refused {
         Some(refused) => {

@@ -10,6 +10,6 @@ loop-report-preserved g c =
     let report = c.report-item.result in
     let here = refusal_lines c.refusal_of.result in (
       done.0 ++ here,
-      told_next c.args.modules.now c.loop-report.report-index report done.0 here (search rules) c.report-item.is done.1 (c.refusal_of.result, c.refusal_of.ensures, refl),
+      told_next c.args.modules.now c.loop-report.report-index report done.0 here (search rules) c.report-item.is done.1 (c.refusal_of.result, c.refusal_of.ensures.told, refl),
       Appends-trans (g.W.Write.contents c.args.out.now) (g.W.Write.contents c.loop-report.out) (g.W.Write.contents c.write_refusal.new.out) done.0 here done.2 c.in_ok-write_refusal.ensures,
     )
