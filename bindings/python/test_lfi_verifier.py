@@ -187,6 +187,35 @@ class Verifying(unittest.TestCase):
                 with written_during(f"lfi_{call.__name__}", data, bytes(len(data))):
                     self.assertEqual(call(data if view is bytearray else view(data), fault, profile), wanted)
 
+    def test_a_buffer_that_is_used_again(self):
+        """A call has no part in the buffer once it is over, also where it raised: it can get another length."""
+        for call, words, *given in (
+            (lfi_verifier.verify, (RET,)),
+            (lfi_verifier.verify, (SVC,)),
+            (lfi_verifier.explain, (SVC,), Fault(0, 1)),
+            (lfi_verifier.mend, (SVC,), Fault(0, 1)),
+            (Stream().read, (1 << 16,)),
+        ):
+            for data in bytearray(code_of(*words)), bytearray(3):
+                try:
+                    call(data, *given)
+                except (Violation, ValueError) as why:
+                    data += b"\0"  # while what it raised is there, and so all that it refers to
+                    del why
+                data.clear()
+
+    def test_what_is_kept(self):
+        """Of what calls were handed nothing is kept."""
+        tracemalloc.start()
+        self.addCleanup(tracemalloc.stop)
+        for number in range(8):
+            words = code_of(*[NOP] * 65_536, 0xF9400020 + number)
+            self.assertEqual(verdict(words), "word 65536 rule 2")
+            self.assertIn("mend:", lfi_verifier.explain(words, Fault(65_536, 2)))
+            self.assertEqual(lfi_verifier.mend(words, Fault(65_536, 2)), [0xF8614AA0 + number])
+        del words
+        self.assertLess(tracemalloc.get_traced_memory()[0], 300_000)
+
     def test_longest(self):
         longest = code_of(NOP) * lfi_verifier.MAX_WORDS
         self.assertIsNone(lfi_verifier.verify(longest))
@@ -441,35 +470,46 @@ class Streaming(unittest.TestCase):
                 if second is Stream.end:  # nothing is read behind the end, also where the end came second
                     self.assertEqual(stream.read(module_of(0, 4)), [])
 
-    def test_many_strays(self):
-        """Of a long stream nothing is kept."""
+    def test_a_long_stream(self):
+        """Nothing of it is kept, neither of what belongs to no module nor of code."""
         stream = Stream()
         tracemalloc.start()
         self.addCleanup(tracemalloc.stop)
         for _ in range(50):
             self.assertEqual(stream.read(header(3, 0, 9, 0, 0) * 1_000), [Stray(9)] * 1_000)
+        for module in range(16):
+            self.assertEqual(stream.read(module_of(module, 32))[-1].verdict, Status.LAWFUL)
+        self.assertEqual(stream.end(), [])
         self.assertLess(tracemalloc.get_traced_memory()[0], 300_000)
 
     def test_other_streams_go_on(self):
-        """While a thread is in a call of a stream, another thread reads another stream, and comes to its end."""
-        call, other, ends = LIBRARY.lfi_stream_next, Stream(), []
+        """While a thread is in a call of a stream, another thread reads other streams, and comes to their ends: each stream tells its own."""
+        def told_by(stream):
+            return stream.read(ONE_RET[:12]) + stream.end()
 
         def reads():
-            other.read(b"\1")
-            ends.append(other.end())
+            found.extend(told_by(Stream()))
 
         def called(*given):
-            if given[0] is not other._numbers and not ends:
+            if threading.current_thread() is not threading.main_thread():
+                return call(*given)
+            for at in range(2):
                 thread = threading.Thread(target=reads)
                 thread.start()
                 thread.join(5)
-                waits.append(thread.is_alive())
-            return call(*given)
+                self.assertFalse(thread.is_alive())
+                used = call(*given) if at == 0 else used
+            return used
 
-        waits = []
-        with mock.patch.object(LIBRARY, "lfi_stream_next", called):
-            Stream().read(b"\1")
-        self.assertEqual(waits, [False])
+        wanted = told_by(Stream())
+        for name in "lfi_stream_next", "lfi_stream_end":
+            call, found, stream = getattr(LIBRARY, name), [], Stream()
+            stream.read(header(1, 0, 2, 3, 1))
+            with mock.patch.object(LIBRARY, name, called):
+                events = stream.read(header(3, 0, 9, 0, 0)) + stream.end()
+            self.assertEqual(events, [Stray(9), StreamFault(9), End(2, 3, 0, Reason.LOST, 9, Status.INCOMPLETE, None)])
+            self.assertEqual(found, wanted * (len(found) // len(wanted)))
+            self.assertTrue(found)
 
     def test_reads_of_several_threads(self):
         """The bytes of a read are handled together, whatever other threads read meanwhile: each of 16 modules comes whole."""

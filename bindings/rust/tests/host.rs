@@ -1,10 +1,10 @@
 //! What a host relies on, with values of docs/PROFILE.md and the examples.
 
 use lfi_verifier::{
-    explain, mend, registers, verify, version, Event, Fault, ModuleNumber, Profile, Reason, RefusedWord, Rule, SlotMap, Status,
-    Stream, StreamFault, Verifier, Violation, MAX_BYTES, MAX_WORDS, VERSION,
+    explain, mend, registers, verify, version, Event, Fault, Mend, ModuleNumber, Profile, Reason, RefusedWord, Registers, Rule,
+    SlotMap, Status, Stream, StreamFault, Verifier, Violation, MAX_BYTES, MAX_WORDS, VERSION,
 };
-use std::{error::Error, fmt::Debug, fs, path::Path};
+use std::{error::Error, fmt::Debug, fs, hash::Hash, path::Path};
 
 fn example(name: &str) -> Vec<u8> {
     fs::read(Path::new("../../examples").join(name)).expect("the example is there")
@@ -67,20 +67,26 @@ fn errors() {
     assert_eq!(text(told(fault)), Err(fault.to_string()));
 }
 
-/// What a host keeps may be copied, and a copy of a state goes on by itself.
+/// What a host keeps may be copied, compared and printed, and a copy of a state goes on by itself.
 #[test]
 fn copies() {
-    fn copied<T: Copy + Debug + PartialEq>(it: T) -> T {
+    fn copied<T: Copy + Debug + Eq>(it: T) -> T {
         it
     }
+    const fn is_value<T: Copy + Debug + Eq>() {}
+    const fn is_key<T: Copy + Debug + Eq + Hash>() {}
+    const fn is_ordered<T: Copy + Debug + Ord + Hash>() {}
+    const fn is_kept<T: Copy + Debug>() {}
     let (nop, svc) = (code(&[0xD503_201F]), code(&[0xD400_0001]));
     let mut first = Verifier::new(2, Profile::One).expect("two words");
     assert_eq!(first.update(&nop), Ok(()));
     let mut second = copied(first);
     assert_eq!((first.update(&nop), second.update(&svc)), (Ok(()), refused(1, Rule::Spelled)));
     assert_eq!((copied(first).finish(), copied(second).finish()), (Ok(()), refused(1, Rule::Spelled)));
-    copied((Rule::Spelled, Fault { word: 0, rule: Rule::Spelled }, Status::Lawful, Reason::Closed));
-    copied((ModuleNumber::new(3), StreamFault::Ended, Profile::Two, Violation::Incomplete));
+    is_key::<(Fault, Violation, StreamFault, Status, Profile)>();
+    is_ordered::<(Rule, ModuleNumber)>();
+    is_kept::<RefusedWord<'_>>();
+    is_value::<(SlotMap, Registers, Mend, Event<'_>, Reason, Verifier)>();
     let mut stream = Stream::new().expect("a stream");
     let text = example("one_ret.stream");
     assert_eq!(stream.read(&text[..12]).count(), 1);
@@ -230,20 +236,22 @@ fn threads() {
     goes::<Event<'_>>();
 }
 
-/// docs/PROFILE.md, "Modules, pages, slots" and "Registers".
+/// docs/PROFILE.md, "Modules, pages, slots" and "Registers": both profiles have the same.
 #[test]
 fn map() {
     for number in [16, 255, 256, 271, 65_536, 1 << 31, u32::MAX] {
         assert_eq!(ModuleNumber::new(number), None);
     }
-    for number in 0..16 {
-        let module = ModuleNumber::new(number).expect("there are 16");
-        let map = SlotMap::of(Profile::One, module).expect("it has a slot");
-        assert_eq!((map.base, map.size), ((2 * u64::from(number) + 1) << 32, 1 << 32));
-        assert_eq!((map.guard, map.table, map.code), (65_536, 4_096, 65_536));
-        assert_eq!((map.entry, map.entry_step, map.entries), (1 << 40, 16, 512));
+    for profile in [Profile::One, Profile::Two] {
+        for number in 0..16 {
+            let module = ModuleNumber::new(number).expect("there are 16");
+            let map = SlotMap::of(profile, module).expect("it has a slot");
+            assert_eq!((map.base, map.size), ((2 * u64::from(number) + 1) << 32, 1 << 32));
+            assert_eq!((map.guard, map.table, map.code), (65_536, 4_096, 65_536));
+            assert_eq!((map.entry, map.entry_step, map.entries), (1 << 40, 16, 512));
+        }
+        let found = registers(profile).expect("a profile has registers");
+        assert_eq!((found.base, found.offset, found.link, found.stack_reach), (21, 22, 30, 512));
+        assert_eq!((found.first_address, found.second_address, found.third_address), (18, 23, 24));
     }
-    let found = registers(Profile::One).expect("a profile has registers");
-    assert_eq!((found.base, found.offset, found.link, found.stack_reach), (21, 22, 30, 512));
-    assert_eq!((found.first_address, found.second_address, found.third_address), (18, 23, 24));
 }

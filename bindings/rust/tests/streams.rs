@@ -145,6 +145,20 @@ fn the_rest_of_a_piece() {
     assert!(events.rest().is_empty());
 }
 
+/// Behind a fault nothing is read: all that comes after its header is left, of the piece with the fault and of each later one.
+#[test]
+fn the_rest_behind_a_fault() {
+    let text = [header(1, 0, 3, 1, 0), header(7, 0, 0, 0, 0), header(3, 0, 3, 0, 0)].concat();
+    let mut stream = Stream::new().expect("a stream");
+    let mut events = stream.read(&text);
+    assert_eq!((events.by_ref().count(), events.rest()), (2, &text[24..]));
+    let mut events = stream.read(&text);
+    assert_eq!((events.next(), events.rest()), (None, &text[..]));
+    assert_eq!(stream.end().count(), 1);
+    let mut events = stream.read(&text);
+    assert_eq!((events.next(), events.rest()), (None, &text[..]));
+}
+
 /// Each fault that bytes show, with its number and its words.
 #[test]
 fn each_fault() {
