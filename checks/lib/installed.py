@@ -27,7 +27,7 @@ FILES = {
     "include/lfi_verifier.h": "include/lfi_verifier.h",
     **{f"share/doc/lfiload/{it}.md": f"docs/{it}.md" for it in ("C", "HOST", "COMMANDS", "GLOSSARY", "PROFILE")},
 }
-PAGE = "share/man/man1/lfiload.1"
+PAGE, LINK = "share/man/man1/lfiload.1", "lib/liblfi_verifier.so"
 
 untried = []
 
@@ -165,22 +165,25 @@ def try_files_of_others(prefix, words):
 
 # C: `./install --check --prefix P` says of each file whether it is of this tree, and `--uninstall` removes what was installed.
 def try_changes(prefix, words):
-    """All goes, also the prefix; a file that was changed is told and left."""
+    """All goes, also the prefix; a file that was changed, and a link that leads elsewhere, is told and left."""
     run(TOP / "install", "--uninstall", "--prefix", prefix)
     if prefix.exists():
         fail(f"left after --uninstall: {sorted(map(str, prefix.rglob('*')))}")
-    others, page = prefix / "bin", prefix / PAGE
+    others, page, link = prefix / "bin", prefix / PAGE, prefix / LINK
     others.mkdir(parents=True)
     try_files_of_others(prefix, words)
     page.write_text("a changed page\n")
+    link.unlink()
+    link.symlink_to("another.so")
     told = run(TOP / "install", "--check", *words[1:3], status=1)
-    if f"{PAGE}: changed since it was installed\n" not in told:
-        fail(f"--check of a changed page tells {told}")
+    if any(f"{it}: changed since it was installed\n" not in told for it in (PAGE, LINK)):
+        fail(f"--check of a changed page and link tells {told}")
     told = run(TOP / "install", "--uninstall", "--prefix", prefix, status=1)
-    if told != f"{PAGE}: changed since it was installed, and left\n":
-        fail(f"--uninstall of a changed page tells {told}")
-    if files_in(prefix) != [page] or not others.is_dir():
-        fail(f"left after --uninstall beside a changed file: {files_in(prefix)}, and a folder that was there before: {others.is_dir()}")
+    if sorted(told.splitlines()) != [f"{it}: changed since it was installed, and left" for it in (LINK, PAGE)]:
+        fail(f"--uninstall of a changed page and link tells {told}")
+    if set(files_in(prefix)) != {page, link} or os.readlink(link) != "another.so" or not others.is_dir():
+        fail(f"left after --uninstall beside a changed page and link: {files_in(prefix)}, and a folder that was there before: {others.is_dir()}")
+    link.unlink()
 
 
 def try_installs(prefix, words):
