@@ -28,9 +28,11 @@ def write_files(folder):
         pathlib.Path(folder, name).write_bytes(formats.stream(module, REFUSED))
         pathlib.Path(folder, f"behind-{name}").write_bytes(formats.header(formats.CLOSE, 0, 15, 0, 0) + formats.stream(module, REFUSED))
         pathlib.Path(folder, f"large-{name}").write_bytes(formats.stream(module, REFUSED, 2, True))
-    # The length of this one modulo 2^32 is that of one word.
-    with open(os.path.join(folder, "huge.code"), "wb") as huge:
-        huge.truncate((1 << 32) + 4)
+    # The length of these modulo 2^32 is that of one word; the second takes no room on the disk.
+    for name, begin in ("huge.code", WHOLE[:4_096]), ("hollow.code", b""):
+        with open(os.path.join(folder, name), "wb") as huge:
+            huge.write(begin)
+            huge.truncate((1 << 32) + 4)
     with open(os.path.join(folder, "holes.code"), "wb") as holes:
         holes.write(WHOLE[:4_096])
         holes.truncate(1 << 24)
@@ -42,7 +44,7 @@ def write_files(folder):
         pathlib.Path(folder, name).write_bytes(content)
 
 
-TOO_LONG = ["  more than 16777216 bytes; code has a multiple of 4, from 4 to 16777216", "lfiload: bad length huge.code"]
+TOO_LONG = "  more than 16777216 bytes; code has a multiple of 4, from 4 to 16777216"
 LINES = "".join(f"module {module}: refused, word 0 rule 1\n" for module in range(8)) + "strays 0\n"
 NOTICES = [f"module {module} refused" for module in range(8)]
 ONE = ["load", "--verifiers", "1"]
@@ -61,7 +63,7 @@ TOUCHED = (
     ("four listed images", 48_000, (None, [], 0), "info", *["long.img"] * 4),
     ("four modules packed", 90_000, (None, [], 0), "pack", *KEPT * 2),
     ("a check of a file with holes", 6_000, ("word 1024 rule 1\n", [], 1), "check", "holes.code"),
-    ("a check of 4 GiB", 24_000, ("bad length\n", TOO_LONG, 1), "check", "huge.code"),
+    *((f"a check of 4 GiB, {name}", 24_000, ("bad length\n", [TOO_LONG, f"lfiload: bad length {name}"], 1), "check", name) for name in ("huge.code", "hollow.code")),
     ("a file without an end", 300_000, ("too long, more than 269222272 bytes\n", [], 1), "info", "/dev/zero"),
     ("explanations of 65,536 words", 6_000, (None, [], 1), "check", "--all", "refused.code"),
     ("objects of 50 files of 16,384 such words", 16_000, (None, [], 1), "check", "--all", "--format", "json", *PARTS),
