@@ -4,12 +4,15 @@
  *   interrupted  each write is interrupted twice, and then short, as each read is
  *   nothing      a write takes no byte
  *   write N      a write fails with this error
- *   read N       the first read is short, and each later one fails with this error */
+ *   read N       the first read is short, and each later one fails with this error
+ *   recv N       the same of what a socket receives
+ * Whatever it is, nobody waits until the system has put a file on its disk: that ends the program with status 99. */
 #define _GNU_SOURCE
 #include <errno.h>
 #include <stdatomic.h>
 #include <stdlib.h>
 #include <string.h>
+#include <sys/socket.h>
 #include <sys/syscall.h>
 #include <unistd.h>
 
@@ -29,7 +32,7 @@ static ssize_t fail(int error) {
     return -1;
 }
 
-static size_t few(size_t count) { return (is("short") || is("interrupted") || is("read")) && count > MOST ? MOST : count; }
+static size_t few(size_t count) { return (is("short") || is("interrupted") || is("read") || is("recv")) && count > MOST ? MOST : count; }
 
 ssize_t read(int at, void *bytes, size_t count) {
     if (is("read") && atomic_fetch_add(&reads, 1)) return fail(atoi(how() + 5));
@@ -43,3 +46,13 @@ ssize_t write(int at, const void *bytes, size_t count) {
     if (is("write")) return fail(atoi(how() + 6));
     return syscall(SYS_write, at, bytes, few(count));
 }
+
+ssize_t recv(int at, void *bytes, size_t count, int flags) {
+    if (is("recv") && atomic_fetch_add(&reads, 1)) return fail(atoi(how() + 5));
+    return syscall(SYS_recvfrom, at, bytes, few(count), flags, NULL, NULL);
+}
+
+int fsync(int at) { _exit(99 + 0 * at); }
+int fdatasync(int at) { _exit(99 + 0 * at); }
+int syncfs(int at) { _exit(99 + 0 * at); }
+void sync(void) { _exit(99); }

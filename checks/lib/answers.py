@@ -1,8 +1,10 @@
-"""The part of checks/hostile on how the system answers reads and writes: in small pieces, interrupted, or with an error of any kind."""
+"""The part of checks/hostile on how the system answers reads and writes: in small pieces, interrupted, or with an error of any kind; and that it has few descriptors."""
 
+import contextlib
 import errno
 import os
 import pathlib
+import resource
 import shutil
 import subprocess
 import tempfile
@@ -10,6 +12,7 @@ import tempfile
 from lib import formats
 from lib.cases import NOP, PRINTS, RET, wrong
 from lib.formats import image
+from lib.serving import connected
 
 SOURCE = pathlib.Path(__file__).resolve().parent / "answers.c"
 CODE = NOP * 20_000 + bytes(4) + RET
@@ -24,10 +27,15 @@ COMMANDS = (
     ("pack a.code b.code", None), ("pack --profile 2 --pages large -", "b.code"), ("unpack a.img", None), ("unpack -", "a.img"), ("run - --steps 30000", "a.img"),
     ("load --out . --explain a.stream", None), ("load --out . --format json -", "a.stream"),
 )
-# What is told of an error behind its line, as the system says it; of others nothing is told.
-SAID = {errno.ENOSPC, errno.EDQUOT, errno.EFBIG, errno.EROFS, errno.EACCES}
+# What is told of an error behind its line, as the system says it; of EPERM what it says of EACCES, and of others nothing.
+SAID = {it: os.strerror(it) for it in (
+    errno.ENOENT, errno.EACCES, errno.EISDIR, errno.ENOTDIR, errno.ELOOP, errno.ENAMETOOLONG, errno.EROFS, errno.ENOSPC, errno.EDQUOT, errno.EFBIG,
+    errno.EPIPE, errno.ECONNRESET, errno.EADDRINUSE,
+)} | {errno.EPERM: os.strerror(errno.EACCES)}
 IMAGE_UNREAD = [b"image refused, fault 9", b"  a read or a write failed"]
-OTHERS = {errno.EIO, errno.ENODEV, errno.ESTALE, errno.EBADF, errno.EAGAIN, errno.ETIMEDOUT}
+# All errors that there are, and those that are tried with each command. Writes that are interrupted are tried again.
+ALL = [number for number in range(1, 134) if number != errno.EINTR]
+SOME = (errno.ENOSPC, errno.EDQUOT, errno.EFBIG, errno.EROFS, errno.EACCES, errno.EIO, errno.ENODEV, errno.ESTALE, errno.EBADF, errno.EAGAIN, errno.ETIMEDOUT)
 
 
 def carried_out(program, folder, library, how, command, source):
@@ -55,39 +63,93 @@ def try_pieces(program, folder, library):
                 wrong("answers", f"{command}, {how}", str(came)[:300], str(wanted)[:300])
 
 
+def reason_of(number):
+    """The line behind that of a failure."""
+    return [f"  {SAID[number]}".encode()] if number in SAID else []
+
+
+def try_error(program, folder, library, row, number):
+    """A read or write that fails with this error is told."""
+    how, command, source, wanted = row
+    _, errors, status, _ = carried_out(program, folder, library, f"{how} {number}", command, source)
+    if (set(errors) - {b"module 4 refused"}, status) != (set(wanted), 3):
+        wrong("answers", f"{command}, {how} {number}", (errors, status), (wanted, 3))
+
+
+def try_all_errors(program, folder, library):
+    """Each error of a write or a read of some commands, with its reason where it has one. A closed output isn't told, and refused memory is told as that."""
+    for number in ALL:
+        reason = reason_of(number)
+        output = [] if number == errno.EPIPE else [b"lfiload: cannot write standard output", *reason]
+        unread = [b"lfiload: no memory"] if number == errno.ENOMEM else [b"lfiload: cannot read -", *reason]
+        try_error(program, folder, library, ("write", "unpack a.img", None, output), number)
+        try_error(program, folder, library, ("read", "check -", "a.code", unread), number)
+        try_error(program, folder, library, ("read", "load -", "a.stream", [b"lfiload: connection 0: cannot read", *reason]), number)
+
+
 def try_errors(program, folder, library):
-    """Each error of a write or a read is told, with its reason where it has one."""
-    for number in sorted(SAID | OTHERS):
-        reason = [f"  {os.strerror(number)}".encode()] if number in SAID else []
+    """Some errors of each command."""
+    for number in SOME:
+        reason = reason_of(number)
         output = [b"lfiload: cannot write standard output", *reason]
-        for how, command, source, wanted in (
-            (f"write {number}", "check a.code", None, output), (f"write {number}", "pack a.code", None, output), (f"write {number}", "unpack a.img", None, output),
-            (f"write {number}", "load --format json --out . a.stream", None, [b"lfiload: cannot write ./module-03.img", *reason, *output]),
-            *((f"read {number}", f"{name} -", "a.code", [b"lfiload: cannot read -", *reason]) for name in ("check", "disassemble", "pack", "info")),
-            *((f"read {number}", f"{name} a.code", None, [b"lfiload: cannot read a.code", *reason]) for name in ("check", "check --explain", "disassemble", "pack", "info")),
-            (f"read {number}", "load -", "a.stream", [b"lfiload: connection 0: cannot read", *reason]),
-            *((f"read {number}", command, "a.img", IMAGE_UNREAD) for command in ("unpack -", "unpack a.img", "run - --steps 5", "run a.img --steps 5")),
+        for row in (
+            ("write", "check a.code", None, output), ("write", "pack a.code", None, output),
+            ("write", "load --format json --out . a.stream", None, [b"lfiload: cannot write ./module-03.img", *reason, *output]),
+            *(("read", f"{name} -", "a.code", [b"lfiload: cannot read -", *reason]) for name in ("disassemble", "pack", "info")),
+            *(("read", f"{name} a.code", None, [b"lfiload: cannot read a.code", *reason]) for name in ("check", "check --explain", "disassemble", "pack", "info")),
+            *(("read", command, "a.img", IMAGE_UNREAD) for command in ("unpack -", "unpack a.img", "run - --steps 5", "run a.img --steps 5")),
         ):
-            _, errors, status, _ = carried_out(program, folder, library, how, command, source)
-            if (set(errors) - {b"module 4 refused"}, status) != (set(wanted), 3):
-                wrong("answers", f"{command}, {how}", (errors, status), (wanted, 3))
+            try_error(program, folder, library, row, number)
+
+
+def try_clients(program, folder, library):
+    """Each error of a read of a client is told, also one that was interrupted; what had come by then is reported."""
+    for number in (*ALL, errno.EINTR):
+        path = os.path.join(folder, "s")
+        given = {"env": {**os.environ, "LD_PRELOAD": library, "ANSWERS": f"recv {number}"}, "stdout": subprocess.PIPE, "stderr": subprocess.PIPE}
+        serve = subprocess.Popen([program, "serve", "--socket", path, "--connections", "1"], **given)
+        with connected(path) as client, contextlib.suppress(OSError):
+            client.sendall(FILES["a.stream"])
+        told, errors = serve.communicate(timeout=60)
+        came = told, errors.splitlines(), serve.returncode
+        wanted = b"module 3: lost, fault 10\nconnection 0: fault 10\nstrays 0\n", [b"lfiload: connection 0: cannot read", *reason_of(number)], 3
+        if came != wanted:
+            wrong("answers", f"serve, recv {number}", came, wanted)
 
 
 def try_printing(program, folder, library):
     """A run whose output can't be written ends by a halt of its own, whatever the error is."""
-    for how in ("nothing", *(f"write {number}" for number in sorted(SAID | OTHERS))):
+    for how in ("nothing", *(f"write {number}" for number in ALL)):
         came = carried_out(program, folder, library, how, "run prints.img --steps 3000", None)
         if came != (b"", [b"halt 5 status 255 after 1 steps"], 0, {}):
             wrong("answers", f"run prints.img, {how}", came, "halt 5 status 255")
 
 
 def try_nothing(program, folder, library):
-    """A write that takes no byte is told, and ends."""
+    """A write that takes no byte is told, without a reason, and ends."""
     for command, source in COMMANDS:
         _, errors, status, _ = carried_out(program, folder, library, "nothing", command, source)
-        told = [line for line in errors if line.startswith((b"lfiload: cannot write", b"lfiload: no"))]
-        if not command.startswith("run") and (status != 3 or not told):
+        told = [line for line in errors if line.startswith(b"lfiload: cannot write")]
+        if not command.startswith("run") and (status != 3 or not told or set(errors) - {*told, b"module 4 refused"}):
             wrong("answers", f"{command}, nothing is taken", (errors, status), "a line, and status 3")
+
+
+# Of each: words, and so many files, each of which is closed before others are opened.
+MANY = (
+    (["load", "--out", ".", "all.stream"], 0, b"module 15: complete, 1 words\nstrays 0\n"), (["check"], 40, b"a.code: lawful, 20001 words\n"),
+    (["check", "--format", "json"], 40, b'"lawful"'), (["info"], 40, b"a.code: code, 20001 words\n"), (["pack"], 16, formats.messages(15, FILES["a.code"])[-1]),
+)
+FEW = 12
+
+
+def try_descriptors(program, folder):
+    """Commands on many files, which may have few open at a time."""
+    pathlib.Path(folder, "all.stream").write_bytes(b"".join(formats.stream(module, RET) for module in range(formats.MODULES)))
+    for words, count, end in MANY:
+        given = {"cwd": folder, "stdin": subprocess.DEVNULL, "capture_output": True, "timeout": 60}
+        done = subprocess.run([program, *words, *["a.code"] * count], preexec_fn=lambda: resource.setrlimit(resource.RLIMIT_NOFILE, (FEW, FEW)), **given)
+        if (end not in done.stdout[-100:], done.stderr, done.returncode) != (False, b"", 0):
+            wrong("answers", f"{words} with {FEW} descriptors", (done.stdout[-100:], done.stderr, done.returncode), end)
 
 
 def try_answers(program):
@@ -100,7 +162,10 @@ def try_answers(program):
         for name, content in FILES.items():
             pathlib.Path(folder, name).write_bytes(content)
         try_pieces(program, folder, library)
+        try_all_errors(program, folder, library)
         try_errors(program, folder, library)
+        try_clients(program, folder, library)
         try_printing(program, folder, library)
         try_nothing(program, folder, library)
-    print(f"answers: {len(COMMANDS)} commands whose reads and writes are short, interrupted or take nothing; {len(SAID) + len(OTHERS)} errors of each")
+        try_descriptors(program, folder)
+    print(f"answers: {len(COMMANDS)} commands whose reads and writes are short, interrupted or take nothing; {len(ALL)} errors; few descriptors")

@@ -1,5 +1,6 @@
 /* Loaded before the C library (LD_PRELOAD): what CLOCK names goes wrong, or is slow. For checks/lib/clocks.py, on Linux.
  *   fails  the clock can't be read
+ *   later  the clock can't be read a second time
  *   look   the first look for a client that finds none is followed by a pause of two seconds
  *   read   the first reading of the clock after a client was taken is preceded by such a pause
  *   write  each write to the standard output is interrupted 5,000 times
@@ -31,7 +32,8 @@ static void pause_once(void) {
 }
 
 int clock_gettime(clockid_t clock, struct timespec *now) {
-    if (is("fails")) {
+    static atomic_int asked;
+    if (is("fails") || is("later") && atomic_fetch_add(&asked, 1)) {
         errno = EINVAL;
         return -1;
     }

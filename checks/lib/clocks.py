@@ -91,7 +91,8 @@ def try_clocks(program):
         compare("write", started(library, "write", [program, "run", "it.img", "--steps", "100"], folder), ("A", "halt 5 status 7 after 5 steps\n", 0))
         words = [program, "serve", "--socket", os.path.join(folder, "s"), "--connections", "1", "--seconds", "30"]
         none = "strays 0\n", "lfiload: time is over: connection 0 had not come\n", 3
-        compare("fails", started(library, "fails", words, folder), none)
+        for how in "fails", "later":
+            compare(how, started(library, how, words, folder), none)
         serve_one(program, library, "look", 0.5, folder, LOADED, TAKEN_LATE)
         serve_one(program, library, "read", 0.2, folder, LOADED)
         serve_one(program, library, "pause", 0.3, folder, (LOADED[0], "a pause\n", 0))

@@ -10,7 +10,7 @@ import tempfile
 import threading
 import time
 
-from lib import formats, numbered, tree
+from lib import formats, lined, numbered, tree
 from lib.serving import connected
 
 COMMANDS = ("check", "load", "serve", "run", "disassemble", "pack", "unpack", "info")
@@ -256,6 +256,7 @@ def compare_registers(helps):
 def compare(program, runs):
     """Compares all of this. Returns how many runs had a status to be compared."""
     helps = {name: tree.help_of(program, name) for name in COMMANDS}
+    lined.compare(program, helps)
     compare_keys(helps, runs)
     compare_order(program, helps)
     compare_registers(helps)

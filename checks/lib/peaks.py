@@ -47,13 +47,15 @@ def write_files(folder):
 TOO_LONG = "  more than 16777216 bytes; code has a multiple of 4, from 4 to 16777216"
 LINES = "".join(f"module {module}: refused, word 0 rule 1\n" for module in range(8)) + "strays 0\n"
 NOTICES = [f"module {module} refused" for module in range(8)]
-ONE = ["load", "--verifiers", "1"]
+ONE, EIGHT = (["load", "--verifiers", count] for count in ("1", "8"))
 # What it is, the most kB of memory that is touched, its output, the lines of its errors and its status; and words. No output is kept of
 # those that have none here.
 TOUCHED = (
     ("eight refused modules", 17_000, (LINES, NOTICES, 1), *ONE, *STREAMS),
     ("the same behind an unmatched message each", 17_000, (LINES.replace("strays 0", "strays 8"), NOTICES, 1), *ONE, *(f"behind-{name}" for name in STREAMS)),
     ("the same in large pages", 40_000, (LINES, NOTICES, 1), *ONE, *(f"large-{name}" for name in STREAMS)),
+    ("the modules by eight verifiers", 32_000, (LINES, NOTICES, 1), *EIGHT, *STREAMS),
+    ("the same in large pages", 64_000, (LINES, NOTICES, 1), *EIGHT, *(f"large-{name}" for name in STREAMS)),
     ("a check of 16 MiB", 6_000, ("lawful, 4194304 words\n", [], 0), "check", "long.code"),
     ("one of a word less", 6_000, ("lawful, 4194303 words\n", [], 0), "check", "odd.code"),
     *((f"one of {size} bytes", 6_000, (f"lawful, {size // 4} words\n", [], 0), "check", f"{size}.code") for size in SIZES),

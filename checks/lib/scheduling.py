@@ -206,15 +206,15 @@ class Writer(threading.Thread):
         return before
 
 
-def take_few(program):
-    """While no verifier works, the thread of a connection takes in 128 pages, and then sleeps."""
+def take_few(program, verifiers):
+    """While none of so many verifiers works, the thread of a connection takes in 128 pages, and then sleeps."""
     with tempfile.TemporaryDirectory() as folder:
         parts = formats.messages(0, NOP * (1024 * (PAGES - 1)) + RET)
-        words, running, (out,) = piped(folder, program, 1)
+        words, running, (out,) = piped(folder, program, 1, verifiers)
         fcntl.fcntl(out, SETPIPE_SZ, 4096)
         out.write(b"".join(parts[: 1 + FIRST]))
         time.sleep(0.5)
-        (thread,), others = threads_of(running.pid, 1)
+        (thread,), others = threads_of(running.pid, 1, verifiers)
         hold(others)
         writer = Writer(out, parts[1 + FIRST :])
         writer.start()
@@ -222,7 +222,7 @@ def take_few(program):
         asleep = fall_asleep(running.pid, [thread])
         # On busy cores some of the first ones may be untaken, too.
         if not 128 - FIRST <= count <= MOST or not asleep:
-            wrong("held", "a connection's thread whose verifier is held: pages, and whether it sleeps", (count, asleep), (f"{128 - FIRST} to {MOST}", True))
+            wrong("held", f"a connection's thread whose {verifiers} verifiers are held: pages, and whether it sleeps", (count, asleep), (f"{128 - FIRST} to {MOST}", True))
         let_go(others)
         ended("held", words, running, f"module 0: complete, {1024 * (PAGES - 1) + 1} words\nstrays 0\n")
     return count
@@ -319,7 +319,7 @@ def try_held(program):
         if platform.machine() == "x86_64":
             start_asleep(program)
         rest(program)
-        count = take_few(program)
+        count = [take_few(program, verifiers) for verifiers in (1, 2, 8)]
         for which in 0, 1:
             take_over(program, which)
             tell_refused(program, which)

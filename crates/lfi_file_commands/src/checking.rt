@@ -1,6 +1,6 @@
 //! Code in a file, judged, and the line of its verdict.
 
-ghost use Rattle.std.specs.Prelude.{◌≡◌, true, false, ◌≤◌, ◌++◌, IfOk, IfErr, IfSome, OnOk, codes};
+ghost use Rattle.std.specs.Prelude.{◌≡◌, true, false, ◌≤◌, ◌*◌, ◌++◌, IfOk, IfErr, IfSome, OnOk, Some, codes};
 ghost use Rattle.lfi_module.specs.Numbers.{most_words};
 ghost use Rattle.std.specs.Io.KnownBytes.{Appends};
 ghost use Rattle.std.specs.IoError.{error_kind};
@@ -191,7 +191,8 @@ pub(crate) fn write_verdict<W: Write>(
 
 /// How many words code of `length` bytes has, where it can be code: 1 to 4,194,304 of them.
 fn words_in(length: Option<u64>) -> Option<u32>
-    ensures { IfSome result (λ words. (1 ≤ words) × (words ≤ most_words)) }
+    ensures all { IfSome result (λ words. length ≡ Some (4 * words)) }
+    ensures fits { IfSome result (λ words. (1 ≤ words) × (words ≤ most_words)) }
 {
     match length {
         Some(bytes)
