@@ -159,7 +159,7 @@ STEP = {
     "SignedOffset": 135, "RegisterOffset": 125, "Pair": 165, "Ordered": 90,
 }
 # The most for a check of a file of so many words; those that are looked at one by one have more.
-CHECKED, CHECK, LOOKED_AT = 512, 27_000, 76_000
+CHECKED, CHECK, LOOKED_AT = 128, 18_500, 27_500
 SLOW = ("Branch", "ConditionalBranch", "CompareBranch", "TestBranch", "Ordered")
 # How many words of a form stand together, and how often they are carried out before a byte is printed.
 TOGETHER, ROUNDS = 16, 8
@@ -182,9 +182,9 @@ def operands_of(name, chosen):
 
 # Words that stand together, of which one meets the need that the first opens, or has one that is near it; with the most for a check of them.
 NEEDS = (
-    ((0xA8C17BFD, 0x8B3E42BE), 52_000), ((0xF94003FE, 0x8B3E42BE), 52_000), ((0xF94006BE, 0xD63F03C0), 52_000), ((0xD10043FF, 0xF94003FF), 70_000),
-    ((0x910043FF, 0xA9007BFD), 70_000), ((0xA9BF7BFD, 0xF90007E0), 27_000), ((0x94000001, 0xD503201F), 52_000), ((0xD63F0240, 0xD503201F), 27_000),
-    ((0xD65F03C0, 0xD4200000), 27_000), ((0xD10043FF, 0xD503201F, 0xD503201F, 0xF94003FF), 70_000), ((0x910043FF, 0x91000400, 0xF9400240, 0xA9007BFD), 70_000),
+    ((0xA8C17BFD, 0x8B3E42BE), 22_500), ((0xF94003FE, 0x8B3E42BE), 22_500), ((0xF94006BE, 0xD63F03C0), 22_500), ((0xD10043FF, 0xF94003FF), 27_000),
+    ((0x910043FF, 0xA9007BFD), 27_000), ((0xA9BF7BFD, 0xF90007E0), 18_500), ((0x94000001, 0xD503201F), 22_500), ((0xD63F0240, 0xD503201F), 18_500),
+    ((0xD65F03C0, 0xD4200000), 18_500), ((0xD10043FF, 0xD503201F, 0xD503201F, 0xF94003FF), 27_000), ((0x910043FF, 0x91000400, 0xF9400240, 0xA9007BFD), 27_000),
 )
 
 
