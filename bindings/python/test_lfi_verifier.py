@@ -10,6 +10,7 @@ import sys
 import tempfile
 import threading
 import tracemalloc
+import typing
 import unittest
 from unittest import mock
 
@@ -166,6 +167,20 @@ class Verifying(unittest.TestCase):
         profile, words, fault, wanted = MENDED[0]
         self.assertEqual(lfi_verifier.mend(data=code_of(*words), fault=fault, profile=profile), wanted)
         self.assertEqual(Stream().read(piece=b"\1"), [])
+
+    def test_types(self):
+        """What a host may hand in, and what it is told, is written out for whoever checks its types."""
+        bytes_of, event = lfi_verifier.Buffer, lfi_verifier.Event
+        for call, told in (
+            (lfi_verifier.verify, {"data": bytes_of, "profile": int, "return": type(None)}),
+            (lfi_verifier.explain, {"data": bytes_of, "fault": Fault, "profile": int, "module": int, "return": str}),
+            (lfi_verifier.mend, {"data": bytes_of, "fault": Fault, "profile": int, "return": typing.Optional[typing.List[int]]}),
+            (Stream.read, {"piece": bytes_of, "return": typing.List[event]}),
+            (Stream.end, {"return": typing.List[event]}),
+        ):
+            self.assertEqual(typing.get_type_hints(call), told)
+        self.assertEqual(set(typing.get_args(bytes_of)), {bytes, bytearray, memoryview})
+        self.assertEqual(set(typing.get_args(event)), {Open, Code, Stray, End, StreamFault})
 
     def test_what_has_no_bytes(self):
         """A number isn't taken for a count of zero bytes, nor a list or a path for its bytes."""

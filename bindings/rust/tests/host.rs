@@ -151,6 +151,7 @@ fn lengths() {
     assert_eq!(verifier.judged(), 0);
     assert_eq!(Violation::BadLength.to_string(), "bad length");
     assert_eq!(Violation::Incomplete.to_string(), "words are missing");
+    assert_eq!(Violation::Unjudged(Status::BadState).to_string(), "not judged: bad state");
 }
 
 #[test]
