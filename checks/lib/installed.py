@@ -208,9 +208,11 @@ def try_installs(prefix, words):
     if "include/lfi_verifier.h: changed since it was installed, and left\n" not in told:
         fail(f"an install that leaves a changed header tells {told}")
     header.unlink()
+    mine = prefix / "share" / "mine"
+    mine.write_text("mine\n")
     run(TOP / "install", "--uninstall", "--prefix", prefix)
-    if list(prefix.rglob("*")) != [program.parent]:
-        fail(f"left after several installs: {sorted(map(str, prefix.rglob('*')))}, where {program.parent} was before")
+    if set(prefix.rglob("*")) != {program.parent, mine.parent, mine}:
+        fail(f"left after several installs: {sorted(map(str, prefix.rglob('*')))}, where {program.parent} was before, and {mine} came")
 
 
 def up_to_64_kib():
