@@ -114,8 +114,19 @@ def begun(words, many):
     return {it[:many]: {word for word in words if word.startswith(it[:many])} for it in words}
 
 
+def lines_behind(name, own, files):
+    """Lines on which more words stand already, as `lines_of` has them."""
+    for before in [f"{option} {(VALUES[option].split() or ['1'])[0]}" if takes else option for option, takes in own.items() if option != "--help"] + [FILE] * bool(files):
+        used = before.split()[0]
+        yield f"lfiload {name} {before} --", set(own) - {used}
+        for option in (it for it, takes in own.items() if takes and it != used):
+            yield f"lfiload {name} {before} {option} ", set(VALUES[option].split())
+        if files:
+            yield f"lfiload {name} {before} {PLACE[:2]}", {PLACE}
+
+
 def lines_of(options, helps):
-    """Lines, and which words are offered behind them, and where a word is begun."""
+    """Lines, and which words are offered behind them, and where a word is begun. An option that stands there already may be offered again."""
     yield "lfiload ", set(helps)
     for begin, wanted in {**begun(helps, 1), **begun(helps, 2), "--": options, **begun(options, 3)}.items():
         yield f"lfiload {begin}", set(wanted)
@@ -130,6 +141,7 @@ def lines_of(options, helps):
             values = VALUES[option].split()
             for begin, wanted in {"": values, **begun(values, 1)}.items():
                 yield f"lfiload {name} {option} {begin}", set(wanted)
+        yield from lines_behind(name, own, files)
 
 
 def type_lines(name, options, helps):
@@ -139,9 +151,9 @@ def type_lines(name, options, helps):
         pathlib.Path(folder, PLACE).mkdir()
         shell, count = SHELLS[name](folder), 0
         for line, wanted in lines_of(options, helps):
-            last = line.rpartition(" ")[2]
+            *before, last = line.split(" ")
             found = {it for it in shell.offered(line) if last.startswith("-") or not it.startswith("-")}
-            if found - {last} != wanted - {last}:
+            if found - {*before, last} != wanted - {*before, last}:
                 wrong(f"behind {line!r} {name} offers {sorted(found)}, and not {sorted(wanted)}")
             count += 1
         shell.close()
