@@ -55,10 +55,15 @@ def serve_one(program, library, how, delay, folder, *wanted):
 
 
 def lose_one(program, library, folder):
-    """Of two files that aren't there the line of the first is lost: that of the second is written all the same."""
-    second = "lfiload: cannot read second\n  No such file or directory\n"
+    """Of two files that aren't there, or have no length of code, the line of the first is lost: that of the second is written all the same."""
+    pathlib.Path(folder, "five").write_bytes(bytes(5))
+    pathlib.Path(folder, "nine").write_bytes(bytes(9))
+    checks = ["check"], ["check", "--format", "json"], ["check", "--explain"], ["check", "--all"]
+    unread = "lfiload: cannot read second\n  No such file or directory\n"
+    rows = [([*words, "first", "second"], unread) for words in (*checks, ["info"])]
+    rows += [([*words, "five", "nine"], "lfiload: bad length nine\n  9 bytes; code has a multiple of 4, from 4 to 16777216\n") for words in checks]
     # A line on the errors and its reason are one write.
-    for command in ["check", "first", "second"], ["info", "first", "second"], ["check", "--format", "json", "first", "second"]:
+    for command, second in rows:
         running = started(library, "lost", [program, *command], folder)
         out, err = running.communicate(timeout=20)
         if (err, running.returncode) != (second, 3):
