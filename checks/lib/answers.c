@@ -6,6 +6,7 @@
  *   write N      a write fails with this error
  *   read N       the first read is short, and each later one fails with this error
  *   recv N       the same of what a socket receives
+ *   each N..     the same of what each client sends, with the errors of this list in the order in which clients are taken
  * Whatever it is, nobody waits until the system has put a file on its disk: that ends the program with status 99. */
 #define _GNU_SOURCE
 #include <errno.h>
@@ -16,9 +17,10 @@
 #include <sys/syscall.h>
 #include <unistd.h>
 
-enum { MOST = 1001 };
+enum { MOST = 1001, FILES = 1024 };
 
-static atomic_int reads, writes;
+static atomic_int reads, writes, taken, heard[FILES];
+static int order[FILES];
 
 static const char *how(void) {
     const char *word = getenv("ANSWERS");
@@ -32,7 +34,7 @@ static ssize_t fail(int error) {
     return -1;
 }
 
-static size_t few(size_t count) { return (is("short") || is("interrupted") || is("read") || is("recv")) && count > MOST ? MOST : count; }
+static size_t few(size_t count) { return (is("short") || is("interrupted") || is("read") || is("recv") || is("each")) && count > MOST ? MOST : count; }
 
 ssize_t read(int at, void *bytes, size_t count) {
     if (is("read") && atomic_fetch_add(&reads, 1)) return fail(atoi(how() + 5));
@@ -47,7 +49,21 @@ ssize_t write(int at, const void *bytes, size_t count) {
     return syscall(SYS_write, at, bytes, few(count));
 }
 
+int accept4(int at, struct sockaddr *address, socklen_t *length, int flags) {
+    int client = (int)syscall(SYS_accept4, at, address, length, flags);
+    if (client >= 0 && client < FILES) order[client] = taken++;
+    return client;
+}
+
+/* The number at a place of the list. */
+static int listed(int place) {
+    const char *at = how() + 5;
+    while (place-- > 0 && *at) at += strcspn(at, " ") + 1;
+    return atoi(at);
+}
+
 ssize_t recv(int at, void *bytes, size_t count, int flags) {
+    if (is("each") && at < FILES && atomic_fetch_add(&heard[at], 1)) return fail(listed(order[at]));
     if (is("recv") && atomic_fetch_add(&reads, 1)) return fail(atoi(how() + 5));
     return syscall(SYS_recvfrom, at, bytes, few(count), flags, NULL, NULL);
 }

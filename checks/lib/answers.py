@@ -117,6 +117,23 @@ def try_clients(program, folder, library):
             wrong("answers", f"serve, recv {number}", came, wanted)
 
 
+def try_each_client(program, folder, library):
+    """Of eight clients each read fails with another error: each is told of its own connection."""
+    numbers, path = [it for it in SAID if it not in (errno.EPIPE, errno.EPERM)][:8], os.path.join(folder, "each")
+    given = {"env": {**os.environ, "LD_PRELOAD": library, "ANSWERS": "each " + " ".join(map(str, numbers))}, "stdout": subprocess.PIPE, "stderr": subprocess.PIPE}
+    serve = subprocess.Popen([program, "serve", "--socket", path, "--connections", "8"], **given)
+    with contextlib.ExitStack() as clients:
+        for module in range(8):
+            client = clients.enter_context(connected(path))
+            client.sendall(formats.stream(module, NOP * 500))
+        told, errors = serve.communicate(timeout=60)
+    lost, faults = ("".join(f"{what} {it}: {more}\n" for it in range(8)) for what, more in (("module", "lost, fault 10"), ("connection", "fault 10")))
+    lines = [line for it, number in enumerate(numbers) for line in (f"lfiload: connection {it}: cannot read", f"  {SAID[number]}")]
+    came, wanted = (told.decode(), errors.decode().splitlines(), serve.returncode), (lost + faults + "strays 0\n", lines, 3)
+    if came != wanted:
+        wrong("answers", "serve of eight clients, each with its own error", came, wanted)
+
+
 def try_printing(program, folder, library):
     """A run whose output can't be written ends by a halt of its own, whatever the error is."""
     for how in ("nothing", *(f"write {number}" for number in ALL)):
@@ -165,6 +182,7 @@ def try_answers(program):
         try_all_errors(program, folder, library)
         try_errors(program, folder, library)
         try_clients(program, folder, library)
+        try_each_client(program, folder, library)
         try_printing(program, folder, library)
         try_nothing(program, folder, library)
         try_descriptors(program, folder)

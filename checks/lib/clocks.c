@@ -1,6 +1,8 @@
 /* Loaded before the C library (LD_PRELOAD): what CLOCK names goes wrong, or is slow. For checks/lib/clocks.py, on Linux.
  *   fails  the clock can't be read
  *   later  the clock can't be read a second time
+ *   block  a listener can't be set not to wait
+ *   over   once a second has gone by, nobody can be taken any longer
  *   look   the first look for a client that finds none is followed by a pause of two seconds
  *   read   the first reading of the clock after a client was taken is preceded by such a pause
  *   write  each write to the standard output is interrupted 5,000 times
@@ -9,9 +11,11 @@
  *   pause  a pause of more than 20 milliseconds ends the program with status 99, and the first one is told on the standard error */
 #define _GNU_SOURCE
 #include <errno.h>
+#include <stdarg.h>
 #include <stdatomic.h>
 #include <stdlib.h>
 #include <string.h>
+#include <sys/ioctl.h>
 #include <sys/socket.h>
 #include <sys/stat.h>
 #include <sys/syscall.h>
@@ -19,6 +23,7 @@
 #include <unistd.h>
 
 static atomic_int taken, paused;
+static struct timespec first;
 
 static int is(const char *what) {
     const char *how = getenv("CLOCK");
@@ -38,7 +43,9 @@ int clock_gettime(clockid_t clock, struct timespec *now) {
         return -1;
     }
     if (is("read") && taken) pause_once();
-    return (int)syscall(SYS_clock_gettime, clock, now);
+    int told = (int)syscall(SYS_clock_gettime, clock, now);
+    if (clock == CLOCK_MONOTONIC && !first.tv_sec) first = *now;
+    return told;
 }
 
 int nanosleep(const struct timespec *time, struct timespec *left) {
@@ -48,7 +55,30 @@ int nanosleep(const struct timespec *time, struct timespec *left) {
     return (int)syscall(SYS_nanosleep, time, left);
 }
 
+int ioctl(int at, unsigned long asked, ...) {
+    va_list more;
+    va_start(more, asked);
+    void *given = va_arg(more, void *);
+    va_end(more);
+    if (is("block") && asked == FIONBIO) {
+        errno = EACCES;
+        return -1;
+    }
+    return (int)syscall(SYS_ioctl, at, asked, given);
+}
+
+/* Whether a second has gone by since the clock was read first. */
+static int is_over(void) {
+    struct timespec now;
+    syscall(SYS_clock_gettime, CLOCK_MONOTONIC, &now);
+    return first.tv_sec && (now.tv_sec - first.tv_sec) * 1000000000 + now.tv_nsec - first.tv_nsec >= 1000000000;
+}
+
 int accept4(int at, struct sockaddr *address, socklen_t *length, int flags) {
+    if (is("over") && is_over()) {
+        errno = EACCES;
+        return -1;
+    }
     int client = (int)syscall(SYS_accept4, at, address, length, flags), error = errno;
     if (client >= 0) taken = 1;
     else if (is("look")) pause_once();

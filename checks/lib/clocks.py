@@ -98,6 +98,9 @@ def try_clocks(program):
         none = "strays 0\n", "lfiload: time is over: connection 0 had not come\n", 3
         for how in "fails", "later":
             compare(how, started(library, how, words, folder), none)
+        refused = "strays 0\n", "lfiload: connection 0: cannot read\n  Permission denied\n", 3
+        for how in "block", "over":
+            compare(how, started(library, how, [*words[:-1], "1"], folder), refused)
         serve_one(program, library, "look", 0.5, folder, LOADED, TAKEN_LATE)
         serve_one(program, library, "read", 0.2, folder, LOADED)
         serve_one(program, library, "pause", 0.3, folder, (LOADED[0], "a pause\n", 0))
