@@ -7,9 +7,12 @@
  *   read N       the first read is short, and each later one fails with this error
  *   recv N       the same of what a socket receives
  *   each N..     the same of what each client sends, with the errors of this list in the order in which clients are taken
+ *   thread N     the thread number N, counted from 1, can't be started
  * Whatever it is, nobody waits until the system has put a file on its disk: that ends the program with status 99. */
 #define _GNU_SOURCE
+#include <dlfcn.h>
 #include <errno.h>
+#include <pthread.h>
 #include <stdatomic.h>
 #include <stdlib.h>
 #include <string.h>
@@ -66,6 +69,12 @@ ssize_t recv(int at, void *bytes, size_t count, int flags) {
     if (is("each") && at < FILES && atomic_fetch_add(&heard[at], 1)) return fail(listed(order[at]));
     if (is("recv") && atomic_fetch_add(&reads, 1)) return fail(atoi(how() + 5));
     return syscall(SYS_recvfrom, at, bytes, few(count), flags, NULL, NULL);
+}
+
+int pthread_create(pthread_t *thread, const pthread_attr_t *how_made, void *(*begin)(void *), void *given) {
+    static atomic_int started;
+    int (*create)(pthread_t *, const pthread_attr_t *, void *(*)(void *), void *) = dlsym(RTLD_NEXT, "pthread_create");
+    return is("thread") && atomic_fetch_add(&started, 1) + 1 == atoi(how() + 7) ? EAGAIN : create(thread, how_made, begin, given);
 }
 
 int fsync(int at) { _exit(99 + 0 * at); }

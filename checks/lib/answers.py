@@ -6,8 +6,10 @@ import os
 import pathlib
 import resource
 import shutil
+import socket
 import subprocess
 import tempfile
+import time
 
 from lib import formats
 from lib.cases import NOP, PRINTS, RET, wrong
@@ -134,6 +136,28 @@ def try_each_client(program, folder, library):
         wrong("answers", "serve of eight clients, each with its own error", came, wanted)
 
 
+def try_silent_clients(program, folder, library):
+    """Of `serve` whose clients say nothing, and stay, each thread in turn can't be started: it ends at once."""
+    for count in 1, 3, 8:
+        for number in range(1, count + 4):
+            path = os.path.join(folder, "silent")
+            given = {"env": {**os.environ, "LD_PRELOAD": library, "ANSWERS": f"thread {number}"}, "stdout": subprocess.PIPE, "stderr": subprocess.PIPE}
+            serve = subprocess.Popen([program, "serve", "--socket", path, "--connections", str(count), "--verifiers", "2"], **given)
+            with contextlib.ExitStack() as clients:
+                left = count
+                while left and serve.poll() is None:
+                    client = clients.enter_context(socket.socket(socket.AF_UNIX))
+                    left -= client.connect_ex(path) == 0
+                    time.sleep(0.001)
+                try:
+                    came = *serve.communicate(timeout=20), serve.returncode
+                except subprocess.TimeoutExpired:
+                    serve.kill()
+                    came = "no end"
+            if came != (b"", b"lfiload: no memory\n", 3):
+                wrong("answers", f"serve of {count} silent clients whose thread {number} can't be started", came, "no memory")
+
+
 def try_printing(program, folder, library):
     """A run whose output can't be written ends by a halt of its own, whatever the error is."""
     for how in ("nothing", *(f"write {number}" for number in ALL)):
@@ -183,6 +207,7 @@ def try_answers(program):
         try_errors(program, folder, library)
         try_clients(program, folder, library)
         try_each_client(program, folder, library)
+        try_silent_clients(program, folder, library)
         try_printing(program, folder, library)
         try_nothing(program, folder, library)
         try_descriptors(program, folder)
