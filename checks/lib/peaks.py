@@ -80,6 +80,10 @@ TOUCHED = (
 # The same of the most kB of addresses.
 ADDRESSES = (
     ("the addresses of a run", 10_000, ("", ["halt 1 after 2000000 steps"], 0), "run", "loop.img", "--steps", "2000000"),
+    *((f"those of {words[0]}", 10_000, wanted, *words) for wanted, *words in (
+        ((None, [], 1), "check", "--all", PARTS[0]), ((None, [], 1), "check", "--explain", "--format", "json", PARTS[0]),
+        ((None, [], 0), "disassemble", "--check", PARTS[0]), ((None, [], 0), "info", PARTS[0]), ((None, [], 0), "pack", PARTS[0]), ((None, [], 0), "unpack", "loop.img"),
+    )),
     ("those of a load of a small module", 700_000, ("module 5: complete, 1 words\nstrays 0\n", [], 0), "load", "small.stream"),
 )
 
@@ -136,7 +140,7 @@ def try_memory(program):
         subprocess.run(["cc", "-O2", "-shared", "-fPIC", "-o", "peak.so", SOURCE], cwd=folder, check=True)
         write_files(folder)
         runs = [(what, most, "VmHWM", wanted, lambda words=words, wanted=wanted: told_of(program, folder, words, wanted[0] is not None)) for what, most, wanted, *words in TOUCHED]
-        runs += [(what, most, "VmPeak", wanted, lambda words=words: told_of(program, folder, words, True)) for what, most, wanted, *words in ADDRESSES]
+        runs += [(what, most, "VmPeak", wanted, lambda words=words, wanted=wanted: told_of(program, folder, words, wanted[0] is not None)) for what, most, wanted, *words in ADDRESSES]
         runs += [(what, most, "VmHWM", wanted, lambda names=names: told_of_serve(program, folder, names)) for what, most, wanted, names in SERVED]
         seen = []
         for what, most, key, wanted, carry_out in runs:
