@@ -136,26 +136,30 @@ def try_each_client(program, folder, library):
         wrong("answers", "serve of eight clients, each with its own error", came, wanted)
 
 
+def came_of(program, path, count, verifiers, library, number):
+    """What `serve` comes to whose clients say nothing, and stay, and of which a thread can't be started."""
+    given = {"env": {**os.environ, "LD_PRELOAD": library, "ANSWERS": f"thread {number}"}, "stdout": subprocess.PIPE, "stderr": subprocess.PIPE}
+    serve = subprocess.Popen([program, "serve", "--socket", path, "--connections", str(count), "--verifiers", str(verifiers)], **given)
+    with contextlib.ExitStack() as clients:
+        left = count
+        while left and serve.poll() is None:
+            client = clients.enter_context(socket.socket(socket.AF_UNIX))
+            left -= client.connect_ex(path) == 0
+            time.sleep(0.001)
+        try:
+            return *serve.communicate(timeout=20), serve.returncode
+        except subprocess.TimeoutExpired:
+            serve.kill()
+            return "no end"
+
+
 def try_silent_clients(program, folder, library):
-    """Of `serve` whose clients say nothing, and stay, each thread in turn can't be started: it ends at once."""
-    for count in 1, 3, 8:
-        for number in range(1, count + 4):
-            path = os.path.join(folder, "silent")
-            given = {"env": {**os.environ, "LD_PRELOAD": library, "ANSWERS": f"thread {number}"}, "stdout": subprocess.PIPE, "stderr": subprocess.PIPE}
-            serve = subprocess.Popen([program, "serve", "--socket", path, "--connections", str(count), "--verifiers", "2"], **given)
-            with contextlib.ExitStack() as clients:
-                left = count
-                while left and serve.poll() is None:
-                    client = clients.enter_context(socket.socket(socket.AF_UNIX))
-                    left -= client.connect_ex(path) == 0
-                    time.sleep(0.001)
-                try:
-                    came = *serve.communicate(timeout=20), serve.returncode
-                except subprocess.TimeoutExpired:
-                    serve.kill()
-                    came = "no end"
+    """Each thread of `serve` in turn can't be started: those of its connections and of its verifiers, and the sequencers'. It ends at once."""
+    for count, verifiers, first in (1, 2, 1), (3, 2, 1), (8, 2, 1), (2, 8, 11), (8, 8, 17):
+        for number in range(first, count + verifiers + 2):
+            came = came_of(program, os.path.join(folder, "silent"), count, verifiers, library, number)
             if came != (b"", b"lfiload: no memory\n", 3):
-                wrong("answers", f"serve of {count} silent clients whose thread {number} can't be started", came, "no memory")
+                wrong("answers", f"serve of {count} silent clients by {verifiers} verifiers, whose thread {number} can't be started", came, "no memory")
 
 
 def try_printing(program, folder, library):
