@@ -1,6 +1,6 @@
 /* Loaded before the C library (LD_PRELOAD): how the system answers reads and writes of the standard input, the standard output and of files with a
  * higher number, which are no sockets. For checks/lib/answers.py, on Linux. ANSWERS is one of these words:
- *   short        at most 1,001 bytes are read and written at once
+ *   short        at most 1,001 bytes are read and written at once, and 7 on the standard error
  *   interrupted  each write is interrupted twice, and then short, as each read is
  *   nothing      a write takes no byte
  *   write N      a write fails with this error
@@ -20,7 +20,7 @@
 #include <sys/syscall.h>
 #include <unistd.h>
 
-enum { MOST = 1001, FILES = 1024 };
+enum { MOST = 1001, FEW = 7, FILES = 1024 };
 
 static atomic_int reads, writes, taken, heard[FILES];
 static int order[FILES];
@@ -45,7 +45,7 @@ ssize_t read(int at, void *bytes, size_t count) {
 }
 
 ssize_t write(int at, const void *bytes, size_t count) {
-    if (at == 2) return syscall(SYS_write, at, bytes, count);
+    if (at == 2) return syscall(SYS_write, at, bytes, is("short") && count > FEW ? FEW : count);
     if (is("nothing")) return 0;
     if (is("interrupted") && atomic_fetch_add(&writes, 1) % 3 < 2) return fail(EINTR);
     if (is("write")) return fail(atoi(how() + 6));

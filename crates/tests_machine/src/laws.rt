@@ -11,7 +11,9 @@ ghost use Rattle.lfi_confinement.specs.Moves.{word_at, performed, stop, escape};
 ghost use Rattle.lfi_confinement.specs.Edges.{loads_at_x0, stores_at_x0, branches_by, goes_to, goes_on_at};
 ghost use Rattle.lfi_confinement.specs.declared.cause.StopCause.TheVariants as cause;
 ghost use Rattle.lfi_machine.specs.Keeping.{KeepsByStep};
+ghost use Rattle.lfi_confinement.specs.Runs.{Reach, Escaped};
 ghost use Rattle.lfi_machine.specs.Owned.{Owned};
+ghost use Rattle.lfi_machine.specs.Runs.{Config, state, IsConfined};
 ghost use Rattle.tests_machine.specs.LastSlot.{last_image, at_last};
 
 /// A step at whose pc no word of the code stands keeps no page.
@@ -23,6 +25,11 @@ pub fn no_word_keeps_no_page()
 pub fn stores_keep_their_pages_alone()
     ensures none { (old new : Kept) (offset other : ℕ) → KeepsOnly old new offset 0 → IsKept new other → IsKept old other }
     ensures one { (old new : Kept) (other : ℕ) → KeepsOnly old new 65535 1 → IsKept new other → IsKept old other ⊎ (other / 65536 ≡ 0) }
+{}
+
+/// A confined machine has no run that escapes.
+pub fn no_run_of_a_confined_machine_escapes()
+    ensures { (c : Config) (count : ℕ) → IsConfined c → Reach c.owned.image (state c) count Escaped → ⊥ }
 {}
 
 /// In the last slot an access escapes just outside of the guards, and stops in them.
