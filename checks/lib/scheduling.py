@@ -286,6 +286,21 @@ def take_over(program, which):
         ended("held", words, running, f"module 0: complete, {1024 * (PAGES - 1) + 1} words\nstrays 0\n")
 
 
+def read_beside(program, verifiers):
+    """A long stream is read to its end while seven others say nothing."""
+    with tempfile.TemporaryDirectory() as folder:
+        parts = formats.messages(0, NOP * (1024 * (PAGES - 1)) + RET)
+        words, running, (out, *silent) = piped(folder, program, 8, verifiers)
+        writer = Writer(out, parts)
+        writer.start()
+        writer.join(SECONDS)
+        if writer.count != len(parts):
+            wrong("held", f"a stream beside seven that say nothing, by {verifiers} verifiers", f"{writer.count} messages are taken in", len(parts))
+        for it in silent:
+            it.close()
+        ended("held", words, running, f"module 0: complete, {1024 * (PAGES - 1) + 1} words\nstrays 0\n")
+
+
 def tell_refused(program, which):
     """Pages come while one of the other threads is held, which are the verifier and that of the sequencers. When it goes on, all are judged
     and placed: what is refused at the last of them is told, though both streams stay, once the other one has brought some messages."""
@@ -320,6 +335,8 @@ def try_held(program):
             start_asleep(program)
         rest(program)
         count = [take_few(program, verifiers) for verifiers in (1, 2, 8)]
+        for verifiers in 1, 2, 8:
+            read_beside(program, verifiers)
         for which in 0, 1:
             take_over(program, which)
             tell_refused(program, which)
