@@ -8,10 +8,12 @@
  *   recv N       the same of what a socket receives
  *   each N..     the same of what each client sends, with the errors of this list in the order in which clients are taken
  *   thread N     the thread number N, counted from 1, can't be started
+ *   memory N     the program gets memory for its first N requests, and from then on for none; what the C library asks for it gets
  * Whatever it is, nobody waits until the system has put a file on its disk: that ends the program with status 99. */
 #define _GNU_SOURCE
 #include <dlfcn.h>
 #include <errno.h>
+#include <link.h>
 #include <pthread.h>
 #include <stdatomic.h>
 #include <stdlib.h>
@@ -22,8 +24,9 @@
 
 enum { MOST = 1001, FEW = 7, FILES = 1024 };
 
-static atomic_int reads, writes, taken, heard[FILES];
+static atomic_int reads, writes, taken, requests, heard[FILES];
 static int order[FILES];
+static uintptr_t begin, end;
 
 static const char *how(void) {
     const char *word = getenv("ANSWERS");
@@ -38,6 +41,38 @@ static ssize_t fail(int error) {
 }
 
 static size_t few(size_t count) { return (is("short") || is("interrupted") || is("read") || is("recv") || is("each")) && count > MOST ? MOST : count; }
+
+/* Where the program's own code is: it comes first. */
+static int look(struct dl_phdr_info *at, size_t size, void *none) {
+    (void)size, (void)none;
+    for (int it = 0; it < at->dlpi_phnum; it++) {
+        if (at->dlpi_phdr[it].p_type != PT_LOAD || !(at->dlpi_phdr[it].p_flags & PF_X)) continue;
+        begin = at->dlpi_addr + at->dlpi_phdr[it].p_vaddr;
+        end = begin + at->dlpi_phdr[it].p_memsz;
+    }
+    return 1;
+}
+
+__attribute__((constructor)) static void find(void) { dl_iterate_phdr(look, NULL); }
+
+/* Whether there is no memory for whoever goes on at this place. */
+static int is_refused(void *caller) {
+    uintptr_t at = (uintptr_t)caller;
+    return at >= begin && at < end && is("memory") && atomic_fetch_add(&requests, 1) >= atoi(how() + 7);
+}
+
+void *__libc_malloc(size_t), *__libc_calloc(size_t, size_t), *__libc_realloc(void *, size_t), *__libc_memalign(size_t, size_t);
+
+void *malloc(size_t size) { return is_refused(__builtin_return_address(0)) ? NULL : __libc_malloc(size); }
+void *calloc(size_t count, size_t size) { return is_refused(__builtin_return_address(0)) ? NULL : __libc_calloc(count, size); }
+void *realloc(void *old, size_t size) { return is_refused(__builtin_return_address(0)) ? NULL : __libc_realloc(old, size); }
+void *aligned_alloc(size_t by, size_t size) { return is_refused(__builtin_return_address(0)) ? NULL : __libc_memalign(by, size); }
+
+int posix_memalign(void **made, size_t by, size_t size) {
+    if (is_refused(__builtin_return_address(0))) return ENOMEM;
+    *made = __libc_memalign(by, size);
+    return *made ? 0 : ENOMEM;
+}
 
 ssize_t read(int at, void *bytes, size_t count) {
     if (is("read") && atomic_fetch_add(&reads, 1)) return fail(atoi(how() + 5));
@@ -77,7 +112,9 @@ int pthread_create(pthread_t *thread, const pthread_attr_t *how_made, void *(*be
     return is("thread") && atomic_fetch_add(&started, 1) + 1 == atoi(how() + 7) ? EAGAIN : create(thread, how_made, begin, given);
 }
 
-int fsync(int at) { _exit(99 + 0 * at); }
-int fdatasync(int at) { _exit(99 + 0 * at); }
-int syncfs(int at) { _exit(99 + 0 * at); }
-void sync(void) { _exit(99); }
+enum { SYNCED = 99 };
+
+int fsync(__attribute__((unused)) int at) { _exit(SYNCED); }
+int fdatasync(__attribute__((unused)) int at) { _exit(SYNCED); }
+int syncfs(__attribute__((unused)) int at) { _exit(SYNCED); }
+void sync(void) { _exit(SYNCED); }

@@ -1,9 +1,13 @@
-"""The part of checks/hostile on how the system answers reads and writes: in small pieces, interrupted, or with an error of any kind; and that it has few descriptors."""
+"""The part of checks/hostile on how the system answers reads and writes: in small pieces, interrupted, or with an error of any kind.
+And what comes where there is no memory any more, or a process may have few descriptors."""
 
 import contextlib
 import errno
+import functools
+import itertools
 import os
 import pathlib
+import re
 import resource
 import shutil
 import socket
@@ -34,6 +38,8 @@ SAID = {it: os.strerror(it) for it in (
     errno.ENOENT, errno.EACCES, errno.EISDIR, errno.ENOTDIR, errno.ELOOP, errno.ENAMETOOLONG, errno.EROFS, errno.ENOSPC, errno.EDQUOT, errno.EFBIG,
     errno.EPIPE, errno.ECONNRESET, errno.EADDRINUSE,
 )} | {errno.EPERM: os.strerror(errno.EACCES)}
+# What is told where there is no memory.
+UNKEPT = (b"lfiload: no memory", b"image refused, fault 8", b"  there is no memory for it")
 IMAGE_UNREAD = [b"image refused, fault 9", b"  a read or a write failed"]
 # All errors that there are, and those that are tried with each command. Writes that are interrupted are tried again.
 ALL = [number for number in range(1, 134) if number != errno.EINTR]
@@ -51,6 +57,12 @@ def carried_out(program, folder, library, how, command, source):
     return done.stdout, sorted(done.stderr.splitlines()), done.returncode, images
 
 
+def without_notice(came):
+    """The same without the notice of the refused module, which may come late, or not at all."""
+    out, errors, status, images = came
+    return out, [line for line in errors if line != b"module 4 refused"], status, images
+
+
 def try_pieces(program, folder, library):
     """What is read and written in pieces, or interrupted, is as if it were not; but `pack` and what writes images may take an interrupted write for one
     that failed, and tell it."""
@@ -58,11 +70,9 @@ def try_pieces(program, folder, library):
         plain = carried_out(program, folder, library, "", command, source)
         for how in "short", "interrupted":
             came = carried_out(program, folder, library, how, command, source)
-            # A notice may come late, or not at all.
-            came, wanted = ((out, set(errors) - {b"module 4 refused"}, status, images) for out, errors, status, images in (came, plain))
             is_told = how == "interrupted" and command.startswith(("pack", "load")) and came[2] == 3 and any(b"cannot write" in line for line in came[1])
-            if came != wanted and not is_told:
-                wrong("answers", f"{command}, {how}", str(came)[:300], str(wanted)[:300])
+            if without_notice(came) != without_notice(plain) and not is_told:
+                wrong("answers", f"{command}, {how}", str(came)[:300], str(plain)[:300])
 
 
 def reason_of(number):
@@ -73,8 +83,8 @@ def reason_of(number):
 def try_error(program, folder, library, row, number):
     """A read or write that fails with this error is told."""
     how, command, source, wanted = row
-    _, errors, status, _ = carried_out(program, folder, library, f"{how} {number}", command, source)
-    if (set(errors) - {b"module 4 refused"}, status) != (set(wanted), 3):
+    _, errors, status, _ = without_notice(carried_out(program, folder, library, f"{how} {number}", command, source))
+    if (set(errors), status) != (set(wanted), 3):
         wrong("answers", f"{command}, {how} {number}", (errors, status), (wanted, 3))
 
 
@@ -104,12 +114,17 @@ def try_errors(program, folder, library):
             try_error(program, folder, library, row, number)
 
 
+def served(program, library, how, path, count, *words):
+    """`serve` of so many clients, to which the system answers so."""
+    given = {"env": {**os.environ, "LD_PRELOAD": library, "ANSWERS": how}, "stdout": subprocess.PIPE, "stderr": subprocess.PIPE}
+    return subprocess.Popen([program, "serve", "--socket", path, "--connections", str(count), *words], **given)
+
+
 def try_clients(program, folder, library):
     """Each error of a read of a client is told, also one that was interrupted; what had come by then is reported."""
+    path = os.path.join(folder, "s")
     for number in (*ALL, errno.EINTR):
-        path = os.path.join(folder, "s")
-        given = {"env": {**os.environ, "LD_PRELOAD": library, "ANSWERS": f"recv {number}"}, "stdout": subprocess.PIPE, "stderr": subprocess.PIPE}
-        serve = subprocess.Popen([program, "serve", "--socket", path, "--connections", "1"], **given)
+        serve = served(program, library, f"recv {number}", path, 1)
         with connected(path) as client, contextlib.suppress(OSError):
             client.sendall(FILES["a.stream"])
         told, errors = serve.communicate(timeout=60)
@@ -122,8 +137,7 @@ def try_clients(program, folder, library):
 def try_each_client(program, folder, library):
     """Of eight clients each read fails with another error: each is told of its own connection."""
     numbers, path = [it for it in SAID if it not in (errno.EPIPE, errno.EPERM)][:8], os.path.join(folder, "each")
-    given = {"env": {**os.environ, "LD_PRELOAD": library, "ANSWERS": "each " + " ".join(map(str, numbers))}, "stdout": subprocess.PIPE, "stderr": subprocess.PIPE}
-    serve = subprocess.Popen([program, "serve", "--socket", path, "--connections", "8"], **given)
+    serve = served(program, library, "each " + " ".join(map(str, numbers)), path, 8)
     with contextlib.ExitStack() as clients:
         for module in range(8):
             client = clients.enter_context(connected(path))
@@ -138,8 +152,7 @@ def try_each_client(program, folder, library):
 
 def came_of(program, path, count, verifiers, library, number):
     """What `serve` comes to whose clients say nothing, and stay, and of which a thread can't be started."""
-    given = {"env": {**os.environ, "LD_PRELOAD": library, "ANSWERS": f"thread {number}"}, "stdout": subprocess.PIPE, "stderr": subprocess.PIPE}
-    serve = subprocess.Popen([program, "serve", "--socket", path, "--connections", str(count), "--verifiers", str(verifiers)], **given)
+    serve = served(program, library, f"thread {number}", path, count, "--verifiers", str(verifiers))
     with contextlib.ExitStack() as clients:
         left = count
         while left and serve.poll() is None:
@@ -173,9 +186,9 @@ def try_printing(program, folder, library):
 def try_nothing(program, folder, library):
     """A write that takes no byte is told, without a reason, and ends."""
     for command, source in COMMANDS:
-        _, errors, status, _ = carried_out(program, folder, library, "nothing", command, source)
+        _, errors, status, _ = without_notice(carried_out(program, folder, library, "nothing", command, source))
         told = [line for line in errors if line.startswith(b"lfiload: cannot write")]
-        if not command.startswith("run") and (status != 3 or not told or set(errors) - {*told, b"module 4 refused"}):
+        if not command.startswith("run") and (status != 3 or not told or errors != told):
             wrong("answers", f"{command}, nothing is taken", (errors, status), "a line, and status 3")
 
 
@@ -193,8 +206,53 @@ def try_descriptors(program, folder):
     for words, count, end in MANY:
         given = {"cwd": folder, "stdin": subprocess.DEVNULL, "capture_output": True, "timeout": 60}
         done = subprocess.run([program, *words, *["a.code"] * count], preexec_fn=lambda: resource.setrlimit(resource.RLIMIT_NOFILE, (FEW, FEW)), **given)
-        if (end not in done.stdout[-100:], done.stderr, done.returncode) != (False, b"", 0):
+        if end not in done.stdout[-100:] or done.stderr or done.returncode:
             wrong("answers", f"{words} with {FEW} descriptors", (done.stdout[-100:], done.stderr, done.returncode), end)
+
+
+def is_without_memory(came, plain):
+    """Whether this is what comes of a command that has no memory any more: it tells that, or that there was none for a page, and else nothing but
+    what is so. It writes whole images alone, of modules that it tells are complete."""
+    out, errors, status, images = came
+    told = [line for line in errors if line in UNKEPT or line.startswith(b"halt 7 ")]
+    lines = set(out.splitlines()) - set(plain[0].splitlines()) if status == 1 else {}
+    pages = [line for line in lines if re.fullmatch(rb"module \d+: no memory|connection \d+: fault 8", line)]
+    is_told = status == 3 and told or status == 1 and len(pages) == len(lines) == 2
+    return is_told and all(plain[3].get(name) == image for name, image in images.items())
+
+
+def first_requests(carry_out, plain, what):
+    """What comes of a command that gets memory for its first requests alone, for each number of these until it is five times as if it got all."""
+    as_plain = 0
+    for count in itertools.count():
+        came = carry_out(f"memory {count}")
+        as_plain = as_plain + 1 if came == plain else 0
+        if as_plain == 5:
+            return
+        if came != plain and not is_without_memory(came, plain):
+            wrong("answers", f"{what}, with memory for {count} requests", str(came)[:300], str(plain)[:300])
+
+
+def try_without_memory(program, folder, library):
+    """Each command without memory from some request on, also `serve` of two clients that send a stream each. A notice may come late."""
+    for command, source in COMMANDS:
+        carry_out = functools.partial(carried_out, program, folder, library, command=command, source=source)
+        first_requests(lambda how: without_notice(carry_out(how)), without_notice(carry_out("")), command)
+    path = os.path.join(folder, "two")
+
+    def serve(how):
+        server = served(program, library, how, path, 2)
+        for module in range(2):
+            with contextlib.suppress(OSError), socket.socket(socket.AF_UNIX) as client:
+                while server.poll() is None and client.connect_ex(path):
+                    time.sleep(0.001)
+                client.sendall(formats.stream(module, NOP * 2_000))
+        told, errors = server.communicate(timeout=60)
+        if os.path.exists(path):
+            wrong("answers", f"serve, {how}", "its socket is there still", "none")
+        return told, errors.splitlines(), server.returncode, {}
+
+    first_requests(serve, serve(""), "serve")
 
 
 def try_answers(program):
@@ -214,5 +272,6 @@ def try_answers(program):
         try_silent_clients(program, folder, library)
         try_printing(program, folder, library)
         try_nothing(program, folder, library)
+        try_without_memory(program, folder, library)
         try_descriptors(program, folder)
-    print(f"answers: {len(COMMANDS)} commands whose reads and writes are short, interrupted or take nothing; {len(ALL)} errors; few descriptors")
+    print(f"answers: {len(COMMANDS)} commands whose reads and writes are short, interrupted or take nothing; {len(ALL)} errors; no memory from some request on; few descriptors")
