@@ -1,7 +1,15 @@
-//! A stage, asked for again where it was refused: checks/refused_growth refuses each allocation in turn.
+//! A stage, asked for again where it was refused, and one that is settled without memory: checks/refused_growth refuses each allocation
+//! in turn, or all from it on.
 
+use crate::build::Sent::{Close, Open, Pages};
+use crate::build::{Sent, text_of};
+use crate::inputs::Pieces;
+use crate::reports::turned::{pair, receive_all, settled};
+use lfi_model::Summary;
+use lfi_receive::Input;
 use lfi_stage::Stage;
 use std::alloc::{AllocError, Global};
+use std::sync::Wait;
 use std::test::Fail;
 
 /// Makes a stage of two receivers and two verifiers.
@@ -17,6 +25,30 @@ fn a_refused_stage_is_made_again(rt: HostRuntime) -> Result<(), Fail> {
     } else {
         make(rt.alloc())?;
         println!(rt; "made again")?;
+    }
+    Ok(())
+}
+
+/// A module of 300 pages: more items than a receiver's part of the intake has room for before it grows.
+const LONG: [Sent; 3] = [Open(5, 307_200), Pages(5, 300), Close(5)];
+
+/// More turns than its text takes.
+const MANY: usize = 10_000;
+
+/// What is told of it where its receiver has put what the intake took, nobody has taken any, and all is settled.
+fn settled_alone<S: Wait + AllocGlobal>(rt: &S) -> Result<Summary, AllocError> {
+    let mut stage = pair(rt.alloc())?;
+    let text = text_of(rt.alloc(), &LONG)?;
+    let mut input = Input::new(rt.alloc(), Pieces::of(text.as_slice(), 4096))?;
+    receive_all(&mut stage, 0, &mut input, MANY);
+    Ok(settled(rt, stage))
+}
+
+#[test]
+fn a_stage_is_settled_whose_intake_cannot_grow(rt: HostRuntime) -> Result<(), Fail> {
+    match settled_alone(&rt) {
+        Ok(summary) => print!(rt; "{}", summary)?,
+        Err(_) => println!(rt; "not made")?,
     }
     Ok(())
 }

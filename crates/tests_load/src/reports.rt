@@ -10,4 +10,4 @@ mod settled;
 mod spoiled;
 mod stage;
 mod streams;
-mod turned;
+pub mod turned;
