@@ -12,6 +12,8 @@ mod files;
 mod images;
 mod laws;
 #[cfg(test)]
+mod lines;
+#[cfg(test)]
 mod notices;
 #[cfg(test)]
 mod runs;

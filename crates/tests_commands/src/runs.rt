@@ -54,7 +54,7 @@ pub struct Run {
 }
 
 /// The words of a line, which stand a space apart.
-fn words(alloc: Global, line: &str) -> Result<Vec<String>, AllocError> {
+pub fn words(alloc: Global, line: &str) -> Result<Vec<String>, AllocError> {
     line.split(' ')
         .map(|word| String::from_str(alloc, word))
         .try_collect(alloc)
