@@ -6,7 +6,8 @@
  *   write N      a write fails with this error
  *   read N       the first read is short, and each later one fails with this error
  *   recv N       the same of what a socket receives
- *   each N..     the same of what each client sends, with the errors of this list in the order in which clients are taken
+ *   each N..     the same of what each client sends, with the errors of this list in the order in which clients are taken; and of files, in
+ *                the order of their descriptors
  *   thread N     the thread number N, counted from 1, can't be started
  *   memory N     the program gets memory for its first N requests, and from then on for none; what the C library asks for it gets
  * Whatever it is, nobody waits until the system has put a file on its disk: that ends the program with status 99. */
@@ -74,7 +75,15 @@ int posix_memalign(void **made, size_t by, size_t size) {
     return *made ? 0 : ENOMEM;
 }
 
+/* The number at a place of the list. */
+static int listed(int place) {
+    const char *at = how() + 5;
+    while (place-- > 0 && *at) at += strcspn(at, " ") + 1;
+    return atoi(at);
+}
+
 ssize_t read(int at, void *bytes, size_t count) {
+    if (is("each") && at > 2 && at < FILES && atomic_fetch_add(&heard[at], 1)) return fail(listed(at - 3));
     if (is("read") && atomic_fetch_add(&reads, 1)) return fail(atoi(how() + 5));
     return syscall(SYS_read, at, bytes, few(count));
 }
@@ -91,13 +100,6 @@ int accept4(int at, struct sockaddr *address, socklen_t *length, int flags) {
     int client = (int)syscall(SYS_accept4, at, address, length, flags);
     if (client >= 0 && client < FILES) order[client] = taken++;
     return client;
-}
-
-/* The number at a place of the list. */
-static int listed(int place) {
-    const char *at = how() + 5;
-    while (place-- > 0 && *at) at += strcspn(at, " ") + 1;
-    return atoi(at);
 }
 
 ssize_t recv(int at, void *bytes, size_t count, int flags) {

@@ -5,6 +5,7 @@ import contextlib
 import errno
 import functools
 import itertools
+import json
 import os
 import pathlib
 import re
@@ -30,7 +31,7 @@ FILES = {
 # Each command with what it reads from its standard input, if that is named.
 COMMANDS = (
     ("check a.code b.code", None), ("check --all -", "b.code"), ("check --format json --explain b.code", None), ("disassemble -", "a.code"), ("info a.stream a.img", None),
-    ("pack a.code b.code", None), ("pack --profile 2 --pages large -", "b.code"), ("unpack a.img", None), ("unpack -", "a.img"), ("run - --steps 30000", "a.img"),
+    ("pack a.code b.code", None), ("pack --profile 2 --pages large -", "b.code"), ("unpack a.img", None), ("unpack -", "a.img"), ("run - --steps 30000", "a.img"), ("run prints.img --steps 3000", None),
     ("load --out . --explain a.stream", None), ("load --out . --format json -", "a.stream"),
 )
 # What is told of an error behind its line, as the system says it; of EPERM what it says of EACCES, and of others nothing.
@@ -99,13 +100,23 @@ def try_all_errors(program, folder, library):
         try_error(program, folder, library, ("read", "load -", "a.stream", [b"lfiload: connection 0: cannot read", *reason]), number)
 
 
+# What takes a profile, and commands that print. Of a closed output nothing is told.
+PROFILES = ("", " --profile 1", " --profile 2")
+PRINTING = (
+    "check --explain b.code", "check --all b.code", "check --format json b.code", "disassemble a.code", "disassemble --check --profile 2 a.code", "info a.code", "info a.stream",
+    "info a.img", "unpack a.img", "load a.stream", "load --explain a.stream", "load --format json a.stream", "load --format json --explain a.stream",
+)
+
+
 def try_errors(program, folder, library):
     """Some errors of each command."""
-    for number in SOME:
+    for number in (*SOME, errno.EPIPE):
         reason = reason_of(number)
-        output = [b"lfiload: cannot write standard output", *reason]
+        output = [] if number == errno.EPIPE else [b"lfiload: cannot write standard output", *reason]
         for row in (
-            ("write", "check a.code", None, output), ("write", "pack a.code", None, output),
+            *(("write", f"{command}{options}", None, output) for command in ("check a.code", "pack a.code") for options in PROFILES),
+            *(("write", command, None, output) for command in PRINTING),
+            ("write", "pack --profile 2 --pages large a.code", None, output),
             ("write", "load --format json --out . a.stream", None, [b"lfiload: cannot write ./module-03.img", *reason, *output]),
             *(("read", f"{name} -", "a.code", [b"lfiload: cannot read -", *reason]) for name in ("disassemble", "pack", "info")),
             *(("read", f"{name} a.code", None, [b"lfiload: cannot read a.code", *reason]) for name in ("check", "check --explain", "disassemble", "pack", "info")),
@@ -148,6 +159,26 @@ def try_each_client(program, folder, library):
     came, wanted = (told.decode(), errors.decode().splitlines(), serve.returncode), (lost + faults + "strays 0\n", lines, 3)
     if came != wanted:
         wrong("answers", "serve of eight clients, each with its own error", came, wanted)
+
+
+def try_each_stream(program, folder, library):
+    """Of the streams of a load each read fails with another error: each is told of its own connection, in lines and as an object."""
+    numbers = [it for it in SAID if it not in (errno.EPIPE, errno.EPERM)][:8]
+    for module in range(8):
+        pathlib.Path(folder, f"{module}.stream").write_bytes(formats.stream(module, NOP * 500))
+    for count, options in itertools.product((1, 2, 3, 4, 8), ("", " --explain", " --format json", " --format json --explain")):
+        command = f"load{options} " + " ".join(f"{it}.stream" for it in range(count))
+        given = {"env": {**os.environ, "LD_PRELOAD": library, "ANSWERS": "each " + " ".join(map(str, numbers))}, "cwd": folder, "capture_output": True, "timeout": 60}
+        done = subprocess.run([program, *command.split()], text=True, **given)
+        lines = [line for it in range(count) for line in (f"lfiload: connection {it}: cannot read", f"  {SAID[numbers[it]]}")]
+        if (done.stderr.splitlines(), done.returncode) != (lines, 3):
+            wrong("answers", f"{command}, each with its own error", (done.stderr, done.returncode), (lines, 3))
+        if "json" in command:
+            told = [(it["fault"], it["read_error"]) for it in json.loads(done.stdout)["connections"]]
+        else:
+            told = [(10, SAID[numbers[int(it)]]) for it in re.findall(r"^connection (\d): fault 10$", done.stdout, re.M)]
+        if told != [(10, SAID[it]) for it in numbers[:count]]:
+            wrong("answers", f"{command}, each with its own error", done.stdout, numbers[:count])
 
 
 def came_of(program, path, count, verifiers, library, number):
@@ -269,6 +300,7 @@ def try_answers(program):
         try_errors(program, folder, library)
         try_clients(program, folder, library)
         try_each_client(program, folder, library)
+        try_each_stream(program, folder, library)
         try_silent_clients(program, folder, library)
         try_printing(program, folder, library)
         try_nothing(program, folder, library)

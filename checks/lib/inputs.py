@@ -258,6 +258,52 @@ def try_lengths(program, folder):
     return tried
 
 
+# Few bits and many zeros: each number of words that is one of these, moved by any number of bits, up to the most.
+ROUND = sorted({few << bits for few in (1, 3, 5, 7, 9, 11, 13, 15) for bits in range(23) if few << bits <= MOST_WORDS})
+
+
+def try_round_lengths(program, folder):
+    """Code, streams and images of so many words, by each command."""
+    for count in ROUND:
+        code = NOP * (count - 1) + RET
+        for name, content in ("a.code", code), ("a.stream", formats.stream(9, code)), ("a.img", image(9, count - 1, code)):
+            pathlib.Path(folder, name).write_bytes(content)
+        rows = (
+            (["check", "a.code"], (0, f"lawful, {count} words\n", "")),
+            (["check", "--explain", "a.code"], (0, f"lawful, {count} words\n", "")),
+            (["load", "--out", ".", "a.stream"], (0, f"module 9: complete, {count} words\nstrays 0\n", "")),
+            (["run", "a.img", "--steps", "0"], (0, "", "halt 1 after 0 steps\n")),
+            (["info", "a.img"], (0, f"image\n  slot 9\n  base {formats.base(9):#018x}\n  words {count}\n  entry {count - 1}\n  profile 1\n  lawful\n", "")),
+        )
+        for words, wanted in rows:
+            done = run(program, folder, words)
+            if (done.returncode, done.stdout, done.stderr) != wanted:
+                wrong("far", f"{' '.join(words)} of {count} words", (done.returncode, done.stdout[:300], done.stderr), wanted)
+        unpacked = subprocess.run([program, "unpack", "a.img"], cwd=folder, capture_output=True, timeout=60)
+        packed = subprocess.run([program, "pack", "--module", "9", "a.code"], cwd=folder, capture_output=True, timeout=60)
+        came = unpacked.stdout == code, packed.stdout == pathlib.Path(folder, "a.stream").read_bytes(), pathlib.Path(folder, "module-09.img").read_bytes() == image(9, 0, code)
+        if came != (True, True, True):
+            wrong("far", f"code of {count} words", came, "what unpack and pack write, and the image of load")
+    return len(ROUND)
+
+
+def try_small_numbers(program, folder):
+    """Code of each small number of words that are small numbers, the number of the words among them; and images of lawful code, entered at each word."""
+    for count in range(1, 33):
+        words = [*range(count), count][-count:]
+        pathlib.Path(folder, "a.code").write_bytes(formats.code_of(*words))
+        told, listed = run(program, folder, ["check", "--all", "a.code"]), run(program, folder, ["disassemble", "--check", "a.code"])
+        if told.returncode != 1 or f"\nwords refused: {count}\nwords with a mend: 0\n" not in told.stdout or told.stdout.count("  mend: none") != count:
+            wrong("far", f"check --all of {count} small numbers", (told.returncode, told.stdout[-300:], told.stderr), "each is refused")
+        if listed.returncode != 0 or listed.stdout.count("  ; rule 1\n") != count:
+            wrong("far", f"disassemble of {count} small numbers", (listed.returncode, listed.stdout[-300:], listed.stderr), "each is listed")
+        for entry in range(count):
+            pathlib.Path(folder, "a.img").write_bytes(image(0, entry, NOP * count))
+            done, end = run(program, folder, ["run", "a.img", "--steps", "100"]), formats.base(0) + 65_536 + 4 * count
+            if (done.returncode, done.stderr) != (1, f"halt 3 at {end:#018x} after {count - entry} steps\n"):
+                wrong("far", f"a run of {count} words from word {entry}", (done.returncode, done.stderr), "it ends behind the last word")
+
+
 # sub sp, sp, #16; ldr x30, [sp, #8]; ldr x30, [x21, #16]; and a word that meets no need: br x30.
 OPENING, OTHER, PAGE_WORDS = (0xD10043FF, 0xF94007FE, 0xF9400ABE), 0xD61F03C0, PAGE // 4
 
@@ -312,4 +358,6 @@ def try_far(program):
         if not listed.startswith(wanted[0]) or not listed.endswith(wanted[1]):
             wrong("far", "a listing", (listed[:100], listed[-100:]), wanted)
         entries, alike, lengths = try_entries(program, folder), try_told_alike(program, folder), try_lengths(program, folder)
-    print(f"far: {len(rows) + 2} rows on the last of {most} words, {entries} lengths and entries of each kind of module; {alike} needs told by `check` and `load` alike; {lengths} checks of code of lengths about those of pieces")
+        rounds = try_round_lengths(program, folder)
+        try_small_numbers(program, folder)
+    print(f"far: {len(rows) + 2} rows on the last of {most} words, {entries} lengths and entries of each kind of module; {alike} needs told by `check` and `load` alike; {lengths} checks of code of lengths about those of pieces; {rounds} round lengths")

@@ -1,6 +1,8 @@
 """The parts of checks/hostile on what one core does, on verifiers that are held, and on a client that nobody takes."""
 
 import fcntl
+import itertools
+import json
 import os
 import pathlib
 import platform
@@ -88,13 +90,21 @@ def load_many(program, folder, verifiers):
     ended("together", words, start(words, folder), "module 0: complete, 200001 words\nstrays 0\n")
 
 
+def object_of(streams):
+    """The object of a load of these streams, each of which has a module of its own."""
+    modules = [{"module": it, "outcome": "complete", "words": it + 2, "connection": it} for it in range(len(streams))]
+    modules += [{"module": it, "outcome": "unused"} for it in range(len(streams), formats.MODULES)]
+    connections = [{"connection": it, "path": path, "strays": 0} for it, path in enumerate(streams)]
+    return json.dumps({"modules": modules, "connections": connections, "strays": 0, "images": []}, separators=(",", ":")) + "\n"
+
+
 def load_each_way(program, folder):
-    """Each number of streams, by each number of verifiers."""
+    """Each number of streams, by each number of verifiers, told in lines and as an object."""
     for count in range(1, 9):
         streams = [f"{module}.small" for module in range(count)]
-        wanted = "".join(f"module {module}: complete, {module + 2} words\n" for module in range(count)) + "strays 0\n"
-        for verifiers in range(1, 9):
-            words = [program, "load", "--verifiers", str(verifiers), *streams]
+        lines = "".join(f"module {module}: complete, {module + 2} words\n" for module in range(count)) + "strays 0\n"
+        for verifiers, (form, wanted) in itertools.product(range(1, 9), (("text", lines), ("json", object_of(streams)))):
+            words = [program, "load", "--verifiers", str(verifiers), "--format", form, *streams]
             ended("together", words, start(words, folder), wanted)
 
 

@@ -46,7 +46,7 @@ struct Row {
     after: Option<u64>,
 }
 
-const ROWS: [Row; 2] = [
+const ROWS: [Row; 3] = [
     Row {
         sent: &[
             Open(0, 1025),
@@ -67,6 +67,12 @@ const ROWS: [Row; 2] = [
         ],
         want: "module 0: refused, word 5 rule 1\nstrays 0\n",
         after: None,
+    },
+    // The stream ends before the Close: the end of the module is judged, too.
+    Row {
+        sent: &[Open(0, 1025), Full(0, 0, 5, NOP), Page(0, 1, 1, NOP)],
+        want: "module 0: lost, fault 9\nconnection 0: fault 9\nstrays 0\n",
+        after: Some(4),
     },
 ];
 
