@@ -3,6 +3,7 @@
  *   short        at most 1,001 bytes are read and written at once, and 7 on the standard error
  *   interrupted  each write is interrupted twice, and then short, as each read is
  *   nothing      a write takes no byte
+ *   lose N       the write number N, counted from 1, to the standard error fails
  *   write N      a write fails with this error
  *   read N       the first read is short, and each later one fails with this error
  *   recv N       the same of what a socket receives
@@ -89,6 +90,7 @@ ssize_t read(int at, void *bytes, size_t count) {
 }
 
 ssize_t write(int at, const void *bytes, size_t count) {
+    if (at == 2 && is("lose") && atomic_fetch_add(&writes, 1) + 1 == atoi(how() + 5)) return fail(EAGAIN);
     if (at == 2) return syscall(SYS_write, at, bytes, is("short") && count > FEW ? FEW : count);
     if (is("nothing")) return 0;
     if (is("interrupted") && atomic_fetch_add(&writes, 1) % 3 < 2) return fail(EINTR);

@@ -10,6 +10,7 @@ import os
 import pathlib
 import re
 import resource
+import select
 import shutil
 import socket
 import subprocess
@@ -161,6 +162,20 @@ def try_each_client(program, folder, library):
         wrong("answers", "serve of eight clients, each with its own error", came, wanted)
 
 
+def try_notice(program, folder, library):
+    """A notice is whole where little of it is taken at once: a client whose module is refused at its first word stays until it has come."""
+    path = os.path.join(folder, "noticed")
+    serve = served(program, library, "short", path, 1)
+    with connected(path) as client:
+        client.sendall(formats.stream(4, bytes(4) + NOP * 300_000)[:-12])
+        told = b""
+        while not told.endswith(b"\n") and select.select([serve.stderr], [], [], 20)[0]:
+            told += os.read(serve.stderr.fileno(), 100)
+    _, errors = serve.communicate(timeout=60)
+    if (told, errors, serve.returncode) != (b"module 4 refused\n", b"", 1):
+        wrong("answers", "serve, whose notice is taken in pieces", (told, errors, serve.returncode), "the notice, and status 1")
+
+
 def try_each_stream(program, folder, library):
     """Of the streams of a load each read fails with another error: each is told of its own connection, in lines and as an object."""
     numbers = [it for it in SAID if it not in (errno.EPIPE, errno.EPERM)][:8]
@@ -204,6 +219,42 @@ def try_silent_clients(program, folder, library):
             came = came_of(program, os.path.join(folder, "silent"), count, verifiers, library, number)
             if came != (b"", b"lfiload: no memory\n", 3):
                 wrong("answers", f"serve of {count} silent clients by {verifiers} verifiers, whose thread {number} can't be started", came, "no memory")
+
+
+def try_silent_input(program, folder, library):
+    """Each thread of a load in turn can't be started, and in its standard input nothing comes: it ends at once."""
+    for verifiers, names in itertools.product((1, 2, 8), (["-"], ["-", "0.stream"], ["0.stream", "-"])):
+        for number in range(1, verifiers + len(names) + 1):
+            reader, writer = os.pipe()
+            given = {"env": {**os.environ, "LD_PRELOAD": library, "ANSWERS": f"thread {number}"}, "cwd": folder, "stdin": reader, "capture_output": True, "timeout": 20}
+            try:
+                done = subprocess.run([program, "load", "--verifiers", str(verifiers), *names], **given)
+            except subprocess.TimeoutExpired:
+                wrong("answers", f"load of {names} by {verifiers} verifiers, whose thread {number} can't be started", "no end", "no memory")
+            os.close(reader), os.close(writer)
+            if (done.stdout, done.stderr, done.returncode) != (b"", b"lfiload: no memory\n", 3):
+                wrong("answers", f"load of {names} by {verifiers} verifiers, whose thread {number} can't be started", done, "no memory")
+
+
+# Commands that tell several failures, each with a line and its reason, or none.
+FAILING = (
+    "check none.1 none.2 none.3", "check --explain none.1 none.2", "check --format json none.1 none.2", "info none.1 none.2 none.3", "check odd.bin none.1 odd.bin",
+    "load --out nowhere 0.stream 1.stream",
+)
+
+
+def try_lost_lines(program, folder, library):
+    """A line on the errors is lost: the others are told, and the status is 3."""
+    pathlib.Path(folder, "odd.bin").write_bytes(bytes(3))
+    for command in FAILING:
+        lines = subprocess.run([program, *command.split()], cwd=folder, capture_output=True, timeout=60).stderr.splitlines(keepends=True)
+        whole = re.findall(rb"(?m)^lfiload: .*\n(?:  .*\n)*", b"".join(line for line in lines if line != b"module 4 refused\n"))
+        for number in range(1, len(whole) + 1):
+            given = {"env": {**os.environ, "LD_PRELOAD": library, "ANSWERS": f"lose {number}"}, "cwd": folder, "capture_output": True, "timeout": 60}
+            done = subprocess.run([program, *command.split()], **given)
+            wanted = b"".join(whole[: number - 1] + whole[number:])
+            if (done.stderr, done.returncode) != (wanted, 3):
+                wrong("answers", f"{command}, whose failure {number} is not told", (done.stderr, done.returncode), (wanted, 3))
 
 
 def try_printing(program, folder, library):
@@ -300,8 +351,11 @@ def try_answers(program):
         try_errors(program, folder, library)
         try_clients(program, folder, library)
         try_each_client(program, folder, library)
+        try_notice(program, folder, library)
         try_each_stream(program, folder, library)
         try_silent_clients(program, folder, library)
+        try_silent_input(program, folder, library)
+        try_lost_lines(program, folder, library)
         try_printing(program, folder, library)
         try_nothing(program, folder, library)
         try_without_memory(program, folder, library)
