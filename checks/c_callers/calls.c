@@ -359,6 +359,20 @@ static int nothing_asked(void) {
     return 0;
 }
 
+/* Refused words that are small numbers, among as few words: each has its text. */
+static int small_numbers(void) {
+    uint8_t code[4 * 33], text[2048];
+    size_t count = 0;
+    for (uint32_t words = 1; words <= 33; words++)
+        for (uint32_t word = 0; word <= 33; word++) {
+            lfi_fault f = {words - 1, 1};
+            nops(code, words);
+            put(code + 4 * (words - 1), word);
+            CHECK(182, lfi_explain(LFI_PROFILE_1, 0, words, code, 4 * words, &f, text, sizeof text, &count) == LFI_LAWFUL && count > 100);
+        }
+    return 0;
+}
+
 /* A fault that the word doesn't have: its text ends so. */
 // HEADER: *fault is one that was told of this code: of another the text may say what isn't so. Ensures:
 static int kept(void) {
@@ -653,7 +667,7 @@ static int streams(void) {
 }
 
 int main(void) {
-    int (*const parts[])(void) = {whole_code, long_code, pieces, refused_pieces, other_states, profile, explanations, late, nothing_asked, kept, outside, unexplained, all_explained, much_room, only_the_code,
+    int (*const parts[])(void) = {whole_code, long_code, pieces, refused_pieces, other_states, profile, explanations, late, nothing_asked, small_numbers, kept, outside, unexplained, all_explained, much_room, only_the_code,
                                  mends, unmended, all_mended, streams};
     for (size_t i = 0; i < sizeof parts / sizeof *parts; i++) {
         int failed = parts[i]();

@@ -1,5 +1,5 @@
 /* work WAY FILE: judges what the file has by one call (whole), in pieces of 4,096 bytes (pieces) or of 256 (small), or as a stream in pieces of
- * 4,096 (stream) or 4,095 (odd); or tells a fault of rule 2 at each of the last 64 words, as text (explain) or as words (mend). How many
+ * 4,096 (stream), 4,095 (odd), 1,001 (packets) or 333 (parts); or tells a fault of rule 2 at each of the last 64 words, as text (explain) or as words (mend). How many
  * instructions that takes is counted from outside. The status is 0 where all of it is lawful, or told, 1 where it is refused, else 3. */
 #include "lfi_verifier.h"
 #include <stdio.h>
@@ -61,7 +61,8 @@ static lfi_status verdict_of(const char *way, size_t size) {
     if (!strcmp(way, "mend")) return mend(size);
     if (!strcmp(way, "whole")) return whole(size);
     if (!strcmp(way, "pieces")) return pieces(size, 4096);
-    return !strcmp(way, "small") ? pieces(size, 256) : stream(size, strcmp(way, "odd") ? 4096 : 4095);
+    if (!strcmp(way, "small")) return pieces(size, 256);
+    return stream(size, !strcmp(way, "odd") ? 4095 : !strcmp(way, "packets") ? 1001 : !strcmp(way, "parts") ? 333 : 4096);
 }
 
 int main(int count, char **given) {

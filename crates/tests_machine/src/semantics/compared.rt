@@ -301,3 +301,34 @@ fn plain_program_agrees(rt: HostRuntime) {
         assert!(rt; other.is_none(), "{word:#x} at {other:?}");
     }
 }
+
+/// A word of the tables that reads x1 where it reads x2.
+fn second_shared(word: u32) -> u32 {
+    if word >> 16 & 31 == 2 {
+        word ^ 3 << 16
+    } else {
+        word
+    }
+}
+
+/// A word of the tables that reads x1 where it reads x3.
+fn third_shared(word: u32) -> u32 {
+    if word >> 10 & 31 == 3 {
+        word ^ 2 << 10
+    } else {
+        word
+    }
+}
+
+/// Where other words have these bits they are other words, or none.
+#[test]
+fn plain_program_agrees_where_operands_are_one_register(rt: HostRuntime) {
+    for word in &WORDS {
+        let second = second_shared(*word);
+        for shared in [second, third_shared(*word), third_shared(second)] {
+            let is_none = decode(shared, Profile::Two).is_none();
+            let other = first_other(shared);
+            assert!(rt; is_none || other.is_none(), "{shared:#x} at {other:?}");
+        }
+    }
+}

@@ -4,7 +4,7 @@ use a64_word::{IndexExtend, Register, Width, decode};
 use lfi_module::Profile;
 use std::test::Fail;
 
-const WORDS: [u32; 78] = [
+const WORDS: [u32; 83] = [
     0x91000420, // ADD X0, X1, #1
     0x910003FF, // ADD SP, SP, #0
     0x110003FF, // ADD WSP, WSP, #0
@@ -83,10 +83,15 @@ const WORDS: [u32; 78] = [
     0x08DFFFFF, // LDARB WZR, [SP]
     0xC89FFFE0, // STLR X0, [SP]
     0x489FFC83, // STLRH W3, [X4]
+    0xF8000041, // STUR X1, [X2]
+    0x78000041, // STURH W1, [X2]
+    0xF8008441, // STR X1, [X2], #8
+    0xF8236841, // STR X1, [X2, X3]
+    0xA8810041, // STP X1, X0, [X2], #16
 ];
 
 /// What they write; number 31 is sp.
-const WRITES: [(u32, u8, Width); 53] = [
+const WRITES: [(u32, u8, Width); 55] = [
     (0x91000420, 0, Width::X),
     (0x910003FF, 31, Width::X),
     (0x110003FF, 31, Width::W),
@@ -140,10 +145,12 @@ const WRITES: [(u32, u8, Width); 53] = [
     (0xA9407C40, 0, Width::X),
     (0xC8DFFE40, 0, Width::X),
     (0x88DFFE56, 22, Width::W),
+    (0xF8008441, 2, Width::X),
+    (0xA8810041, 2, Width::X),
 ];
 
 /// What they read; number 31 is sp.
-const READS: [(u32, u8, Width); 95] = [
+const READS: [(u32, u8, Width); 107] = [
     (0x91000420, 1, Width::X),
     (0x910003FF, 31, Width::X),
     (0x110003FF, 31, Width::W),
@@ -239,6 +246,18 @@ const READS: [(u32, u8, Width); 95] = [
     (0xC89FFFE0, 31, Width::X),
     (0x489FFC83, 3, Width::W),
     (0x489FFC83, 4, Width::X),
+    (0xF8000041, 1, Width::X),
+    (0xF8000041, 2, Width::X),
+    (0x78000041, 1, Width::W),
+    (0x78000041, 2, Width::X),
+    (0xF8008441, 1, Width::X),
+    (0xF8008441, 2, Width::X),
+    (0xF8236841, 1, Width::X),
+    (0xF8236841, 2, Width::X),
+    (0xF8236841, 3, Width::X),
+    (0xA8810041, 0, Width::X),
+    (0xA8810041, 1, Width::X),
+    (0xA8810041, 2, Width::X),
 ];
 
 fn expected(uses: &[(u32, u8, Width)], word: u32, number: u8) -> Option<Width> {
