@@ -48,11 +48,16 @@ ALL = [number for number in range(1, 134) if number != errno.EINTR]
 SOME = (errno.ENOSPC, errno.EDQUOT, errno.EFBIG, errno.EROFS, errno.EACCES, errno.EIO, errno.ENODEV, errno.ESTALE, errno.EBADF, errno.EAGAIN, errno.ETIMEDOUT)
 
 
+def answered(library, how):
+    """The environment of a process to which the system answers so."""
+    return {**os.environ, "LD_PRELOAD": library, "ANSWERS": how}
+
+
 def carried_out(program, folder, library, how, command, source):
     """What comes of a command to which the system answers so: its outputs, its status, and its images."""
     for path in pathlib.Path(folder).glob("module-*.img"):
         path.unlink()
-    given = {"env": {**os.environ, "LD_PRELOAD": library, "ANSWERS": how}, "cwd": folder, "capture_output": True, "timeout": 60}
+    given = {"env": answered(library, how), "cwd": folder, "capture_output": True, "timeout": 60}
     with open(os.path.join(folder, source) if source else os.devnull, "rb") as file:
         done = subprocess.run([program, *command.split()], stdin=file, **given)
     images = {path.name: path.read_bytes() for path in pathlib.Path(folder).glob("module-*.img")}
@@ -128,7 +133,7 @@ def try_errors(program, folder, library):
 
 def served(program, library, how, path, count, *words):
     """`serve` of so many clients, to which the system answers so."""
-    given = {"env": {**os.environ, "LD_PRELOAD": library, "ANSWERS": how}, "stdout": subprocess.PIPE, "stderr": subprocess.PIPE}
+    given = {"env": answered(library, how), "stdout": subprocess.PIPE, "stderr": subprocess.PIPE}
     return subprocess.Popen([program, "serve", "--socket", path, "--connections", str(count), *words], **given)
 
 
@@ -183,7 +188,7 @@ def try_each_stream(program, folder, library):
         pathlib.Path(folder, f"{module}.stream").write_bytes(formats.stream(module, NOP * 500))
     for count, options in itertools.product((1, 2, 3, 4, 8), ("", " --explain", " --format json", " --format json --explain")):
         command = f"load{options} " + " ".join(f"{it}.stream" for it in range(count))
-        given = {"env": {**os.environ, "LD_PRELOAD": library, "ANSWERS": "each " + " ".join(map(str, numbers))}, "cwd": folder, "capture_output": True, "timeout": 60}
+        given = {"env": answered(library, "each " + " ".join(map(str, numbers))), "cwd": folder, "capture_output": True, "timeout": 60}
         done = subprocess.run([program, *command.split()], text=True, **given)
         lines = [line for it in range(count) for line in (f"lfiload: connection {it}: cannot read", f"  {SAID[numbers[it]]}")]
         if (done.stderr.splitlines(), done.returncode) != (lines, 3):
@@ -226,7 +231,7 @@ def try_silent_input(program, folder, library):
     for verifiers, names in itertools.product((1, 2, 8), (["-"], ["-", "0.stream"], ["0.stream", "-"])):
         for number in range(1, verifiers + len(names) + 1):
             reader, writer = os.pipe()
-            given = {"env": {**os.environ, "LD_PRELOAD": library, "ANSWERS": f"thread {number}"}, "cwd": folder, "stdin": reader, "capture_output": True, "timeout": 20}
+            given = {"env": answered(library, f"thread {number}"), "cwd": folder, "stdin": reader, "capture_output": True, "timeout": 20}
             try:
                 done = subprocess.run([program, "load", "--verifiers", str(verifiers), *names], **given)
             except subprocess.TimeoutExpired:
@@ -247,10 +252,10 @@ def try_lost_lines(program, folder, library):
     """A line on the errors is lost: the others are told, and the status is 3."""
     pathlib.Path(folder, "odd.bin").write_bytes(bytes(3))
     for command in FAILING:
-        lines = subprocess.run([program, *command.split()], cwd=folder, capture_output=True, timeout=60).stderr.splitlines(keepends=True)
-        whole = re.findall(rb"(?m)^lfiload: .*\n(?:  .*\n)*", b"".join(line for line in lines if line != b"module 4 refused\n"))
+        errors = subprocess.run([program, *command.split()], cwd=folder, capture_output=True, timeout=60).stderr
+        whole = re.findall(rb"(?m)^lfiload: .*\n(?:  .*\n)*", errors)
         for number in range(1, len(whole) + 1):
-            given = {"env": {**os.environ, "LD_PRELOAD": library, "ANSWERS": f"lose {number}"}, "cwd": folder, "capture_output": True, "timeout": 60}
+            given = {"env": answered(library, f"lose {number}"), "cwd": folder, "capture_output": True, "timeout": 60}
             done = subprocess.run([program, *command.split()], **given)
             wanted = b"".join(whole[: number - 1] + whole[number:])
             if (done.stderr, done.returncode) != (wanted, 3):
