@@ -29,18 +29,26 @@ fn a_refused_stage_is_made_again(rt: HostRuntime) -> Result<(), Fail> {
     Ok(())
 }
 
-/// A module of 300 pages: more items than a receiver's part of the intake has room for before it grows.
+/// Modules of 300 pages: more items than a receiver's part of the intake has room for before it grows.
 const LONG: [Sent; 3] = [Open(5, 307_200), Pages(5, 300), Close(5)];
+const OTHER: [Sent; 3] = [Open(6, 307_200), Pages(6, 300), Close(6)];
+
+/// So many turns that a receiver has put most items that its part has room for.
+const FEW: usize = 500;
 
 /// More turns than its text takes.
 const MANY: usize = 10_000;
 
-/// What is told of it where its receiver has put what the intake took, nobody has taken any, and all is settled.
+/// What is told of them where each receiver has put what the intake took, nobody has taken any, and all is settled.
 fn settled_alone<S: Wait + AllocGlobal>(rt: &S) -> Result<Summary, AllocError> {
     let mut stage = pair(rt.alloc())?;
-    let text = text_of(rt.alloc(), &LONG)?;
-    let mut input = Input::new(rt.alloc(), Pieces::of(text.as_slice(), 4096))?;
-    receive_all(&mut stage, 0, &mut input, MANY);
+    let (long, other) = (text_of(rt.alloc(), &LONG)?, text_of(rt.alloc(), &OTHER)?);
+    let mut first = Input::new(rt.alloc(), Pieces::of(long.as_slice(), 4096))?;
+    let mut second = Input::new(rt.alloc(), Pieces::of(other.as_slice(), 4096))?;
+    receive_all(&mut stage, 0, &mut first, FEW);
+    receive_all(&mut stage, 1, &mut second, FEW);
+    receive_all(&mut stage, 0, &mut first, MANY);
+    receive_all(&mut stage, 1, &mut second, MANY);
     Ok(settled(rt, stage))
 }
 
