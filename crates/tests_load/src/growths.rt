@@ -31,6 +31,7 @@ fn a_refused_stage_is_made_again(rt: HostRuntime) -> Result<(), Fail> {
 
 /// Modules of 300 pages: more items than a receiver's part of the intake has room for before it grows.
 const LONG: [Sent; 3] = [Open(5, 307_200), Pages(5, 300), Close(5)];
+
 const OTHER: [Sent; 3] = [Open(6, 307_200), Pages(6, 300), Close(6)];
 
 /// So many turns that a receiver has put most items that its part has room for.
