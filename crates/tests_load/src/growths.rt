@@ -34,7 +34,7 @@ const LONG: [Sent; 3] = [Open(5, 307_200), Pages(5, 300), Close(5)];
 
 const OTHER: [Sent; 3] = [Open(6, 307_200), Pages(6, 300), Close(6)];
 
-/// So many turns that a receiver has put most items that its part has room for.
+/// Turns after which a receiver has put most items that its part has room for.
 const FEW: usize = 500;
 
 /// More turns than its text takes.

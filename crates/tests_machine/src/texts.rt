@@ -17,10 +17,10 @@ const STARTS: [(StartFault, &str); 7] = [
     (StartFault::NoMemory, "no memory"),
 ];
 
-/// Each refusal of a byte that the runtime writes, and its text.
-const WRITES: [(DataFault, &str); 2] = [
-    (DataFault::NotWritable, "the byte may not be written"),
-    (DataFault::NoMemory, "no memory"),
+/// Each refusal of a byte that the runtime writes, its number and its text.
+const WRITES: [(DataFault, u8, &str); 2] = [
+    (DataFault::NotWritable, 1, "the byte may not be written"),
+    (DataFault::NoMemory, 2, "no memory"),
 ];
 
 #[test]
@@ -33,7 +33,8 @@ fn tells_why_a_machine_is_refused(rt: HostRuntime) -> Result<(), Fail> {
 
 #[test]
 fn tells_why_a_byte_is_not_written(rt: HostRuntime) -> Result<(), Fail> {
-    for (fault, text) in &WRITES {
+    for (fault, number, text) in &WRITES {
+        assert!(rt; fault.number() == *number, "{text}");
         assert!(rt; fault.to_string(rt.alloc())?.as_str() == *text, "{text}");
     }
     Ok(())
