@@ -93,8 +93,8 @@ def flood(client):
 
 
 def try_refused_thread(program, words, floods):
-    """`serve` of two clients, of which the second is refused a thread: there are no addresses left for its stack. The first stays, or
-    sends on."""
+    """`serve` of two clients, of which the second is refused a thread: there are no addresses left for its stack. The first stays, with half of
+    a module sent, or sends on."""
     with tempfile.TemporaryDirectory() as folder:
         path = os.path.join(folder, "s")
         words = [program, "serve", "--socket", path, "--connections", "2", "--verifiers", "1", *words]
@@ -102,6 +102,8 @@ def try_refused_thread(program, words, floods):
         with connected(path) as first:
             if floods:
                 threading.Thread(target=flood, args=(first,), daemon=True).start()
+            else:
+                first.sendall(formats.stream(3, NOP * 2_000)[:6_000])
             # The first one's thread is the fourth.
             while serve.poll() is None and status_of(serve, "Threads") < 4:
                 time.sleep(0.01)

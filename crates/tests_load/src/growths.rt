@@ -34,8 +34,8 @@ const LONG: [Sent; 3] = [Open(5, 307_200), Pages(5, 300), Close(5)];
 
 const OTHER: [Sent; 3] = [Open(6, 307_200), Pages(6, 300), Close(6)];
 
-/// Turns after which a receiver has put most items that its part has room for.
-const FEW: usize = 500;
+/// Turns after which a receiver has put 256 items: as many as its part has room for before it grows.
+const FEW: usize = 767;
 
 /// More turns than its text takes.
 const MANY: usize = 10_000;
