@@ -8,7 +8,7 @@ import subprocess
 import sys
 
 NOP = 0xD503201F
-# The registers that rules or mends name, and some others.
+# The registers that rules or mends name.
 NAMED = (16, 17, 18, 21, 22, 23, 24, 30, 31)
 ALL, SOME, RESULTS, DATA = range(32), (*NAMED, 0, 5, 8), (5, 18, 22, 23, 24, 30, 31), (6, 16, 22, 30, 31)
 D, N, M, A = 0, 5, 16, 10  # the places of a word's registers

@@ -4,6 +4,7 @@ import hashlib
 import importlib.machinery
 import importlib.util
 import pathlib
+import re
 import subprocess
 
 CHECKS = pathlib.Path(__file__).resolve().parent.parent
@@ -38,6 +39,21 @@ def definition_files(crate):
     lines = (folder / "Lib.antt").read_text(encoding="utf-8").splitlines()
     names = [line.split()[2] for line in lines if line.startswith("pub mod ")]
     return [folder / f"{name}.antt" for name in names if name != "inner" and (folder / f"{name}.antt").is_file()]
+
+
+# Texts and characters, in which braces are none.
+TEXT = r'b?"(?:\\.|[^"\\])*"|b?\'(?:\\.[^\']*|[^\'\\])\''
+BRACE = re.compile(rf"{TEXT}|[{{}}]", re.S)
+
+
+def block_end(text, at):
+    """Where the block ends that begins with the first brace from there on."""
+    depth = 0
+    for brace in BRACE.finditer(text, at):
+        depth += {"{": 1, "}": -1}.get(brace[0], 0)
+        if brace[0] == "}" and not depth:
+            return brace.end()
+    return len(text)
 
 
 def digest(texts):
