@@ -95,6 +95,15 @@ static void scatter(lfi_stream *stream) {
     memcpy(stream, words, sizeof *stream);
 }
 
+// HEADER: words: of an open one, its words in all entry: of an open one, the word at which it is entered profile: of an open one, the
+//   profile by which it is to be judged page_words: of an open one, the words of a full page of it: 1,024 or 4,096 pages: of an open
+//   one, how many of its pages came
+/* Whether a module is open by its numbers, but for its pages. */
+static int is_open(const lfi_stream_module *it) {
+    return it->phase == 1 && it->words >= 1 && it->words <= LFI_MAX_WORDS && it->entry < it->words && (it->profile == 1 || it->profile == 2) &&
+           (it->page_words == 1024 || (it->page_words == 4096 && it->profile == 2));
+}
+
 // C: | `LFI_NO_STREAM` | the numbers are those of no stream, and are as they were: none of its kind has them; or of the page that is
 //   coming, what came and what is to come aren't its bytes, or its module isn't open |
 // HEADER: LFI_NO_STREAM: *stream can't stand for any stream, and is as it was: no feed is at its place, or what came of the page and what
@@ -103,12 +112,7 @@ static void scatter(lfi_stream *stream) {
 static int fits_none(const lfi_stream_text *text) {
     if (text->feed.place > 1 || text->page.module >= LFI_MODULES) return 0;
     const lfi_stream_module *it = &text->modules[text->page.module];
-    // HEADER: words: of an open one, its words in all entry: of an open one, the word at which it is entered profile: of an open one, the
-    //   profile by which it is to be judged page_words: of an open one, the words of a full page of it: 1,024 or 4,096 pages: of an open
-    //   one, how many of its pages came
-    int open = it->phase == 1 && it->words >= 1 && it->words <= LFI_MAX_WORDS && it->entry < it->words && (it->profile == 1 || it->profile == 2) &&
-               (it->page_words == 1024 || (it->page_words == 4096 && it->profile == 2));
-    if (!open || text->feed.place != 1) return 1;
+    if (!is_open(it) || text->feed.place != 1) return 1;
     uint64_t bytes = bytes_of(it->words, it->page_words, it->pages);
     // HEADER: come: how many of its bytes came
     return text->page.come >= bytes || text->feed.number != bytes - text->page.come;
@@ -118,6 +122,30 @@ static void require(int holds, const char *what, uint64_t turn) {
     if (holds) return;
     printf("states: %s, state %llu\n", what, (unsigned long long)turn);
     exit(1);
+}
+
+// C: A module's numbers that no module has are read as those of one that has ended.
+// HEADER: phase: 0: it wasn't opened; 1: it is open; 2: it has ended
+/* An Open or a Close of a module, whose numbers may be no module's, where a message begins. */
+static void between_messages(lfi_stream *stream, lfi_event *event, uint64_t turn) {
+    uint8_t text[12] = {(uint8_t)(number(2) ? 1 : 3), 0, 0, 0, 0, 0, 0, 0, 0, 0, 0, 0};
+    in_page(stream);
+    uint32_t which = stream->text.page.module;
+    lfi_stream_module it = stream->text.modules[which];
+    lfi_state judged = stream->verdicts.modules[which];
+    uint32_t most = (it.words + it.page_words - 1) / it.page_words;
+    uint32_t *numbers[] = {&it.phase, &it.words, &it.entry, &it.profile, &it.page_words, &it.pages};
+    uint32_t wrong = number(9);
+    if (wrong < 6) *numbers[wrong] = any(*numbers[wrong]);
+    if (wrong == 6) it.pages = most + 1 + number(3);
+    lfi_stream_init(stream, LFI_PROFILE_1);
+    stream->text.modules[which] = it;
+    stream->verdicts.modules[which] = judged;
+    text[2] = (uint8_t)which;
+    text[4] = text[0] == 1;
+    int open = is_open(&it) && it.pages <= (it.words + it.page_words - 1) / it.page_words;
+    uint32_t kind = text[0] == 1 && it.phase == 0 ? LFI_OPEN : text[0] == 3 && open ? LFI_END : LFI_STRAY;
+    require(lfi_stream_next(stream, text, sizeof text, event) == sizeof text && event->kind == kind && event->module == which, "an Open or a Close of any numbers", turn);
 }
 
 // C: Whatever the numbers are, code is told of a module that is open by them, and within its words: `offset` and the bytes used come to at
@@ -134,6 +162,7 @@ int main(int count, char **given) {
     uint8_t *end_of_code = code + 4 * (size_t)LFI_MAX_WORDS;
     for (size_t i = 0; i < PIECE; i++) piece[i] = (uint8_t)number(256);
     for (uint64_t turn = 0; turn < turns; turn++) {
+        if (turn % 4 == 0) between_messages(stream, event, turn);
         if (number(8) == 0) scatter(stream);
         else in_page(stream);
         for (uint32_t k = number(4); k > 0; k--) spoil(stream);

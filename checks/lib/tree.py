@@ -41,21 +41,6 @@ def definition_files(crate):
     return [folder / f"{name}.antt" for name in names if name != "inner" and (folder / f"{name}.antt").is_file()]
 
 
-# Texts and characters, in which braces are none.
-TEXT = r'b?"(?:\\.|[^"\\])*"|b?\'(?:\\.[^\']*|[^\'\\])\''
-BRACE = re.compile(rf"{TEXT}|[{{}}]", re.S)
-
-
-def block_end(text, at):
-    """Where the block ends that begins with the first brace from there on."""
-    depth = 0
-    for brace in BRACE.finditer(text, at):
-        depth += {"{": 1, "}": -1}.get(brace[0], 0)
-        if brace[0] == "}" and not depth:
-            return brace.end()
-    return len(text)
-
-
 def digest(texts):
     """Eight digits that are others where one of these texts is, and not where only their order is."""
     return hashlib.sha256("\0".join(sorted(texts)).encode()).hexdigest()[:8]

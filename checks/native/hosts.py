@@ -463,13 +463,15 @@ def of_several(room):
 
 
 def of_places(room):
-    """Code of the most words, of several pages, of which the last isn't full, in far slots; and a signal where nothing may be written at sp."""
+    """Code of the most words, entered at the first and at the last, of several pages, of which the last isn't full, in far slots; and a signal
+    where nothing may be written at sp."""
     far = formats.code_of(*[NOP] * 2_000, programs.BRK)
     most = formats.code_of(programs.BRK) + formats.code_of(NOP) * (formats.MOST_WORDS - 1)
     nowhere = formats.code_of(0x52900000, 0x8B2042BF, programs.BRK)  # MOVZ W0, #0x8000; ADD SP, X21, W0, UXTW
+    last = formats.code_of(NOP) * (formats.MOST_WORDS - 1) + formats.code_of(programs.BRK)
     images = {"most.img": formats.image(0, 0, most), "far.img": formats.image(15, 0, far), "nowhere.img": formats.image(0, 0, nowhere)}
-    write_all(room, {**images, "far.stream": formats.stream(14, far)})
-    for name, module, word in ("most.img", 0, 0), ("far.img", 15, 2_000), ("far.stream", 14, 2_000), ("nowhere.img", 0, 2):
+    write_all(room, {**images, "far.stream": formats.stream(14, far), "last.img": formats.image(2, formats.MOST_WORDS - 1, last)})
+    for name, module, word in ("most.img", 0, 0), ("far.img", 15, 2_000), ("far.stream", 14, 2_000), ("nowhere.img", 0, 2), ("last.img", 2, formats.MOST_WORDS - 1):
         yield [name], 0, b"", broken(module, word)
 
 

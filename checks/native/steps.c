@@ -1,5 +1,6 @@
 /* Tells on standard error, as they come, the host's calls that reserve pages or change what may be done with them, that judge code in its
- * place, that bring caches in step and that have other cores synchronize. Made of all files of examples/native_host, with --wrap=mmap,
+ * place, that bring caches in step and that have other cores synchronize; and whether pages may be executed in which the bytes are others
+ * than those of which the caches were brought in step. Made of all files of examples/native_host, with --wrap=mmap,
  * --wrap=mprotect, --wrap=lfi_verify_update, --wrap=syscall and --wrap=__clear_cache. */
 #include "native_host.h"
 #include <stdarg.h>
@@ -27,7 +28,21 @@ lfi_status __wrap_lfi_verify_update(lfi_state *state, const uint8_t *piece, size
     return __real_lfi_verify_update(state, piece, size);
 }
 
+/* The code of which the caches were brought in step last, and the sum of its bytes at that time. */
+static struct {
+    const uint8_t *from, *to;
+    uint64_t sum;
+} in_step;
+
+static uint64_t sum_of(const uint8_t *from, const uint8_t *to) {
+    uint64_t sum = 0;
+    for (; from < to; from++) sum = sum * 31 + *from;
+    return sum;
+}
+
 int __wrap_mprotect(void *from, size_t size, int rights) {
+    int is_of_step = (uint8_t *)from <= in_step.from && in_step.to <= (uint8_t *)from + size;
+    if (rights & PROT_EXEC && (!is_of_step || sum_of(in_step.from, in_step.to) != in_step.sum)) fprintf(stderr, "step: executed as it wasn't in step\n");
     const char *reads = rights & PROT_READ ? " read" : "", *writes = rights & PROT_WRITE ? " write" : "", *executes = rights & PROT_EXEC ? " execute" : "";
     fprintf(stderr, "step: %p %p%s%s%s\n", from, (void *)((char *)from + size), reads, writes, executes);
     return __real_mprotect(from, size, rights);
@@ -35,6 +50,7 @@ int __wrap_mprotect(void *from, size_t size, int rights) {
 
 void __wrap___clear_cache(void *from, void *to) {
     fprintf(stderr, "step: %p %p caches\n", from, to);
+    in_step.from = from, in_step.to = to, in_step.sum = sum_of(from, to);
     __real___clear_cache(from, to);
 }
 

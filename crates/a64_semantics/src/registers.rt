@@ -62,14 +62,6 @@ impl Registers {
         low_bits(width, self.x(register))
     }
 
-    /// A register as an operand of a width. Number 31 is sp.
-    #[inline(always)]
-    pub fn operand_or_sp(&self, register: Register, width: Width) -> u64
-        ensures { result ≡ low_bits width (x_or_sp_at self.now register) }
-    {
-        low_bits(width, self.x_or_sp(register))
-    }
-
     /// Writes a result. As W it clears the upper half of the register. Number 31 is zr, and what is written to it is lost.
     #[inline(always)]
     pub fn put(&mut self, register: Register, width: Width, value: u64)
