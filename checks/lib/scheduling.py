@@ -19,20 +19,22 @@ from lib.cases import NOP, RET, on_one_core, wrong
 from lib.serving import connected, refused_last
 
 LOADS, SERVES, SECONDS, TOGETHER, LARGE = 200, 100, 20, 300, 50
+# A limit of time within which clients come on a busy machine, too.
+SHORT = 4
 
 
 # ---- core
 
 
-def ended(part, words, running, wanted):
+def ended(part, words, running, wanted, err_wanted="", status=0):
     """What came of a run that has to end in time."""
     try:
         out, err = running.communicate(timeout=SECONDS)
     except subprocess.TimeoutExpired:
         running.kill()
         wrong(part, words[1:], "no end", f"an end within {SECONDS} seconds")
-    if (out, err, running.returncode) != (wanted, "", 0):
-        wrong(part, words[1:], (out, err, running.returncode), (wanted, "", 0))
+    if (out, err, running.returncode) != (wanted, err_wanted, status):
+        wrong(part, words[1:], (out, err, running.returncode), (wanted, err_wanted, status))
 
 
 def start(words, folder, before=None):
@@ -102,10 +104,39 @@ def load_each_way(program, folder):
     """Each number of streams, by each number of verifiers, told in lines and as an object."""
     for count in range(1, 9):
         streams = [f"{module}.small" for module in range(count)]
-        lines = "".join(f"module {module}: complete, {module + 2} words\n" for module in range(count)) + "strays 0\n"
-        for verifiers, (form, wanted) in itertools.product(range(1, 9), (("text", lines), ("json", object_of(streams)))):
+        for verifiers, (form, wanted) in itertools.product(range(1, 9), (("text", complete(count)), ("json", object_of(streams)))):
             words = [program, "load", "--verifiers", str(verifiers), "--format", form, *streams]
             ended("together", words, start(words, folder), wanted)
+
+
+def complete(count):
+    """The report on so many modules, each of a word more than the one before."""
+    return "".join(f"module {module}: complete, {module + 2} words\n" for module in range(count)) + "strays 0\n"
+
+
+def start_served(program, folder, count, verifiers, seconds):
+    """`serve` with so many clients, which send a module each and go; where its time is short, the last one is silent, and stays."""
+    path, stay = os.path.join(folder, f"{count}-{verifiers}-{seconds}"), []
+    words = [program, "serve", "--socket", path, "--connections", str(count), "--verifiers", str(verifiers), "--seconds", str(seconds)]
+    running = start(words, folder)
+    for number in range(count):
+        client = connected(path)
+        if seconds == SHORT and number == count - 1:
+            stay.append(client)
+            continue
+        with client:
+            client.sendall(formats.stream(number, NOP * (number + 1) + RET))
+    return words, running, stay
+
+
+def serve_each_way(program, folder):
+    """`serve` of each number of clients by each number of verifiers: where all end, and where the last one stays until the time is over."""
+    ways = [*itertools.product(range(1, 9), range(1, 9))]
+    for seconds, told, status in (600, "", 0), (SHORT, "lfiload: time is over: connection {} had not ended\n", 1):
+        for (count, _), (words, running, stay) in [(way, start_served(program, folder, *way, seconds)) for way in ways]:
+            ended("together", words, running, complete(count - len(stay)), told.format(count - 1), status)
+            for client in stay:
+                client.close()
 
 
 def try_together(program):
@@ -119,7 +150,8 @@ def try_together(program):
         for module in range(8):
             pathlib.Path(folder, f"{module}.small").write_bytes(formats.stream(module, NOP * (module + 1) + RET))
         load_each_way(program, folder)
-    print(f"together: {TOGETHER} times eight clients of `serve` that end at once, {4 * LARGE} loads by many verifiers, one to eight streams by one to eight")
+        serve_each_way(program, folder)
+    print(f"together: {TOGETHER} times eight clients of `serve` that end at once, {4 * LARGE} loads by many verifiers, one to eight streams and clients by one to eight")
 
 
 # ---- held
