@@ -27,8 +27,6 @@ ODD_IN_CLAUSE = (
     ("a brace or a quotation mark beside a prime", re.compile(r"'[{}\"]|[{}\"]'")),
     ("a text of two lines in a clause", re.compile(r'^(?:[^"\n]|"(?:\\.|[^"\\\n])*")*"[^"\n]*$', re.M)),
 )
-
-
 # And in files of definitions: a name that is passed on, a file that isn't named for all, and a comment that isn't a line of its own.
 ODD_IN_SPECS = (
     ("a name that is passed on, or a file that only this crate names", re.compile(r"^(?:pub use|mod|open|import)\b", re.M)),
@@ -89,6 +87,11 @@ def odd(text):
             yield "names from elsewhere in a form that isn't known"
 
 
+def odd_in_specs(text):
+    """The same of a file of definitions."""
+    return (name for name, form in ODD_IN_SPECS if form.search(text))
+
+
 def meanings(text, said):
     """What the names mean that a text says, by what its file uses from elsewhere: a line for each."""
     found = []
@@ -98,8 +101,3 @@ def meanings(text, said):
             if all(sign in said for sign in local.split("◌") if sign):
                 found.append(f"{path}.{' '.join(name.split())}")
     return sorted(found)
-
-
-def odd_in_specs(text):
-    """The same of a file of definitions."""
-    return (name for name, form in ODD_IN_SPECS if form.search(text))

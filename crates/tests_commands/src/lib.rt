@@ -7,6 +7,8 @@ mod devices;
 #[cfg(test)]
 mod disks;
 #[cfg(test)]
+mod endings;
+#[cfg(test)]
 mod files;
 #[cfg(test)]
 mod images;
