@@ -1,6 +1,6 @@
 //! Code that is judged piece by piece, as it is read.
 
-ghost use Rattle.std.specs.Prelude.{◌≡◌, ◌+◌, ◌*◌, ◌%◌, ◌<◌, ◌≤◌, ℕ, List, ◌++◌, length, IfOk, IfErr, IfSome, OnOk, false};
+ghost use Rattle.std.specs.Prelude.{◌≡◌, ◌+◌, ◌*◌, ◌%◌, ◌<◌, ◌≤◌, ℕ, List, ◌++◌, length, IfOk, IfErr, IfSome, OnOk, IsTrue, false};
 ghost use Rattle.std.specs.Io.KnownBytes.{Consumes, IsAtEnd};
 ghost use Rattle.lfi_module.specs.Numbers.{most_words};
 ghost use Rattle.lfi_check.specs.Begun.{Begins};
@@ -76,15 +76,14 @@ fn judge_words<R: Read>(
     Ok(beginning)
 }
 
-/// Reads what a reader has left, which is to be nothing.
-fn see_end<R: Read + Drop>(alloc: Global, reader: R) -> Result<(), CommandFault>
-    ensures end { OnOk result (IsAtEnd (R.remaining reader)) }
+/// Whether a reader has no byte left.
+fn is_at_end<R: Read + Drop>(alloc: Global, reader: R) -> Result<bool, CommandFault>
+    ensures end { IfOk result (λ end. IsTrue end → IsAtEnd (R.remaining reader)) }
     ensures fault { IfErr result (λ fault. is_of_a_write fault ≡ false) }
 {
     let mut rest = Vec::new(alloc);
     match reader.take(1).read_to_end(&mut rest) {
-        Ok(0) => Ok(()),
-        Ok(_) => Err(CommandFault::NotRead(DeviceCause::Other)),
+        Ok(_) => Ok(rest.is_empty()),
         Err(error) => Err(CommandFault::of_read(&error)),
     }
 }
@@ -113,6 +112,12 @@ pub fn judge_pieces<R: Read + Drop>(
         Ok(all) => all,
         Err(fault) => return Err(fault),
     };
-    see_end(alloc, reader)?;
+    let is_whole = match is_at_end(alloc, reader) {
+        Ok(is_whole) => is_whole,
+        Err(fault) => return Err(fault),
+    };
+    if !is_whole {
+        return Err(CommandFault::NotRead(DeviceCause::Other));
+    }
     Ok(all.verdict())
 }
