@@ -10,8 +10,8 @@ PART = re.compile(rf"(?P<text>{TEXT})|(?P<comment>//[^\n]*)|(?P<names>\bghost\s+
                   r"|(?P<clause>\b(?P<kind>requires|ensures)\s+(?P<name>\w+\s+)?\{|\bghost\s[^{};\"']*\{)", re.S)
 GIVEN = re.compile(r"\s*=\s*\{")
 CLAUSE_BRACE = re.compile(r'"(?:\\.|[^"\\])*"|[{}]', re.S)
-# What the names in a clause, or in a definition, stand for: where they come from, and what they are called there.
-NAMES = re.compile(r"^\s*(?:ghost )?use ([\w.]+?)(?:\.\{([^}]*)\}| as (\w+)|);?$", re.M)
+# What a file uses from elsewhere, as it stands in code and in definitions: from where, which names, or under which other name.
+USE = re.compile(r"(?:ghost\s+)?use\s+([\w.]+?)(?:\.\{([^}]*)\}|\s+as\s+(\w+)|)\s*;?", re.S)
 # The attributes and macros that stand in crates. What another one does to the code that it stands at, no check would see.
 ATTRIBUTE = re.compile(r"#!?\[(?:inline\((?:always|never)\)|cold|derive\([\w, ]+\)|tactic\([\w:, ()]+\)|repr\(C\)|unsafe\(no_mangle\)|error\(\"\"\))\]")
 MACROS = ("format", "format_args", "matches", "prove", "unreachable", "vec", "write", "writeln")
@@ -83,21 +83,34 @@ def odd(text):
     for kind, _, part in parts(text):
         if kind == "clause":
             yield from (name for name, form in ODD_IN_CLAUSE if form.search(part))
-        if kind == "names" and not NAMES.match(part):
+        if kind == "names" and not USE.fullmatch(part):
             yield "names from elsewhere in a form that isn't known"
 
 
 def odd_in_specs(text):
     """The same of a file of definitions."""
-    return (name for name, form in ODD_IN_SPECS if form.search(text))
+    yield from (name for name, form in ODD_IN_SPECS if form.search(text))
+    if not all(USE.fullmatch(line) for line in uses_of_specs(text)):
+        yield "names from elsewhere in a form that isn't known"
 
 
-def meanings(text, said):
+def uses(text):
+    """What the clauses of a file use from elsewhere."""
+    return [part for kind, _, part in parts(text) if kind == "names"]
+
+
+def uses_of_specs(text):
+    """What a file of definitions uses from elsewhere."""
+    return [line for line in text.split("\n") if re.match(r"use\b", line)]
+
+
+def meanings(uses, said):
     """What the names mean that a text says, by what its file uses from elsewhere: a line for each."""
     found = []
-    for path, many, alias in NAMES.findall(text):
+    for use in uses:
+        path, many, alias = USE.fullmatch(use).groups() if USE.fullmatch(use) else (use, None, None)
         for name in [f"{path} as {alias}"] if alias else (many or path).split(","):
             local = name.split(" as ")[-1].strip()
-            if all(sign in said for sign in local.split("◌") if sign):
+            if all(sign in said for sign in local.split("◌") if sign) or use == path:
                 found.append(f"{path}.{' '.join(name.split())}")
     return sorted(found)
