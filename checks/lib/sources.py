@@ -12,6 +12,8 @@ GIVEN = re.compile(r"\s*=\s*\{")
 CLAUSE_BRACE = re.compile(r'"(?:\\.|[^"\\])*"|[{}]', re.S)
 # What a file uses from elsewhere, as it stands in code and in definitions: from where, which names, or under which other name.
 USE = re.compile(r"(?:ghost\s+)?use\s+([\w.]+?)(?:\.\{([^}]*)\}|\s+as\s+(\w+)|)\s*;?", re.S)
+# What a clause or a definition names stands in specs/, where it is read.
+PROOFS = re.compile(r"\.proofs\b")
 # The attributes and macros that stand in crates. What another one does to the code that it stands at, no check would see.
 ATTRIBUTE = re.compile(r"#!?\[(?:inline\((?:always|never)\)|cold|derive\([\w, ]+\)|tactic\([\w:, ()]+\)|repr\(C\)|unsafe\(no_mangle\)|error\(\"\"\))\]")
 MACROS = ("format", "format_args", "matches", "prove", "unreachable", "vec", "write", "writeln")
@@ -83,15 +85,15 @@ def odd(text):
     for kind, _, part in parts(text):
         if kind == "clause":
             yield from (name for name, form in ODD_IN_CLAUSE if form.search(part))
-        if kind == "names" and not USE.fullmatch(part):
-            yield "names from elsewhere in a form that isn't known"
+        if kind == "names" and (not USE.fullmatch(part) or PROOFS.search(part)):
+            yield "names from proofs, or in a form that isn't known"
 
 
 def odd_in_specs(text):
     """The same of a file of definitions."""
     yield from (name for name, form in ODD_IN_SPECS if form.search(text))
-    if not all(USE.fullmatch(line) for line in uses_of_specs(text)):
-        yield "names from elsewhere in a form that isn't known"
+    if not all(USE.fullmatch(line) and not PROOFS.search(line) for line in uses_of_specs(text)):
+        yield "names from proofs, or in a form that isn't known"
 
 
 def uses(text):
