@@ -1,5 +1,6 @@
 """Where things stand in this repository, what crates.txt says, and the built program: for the scripts of checks/."""
 
+import base64
 import hashlib
 import importlib.machinery
 import importlib.util
@@ -42,8 +43,8 @@ def definition_files(crate):
 
 
 def digest(texts):
-    """Eight digits that are others where one of these texts is, and not where only their order is."""
-    return hashlib.sha256("\0".join(sorted(texts)).encode()).hexdigest()[:8]
+    """Twelve signs, of 72 bits, that are others where one of these texts is, and not where only their order is."""
+    return base64.urlsafe_b64encode(hashlib.sha256("\0".join(sorted(texts)).encode()).digest()[:9]).decode()
 
 
 def script(name, checks=CHECKS):
