@@ -44,6 +44,9 @@ static uint32_t any(uint32_t right) {
     }
 }
 
+/* How many pages a module has. */
+static uint32_t page_count(uint32_t words, uint32_t page_words) { return (words + page_words - 1) / page_words; }
+
 /* The bytes of page `index` of a module, as docs/PROFILE.md says; 0 where it has no such page. */
 static uint64_t bytes_of(uint32_t words, uint32_t page_words, uint32_t index) {
     uint64_t before = (uint64_t)page_words * index, left = words > before ? words - before : 0;
@@ -54,7 +57,7 @@ static uint64_t bytes_of(uint32_t words, uint32_t page_words, uint32_t index) {
 static void in_page(lfi_stream *stream) {
     lfi_stream_init(stream, LFI_PROFILE_1);
     uint32_t number_of = number(LFI_MODULES), profile = 1 + number(2), page_words = profile == 2 && number(2) ? 4096 : 1024;
-    uint32_t words = 1 + number(number(3) ? 9000 : LFI_MAX_WORDS), pages = number((words + page_words - 1) / page_words);
+    uint32_t words = 1 + number(number(3) ? 9000 : LFI_MAX_WORDS), pages = number(page_count(words, page_words));
     uint64_t bytes = bytes_of(words, page_words, pages), come = number((uint32_t)bytes);
     lfi_stream_module *it = &stream->text.modules[number_of];
     it->phase = 1;
@@ -98,10 +101,10 @@ static void scatter(lfi_stream *stream) {
 // HEADER: words: of an open one, its words in all entry: of an open one, the word at which it is entered profile: of an open one, the
 //   profile by which it is to be judged page_words: of an open one, the words of a full page of it: 1,024 or 4,096 pages: of an open
 //   one, how many of its pages came
-/* Whether a module is open by its numbers, but for its pages. */
+/* Whether a module is open by its numbers. */
 static int is_open(const lfi_stream_module *it) {
     return it->phase == 1 && it->words >= 1 && it->words <= LFI_MAX_WORDS && it->entry < it->words && (it->profile == 1 || it->profile == 2) &&
-           (it->page_words == 1024 || (it->page_words == 4096 && it->profile == 2));
+           (it->page_words == 1024 || (it->page_words == 4096 && it->profile == 2)) && it->pages <= page_count(it->words, it->page_words);
 }
 
 // C: | `LFI_NO_STREAM` | the numbers are those of no stream, and are as they were: none of its kind has them; or of the page that is
@@ -133,18 +136,16 @@ static void between_messages(lfi_stream *stream, lfi_event *event, uint64_t turn
     uint32_t which = stream->text.page.module;
     lfi_stream_module it = stream->text.modules[which];
     lfi_state judged = stream->verdicts.modules[which];
-    uint32_t most = (it.words + it.page_words - 1) / it.page_words;
     uint32_t *numbers[] = {&it.phase, &it.words, &it.entry, &it.profile, &it.page_words, &it.pages};
     uint32_t wrong = number(9);
     if (wrong < 6) *numbers[wrong] = any(*numbers[wrong]);
-    if (wrong == 6) it.pages = most + 1 + number(3);
+    if (wrong == 6) it.pages = page_count(it.words, it.page_words) + 1 + number(3);
     lfi_stream_init(stream, LFI_PROFILE_1);
     stream->text.modules[which] = it;
     stream->verdicts.modules[which] = judged;
     text[2] = (uint8_t)which;
     text[4] = text[0] == 1;
-    int open = is_open(&it) && it.pages <= (it.words + it.page_words - 1) / it.page_words;
-    uint32_t kind = text[0] == 1 && it.phase == 0 ? LFI_OPEN : text[0] == 3 && open ? LFI_END : LFI_STRAY;
+    uint32_t kind = text[0] == 1 && it.phase == 0 ? LFI_OPEN : text[0] == 3 && is_open(&it) ? LFI_END : LFI_STRAY;
     require(lfi_stream_next(stream, text, sizeof text, event) == sizeof text && event->kind == kind && event->module == which, "an Open or a Close of any numbers", turn);
 }
 

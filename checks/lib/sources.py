@@ -107,12 +107,13 @@ def uses_of_specs(text):
 
 
 def meanings(uses, said):
-    """What the names mean that a text says, by what its file uses from elsewhere: a line for each."""
+    """What the names mean that a text says, by what its file uses from elsewhere: a line for each. A use in another form counts whole."""
     found = []
     for use in uses:
-        path, many, alias = USE.fullmatch(use).groups() if USE.fullmatch(use) else (use, None, None)
+        known = USE.fullmatch(use)
+        path, many, alias = known.groups() if known else (use, None, None)
         for name in [f"{path} as {alias}"] if alias else (many or path).split(","):
-            local = name.split(" as ")[-1].strip()
-            if all(sign in said for sign in local.split("◌") if sign) or use == path:
+            signs = name.split(" as ")[-1].strip().split("◌")
+            if not known or all(sign in said for sign in signs if sign):
                 found.append(f"{path}.{' '.join(name.split())}")
     return sorted(found)
